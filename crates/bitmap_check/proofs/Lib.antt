@@ -1,0 +1,2 @@
+-- What the tests of the check show.
+pub mod Examine

@@ -1,0 +1,2 @@
+-- One summary bit against its word.
+pub mod Agree

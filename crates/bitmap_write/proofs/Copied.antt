@@ -1,0 +1,122 @@
+-- Level 0 cleared, or copied from elsewhere, and the tree over it: its bits, that it is one, and its length. Assumes nothing.
+use mathlib.Core.Path.{_≡_, refl, sym, ap, ap₂, _∙_}
+use mathlib.Core.List.{List, _++_}
+use Prim.Native.Nat.{ℕ, suc, _+_, _-_, _/_, _%_, _≤_, _<_}
+use native.Mathlib.Nat.{zero-add}
+use native.Mathlib.Numerals.{add-one}
+use native.Mathlib.Omega.{arith}
+use lib.ListN.{length, getD, set, take, drop, replicate, length-append, length-drop, length-replicate, getD-replicate, List·getD-append}
+use lib.Seq.{getD-take, getD-drop, length-take-le, getD-append-add, paste, paste-suc}
+use Rattle.words.specs.Bits.{bitOf, bitAt}
+use Rattle.words.specs.Levels.{wordsFor, treeWords, Height}
+use Rattle.words.specs.Tree.{Tree}
+use Rattle.words.proofs.Word.{bit-zero}
+use Rattle.words.proofs.Lists.{bit-split, bits-same}
+use Rattle.words.proofs.Trees.{words-in}
+use Rattle.bitmap_write.specs.Ready.{completed, cleared, copied, fresh, adopted}
+use Rattle.bitmap_write.proofs.Ready.{completed-tree, completed-bit, length-completed}
+
+-- ---- cleared
+
+pub length-cleared : (m : ℕ) (ws : List ℕ) → m ≤ length ws → length (cleared m ws) ≡ length ws
+unfolding cleared
+length-cleared m ws h = length-append (replicate m 0) (drop m ws) ∙ omega (arith, length-replicate {A = ℕ} m 0, length-drop m ws)
+
+cleared-word : (m : ℕ) (ws : List ℕ) (i : ℕ) → i < m → getD (cleared m ws) i 0 ≡ 0
+unfolding cleared
+cleared-word m ws i h = List·getD-append (replicate m 0) (drop m ws) 0 i (omega (arith, length-replicate {A = ℕ} m 0)) ∙ getD-replicate m i 0 0 h
+
+module _ (a n : ℕ) (ws : List ℕ) (room : treeWords a n ≤ length ws) where
+  clear-room : treeWords a n ≤ length (cleared (wordsFor n) ws)
+  clear-room = omega (arith, length-cleared (wordsFor n) ws (omega (arith, words-in a n)))
+
+  pub fresh-tree : Height a n → Tree a n (fresh a n ws)
+  unfolding fresh
+  fresh-tree h = completed-tree a n (cleared (wordsFor n) ws) clear-room h
+
+  -- every block is free
+  pub fresh-bit : (k : ℕ) → k < n → bitAt (fresh a n ws) k ≡ 0
+  unfolding fresh
+  fresh-bit k h =
+      completed-bit a n (cleared (wordsFor n) ws) clear-room k h
+      ∙ bit-split (cleared (wordsFor n) ws) k
+      ∙ ap (λ (x : ℕ). bitOf x (k % 32)) (cleared-word (wordsFor n) ws (k / 32) (omega arith))
+      ∙ bit-zero (k % 32)
+
+  pub length-fresh : length (fresh a n ws) ≡ length ws
+  unfolding fresh
+  length-fresh = length-completed a n (cleared (wordsFor n) ws) clear-room ∙ length-cleared (wordsFor n) ws (omega (arith, words-in a n))
+
+-- ---- copied
+
+module _ (m : ℕ) (vs ws : List ℕ) (there : m ≤ length vs) (here : m ≤ length ws) where
+  pub length-copied : length (copied m vs ws) ≡ length ws
+  unfolding copied
+  length-copied = length-append (take m vs) (drop m ws) ∙ omega (arith, length-take-le m vs there, length-drop m ws)
+
+  copied-word : (i : ℕ) → i < m → getD (copied m vs ws) i 0 ≡ getD vs i 0
+  unfolding copied
+  copied-word i h = List·getD-append (take m vs) (drop m ws) 0 i (omega (arith, length-take-le m vs there)) ∙ getD-take m vs i 0 h
+
+module _ (a n : ℕ) (marks ws : List ℕ) (there : wordsFor n ≤ length marks) (room : treeWords a n ≤ length ws) where
+  copy-room : treeWords a n ≤ length (copied (wordsFor n) marks ws)
+  copy-room = omega (arith, length-copied (wordsFor n) marks ws there (omega (arith, words-in a n)))
+
+  pub adopted-tree : Height a n → Tree a n (adopted a n marks ws)
+  unfolding adopted
+  adopted-tree h = completed-tree a n (copied (wordsFor n) marks ws) copy-room h
+
+  -- a block's bit is its mark
+  pub adopted-bit : (k : ℕ) → k < n → bitAt (adopted a n marks ws) k ≡ bitAt marks k
+  unfolding adopted
+  adopted-bit k h =
+      completed-bit a n (copied (wordsFor n) marks ws) copy-room k h
+      ∙ bits-same (copied (wordsFor n) marks ws) marks k (copied-word (wordsFor n) marks ws there (omega (arith, words-in a n)) (k / 32) (omega arith))
+
+  pub length-adopted : length (adopted a n marks ws) ≡ length ws
+  unfolding adopted
+  length-adopted = length-completed a n (copied (wordsFor n) marks ws) copy-room ∙ length-copied (wordsFor n) marks ws there (omega (arith, words-in a n))
+
+-- ---- the copy, word by word
+
+as-paste : (i : ℕ) (vs s : List ℕ) → copied i vs s ≡ paste s 0 vs i
+unfolding copied
+as-paste i vs s = ap (λ (k : ℕ). take i vs ++ drop k s) (sym (zero-add i))
+
+module _ (from m : ℕ) (s : List ℕ) (apart : m ≤ from) (inside : from + m ≤ length s) where
+  -- the first i words copied
+  abbrev pub part : ℕ → List ℕ
+  part i = copied i (drop from s) s
+
+  pub part-length : (i : ℕ) → i ≤ m → length (part i) ≡ length s
+  part-length i h = length-copied i (drop from s) s (omega (arith, length-drop from s)) (omega arith)
+
+  -- what is read next is as it was
+  pub part-read : (i : ℕ) → i < m → getD (part i) (from + i) 0 ≡ getD (drop from s) i 0
+  unfolding copied
+  part-read i h =
+      let t : length (take i (drop from s)) ≡ i = length-take-le i (drop from s) (omega (arith, length-drop from s)) in
+      let e : from + i ≡ length (take i (drop from s)) + from = omega arith in
+      ap (λ (k : ℕ). getD (take i (drop from s) ++ drop i s) k 0) e
+      ∙ getD-append-add (take i (drop from s)) (drop i s) from 0
+      ∙ getD-drop i s from 0
+      ∙ ap (λ (k : ℕ). getD s k 0) (omega arith)
+      ∙ sym (getD-drop from s i 0)
+
+  -- one word more
+  pub part-more : (i : ℕ) → i < m → set (part i) i (getD (drop from s) i 0) ≡ part (i + 1)
+  part-more i h =
+      let vs = drop from s in
+      ap₂ (λ (l : List ℕ) (k : ℕ). set l k (getD (drop from s) i 0)) (as-paste i (drop from s) s) (sym (zero-add i))
+      ∙ paste-suc s 0 (drop from s) i 0 (omega arith) (omega (arith, length-drop from s))
+      ∙ sym (as-paste (suc i) (drop from s) s)
+      ∙ ap part (sym (add-one i))
+
+pub part-none : (vs s : List ℕ) → s ≡ copied 0 vs s
+unfolding copied
+part-none vs s = refl
+
+-- the loop's turn: what is read is written
+pub part-turn : (from m : ℕ) (s t : List ℕ) (i : ℕ) → m ≤ from → from + m ≤ length s → i < m → t ≡ copied i (drop from s) s
+    → set t i (getD t (from + i) 0) ≡ copied (i + 1) (drop from s) s
+part-turn from m s t i apart inside h e = rw (e, part-read from m s apart inside i h) (part-more from m s apart inside i h)

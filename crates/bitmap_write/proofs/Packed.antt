@@ -1,0 +1,109 @@
+-- Laws of bits packed into words, and of the bits above a level's words. Assumes nothing.
+use mathlib.Core.Path.{_≡_, refl, sym, ap, _∙_, subst}
+use mathlib.Core.Bool.{Bool, true, false}
+use mathlib.Core.List.{List, [], _∷_}
+use Prim.Native.Nat.{ℕ, zero, suc, _+_, _-_, _*_, _/_, _%_, _^_, _≤_, _<_}
+use native.Mathlib.Nat.{pow-suc, not-suc-le-zero, lt-of-lt-of-le}
+use native.Mathlib.Omega.{arith}
+use lib.Dec.{ltb, eqb}
+use lib.ListN.{length, getD}
+use lib.Pow.{pow-mono}
+use borrow.Author.Tests.{lt-ltb, le-ltb, eq-eqb, eqb-true, ltb-true}
+use Rattle.rules.specs.Pick.{pick}
+use Rattle.words.specs.Bits.{bitOf, bitAt}
+use Rattle.words.specs.Tree.{allOnes}
+use Rattle.bitmap_write.specs.Rebuild.{wordFrom, packed, fullBit}
+use Rattle.words.proofs.Word.{bit-low, bit-half}
+use Rattle.words.proofs.Lists.{bit-split}
+
+-- ---- the bits above a level's words
+
+pub full-in : (ws : List ℕ) (m k : ℕ) → k < m → getD ws k 0 ≡ allOnes → fullBit ws m k ≡ 1
+unfolding fullBit
+full-in ws m k h e = simp (lt-ltb k m h, eq-eqb (getD ws k 0) allOnes e)
+
+pub full-not : (ws : List ℕ) (m k : ℕ) → k < m → eqb (getD ws k 0) allOnes ≡ false → fullBit ws m k ≡ 0
+unfolding fullBit
+full-not ws m k h e = simp (lt-ltb k m h, e)
+
+pub full-past : (ws : List ℕ) (m k : ℕ) → m ≤ k → fullBit ws m k ≡ 1
+unfolding fullBit
+full-past ws m k h = simp (le-ltb k m h)
+
+pub full-only : (ws : List ℕ) (m k : ℕ) → k < m → fullBit ws m k ≡ 1 → getD ws k 0 ≡ allOnes
+full-only ws m k h e = go (eqb (getD ws k 0) allOnes) refl
+  where
+    go : (t : Bool) → eqb (getD ws k 0) allOnes ≡ t → getD ws k 0 ≡ allOnes
+    go true q = eqb-true (getD ws k 0) allOnes q
+    go false q = absurd (omega (arith, full-not ws m k h q))
+
+pub full-lt : (ws : List ℕ) (m k : ℕ) → fullBit ws m k < 2
+unfolding fullBit
+full-lt ws m k = go (ltb k m) (eqb (getD ws k 0) allOnes)
+  where
+    go : (t u : Bool) → pick t (pick u 1 0) 1 < 2
+    go true true = omega arith
+    go true false = omega arith
+    go false u = omega arith
+
+-- the bits above depend on the first m words alone
+pub full-same : (ws vs : List ℕ) (m k : ℕ) → ((i : ℕ) → i < m → getD ws i 0 ≡ getD vs i 0) → fullBit ws m k ≡ fullBit vs m k
+unfolding fullBit
+full-same ws vs m k f = go (ltb k m) refl
+  where
+    go : (t : Bool) → ltb k m ≡ t → _≡_ {A = ℕ} (pick t (pick (eqb (getD ws k 0) allOnes) 1 0) 1) (pick t (pick (eqb (getD vs k 0) allOnes) 1 0) 1)
+    go true q = rw (f k (ltb-true k m q))
+    go false q = refl
+
+-- ---- a word of bits
+
+module _ (bit : ℕ → ℕ) where
+  -- one bit more at the low end
+  pub word-back : (b i w : ℕ) → 0 < i → i ≤ 32 → w ≡ wordFrom bit (32 - i) (b + i) → w * 2 + bit (b + (i - 1)) ≡ wordFrom bit (32 - (i - 1)) (b + (i - 1))
+  unfolding wordFrom
+  word-back b i w p l e =
+      let c : 32 - (i - 1) ≡ suc (32 - i) = omega arith in
+      let k : b + i ≡ suc (b + (i - 1)) = omega arith in
+      rw (c, e, k)
+
+  module _ (small : (k : ℕ) → bit k < 2) where
+    pub word-lt : (c k : ℕ) → wordFrom bit c k < 2 ^ c
+    unfolding wordFrom
+    word-lt zero k = omega arith
+    word-lt (suc c) k = omega (arith, pow-suc 2 c, word-lt c (suc k), small k)
+
+    pub word-bit : (c k i : ℕ) → i < c → bitOf (wordFrom bit c k) i ≡ bit (k + i)
+    unfolding wordFrom
+    word-bit zero k i h = absurd (not-suc-le-zero h)
+    word-bit (suc c) k zero h =
+        let e : k + 0 ≡ k = omega arith in
+        rw e (bit-low (wordFrom bit c (suc k) * 2 + bit k) ∙ omega (arith, small k))
+    word-bit (suc c) k (suc i) h =
+        let q : (wordFrom bit c (suc k) * 2 + bit k) / 2 ≡ wordFrom bit c (suc k) = omega (arith, small k) in
+        let e : k + suc i ≡ suc k + i = omega arith in
+        bit-half (wordFrom bit c (suc k) * 2 + bit k) i ∙ ap (λ (x : ℕ). bitOf x i) q ∙ word-bit c (suc k) i (omega arith) ∙ ap bit (sym e)
+
+  pub length-packed : (c j : ℕ) → length (packed bit c j) ≡ c
+  unfolding packed
+  length-packed zero j = refl
+  length-packed (suc c) j = ap suc (length-packed c (suc j))
+
+  pub packed-at : (c j i : ℕ) → i < c → getD (packed bit c j) i 0 ≡ wordFrom bit 32 ((j + i) * 32)
+  unfolding packed
+  packed-at zero j i h = absurd (not-suc-le-zero h)
+  packed-at (suc c) j zero h = ap (λ (x : ℕ). wordFrom bit 32 x) (omega arith)
+  packed-at (suc c) j (suc i) h = packed-at c (suc j) i (omega arith) ∙ ap (λ (x : ℕ). wordFrom bit 32 x) (omega arith)
+
+  pub packed-bit : ((k : ℕ) → bit k < 2) → (c k : ℕ) → k < c * 32 → bitAt (packed bit c 0) k ≡ bit k
+  packed-bit small c k h =
+      let e : (0 + k / 32) * 32 + k % 32 ≡ k = omega arith in
+      bit-split (packed bit c 0) k
+      ∙ ap (λ (x : ℕ). bitOf x (k % 32)) (packed-at c 0 (k / 32) (omega arith))
+      ∙ word-bit small 32 ((0 + k / 32) * 32) (k % 32) (omega arith)
+      ∙ ap bit e
+
+-- words of bits that are alike are alike
+pub word-same : (bit cit : ℕ → ℕ) → ((k : ℕ) → bit k ≡ cit k) → (c k : ℕ) → wordFrom bit c k ≡ wordFrom cit c k
+unfolding wordFrom
+word-same bit cit f zero k = refl
+word-same bit cit f (suc c) k = rw (word-same bit cit f c (suc k), f k)

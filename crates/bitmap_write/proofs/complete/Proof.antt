@@ -1,0 +1,29 @@
+-- `bitmap_write::complete` meets its contract. Assumes nothing.
+use mathlib.Core.Path.{ap, _∙_}
+use mathlib.Core.List.{List}
+use Prim.Native.Nat.{ℕ}
+use native.Mathlib.Omega.{arith}
+use borrow.Author.Needs.{needs}
+use Rattle.words.proofs.Trees.{words-in}
+use Rattle.bitmap_write.specs.Rebuild.{rebuilt}
+use Rattle.bitmap_write.specs.Ready.{completed}
+use Rattle.bitmap_write.proofs.complete.Tie as tie
+use Rattle.bitmap_write.proofs.complete.Statement.{statement}
+
+pad-requires : tie.Need-pad-requires
+pad-requires c κs = let a = c .before .before in omega (arith, a .pre, words-in (a .args .above) (a .args .n))
+
+rebuild-requires : tie.Need-rebuild-requires
+rebuild-requires c κs = search needs
+
+same-length : tie.Need-same-length
+same-length c = search needs
+
+returns : tie.Need-returns
+unfolding completed
+returns c =
+    let a = c .before .before .before .before .before .before .before .before .before .args in
+    c .before .before .rebuild .ensures ∙ ap (λ (l : List ℕ). rebuilt (a .above) (a .n) l) (c .before .before .before .before .before .before .pad .ensures)
+
+pub complete-spec : {M : Type 1} → statement M
+complete-spec = tie.close (tie.spec pad-requires rebuild-requires same-length returns)

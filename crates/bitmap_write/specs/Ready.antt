@@ -1,0 +1,34 @@
+-- A level 0 made a tree: of free blocks, or of given marks. Document 01: of a free segment that is taken, "whose blocks' bits
+-- are all 0"; of a sweep, "its level 0 becomes the marks, upper levels rebuilt"; "Bits past a level's end are 1."
+use mathlib.Core.List.{List, _++_}
+use Prim.Native.Nat.{ℕ, _-_, _/_, _%_, _^_}
+use lib.Bits.{bitOr}
+use lib.Dec.{eqb}
+use lib.ListN.{getD, set, take, drop, replicate}
+use Rattle.rules.specs.Pick.{pick}
+use Rattle.words.specs.Levels.{wordsFor}
+use Rattle.bitmap_write.specs.Rebuild.{rebuilt}
+
+-- the bits past the end of a level of n bits are 1: those of its last word from bit n % 32 on, if it is not whole
+unfoldable pub padded : ℕ → List ℕ → List ℕ
+padded n ws = pick (eqb (n % 32) 0) ws (set ws (n / 32) (bitOr (getD ws (n / 32) 0) (2 ^ 32 - 2 ^ (n % 32))))
+
+-- a tree over the n bits that stand at level 0
+unfoldable pub completed : ℕ → ℕ → List ℕ → List ℕ
+completed above n ws = rebuilt above n (padded n ws)
+
+-- the first m words are 0
+unfoldable pub cleared : ℕ → List ℕ → List ℕ
+cleared m ws = replicate m 0 ++ drop m ws
+
+-- the first m words are those of another list
+unfoldable pub copied : ℕ → List ℕ → List ℕ → List ℕ
+copied m vs ws = take m vs ++ drop m ws
+
+-- a tree of n bits that are all 0
+unfoldable pub fresh : ℕ → ℕ → List ℕ → List ℕ
+fresh above n ws = completed above n (cleared (wordsFor n) ws)
+
+-- a tree of n bits that are the marks
+unfoldable pub adopted : ℕ → ℕ → List ℕ → List ℕ → List ℕ
+adopted above n marks ws = completed above n (copied (wordsFor n) marks ws)

@@ -1,0 +1,3 @@
+-- Laws of size classes and of a segment's shape.
+pub mod Smallest
+pub mod Shapes

@@ -1,0 +1,60 @@
+-- What holds of every class's shape: its blocks are within what three levels hold, its levels end in one word, and its bitmap
+-- is no longer than the longest. Assumes nothing.
+use mathlib.Core.Path.{_≡_, refl, sym, _∙_}
+use mathlib.Core.Bool.{Bool, true, false}
+use Prim.Native.Nat.{ℕ, _+_, _-_, _/_, _^_, _≤_, _<_}
+use native.Mathlib.Nat.{le-trans, div-le-self}
+use native.Mathlib.Omega.{arith}
+use lib.Dec.{leb, ltb, leb→le}
+use lib.ListN.{replicate}
+use borrow.Author.Tests.{ltb-true, ltb-false}
+use Rattle.rules.specs.Pick.{pick}
+use Rattle.rules.proofs.Table.{at}
+use Rattle.words.specs.Levels.{Height, treeWords}
+use Rattle.words.proofs.Trees.{levels-pos, levels-le, height}
+use Rattle.classes.specs.declared.Shape.{Shape}
+use Rattle.classes.specs.declared.ClassShape.{ClassShape}
+use Rattle.classes.specs.declared.ClassShape.the-variants.{Of, NoClass}
+use Rattle.classes.specs.Class.{firstClass, classCount}
+use Rattle.classes.specs.Shape.{segmentBytes, blocksIn, mostLevels, shapeFor, bitmapWords, shapeOf}
+
+-- a segment's blocks are no more than three levels hold
+pub blocks-most : (c : ℕ) → blocksIn c ≤ 32 ^ mostLevels
+blocks-most c = le-trans (div-le-self segmentBytes (2 ^ c)) (omega arith)
+
+-- a bitmap over n blocks has one level to three, and they end in one word
+pub shape-levels-pos : (n : ℕ) → 1 ≤ shapeFor n .levels
+shape-levels-pos n = levels-pos (mostLevels - 1) n
+
+pub shape-levels-most : (n : ℕ) → shapeFor n .levels ≤ mostLevels
+shape-levels-most n = levels-le mostLevels n
+
+pub shape-height : (n : ℕ) → n ≤ 32 ^ mostLevels → Height (shapeFor n .levels - 1) n
+shape-height n h = height (mostLevels - 1) n h
+
+-- the shape that is found is that of the class's blocks, and there is such a class
+pub record IsShape (c : ℕ) (x : Shape) : Type 0 where
+  pub least : firstClass ≤ c
+  pub most : c < firstClass + classCount
+  pub shape : x ≡ shapeFor (blocksIn c)
+
+pub shape-is : (c : ℕ) (x : Shape) → Of x ≡ shapeOf c → IsShape c x
+shape-is c x e = low (ltb c firstClass) refl e
+  where
+    high : firstClass ≤ c → (t : Bool) → ltb c (firstClass + classCount) ≡ t → Of x ≡ pick t (Of (shapeFor (blocksIn c))) NoClass → IsShape c x
+    high l true q f = record { least = l; most = ltb-true c (firstClass + classCount) q; shape = (cc) }
+    high l false q f = let z : _≡_ {A = ℕ} 0 1 = cc in absurd (omega arith)
+
+    low : (t : Bool) → ltb c firstClass ≡ t → Of x ≡ pick t NoClass (pick (ltb c (firstClass + classCount)) (Of (shapeFor (blocksIn c))) NoClass) → IsShape c x
+    low true q f = let z : _≡_ {A = ℕ} 0 1 = cc in absurd (omega arith)
+    low false q f = high (ltb-false c firstClass q) (ltb c (firstClass + classCount)) refl f
+
+-- every class's bitmap is within the longest: one test at each class
+fits : ℕ → ℕ → Bool
+fits k x = leb (treeWords (shapeFor (blocksIn (firstClass + k)) .levels - 1) (blocksIn (firstClass + k))) bitmapWords
+
+pub class-fits : (c : ℕ) (x : Shape) → IsShape c x → treeWords (x .levels - 1) (x .blocks) ≤ bitmapWords
+unfolding fits
+class-fits c x i =
+    let k : firstClass + (c - firstClass) ≡ c = omega (arith, i .least) in
+    rw (i .shape, ← k) (leb→le _ _ (at 0 fits (replicate classCount 0) tt (c - firstClass) (omega (arith, i .least, i .most))))

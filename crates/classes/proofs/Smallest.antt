@@ -1,0 +1,55 @@
+-- What `smallestFrom` finds: a class whose block is large enough, and of which every smaller one is too small; none where none is.
+-- Over any run of classes. Assumes nothing.
+use mathlib.Core.Path.{_≡_, refl, sym, ap, _∙_, subst}
+use mathlib.Core.Bool.{Bool, true, false}
+use mathlib.Core.Logic.{_⊎_, inl, inr}
+use Prim.Native.Nat.{ℕ, zero, suc, _+_, _*_, _^_, _<_, _≤_}
+use native.Mathlib.Nat.{eq-or-lt-of-le}
+use native.Mathlib.Omega.{arith}
+use lib.Dec.{leb}
+use borrow.Author.Tests.{lt-leb, leb-true, leb-false}
+use Rattle.classes.specs.declared.SizeClass.{SizeClass}
+use Rattle.classes.specs.declared.SizeClass.the-variants.{Class, TooBig}
+use Rattle.rules.specs.Pick.{pick}
+use Rattle.classes.specs.Class.{smallestFrom}
+
+pub none-holds : (n c b : ℕ) → ((k : ℕ) → c ≤ k → k < c + n → 2 ^ k < b) → smallestFrom n c b ≡ TooBig
+none-holds zero c b h = refl
+none-holds (suc n) c b h =
+    rw (lt-leb b (2 ^ c) (h c (omega arith) (omega arith))) (none-holds n (suc c) b (λ k l m. h k (omega arith) (omega arith)))
+
+-- x is the smallest class from c on whose block holds b bytes
+pub record Smallest (c b x : ℕ) : Type 0 where
+  pub from : c ≤ x
+  pub holds : b ≤ 2 ^ x
+  pub least : (k : ℕ) → c ≤ k → k < x → 2 ^ k < b
+
+pub smallest : (n c b x : ℕ) → smallestFrom n c b ≡ Class x → (x < c + n) × Smallest c b x
+smallest zero c b x e = let z : _≡_ {A = ℕ} 0 1 = cc in absurd (omega arith)
+smallest (suc n) c b x e = go (leb b (2 ^ c)) refl e (smallest n (suc c) b x)
+  where
+    go : (t : Bool) → leb b (2 ^ c) ≡ t → pick t (Class c) (smallestFrom n (suc c) b) ≡ Class x
+        → (smallestFrom n (suc c) b ≡ Class x → (x < suc c + n) × Smallest (suc c) b x)
+        → (x < c + suc n) × Smallest c b x
+    go true q f rest =
+        let same : c ≡ x = cc in (
+          omega arith,
+          record {
+            from = omega arith;
+            holds = subst (λ (k : ℕ). b ≤ 2 ^ k) same (leb-true b (2 ^ c) q);
+            least = λ k l h. absurd (omega arith);
+          },
+        )
+    go false q f rest =
+        let r = rest f in (
+          omega arith,
+          record {
+            from = omega arith;
+            holds = r .1 .holds;
+            least = λ k l h. below (leb-false b (2 ^ c) q) (r .1 .least) k h (eq-or-lt-of-le l);
+          },
+        )
+      where
+        below : 2 ^ c < b → ((k : ℕ) → suc c ≤ k → k < x → 2 ^ k < b) → (k : ℕ) → k < x → (c ≡ k) ⊎ (c < k) → 2 ^ k < b
+        below here rest′ k h (inl s) = subst (λ (j : ℕ). 2 ^ j < b) s here
+        below here rest′ k h (inr s) = rest′ k s h

@@ -1,0 +1,88 @@
+-- `classes::shape_of` meets its contract: the shape of each class is one test at each of the table's entries, which is computed.
+-- Assumes nothing.
+use mathlib.Core.Path.{_≡_, sym, ap, _∙_}
+use mathlib.Core.List.{List, [], _∷_}
+use mathlib.Core.Bool.{Bool}
+use Prim.Native.Nat.{ℕ, _+_, _-_, _<_, _≤_}
+use native.Mathlib.Omega.{arith}
+use lib.Dec.{T, eqb, eqb→eq}
+use lib.ListN.{getD}
+use borrow.Author.Needs.{needs}
+use borrow.Author.Tests.{lt-ltb, le-ltb}
+use Rattle.rules.proofs.Tests.{tests}
+use Rattle.rules.proofs.Table.{both, both-left, both-right, at}
+use Rattle.classes.specs.declared.Shape.{Shape}
+use Rattle.classes.specs.declared.ClassShape.the-variants.{Of}
+use Rattle.classes.specs.Class.{firstClass, classCount}
+use Rattle.classes.specs.Shape.{blocksIn, shapeFor, shapeOf}
+use Rattle.classes.proofs.shape_of.Tie as tie
+use Rattle.classes.proofs.shape_of.Statement.{statement}
+
+-- a shape from its five numbers
+shape : ℕ → ℕ → ℕ → ℕ → ℕ → Shape
+shape n l a b c = record { blocks = n; levels = l; words0 = a; words1 = b; words2 = c }
+
+-- the table, and what stands past its end
+table : List Shape
+unfolding shape
+table =
+    shape 2048 3 64 2 1 ∷ shape 1024 2 32 1 0 ∷ shape 512 2 16 1 0 ∷ shape 256 2 8 1 0 ∷ shape 128 2 4 1 0 ∷ shape 64 2 2 1 0
+    ∷ shape 32 1 1 0 0 ∷ shape 16 1 1 0 0 ∷ shape 8 1 1 0 0 ∷ shape 4 1 1 0 0 ∷ []
+
+past : Shape
+unfolding shape
+past = shape 0 0 0 0 0
+
+same : Shape → Shape → Bool
+same x y =
+    both (eqb (x .blocks) (y .blocks))
+    (both (eqb (x .levels) (y .levels)) (both (eqb (x .words0) (y .words0)) (both (eqb (x .words1) (y .words1)) (eqb (x .words2) (y .words2)))))
+
+same-eq : (x y : Shape) → T (same x y) → x ≡ y
+unfolding same
+same-eq x y t =
+    let b = eqb→eq (x .blocks) (y .blocks) (both-left (eqb (x .blocks) (y .blocks)) _ t) in
+    let t1 = both-right (eqb (x .blocks) (y .blocks)) _ t in
+    let l = eqb→eq (x .levels) (y .levels) (both-left (eqb (x .levels) (y .levels)) _ t1) in
+    let t2 = both-right (eqb (x .levels) (y .levels)) _ t1 in
+    let w0 = eqb→eq (x .words0) (y .words0) (both-left (eqb (x .words0) (y .words0)) _ t2) in
+    let t3 = both-right (eqb (x .words0) (y .words0)) _ t2 in
+    let w1 = eqb→eq (x .words1) (y .words1) (both-left (eqb (x .words1) (y .words1)) _ t3) in
+    let w2 = eqb→eq (x .words2) (y .words2) (both-right (eqb (x .words1) (y .words1)) _ t3) in
+    λ i. record { blocks = b i; levels = l i; words0 = w0 i; words1 = w1 i; words2 = w2 i }
+
+-- the rule at entry k: it is the shape of class k + 3
+right : ℕ → Shape → Bool
+unfolding same
+right k x = same x (shapeFor (blocksIn (firstClass + k)))
+
+in-table : (class : ℕ) → firstClass ≤ class → class - firstClass < classCount → Of (getD table (class - firstClass) past) ≡ shapeOf class
+unfolding table past right
+in-table class l h =
+    let e : firstClass + (class - firstClass) ≡ class = omega arith in
+    ap Of (same-eq (getD table (class - firstClass) past) (shapeFor (blocksIn (firstClass + (class - firstClass)))) (at past right table tt (class - firstClass) h)
+    ∙ ap (λ (n : ℕ). shapeFor (blocksIn n)) e)
+    ∙ sym (rw (le-ltb class firstClass l, lt-ltb class (firstClass + classCount) (omega arith)))
+
+returns : tie.Need-returns
+returns c = search tests
+
+cast-i : tie.Need-cast-i
+cast-i c = search needs
+
+mul-shape : tie.Need-mul-shape
+mul-shape c = search needs
+
+array-copy-out-shape : tie.Need-array-copy-out-shape
+array-copy-out-shape c = search needs
+
+returns-2 : tie.Need-returns-2
+unfolding table past
+returns-2 c = in-table (c .before .before .before .args .class) (c .before .before .if1 .left) (c .before .if2 .taken)
+
+returns-3 : tie.Need-returns-3
+returns-3 c = rw (le-ltb _ _ (c .before .if1 .left), le-ltb (c .before .before .args .class) (firstClass + classCount) (omega (arith, c .if2 .left)))
+
+pub shape-of-spec : {M : Type 1} → statement M
+shape-of-spec =
+    tie.close (tie.spec returns cast-i mul-shape array-copy-out-shape returns-2 returns-3)

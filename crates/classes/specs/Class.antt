@@ -1,0 +1,40 @@
+-- The size class of a record. Document 01: "Class c, 3 to 12, has blocks of 2^c bytes. A record's class is the smallest whose
+-- block holds 1 + P + N words", and "P + N at most 1,023"; and the number that document 01 gives each answer.
+use Prim.Native.Nat.{ℕ, zero, suc, _+_, _*_, _^_}
+use lib.Dec.{leb}
+use Rattle.rules.specs.Pick.{pick}
+use Rattle.classes.specs.declared.SizeClass.{SizeClass}
+use Rattle.classes.specs.declared.SizeClass.the-variants.{Class, TooBig}
+
+-- the classes are 3 to 12
+abbrev pub firstClass : ℕ
+firstClass = 3
+
+abbrev pub classCount : ℕ
+classCount = 10
+
+-- a word has 32 bits
+abbrev pub wordBytes : ℕ
+wordBytes = 4
+
+-- the smallest of the n classes from c on whose block of 2 ^ c bytes holds b bytes
+abbrev pub smallestFrom : ℕ → ℕ → ℕ → SizeClass
+smallestFrom zero c b = TooBig
+smallestFrom (suc n) c b = pick (leb b (2 ^ c)) (Class c) (smallestFrom n (suc c) b)
+
+-- a header word and a word for each field
+abbrev pub recordBytes : ℕ → ℕ
+recordBytes fields = (1 + fields) * wordBytes
+
+abbrev pub classOf : ℕ → SizeClass
+classOf fields = smallestFrom classCount firstClass (recordBytes fields)
+
+-- an answer as document 01 has it: a value, or a refusal by its number
+pub data Outcome : Type 0 where
+  value : ℕ → Outcome
+  refusal : ℕ → Outcome
+
+-- "9, too big: make with P + N over 1,023"
+abbrev pub outcomeOf : SizeClass → Outcome
+outcomeOf (Class c) = value c
+outcomeOf TooBig = refusal 9
