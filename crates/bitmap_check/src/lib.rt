@@ -7,7 +7,7 @@ ghost use lib.ListN.{length, drop};
 ghost use Rattle.rules.specs.Decides.{Decides};
 ghost use Rattle.words.specs.Levels.{wordsFor, treeWords};
 ghost use Rattle.words.specs.Tree.{Level, Sums, Tree};
-ghost use Rattle.bitmap_check.specs.Agree.{Agree};
+ghost use Rattle.bitmap_check.specs.Agree.{SummaryAgrees};
 
 // Whether the bits past the end of a level of n bits are 1.
 fn level_ok(s: &[u32], n: u32) -> bool
@@ -26,7 +26,7 @@ fn level_ok(s: &[u32], n: u32) -> bool
 // Whether bit j of the level behind the first m words says whether word j is all ones.
 fn agree(s: &[u32], m: u32, j: u32) -> bool
     requires { ⌜ (m + wordsFor m ≤ length (now s)) × (j < m) ⌝ }
-    ensures { λ r. ⌜ Decides r (Agree (now (s .entry)) m j) ⌝ }
+    ensures { λ r. ⌜ Decides r (SummaryAgrees (now (s .entry)) m j) ⌝ }
 {
     let i = j as usize;
     let k = m as usize + (j / 32) as usize;

@@ -1,8 +1,8 @@
 -- The search: where it can end over any words, and that in a consistent tree it ends at what the plain scan finds. Assumes nothing.
-use mathlib.Core.Path.{_≡_, refl, sym, ap, _∙_, subst}
+use mathlib.Core.Path.{_≡_, refl}
 use mathlib.Core.Bool.{Bool, true, false}
 use mathlib.Core.List.{List}
-use Prim.Native.Nat.{ℕ, zero, suc, _+_, _-_, _*_, _/_, _%_, _^_, _≤_, _<_}
+use Prim.Native.Nat.{ℕ, zero, suc, _+_, _-_, _*_, _^_, _≤_, _<_}
 use native.Mathlib.Numerals.{sub-one}
 use native.Mathlib.Omega.{arith}
 use lib.Dec.{ltb}
@@ -14,33 +14,32 @@ use Rattle.words.specs.Bits.{bitAt, clearFrom}
 use Rattle.words.specs.Levels.{wordsFor}
 use Rattle.words.specs.Tree.{Level, Sums, Tree}
 use Rattle.words.proofs.Trees.{tree-level, tree-top, tree-sums, tree-rest}
-use Rattle.bitmap_search.specs.declared.BitPos.{BitPos}
 use Rattle.bitmap_search.specs.declared.BitPtr.{BitPtr}
 use Rattle.bitmap_search.specs.declared.Next.{Next}
-use Rattle.bitmap_search.specs.declared.Next.the-variants as next
 use Rattle.bitmap_search.specs.declared.Found.{Found}
 use Rattle.bitmap_search.specs.declared.Found.the-variants.{Block, Nothing, Torn}
 use Rattle.bitmap_search.specs.Scan.{nextFree}
 use Rattle.bitmap_search.specs.Pointer.{posAt, withPos, indexOf, posOf, ptrTo}
-use Rattle.bitmap_search.specs.Search.{inWord, climbed, lowered, loweredFrom, forwarded, blockAt, searched, Within}
-use Rattle.bitmap_search.proofs.Scan.{IsNext, next-is, is-next}
+use Rattle.bitmap_search.specs.Search.{inWord, climbed, lowered, loweredFrom, forwarded, blockAt, searched, BlockBelow}
+use Rattle.bitmap_search.proofs.Scan.{IsNext, is-next}
 use Rattle.bitmap_search.proofs.Pointers.{pos-with, pos-aimed}
 use Rattle.bitmap_search.proofs.Steps.{past-words, in-word, one-word, none-above, found-above, below-lt}
+use Rattle.bitmap_search.specs.declared.Next.the-variants as moved
 
 -- the moves, with the number of levels above as the code has it
 module _ (ws : List ℕ) (n : ℕ) (p : BitPtr) (l : ℕ) where
   -- where the pointer's word has no clear bit
   pub beyond : ℕ → Next
-  beyond zero = next.Nothing
+  beyond zero = moved.Nothing
   beyond (suc a) = loweredFrom ws (wordsFor n) l (forwarded a (drop (wordsFor n) ws) (wordsFor n) (climbed p l) (l + 1))
 
   pub forwarded-by : (a : ℕ)
-      → forwarded a ws n p l ≡ pick (ltb (posAt p l .word) (wordsFor n)) (inWord ws p l (posAt p l .word) (posAt p l .bit) (beyond a)) next.Nothing
+      → forwarded a ws n p l ≡ pick (ltb (posAt p l .word) (wordsFor n)) (inWord ws p l (posAt p l .word) (posAt p l .bit) (beyond a)) moved.Nothing
   unfolding forwarded beyond
   forwarded-by zero = refl
   forwarded-by (suc a) = refl
 
-  pub beyond-none : (a : ℕ) → a ≡ 0 → beyond a ≡ next.Nothing
+  pub beyond-none : (a : ℕ) → a ≡ 0 → beyond a ≡ moved.Nothing
   unfolding beyond
   beyond-none zero e = refl
   beyond-none (suc a) e = absurd (omega arith)
@@ -53,34 +52,34 @@ module _ (ws : List ℕ) (n : ℕ) (p : BitPtr) (l : ℕ) where
 
 -- what was found at a level, as the number of a bit
 abbrev pub foundAt : ℕ → Next → Found
-foundAt l (next.At q) = Block (indexOf (posAt q l))
-foundAt l next.Nothing = Nothing
-foundAt l next.Torn = Torn
+foundAt l (moved.At q) = Block (indexOf (posAt q l))
+foundAt l moved.Nothing = Nothing
+foundAt l moved.Torn = Torn
 
 -- a bit that was found at a level is below e
 abbrev pub Bounded : ℕ → ℕ → Next → Type 0
-Bounded l e (next.At q) = indexOf (posAt q l) < e
-Bounded l e next.Nothing = Unit
-Bounded l e next.Torn = Unit
+Bounded l e (moved.At q) = indexOf (posAt q l) < e
+Bounded l e moved.Nothing = Unit
+Bounded l e moved.Torn = Unit
 
 -- ---- over words of any content, a bit that is found stands in the level's words
 
 in-word-bounded : (ws : List ℕ) (m : ℕ) (p : BitPtr) (l j i : ℕ) (other : Next) → j < m → Bounded l (m * 32) other → Bounded l (m * 32) (inWord ws p l j i other)
 in-word-bounded ws m p l j i other h o = go (clearFrom (getD ws j 0) i) (ltb (clearFrom (getD ws j 0) i) 32) refl
   where
-    go : (b : ℕ) (t : Bool) → ltb b 32 ≡ t → Bounded l (m * 32) (pick t (next.At (withPos p l (record { word = j; bit = b }))) other)
+    go : (b : ℕ) (t : Bool) → ltb b 32 ≡ t → Bounded l (m * 32) (pick t (moved.At (withPos p l (record { word = j; bit = b }))) other)
     go b true q = rw (pos-with p l (record { word = j; bit = b })) (omega (arith, ltb-true b 32 q))
     go b false q = o
 
 lowered-bounded : (ws : List ℕ) (m l : ℕ) (r : Next) → Bounded l (m * 32) (loweredFrom ws m l r)
 unfolding lowered
-lowered-bounded ws m l (next.At q) = go (ltb (indexOf (posAt q (l + 1))) m) refl
+lowered-bounded ws m l (moved.At q) = go (ltb (indexOf (posAt q (l + 1))) m) refl
   where
-    go : (t : Bool) → ltb (indexOf (posAt q (l + 1))) m ≡ t → Bounded l (m * 32) (pick t (inWord ws q l (indexOf (posAt q (l + 1))) 0 next.Torn) next.Torn)
-    go true e = in-word-bounded ws m q l (indexOf (posAt q (l + 1))) 0 next.Torn (ltb-true _ _ e) tt
+    go : (t : Bool) → ltb (indexOf (posAt q (l + 1))) m ≡ t → Bounded l (m * 32) (pick t (inWord ws q l (indexOf (posAt q (l + 1))) 0 moved.Torn) moved.Torn)
+    go true e = in-word-bounded ws m q l (indexOf (posAt q (l + 1))) 0 moved.Torn (ltb-true _ _ e) tt
     go false e = tt
-lowered-bounded ws m l next.Nothing = tt
-lowered-bounded ws m l next.Torn = tt
+lowered-bounded ws m l moved.Nothing = tt
+lowered-bounded ws m l moved.Torn = tt
 
 beyond-bounded : (ws : List ℕ) (n : ℕ) (p : BitPtr) (l a : ℕ) → Bounded l (wordsFor n * 32) (beyond ws n p l a)
 unfolding beyond
@@ -91,7 +90,7 @@ pub bounded : (a : ℕ) (ws : List ℕ) (n : ℕ) (p : BitPtr) (l : ℕ) → Bou
 bounded a ws n p l = rw (forwarded-by ws n p l a) (go (ltb (posAt p l .word) (wordsFor n)) refl)
   where
     go : (t : Bool) → ltb (posAt p l .word) (wordsFor n) ≡ t
-        → Bounded l (wordsFor n * 32) (pick t (inWord ws p l (posAt p l .word) (posAt p l .bit) (beyond ws n p l a)) next.Nothing)
+        → Bounded l (wordsFor n * 32) (pick t (inWord ws p l (posAt p l .word) (posAt p l .bit) (beyond ws n p l a)) moved.Nothing)
     go true e = in-word-bounded ws (wordsFor n) p l (posAt p l .word) (posAt p l .bit) (beyond ws n p l a) (ltb-true _ _ e) (beyond-bounded ws n p l a)
     go false e = tt
 
@@ -106,7 +105,7 @@ at-word ws p l j i other h =
 lowered-at : (ws : List ℕ) (m : ℕ) (q : BitPtr) (l : ℕ) → indexOf (posAt q (l + 1)) < m → clearFrom (getD ws (indexOf (posAt q (l + 1))) 0) 0 < 32
     → foundAt l (lowered ws m q l) ≡ Block (indexOf (posAt q (l + 1)) * 32 + clearFrom (getD ws (indexOf (posAt q (l + 1))) 0) 0)
 unfolding lowered
-lowered-at ws m q l h b = rw (lt-ltb _ _ h) (at-word ws q l (indexOf (posAt q (l + 1))) 0 next.Torn b)
+lowered-at ws m q l h b = rw (lt-ltb _ _ h) (at-word ws q l (indexOf (posAt q (l + 1))) 0 moved.Torn b)
 
 abbrev Fits : List ℕ → Type 0
 Fits ws = (i : ℕ) → getD ws i 0 < 2 ^ 32
@@ -127,18 +126,18 @@ module _ (ws : List ℕ) (n : ℕ) (fits : Fits ws) (p : BitPtr) (l : ℕ) (smal
       sums = tree-sums (suc a) n ws tree (λ e. omega arith)
 
       go : (r : Next) → IsNext (bitAt (drop (wordsFor n) ws)) (wordsFor n) (posAt p l .word + 1) (foundAt (l + 1) r) → Right (loweredFrom ws (wordsFor n) l r)
-      go (next.At q) u =
+      go (moved.At q) u =
           rw (lowered-at ws (wordsFor n) q l (u .1) (below-lt ws n level (posAt p l .word) (posAt p l .bit) small full (drop (wordsFor n) ws) sums fits (indexOf (posAt q (l + 1))) u))
           (found-above ws n level (posAt p l .word) (posAt p l .bit) small full (drop (wordsFor n) ws) sums fits (indexOf (posAt q (l + 1))) u)
-      go next.Nothing u = none-above ws n level (posAt p l .word) (posAt p l .bit) small full (drop (wordsFor n) ws) sums u
-      go next.Torn u = absurd u
+      go moved.Nothing u = none-above ws n level (posAt p l .word) (posAt p l .bit) small full (drop (wordsFor n) ws) sums u
+      go moved.Torn u = absurd u
 
   -- in the pointer's word, or beyond it
   from-word : (a : ℕ) → Tree a n ws → (32 ≤ clearFrom (getD ws (posAt p l .word) 0) (posAt p l .bit) → Right (beyond ws n p l a)) → Right (forwarded a ws n p l)
   from-word a tree rest = rw (forwarded-by ws n p l a) (go (ltb (posAt p l .word) (wordsFor n)) refl)
     where
       found : (b : ℕ) → clearFrom (getD ws (posAt p l .word) 0) (posAt p l .bit) ≡ b → posAt p l .word < wordsFor n → (t : Bool) → ltb b 32 ≡ t
-          → Right (pick t (next.At (withPos p l (record { word = posAt p l .word; bit = b }))) (beyond ws n p l a))
+          → Right (pick t (moved.At (withPos p l (record { word = posAt p l .word; bit = b }))) (beyond ws n p l a))
       found b e h true q =
           let s : clearFrom (getD ws (posAt p l .word) 0) (posAt p l .bit) < 32 = omega (arith, ltb-true b 32 q) in
           rw (pos-with p l (record { word = posAt p l .word; bit = b }), ← e)
@@ -146,7 +145,7 @@ module _ (ws : List ℕ) (n : ℕ) (fits : Fits ws) (p : BitPtr) (l : ℕ) (smal
       found b e h false q = rest (omega (arith, ltb-false b 32 q))
 
       go : (t : Bool) → ltb (posAt p l .word) (wordsFor n) ≡ t
-          → Right (pick t (inWord ws p l (posAt p l .word) (posAt p l .bit) (beyond ws n p l a)) next.Nothing)
+          → Right (pick t (inWord ws p l (posAt p l .word) (posAt p l .bit) (beyond ws n p l a)) moved.Nothing)
       go true e = found (clearFrom (getD ws (posAt p l .word) 0) (posAt p l .bit)) refl (ltb-true _ _ e) (ltb (clearFrom (getD ws (posAt p l .word) 0) (posAt p l .bit)) 32) refl
       go false e = past-words ws n (tree-level a n ws tree) (posAt p l .word) (posAt p l .bit) (ltb-false _ _ e)
 
@@ -176,18 +175,18 @@ right (suc a) ws n fits p l small tree =
 
 -- ---- the whole search
 
-pub searched-within : (a : ℕ) (ws : List ℕ) (n place : ℕ) → Within n (searched a ws n place)
+pub searched-within : (a : ℕ) (ws : List ℕ) (n place : ℕ) → BlockBelow n (searched a ws n place)
 unfolding searched
 searched-within a ws n place = go (forwarded a ws n (ptrTo place) 0)
   where
-    block : (k : ℕ) (t : Bool) → ltb k n ≡ t → Within n (pick t (Block k) Torn)
+    block : (k : ℕ) (t : Bool) → ltb k n ≡ t → BlockBelow n (pick t (Block k) Torn)
     block k true e = ltb-true k n e
     block k false e = tt
 
-    go : (r : Next) → Within n (blockAt n r)
-    go (next.At q) = block (indexOf (q .low)) (ltb (indexOf (q .low)) n) refl
-    go next.Nothing = tt
-    go next.Torn = tt
+    go : (r : Next) → BlockBelow n (blockAt n r)
+    go (moved.At q) = block (indexOf (q .low)) (ltb (indexOf (q .low)) n) refl
+    go moved.Nothing = tt
+    go moved.Torn = tt
 
 pub searched-scan : (a : ℕ) (ws : List ℕ) (n place : ℕ) → Fits ws → Tree a n ws → searched a ws n place ≡ nextFree (bitAt ws) n place
 unfolding searched
@@ -197,6 +196,6 @@ searched-scan a ws n place fits tree =
     (go (forwarded a ws n (ptrTo place) 0) (rw i at (right a ws n fits (ptrTo place) 0 (omega arith) tree)))
   where
     go : (r : Next) → IsNext (bitAt ws) n place (foundAt 0 r) → IsNext (bitAt ws) n place (blockAt n r)
-    go (next.At q) x = rw (lt-ltb _ _ (x .1)) x
-    go next.Nothing x = x
-    go next.Torn x = x
+    go (moved.At q) x = rw (lt-ltb _ _ (x .1)) x
+    go moved.Nothing x = x
+    go moved.Torn x = x

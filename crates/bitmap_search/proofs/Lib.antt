@@ -4,3 +4,4 @@ pub mod Pointers
 pub mod Steps
 pub mod Forward
 pub mod Moves
+pub mod Aims

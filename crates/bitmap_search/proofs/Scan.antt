@@ -1,15 +1,15 @@
 -- What the plain scan answers, as facts, and that nothing else meets them. Assumes nothing.
-use mathlib.Core.Path.{_≡_, refl, sym, ap, _∙_}
+use mathlib.Core.Path.{_≡_, refl}
 use mathlib.Core.Bool.{Bool, true, false}
 use mathlib.Core.Logic.{_⊎_, inl, inr}
-use Prim.Native.Nat.{ℕ, _+_, _-_, _≤_, _<_}
+use Prim.Native.Nat.{ℕ, _-_, _≤_, _<_}
 use native.Mathlib.Omega.{arith}
 use lib.Dec.{ltb}
 use borrow.Author.Tests.{lt-ltb, le-ltb, ltb-true, ltb-false}
 use Rattle.rules.specs.Pick.{pick}
 use Rattle.rules.proofs.Order.{le-or-lt}
 use Rattle.words.specs.Bits.{firstZero}
-use Rattle.words.proofs.FirstZero.{NoZero, FirstZero, first-zero, first-one}
+use Rattle.words.proofs.FirstZero.{NoZero, IsFirst, first-zero, first-one}
 use Rattle.bitmap_search.specs.declared.Found.{Found}
 use Rattle.bitmap_search.specs.declared.Found.the-variants.{Block, Nothing, Torn}
 use Rattle.bitmap_search.specs.Scan.{nextFree, blockBelow}
@@ -22,7 +22,7 @@ module _ (bit : ℕ → ℕ) where
   IsNext n p Torn = ⊥
 
   module _ (n p : ℕ) where
-    first : p ≤ n → FirstZero bit p n (firstZero bit (n - p) p)
+    first : p ≤ n → IsFirst bit p n (firstZero bit (n - p) p)
     first l = first-zero bit (n - p) p n (omega arith)
 
     -- a scan from past the end stays there
@@ -37,7 +37,7 @@ module _ (bit : ℕ → ℕ) where
         go : (p ≤ n) ⊎ (n < p) → IsNext n p (blockBelow n (firstZero bit (n - p) p))
         go (inl l) = by (firstZero bit (n - p) p) (first l) (ltb (firstZero bit (n - p) p) n) refl
           where
-            by : (k : ℕ) → FirstZero bit p n k → (t : Bool) → ltb k n ≡ t → IsNext n p (pick t (Block k) Nothing)
+            by : (k : ℕ) → IsFirst bit p n k → (t : Bool) → ltb k n ≡ t → IsNext n p (pick t (Block k) Nothing)
             by k f true q = let h = ltb-true k n q in (f .from, h, f .clear h, f .before)
             by k f false q = let h = ltb-false k n q in λ j a b z. f .before j a (omega (arith, f .within)) z
         go (inr l) = rw (past l, le-ltb p n (omega arith)) (λ j a b z. absurd (omega arith))

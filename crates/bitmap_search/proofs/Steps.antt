@@ -1,8 +1,7 @@
 -- The steps of the search as facts on one level of n bits, whatever n is. Assumes nothing.
-use mathlib.Core.Path.{_≡_, refl, sym, ap, _∙_}
-use mathlib.Core.Logic.{_⊎_, inl, inr}
+use mathlib.Core.Path.{_≡_, _∙_}
 use mathlib.Core.List.{List}
-use Prim.Native.Nat.{ℕ, zero, suc, _+_, _*_, _/_, _%_, _^_, _≤_, _<_}
+use Prim.Native.Nat.{ℕ, _+_, _*_, _^_, _≤_, _<_}
 use native.Mathlib.Nat.{lt-of-not-le}
 use native.Mathlib.Omega.{arith}
 use lib.ListN.{getD}
@@ -11,6 +10,7 @@ use Rattle.words.specs.Levels.{wordsFor}
 use Rattle.words.specs.Tree.{allOnes, Level, Sums}
 use Rattle.words.proofs.FirstZero.{NoZero, none-join}
 use Rattle.words.proofs.Clear.{FirstClear, clear-first, none-clear-ones}
+use Rattle.words.proofs.Word.{one-of-not-zero}
 use Rattle.words.proofs.Lists.{bit-in, at-lt, none-in-word, none-in-words}
 use Rattle.bitmap_search.specs.declared.Found.the-variants.{Block, Nothing}
 use Rattle.bitmap_search.proofs.Scan.{IsNext}
@@ -51,11 +51,7 @@ module _ (ws : List ℕ) (n : ℕ) (lv : Level n ws) where
       module _ (us : List ℕ) (sums : Sums (wordsFor n) ws us) where
         -- a summary bit that is not 0 stands for a word of ones
         ones : (j : ℕ) → j < wordsFor n → (bitAt us j ≡ 0 → ⊥) → getD ws j 0 ≡ allOnes
-        ones j h f = sums .only j h (one (bitAt us j) (at-lt us j) f)
-          where
-            one : (b : ℕ) → b < 2 → (b ≡ 0 → ⊥) → b ≡ 1
-            one zero l g = absurd (g refl)
-            one (suc b) l g = omega arith
+        ones j h f = sums .only j h (one-of-not-zero (bitAt us j) (at-lt us j) f)
 
         -- and no summary bit of a later word is 0
         pub none-above : IsNext (bitAt us) (wordsFor n) (word + 1) Nothing → IsNext (bitAt ws) n (word * 32 + bit) Nothing

@@ -7,7 +7,7 @@ ghost use Prim.Native.Nat.{_+_, _-_, _^_, _≤_, _<_};
 ghost use lib.ListN.{length};
 ghost use Rattle.words.specs.Levels.{treeWords};
 ghost use Rattle.bitmap_search.specs.Pointer.{posAt, withPos, aimed, indexOf, posOf, ptrTo};
-ghost use Rattle.bitmap_search.specs.Search.{climbed, lowered, forwarded, Searched};
+ghost use Rattle.bitmap_search.specs.Search.{climbed, lowered, forwarded, SearchPromise};
 
 // What a search for a free block finds.
 pub enum Found {
@@ -16,7 +16,7 @@ pub enum Found {
     Torn,
 }
 
-// A bit of one level: its word, and its place in the word.
+// A bit of one level: its word, and which bit of the word it is.
 pub struct BitPos {
     pub word: u32,
     pub bit: u32,
@@ -126,7 +126,7 @@ impl BitPtr {
     }
 
     // One level up, to the bit of the next word.
-    pub fn climb(self, level: u32) -> Self
+    fn climb(self, level: u32) -> Self
         requires { ⌜ (posAt self level .word + 1 < 2 ^ 32) × (level + 1 < 2 ^ 32) ⌝ }
         ensures { λ r. ⌜ r ≡ climbed self level ⌝ }
     {
@@ -135,7 +135,7 @@ impl BitPtr {
     }
 
     // One level down, to the lowest clear bit of the word that the bit stands for. Torn where there is no such word or bit.
-    pub fn descend(self, s: &[u32], words: u32, level: u32) -> Next
+    fn descend(self, s: &[u32], words: u32, level: u32) -> Next
         requires { ⌜ (words ≤ length (now s)) × (level + 1 < 2 ^ 32) ⌝ }
         requires { ⌜ indexOf (posAt self (level + 1)) < 2 ^ 32 ⌝ }
         ensures { λ r. ⌜ r ≡ lowered (now (s .entry)) words self level ⌝ }
@@ -159,7 +159,7 @@ impl BitPtr {
 
     // The next free bit of a level of n bits at or after the pointer's bit there: in its word, or by way of the levels above.
     // The slice holds this level and those above it.
-    pub fn forward(self, s: &[u32], n: u32, above: u32, level: u32) -> Next
+    fn forward(self, s: &[u32], n: u32, above: u32, level: u32) -> Next
         requires { ⌜ (treeWords above n ≤ length (now s)) × (level + above < 2 ^ 32) ⌝ }
         requires { ⌜ posAt self level .bit < 32 ⌝ }
         ensures { λ r. ⌜ r ≡ forwarded above (now (s .entry)) n self level ⌝ }
@@ -197,7 +197,7 @@ impl BitPtr {
 // level 0. Whatever it holds, a block that is found is one of the n.
 pub fn next_free(s: &[u32], n: u32, above: u32, place: u32) -> Found
     requires { ⌜ treeWords above n ≤ length (now s) ⌝ }
-    ensures { λ r. ⌜ Searched above (now (s .entry)) n place r ⌝ }
+    ensures { λ r. ⌜ SearchPromise above (now (s .entry)) n place r ⌝ }
 {
     let found = BitPtr::to(place).forward(s, n, above, 0);
     match found {

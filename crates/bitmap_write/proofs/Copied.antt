@@ -1,7 +1,7 @@
 -- Level 0 cleared, or copied from elsewhere, and the tree over it: its bits, that it is one, and its length. Assumes nothing.
 use mathlib.Core.Path.{_≡_, refl, sym, ap, ap₂, _∙_}
 use mathlib.Core.List.{List, _++_}
-use Prim.Native.Nat.{ℕ, suc, _+_, _-_, _/_, _%_, _≤_, _<_}
+use Prim.Native.Nat.{ℕ, suc, _+_, _/_, _%_, _≤_, _<_}
 use native.Mathlib.Nat.{zero-add}
 use native.Mathlib.Numerals.{add-one}
 use native.Mathlib.Omega.{arith}
@@ -13,7 +13,7 @@ use Rattle.words.specs.Tree.{Tree}
 use Rattle.words.proofs.Word.{bit-zero}
 use Rattle.words.proofs.Lists.{bit-split, bits-same}
 use Rattle.words.proofs.Trees.{words-in}
-use Rattle.bitmap_write.specs.Ready.{completed, cleared, copied, fresh, adopted}
+use Rattle.bitmap_write.specs.Ready.{cleared, copied, fresh, adopted}
 use Rattle.bitmap_write.proofs.Ready.{completed-tree, completed-bit, length-completed}
 
 -- ---- cleared

@@ -4,3 +4,4 @@ pub mod Summed
 pub mod Rebuilt
 pub mod Ready
 pub mod Copied
+pub mod Local

@@ -1,13 +1,12 @@
 -- Laws of bits packed into words, and of the bits above a level's words. Assumes nothing.
-use mathlib.Core.Path.{_≡_, refl, sym, ap, _∙_, subst}
+use mathlib.Core.Path.{_≡_, refl, sym, ap, _∙_}
 use mathlib.Core.Bool.{Bool, true, false}
-use mathlib.Core.List.{List, [], _∷_}
+use mathlib.Core.List.{List}
 use Prim.Native.Nat.{ℕ, zero, suc, _+_, _-_, _*_, _/_, _%_, _^_, _≤_, _<_}
-use native.Mathlib.Nat.{pow-suc, not-suc-le-zero, lt-of-lt-of-le}
+use native.Mathlib.Nat.{pow-suc, not-suc-le-zero}
 use native.Mathlib.Omega.{arith}
 use lib.Dec.{ltb, eqb}
 use lib.ListN.{length, getD}
-use lib.Pow.{pow-mono}
 use borrow.Author.Tests.{lt-ltb, le-ltb, eq-eqb, eqb-true, ltb-true}
 use Rattle.rules.specs.Pick.{pick}
 use Rattle.words.specs.Bits.{bitOf, bitAt}
@@ -107,3 +106,8 @@ pub word-same : (bit cit : ℕ → ℕ) → ((k : ℕ) → bit k ≡ cit k) → 
 unfolding wordFrom
 word-same bit cit f zero k = refl
 word-same bit cit f (suc c) k = rw (word-same bit cit f c (suc k), f k)
+
+pub packed-same : (bit cit : ℕ → ℕ) → ((k : ℕ) → bit k ≡ cit k) → (c j : ℕ) → packed bit c j ≡ packed cit c j
+unfolding packed
+packed-same bit cit f zero j = refl
+packed-same bit cit f (suc c) j = rw (word-same bit cit f 32 (j * 32), packed-same bit cit f c (suc j))

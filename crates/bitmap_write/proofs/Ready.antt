@@ -1,23 +1,22 @@
--- A level made a tree: what its bits are, that it is one, and that nothing else changed. Assumes nothing.
-use mathlib.Core.Path.{_≡_, refl, sym, ap, _∙_}
+-- A level made a tree: what its bits are, and that it is one. Assumes nothing.
+use mathlib.Core.Path.{_≡_, sym, ap, _∙_}
 use mathlib.Core.Logic.{_⊎_, inl, inr}
-use mathlib.Core.List.{List, _++_}
-use Prim.Native.Nat.{ℕ, zero, suc, _+_, _-_, _*_, _/_, _%_, _^_, _≤_, _<_, max}
+use mathlib.Core.List.{List}
+use Prim.Native.Nat.{ℕ, _-_, _*_, _/_, _%_, _^_, _≤_, _<_, max}
 use native.Mathlib.Omega.{arith}
 use lib.Bits.{bitOr}
-use lib.ListN.{length, getD, set, take, drop, replicate, length-set, length-append, length-drop, length-replicate, getD-replicate, List·getD-append}
-use lib.Seq.{getD-set-same, getD-set-other, getD-take, length-take-le}
+use lib.ListN.{length, getD, set, length-set}
+use lib.Seq.{getD-set-same, getD-set-other}
 use borrow.Author.Tests.{eq-eqb, ne-eqb}
 use Rattle.rules.proofs.Order.{same-or-not}
 use Rattle.words.specs.Bits.{bitOf, bitAt}
 use Rattle.words.specs.Levels.{wordsFor, treeWords, Height}
 use Rattle.words.specs.Tree.{Level, Tree}
-use Rattle.words.proofs.Word.{bit-lt, bit-zero, ones-at, ones-below, or-bit}
+use Rattle.words.proofs.Word.{bit-lt, ones-at, ones-below, or-bit}
 use Rattle.words.proofs.Lists.{bit-split, bits-same}
-use Rattle.words.proofs.Trees.{words-in}
-use Rattle.bitmap_write.specs.Rebuild.{rebuilt}
-use Rattle.bitmap_write.specs.Ready.{padded, completed, cleared, copied, fresh, adopted}
-use Rattle.bitmap_write.proofs.Rebuilt.{level-kept, length-rebuilt, rebuilt-tree, rest-kept}
+use Rattle.words.proofs.Trees.{words-in, part-word}
+use Rattle.bitmap_write.specs.Ready.{padded, completed}
+use Rattle.bitmap_write.proofs.Rebuilt.{level-kept, length-rebuilt, rebuilt-tree}
 
 -- ---- padding
 
@@ -28,14 +27,6 @@ padded-whole n ws e = rw (eq-eqb (n % 32) 0 e)
 pub padded-part : (n : ℕ) (ws : List ℕ) → (n % 32 ≡ 0 → ⊥) → set ws (n / 32) (bitOr (getD ws (n / 32) 0) (2 ^ 32 - 2 ^ (n % 32))) ≡ padded n ws
 unfolding padded
 padded-part n ws f = rw (ne-eqb (n % 32) 0 f)
-
--- the last word is there, where the level has a part of one
-in-words : (n : ℕ) → (n % 32 ≡ 0 → ⊥) → n / 32 < wordsFor n
-in-words n f = go (n % 32) refl
-  where
-    go : (r : ℕ) → n % 32 ≡ r → n / 32 < wordsFor n
-    go zero q = absurd (f q)
-    go (suc r) q = omega arith
 
 pub length-padded : (n : ℕ) (ws : List ℕ) → length (padded n ws) ≡ length ws
 length-padded n ws = go (same-or-not (n % 32) 0)
@@ -60,7 +51,7 @@ module _ (n : ℕ) (ws : List ℕ) (room : wordsFor n ≤ length ws) where
       bit-split (padded n ws) k
       ∙ ap (λ (x : ℕ). bitOf (getD (padded n ws) x 0) (k % 32)) e
       ∙ ap (λ (l : List ℕ). bitOf (getD l (n / 32) 0) (k % 32)) (sym (padded-part n ws f))
-      ∙ ap (λ (x : ℕ). bitOf x (k % 32)) (getD-set-same ws (n / 32) (bitOr (getD ws (n / 32) 0) (2 ^ 32 - 2 ^ (n % 32))) 0 (omega (arith, in-words n f)))
+      ∙ ap (λ (x : ℕ). bitOf x (k % 32)) (getD-set-same ws (n / 32) (bitOr (getD ws (n / 32) 0) (2 ^ 32 - 2 ^ (n % 32))) 0 (omega (arith, part-word n f)))
       ∙ or-bit (getD ws (n / 32) 0) (2 ^ 32 - 2 ^ (n % 32)) (k % 32)
 
   -- a bit of the level is as it was
@@ -83,7 +74,7 @@ module _ (n : ℕ) (ws : List ℕ) (room : wordsFor n ≤ length ws) where
       go : (k : ℕ) → n ≤ k → k < wordsFor n * 32 → (n % 32 ≡ 0) ⊎ (n % 32 ≡ 0 → ⊥) → bitAt (padded n ws) k ≡ 1
       go k l h (inl e) = absurd (omega arith)
       go k l h (inr f) =
-          let q : k / 32 ≡ n / 32 = same k l h (in-words n f) in
+          let q : k / 32 ≡ n / 32 = same k l h (part-word n f) in
           let o : bitOf (2 ^ 32 - 2 ^ (n % 32)) (k % 32) ≡ 1 = ones-at (n % 32) (k % 32) (omega arith) (omega arith) (omega arith) in
           last-word f k q ∙ omega (arith, bit-lt (getD ws (n / 32) 0) (k % 32))
 

@@ -1,21 +1,21 @@
 -- The levels above, written anew: what stands where, and that they make a bitmap tree. Assumes nothing.
-use mathlib.Core.Path.{_≡_, refl, sym, ap, _∙_, subst}
-use mathlib.Core.List.{List, [], _∷_, _++_, append-nil}
-use Prim.Native.Nat.{ℕ, zero, suc, _+_, _-_, _*_, _/_, _%_, _^_, _≤_, _<_}
+use mathlib.Core.Path.{_≡_, refl, sym, ap, _∙_}
+use mathlib.Core.List.{List, _++_}
+use Prim.Native.Nat.{ℕ, zero, suc, _+_, _-_, _*_, _/_, _≤_, _<_}
 use native.Mathlib.Nat.{not-suc-le-zero}
 use native.Mathlib.Numerals.{sub-one}
 use native.Mathlib.Omega.{arith}
-use lib.ListN.{length, getD, take, drop, List·getD-append, length-append, length-drop, drop-of-length-le}
+use lib.ListN.{length, getD, take, drop, List·getD-append, length-append, length-drop}
 use lib.Seq.{length-take-le, getD-take, drop-at, drop-drop, drop-append-add}
 use Rattle.rules.proofs.Parts.{tail-part, put-tail}
 use Rattle.words.specs.Levels.{wordsFor, treeWords, Height}
 use Rattle.words.specs.Bits.{bitAt}
-use Rattle.words.specs.Tree.{Level, Sums, Tree}
+use Rattle.words.specs.Tree.{Level, Tree}
 use Rattle.bitmap_write.specs.Rebuild.{packed, fullBit, summed, rebuilt}
 use Rattle.words.proofs.Lists.{bits-same}
 use Rattle.words.proofs.Trees.{words-in}
-use Rattle.bitmap_write.proofs.Packed.{full-in, full-only, full-past, full-lt, packed-bit, length-packed}
-use Rattle.bitmap_write.proofs.Summed.{upper, length-upper, length-summed, drop-summed, take-summed}
+use Rattle.bitmap_write.proofs.Packed.{full-in, full-only, full-past, full-lt, packed-bit}
+use Rattle.bitmap_write.proofs.Summed.{length-upper, length-summed, drop-summed, take-summed}
 
 pub rebuilt-none : (a n : ℕ) (ws : List ℕ) → a ≡ 0 → rebuilt a n ws ≡ ws
 unfolding rebuilt
@@ -80,11 +80,11 @@ length-rebuilt (suc a) n ws room =
 -- the levels written anew make a bitmap tree
 pub rebuilt-tree : (a n : ℕ) (ws : List ℕ) → Height a n → Level n ws → treeWords a n ≤ length ws → Tree a n (rebuilt a n ws)
 unfolding Tree rebuilt
-rebuilt-tree zero n ws height lv room = (lv, height)
-rebuilt-tree (suc a) n ws height lv room =
+rebuilt-tree zero n ws levels-end lv room = (lv, levels-end)
+rebuilt-tree (suc a) n ws levels-end lv room =
     let inside : wordsFor n + wordsFor (wordsFor n) ≤ length ws = omega (arith, words-in a (wordsFor n)) in
     let fits : treeWords a (wordsFor n) ≤ length (drop (wordsFor n) (summed ws (wordsFor n))) = omega (arith, length-behind (wordsFor n) ws inside) in
-    let rest = rebuilt-tree a (wordsFor n) (drop (wordsFor n) (summed ws (wordsFor n))) height (level-behind (wordsFor n) ws inside) fits in
+    let rest = rebuilt-tree a (wordsFor n) (drop (wordsFor n) (summed ws (wordsFor n))) levels-end (level-behind (wordsFor n) ws inside) fits in
     let split : drop (wordsFor n) (rebuilt (suc a) n ws) ≡ rebuilt a (wordsFor n) (drop (wordsFor n) (summed ws (wordsFor n))) =
     drop-at (take (wordsFor n) ws) (rebuilt a (wordsFor n) (drop (wordsFor n) (summed ws (wordsFor n)))) (wordsFor n) (length-take-le (wordsFor n) ws (omega arith)) in
     let above : (j : ℕ) → j < wordsFor n → bitAt (drop (wordsFor n) (rebuilt (suc a) n ws)) j ≡ fullBit ws (wordsFor n) j =

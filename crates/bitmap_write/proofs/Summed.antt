@@ -1,10 +1,10 @@
 -- The level above a level's words, as it is written behind them word by word. Assumes nothing.
-use mathlib.Core.Path.{_≡_, refl, sym, ap, _∙_, subst}
-use mathlib.Core.List.{List, [], _∷_, _++_, append-assoc}
-use Prim.Native.Nat.{ℕ, zero, suc, _+_, _-_, _*_, _/_, _%_, _^_, _≤_, _<_}
+use mathlib.Core.Path.{_≡_, refl, sym, ap, _∙_}
+use mathlib.Core.List.{List, _++_, append-assoc}
+use Prim.Native.Nat.{ℕ, _+_, _*_, _≤_, _<_}
 use native.Mathlib.Numerals.{add-one}
 use native.Mathlib.Omega.{arith}
-use lib.ListN.{length, getD, set, take, drop, List·getD-append, length-append, length-drop}
+use lib.ListN.{length, getD, set, take, drop, List·getD-append}
 use lib.Seq.{paste, paste-suc, length-paste, length-paste-head, length-take-le, getD-take, take-length, take-at, drop-at}
 use Rattle.words.specs.Levels.{wordsFor}
 use Rattle.bitmap_write.specs.Rebuild.{wordFrom, packed, fullBit, summed}

@@ -101,7 +101,7 @@ pub fn clear_words(s: &mut [u32], m: u32)
     }
 }
 
-// The m words from a place on become the first m words too.
+// The m words from an index on become the first m words too.
 fn copy_words(s: &mut [u32], from: usize, m: u32)
     requires { ⌜ (m ≤ from) × (from + m ≤ length (now s)) ⌝ }
     ensures { λ _. ⌜ now (s .exit) ≡ copied m (drop from (now (s .entry))) (now (s .entry)) ⌝ }
@@ -126,12 +126,12 @@ pub fn make_fresh(s: &mut [u32], n: u32, above: u32)
     complete(s, n, above);
 }
 
-// A tree whose level 0 is the n mark bits that stand in the same slice from a place behind the tree on.
-pub fn adopt(s: &mut [u32], marks: usize, n: u32, above: u32)
-    requires { ⌜ (treeWords above n ≤ marks) × (marks + wordsFor n ≤ length (now s)) ⌝ }
-    ensures { λ _. ⌜ now (s .exit) ≡ adopted above n (drop marks (now (s .entry))) (now (s .entry)) ⌝ }
+// A tree whose level 0 is the n mark bits that stand in the same slice behind the tree, from a word of it on.
+pub fn adopt(s: &mut [u32], marks_at: usize, n: u32, above: u32)
+    requires { ⌜ (treeWords above n ≤ «marks_at») × («marks_at» + wordsFor n ≤ length (now s)) ⌝ }
+    ensures { λ _. ⌜ now (s .exit) ≡ adopted above n (drop «marks_at» (now (s .entry))) (now (s .entry)) ⌝ }
 {
     let words = words_for(n);
-    copy_words(s, marks, words);
+    copy_words(s, marks_at, words);
     complete(s, n, above);
 }

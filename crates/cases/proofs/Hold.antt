@@ -1,27 +1,34 @@
 -- Every row of the table holds, by computing the definitions. Assumes nothing.
 use mathlib.Core.Path.{_≡_, refl}
-use mathlib.Core.List.{List, [], _∷_}
-use Prim.Native.Nat.{ℕ, _-_, _^_, _≤_}
-use native.Mathlib.Omega.{arith}
+use mathlib.Core.List.{List}
+use Prim.Native.Nat.{ℕ}
+use lib.Dec.{T, leb, leb→le}
 use lib.ListN.{length}
 use Rattle.words.specs.Bits.{bitOf, bitAt, clearFrom}
 use Rattle.words.specs.Levels.{treeWords}
-use Rattle.words.specs.Tree.{Tree}
-use Rattle.classes.specs.Shape.{blocksIn}
+use Rattle.classes.specs.Shape.{blocksIn, shapeFor, shapeOf}
+use Rattle.classes.specs.declared.ClassShape.the-variants.{Of}
+use Rattle.bitmap_search.specs.declared.Found.{Found}
 use Rattle.classes.proofs.Shapes.{blocks-most, shape-height}
 use Rattle.bitmap_search.specs.Scan.{nextFree}
-use Rattle.bitmap_search.specs.Search.{climbed, lowered, forwarded, searched}
+use Rattle.bitmap_search.specs.Search.{lowered, forwarded, searched}
 use Rattle.bitmap_write.specs.Rebuild.{rebuilt}
 use Rattle.bitmap_write.specs.Ready.{completed, padded}
 use Rattle.bitmap_write.proofs.Ready.{completed-tree}
-use Rattle.cases.specs.Rows.{rows, above, tree, All}
+use Rattle.cases.specs.Rows.{rows, above, treeOf, BlockHolds, All}
 
-consistent : (class : ℕ) (bits : List ℕ) → treeWords (above class) (blocksIn class) ≤ length bits → Tree (above class) (blocksIn class) (tree class bits)
-consistent class bits room = completed-tree (above class) (blocksIn class) bits room (shape-height (blocksIn class) (blocks-most class))
+-- a block row from what is computed
+row : {class : ℕ} {bits : List ℕ} {place : ℕ} {found : Found} → T (leb (treeWords (above class) (blocksIn class)) (length bits))
+    → shapeOf class ≡ Of (shapeFor (blocksIn class)) → searched (above class) (treeOf class bits) (blocksIn class) place ≡ found
+    → nextFree (bitAt (treeOf class bits)) (blocksIn class) place ≡ found → BlockHolds class bits place found
+row {class} {bits} room is search scan = record {
+  class-is = is;
+  consistent = completed-tree (above class) (blocksIn class) bits (leb→le _ _ room) (shape-height (blocksIn class) (blocks-most class));
+  search = search;
+  scan = scan;
+}
 
 pub all-hold : All rows
 unfolding bitOf bitAt clearFrom nextFree lowered forwarded searched rebuilt completed padded
 all-hold =
-    let nine = consistent 9 ((2 ^ 31 - 1) ∷ []) (omega arith) in
-    let ten = consistent 10 (0 ∷ []) (omega arith) in
-    (refl, (refl, (refl, (refl, (refl, (refl, (refl, (refl, (refl, ((nine, refl, refl), ((nine, refl, refl), ((ten, refl, refl), tt))))))))))))
+    (refl, (refl, (refl, (refl, (refl, (refl, (refl, (refl, (refl, (row tt refl refl refl, (row tt refl refl refl, (row tt refl refl refl, tt))))))))))))

@@ -6,7 +6,8 @@ use Prim.Native.Nat.{ℕ, _-_, _^_}
 use Rattle.words.specs.Bits.{bitAt}
 use Rattle.words.specs.Tree.{Tree}
 use Rattle.classes.specs.Class.{Outcome, value, refusal, outcomeOf, classOf}
-use Rattle.classes.specs.Shape.{blocksIn, shapeFor}
+use Rattle.classes.specs.Shape.{blocksIn, shapeFor, shapeOf}
+use Rattle.classes.specs.declared.ClassShape.the-variants.{Of}
 use Rattle.bitmap_search.specs.declared.Found.{Found}
 use Rattle.bitmap_search.specs.declared.Found.the-variants.{Block, Nothing}
 use Rattle.bitmap_search.specs.Scan.{nextFree}
@@ -15,30 +16,33 @@ use Rattle.bitmap_write.specs.Ready.{completed}
 
 -- a row: a number of fields and the class finder's answer; or a class, the bits of its blocks in words, a place, and what is found
 pub data Row : Type 0 where
-  fields : ℕ → Outcome → Row
-  block : (class : ℕ) (bits : List ℕ) (place : ℕ) → Found → Row
+  fieldsRow : ℕ → Outcome → Row
+  blockRow : (class : ℕ) (bits : List ℕ) (place : ℕ) → Found → Row
 
 abbrev pub rows : List Row
 rows =
-    fields 0 (value 3) ∷ fields 1 (value 3) ∷ fields 2 (value 4) ∷ fields 3 (value 4) ∷ fields 4 (value 5) ∷ fields 511 (value 11)
-    ∷ fields 512 (value 12) ∷ fields 1023 (value 12) ∷ fields 1024 (refusal 9)
-    ∷ block 9 ((2 ^ 31 - 1) ∷ []) 0 (Block 31) ∷ block 9 ((2 ^ 31 - 1) ∷ []) 32 Nothing ∷ block 10 (0 ∷ []) 16 Nothing
+    fieldsRow 0 (value 3) ∷ fieldsRow 1 (value 3) ∷ fieldsRow 2 (value 4) ∷ fieldsRow 3 (value 4) ∷ fieldsRow 4 (value 5) ∷ fieldsRow 511 (value 11)
+    ∷ fieldsRow 512 (value 12) ∷ fieldsRow 1023 (value 12) ∷ fieldsRow 1024 (refusal 9)
+    ∷ blockRow 9 ((2 ^ 31 - 1) ∷ []) 0 (Block 31) ∷ blockRow 9 ((2 ^ 31 - 1) ∷ []) 32 Nothing ∷ blockRow 10 (0 ∷ []) 16 Nothing
     ∷ []
 
 -- the levels above level 0 of a class's bitmap, and the tree over its blocks' bits
 abbrev pub above : ℕ → ℕ
 above class = shapeFor (blocksIn class) .levels - 1
 
-abbrev pub tree : ℕ → List ℕ → List ℕ
-tree class bits = completed (above class) (blocksIn class) bits
+abbrev pub treeOf : ℕ → List ℕ → List ℕ
+treeOf class bits = completed (above class) (blocksIn class) bits
 
--- a row holds: the answer is the class finder's; or the words are a consistent tree, and the search finds it, as a plain scan does
+-- a block row: there is such a class, the words are a consistent tree, and the search finds what a plain scan does
+pub record BlockHolds (class : ℕ) (bits : List ℕ) (place : ℕ) (found : Found) : Type 0 where
+  pub class-is : shapeOf class ≡ Of (shapeFor (blocksIn class))
+  pub consistent : Tree (above class) (blocksIn class) (treeOf class bits)
+  pub search : searched (above class) (treeOf class bits) (blocksIn class) place ≡ found
+  pub scan : nextFree (bitAt (treeOf class bits)) (blocksIn class) place ≡ found
+
 abbrev pub Holds : Row → Type 0
-Holds (fields n answer) = outcomeOf (classOf n) ≡ answer
-Holds (block class bits place found) =
-    Tree (above class) (blocksIn class) (tree class bits)
-    × (searched (above class) (tree class bits) (blocksIn class) place ≡ found)
-    × (nextFree (bitAt (tree class bits)) (blocksIn class) place ≡ found)
+Holds (fieldsRow n answer) = outcomeOf (classOf n) ≡ answer
+Holds (blockRow class bits place found) = BlockHolds class bits place found
 
 abbrev pub All : List Row → Type 0
 All [] = Unit

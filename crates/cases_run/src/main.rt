@@ -1,13 +1,19 @@
 // Further cases of the class finder, the class shapes, the search, the rebuild and the check, printed a line each. The expected
-// output was worked out by hand from document 01's tables and rules.
+// output comes from a reckoning by plain lists of bits and document 01's tables.
 use bitmap_search::Found;
 use classes::ClassShape;
 use classes::SizeClass;
 ghost use mathlib.Core.Path.{_≡_};
-ghost use Prim.Native.Nat.{_+_, _≤_};
+ghost use Prim.Native.Nat.{_+_, _≤_, _<_};
 ghost use lib.ListN.{length};
 ghost use Rattle.words.specs.Levels.{wordsFor, treeWords};
-ghost use Rattle.classes.specs.Shape.{bitmapWords};
+ghost use Rattle.classes.specs.Class.{firstClass};
+ghost use Rattle.classes.specs.Shape.{blocksIn, bitmapWords};
+
+// The word at which the mark words begin, behind the longest bitmap, and at which level 1 of that bitmap begins.
+const MARKS: u32 = 67;
+
+const LEVEL1: u32 = 64;
 
 fn word(text: &[u8]) {
     io::write_all(1, text);
@@ -117,10 +123,10 @@ fn adopt(s: &mut [u32], class: u32)
     requires { ⌜ bitmapWords + bitmapWords ≤ length (now s) ⌝ }
 {
     let space = space_of(class);
-    bitmap_write::adopt(s, 67, space.blocks, space.above);
+    bitmap_write::adopt(s, MARKS as usize, space.blocks, space.above);
 }
 
-// The classes of records, at both ends of each class.
+// The class of the smallest and the largest record of each class, and none past the last.
 fn class_cases() {
     class_line(0);
     class_line(1);
@@ -131,9 +137,14 @@ fn class_cases() {
     class_line(8);
     class_line(15);
     class_line(16);
+    class_line(31);
+    class_line(32);
+    class_line(63);
+    class_line(64);
+    class_line(127);
+    class_line(128);
     class_line(255);
     class_line(256);
-    class_line(510);
     class_line(511);
     class_line(512);
     class_line(1023);
@@ -161,7 +172,7 @@ fn shape_cases() {
     shape_line(4294967295);
 }
 
-// A fresh tree of the first class: every place from which something is free, and none past the end.
+// A fresh tree of the first class: the first and the last block, the ends of a word, and places past the end.
 fn fresh_cases(s: &mut [u32])
     requires { ⌜ bitmapWords ≤ length (now s) ⌝ }
 {
@@ -173,7 +184,6 @@ fn fresh_cases(s: &mut [u32])
     search_line(s, 3, 2047);
     search_line(s, 3, 2048);
     search_line(s, 3, 4294967295);
-    search_line(s, 13, 0);
 }
 
 // Every bit set.
@@ -185,13 +195,20 @@ fn fill(s: &mut [u32]) {
     }
 }
 
-// All blocks of the first class marked but block 1000: found from each word before it, and by way of two levels.
-fn marked_cases(s: &mut [u32])
-    requires { ⌜ bitmapWords + bitmapWords ≤ length (now s) ⌝ }
+// A tree of the first class with every block marked but one.
+fn all_but(s: &mut [u32], block: u32)
+    requires { ⌜ (bitmapWords + bitmapWords ≤ length (now s)) × (block < blocksIn firstClass) ⌝ }
 {
     fill(s);
-    words::clear_bit(s, 3144);
+    words::clear_bit(s, MARKS * 32 + block);
     adopt(s, 3);
+}
+
+// The free block is found in its own word and by way of one level.
+fn near_cases(s: &mut [u32])
+    requires { ⌜ bitmapWords + bitmapWords ≤ length (now s) ⌝ }
+{
+    all_but(s, 1000);
     check_line(s, 3);
     search_line(s, 3, 0);
     search_line(s, 3, 992);
@@ -200,14 +217,26 @@ fn marked_cases(s: &mut [u32])
     search_line(s, 3, 2047);
 }
 
-// A summary bit that lies: word 5 of level 0 is full, and its bit at level 1 says that it is not.
+// The free block is found by way of two levels.
+fn far_cases(s: &mut [u32])
+    requires { ⌜ bitmapWords + bitmapWords ≤ length (now s) ⌝ }
+{
+    all_but(s, 1500);
+    check_line(s, 3);
+    search_line(s, 3, 0);
+    search_line(s, 3, 1024);
+    search_line(s, 3, 1501);
+}
+
+// A summary bit that lies: word 5 of level 0 is full, and its bit at level 1 says that it is not. From word 46 on the search does
+// not meet it.
 fn torn_cases(s: &mut [u32])
     requires { ⌜ bitmapWords ≤ length (now s) ⌝ }
 {
-    words::clear_bit(s, 2053);
+    words::clear_bit(s, LEVEL1 * 32 + 5);
     check_line(s, 3);
     search_line(s, 3, 0);
-    search_line(s, 3, 992);
+    search_line(s, 3, 1472);
 }
 
 // A level of half a word: its bits past the end are 1, and are no blocks.
@@ -230,7 +259,8 @@ fn main() {
     class_cases();
     shape_cases();
     fresh_cases(&mut s);
-    marked_cases(&mut s);
+    near_cases(&mut s);
+    far_cases(&mut s);
     torn_cases(&mut s);
     short_cases(&mut s);
 }

@@ -1,8 +1,8 @@
 -- What holds of every class's shape: its blocks are within what three levels hold, its levels end in one word, and its bitmap
 -- is no longer than the longest. Assumes nothing.
-use mathlib.Core.Path.{_≡_, refl, sym, _∙_}
+use mathlib.Core.Path.{_≡_, refl}
 use mathlib.Core.Bool.{Bool, true, false}
-use Prim.Native.Nat.{ℕ, _+_, _-_, _/_, _^_, _≤_, _<_}
+use Prim.Native.Nat.{ℕ, _+_, _-_, _^_, _≤_, _<_}
 use native.Mathlib.Nat.{le-trans, div-le-self}
 use native.Mathlib.Omega.{arith}
 use lib.Dec.{leb, ltb, leb→le}
@@ -11,9 +11,8 @@ use borrow.Author.Tests.{ltb-true, ltb-false}
 use Rattle.rules.specs.Pick.{pick}
 use Rattle.rules.proofs.Table.{at}
 use Rattle.words.specs.Levels.{Height, treeWords}
-use Rattle.words.proofs.Trees.{levels-pos, levels-le, height}
+use Rattle.words.proofs.Trees.{levels-pos, levels-le, levels-end}
 use Rattle.classes.specs.declared.Shape.{Shape}
-use Rattle.classes.specs.declared.ClassShape.{ClassShape}
 use Rattle.classes.specs.declared.ClassShape.the-variants.{Of, NoClass}
 use Rattle.classes.specs.Class.{firstClass, classCount}
 use Rattle.classes.specs.Shape.{segmentBytes, blocksIn, mostLevels, shapeFor, bitmapWords, shapeOf}
@@ -30,7 +29,7 @@ pub shape-levels-most : (n : ℕ) → shapeFor n .levels ≤ mostLevels
 shape-levels-most n = levels-le mostLevels n
 
 pub shape-height : (n : ℕ) → n ≤ 32 ^ mostLevels → Height (shapeFor n .levels - 1) n
-shape-height n h = height (mostLevels - 1) n h
+shape-height n h = levels-end (mostLevels - 1) n h
 
 -- the shape that is found is that of the class's blocks, and there is such a class
 pub record IsShape (c : ℕ) (x : Shape) : Type 0 where

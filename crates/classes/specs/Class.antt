@@ -1,6 +1,6 @@
 -- The size class of a record. Document 01: "Class c, 3 to 12, has blocks of 2^c bytes. A record's class is the smallest whose
 -- block holds 1 + P + N words", and "P + N at most 1,023"; and the number that document 01 gives each answer.
-use Prim.Native.Nat.{ℕ, zero, suc, _+_, _*_, _^_}
+use Prim.Native.Nat.{ℕ, zero, suc, _+_, _-_, _*_, _/_, _^_}
 use lib.Dec.{leb}
 use Rattle.rules.specs.Pick.{pick}
 use Rattle.classes.specs.declared.SizeClass.{SizeClass}
@@ -16,6 +16,10 @@ classCount = 10
 -- a word has 32 bits
 abbrev pub wordBytes : ℕ
 wordBytes = 4
+
+-- the most fields that a block of the largest class holds: "P + N at most 1,023"
+abbrev pub maxFields : ℕ
+maxFields = 2 ^ (firstClass + classCount - 1) / wordBytes - 1
 
 -- the smallest of the n classes from c on whose block of 2 ^ c bytes holds b bytes
 abbrev pub smallestFrom : ℕ → ℕ → ℕ → SizeClass

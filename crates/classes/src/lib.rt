@@ -1127,7 +1127,7 @@ const SHAPES: [Shape; 10] = [
     },
 ];
 
-// The class of a record of so many pointer and data fields together.
+// The class of a record of so many pointer and data fields (document 01: links and numbers) together.
 pub fn class_of(fields: u32) -> SizeClass
     ensures { λ r. ⌜ r ≡ classOf fields ⌝ }
 {

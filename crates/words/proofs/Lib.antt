@@ -5,3 +5,4 @@ pub mod Clear
 pub mod Lists
 pub mod Ones
 pub mod Trees
+pub mod Local

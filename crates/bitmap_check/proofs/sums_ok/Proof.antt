@@ -4,13 +4,13 @@ use native.Mathlib.Omega.{arith}
 use borrow.Author.Count.{below-more, below-none}
 use borrow.Author.Tests.{not-true, not-false}
 use Rattle.rules.proofs.Deciding.{holds, fails, refuted}
-use Rattle.bitmap_check.specs.Agree.{Agree}
+use Rattle.bitmap_check.specs.Agree.{SummaryAgrees}
 use Rattle.bitmap_check.proofs.Examine.{all-agree, one-agrees}
 use Rattle.bitmap_check.proofs.sums_ok.Tie as tie
 use Rattle.bitmap_check.proofs.sums_ok.Statement.{statement}
 
 abbrev Inv-loop : tie.InvT-loop
-Inv-loop s m j₀ j = (j ≤ m) × ((k : ℕ) → k < j → Agree s m k)
+Inv-loop s m j₀ j = (j ≤ m) × ((k : ℕ) → k < j → SummaryAgrees s m k)
 
 abbrev μ-loop : tie.MeasureT-loop
 μ-loop s m j₀ j = m - j

@@ -8,16 +8,16 @@ use Rattle.bitmap_search.specs.declared.Next.{Next}
 use Rattle.bitmap_search.specs.declared.Found.{Found}
 use Rattle.bitmap_search.specs.declared.Found.the-variants.{Block, Nothing, Torn}
 use Rattle.bitmap_search.specs.Pointer.{indexOf}
-use Rattle.bitmap_search.specs.Search.{blockAt, Searched}
+use Rattle.bitmap_search.specs.Search.{blockAt, SearchPromise}
 use Rattle.bitmap_search.proofs.Moves.{handed-bound, answered, promised}
-use Rattle.bitmap_search.specs.declared.Next.the-variants as next
+use Rattle.bitmap_search.specs.declared.Next.the-variants as moved
 use Rattle.bitmap_search.proofs.next_free.Tie as tie
 use Rattle.bitmap_search.proofs.next_free.Statement.{statement}
 
 module _ (c : tie.After-forward) where
   -- an answer that the pointer's way leads to keeps the promise
   promise : (x : Next) (r : Found) → c .forward .result ≡ x → r ≡ blockAt (c .before .before .before .args .n) x
-      → Searched (c .before .before .before .args .above) (c .before .before .before .args .s .now) (c .before .before .before .args .n) (c .before .before .before .args .place) r
+      → SearchPromise (c .before .before .before .args .above) (c .before .before .before .args .s .now) (c .before .before .before .args .n) (c .before .before .before .args .place) r
   promise x r e f =
       let a = c .before .before .before .args in
       promised (a .above) (a .s .now) (a .n) (a .place) r (λ i. omega (arith, c .before .before .shared-slice-known .given i))
@@ -53,18 +53,18 @@ enum-told-2 c = search needs
 returns : tie.Need-returns
 returns c =
     let e = c .before .index .ensures ∙ ap indexOf (c .before .before .at .ensures) in
-    promise (c .before .before .before .before .before .before) (next.At (c .before .before .before .before .found .given .0 .0)) (Block (c .before .index .result)) (c .before .before .before .before .found .given .1) (rw (← e, lt-ltb _ _ (c .if1 .taken)))
+    promise (c .before .before .before .before .before .before) (moved.At (c .before .before .before .before .found .given .0 .0)) (Block (c .before .index .result)) (c .before .before .before .before .found .given .1) (rw (← e, lt-ltb _ _ (c .if1 .taken)))
 
 returns-2 : tie.Need-returns-2
 returns-2 c =
     let e = c .before .index .ensures ∙ ap indexOf (c .before .before .at .ensures) in
-    promise (c .before .before .before .before .before .before) (next.At (c .before .before .before .before .found .given .0 .0)) Torn (c .before .before .before .before .found .given .1) (rw (← e, le-ltb _ _ (c .if1 .left)))
+    promise (c .before .before .before .before .before .before) (moved.At (c .before .before .before .before .found .given .0 .0)) Torn (c .before .before .before .before .found .given .1) (rw (← e, le-ltb _ _ (c .if1 .left)))
 
 returns-3 : tie.Need-returns-3
-returns-3 c = promise (c .before .before) next.Nothing Nothing (c .enum-told .given .1) refl
+returns-3 c = promise (c .before .before) moved.Nothing Nothing (c .enum-told .given .1) refl
 
 returns-4 : tie.Need-returns-4
-returns-4 c = promise (c .before .before) next.Torn Torn (c .enum-told2 .given .1) refl
+returns-4 c = promise (c .before .before) moved.Torn Torn (c .enum-told2 .given .1) refl
 
 pub next-free-spec : {M : Type 1} → statement M
 next-free-spec =

@@ -28,7 +28,7 @@ returns : tie.Need-returns
 unfolding adopted
 returns c =
     let a = c .before .before .before .before .before .before .before .before .before .before .args in
-    c .before .before .complete .ensures ∙ ap (λ (l : List ℕ). completed (a .above) (a .n) l) (c .before .before .before .before .before .before .copy-words .ensures ∙ ap (λ (m : ℕ). copied m (drop (a .marks) (a .s .now)) (a .s .now)) (c .before .before .before .before .before .before .before .before .words-for .ensures))
+    c .before .before .complete .ensures ∙ ap (λ (l : List ℕ). completed (a .above) (a .n) l) (c .before .before .before .before .before .before .copy-words .ensures ∙ ap (λ (m : ℕ). copied m (drop (a .marks-at) (a .s .now)) (a .s .now)) (c .before .before .before .before .before .before .before .before .words-for .ensures))
 
 pub adopt-spec : {M : Type 1} → statement M
 adopt-spec =

@@ -4,17 +4,15 @@ use mathlib.Core.Path.{_≡_, sym, ap}
 use mathlib.Core.List.{List, _++_}
 use mathlib.Core.Bool.{Bool, false}
 use Prim.Native.Nat.{ℕ}
-use native.Mathlib.Nat.{lt-of-le-of-lt}
 use native.Mathlib.Omega.{arith}
 use lib.Dec.{T, eqb, eqb→eq}
 use lib.ListN.{getD, replicate}
-use lib.Pow.{pow-mono}
 use borrow.Author.Needs.{needs}
 use Rattle.rules.proofs.Table.{at}
 use Rattle.classes.specs.declared.SizeClass.{SizeClass}
 use Rattle.classes.specs.declared.SizeClass.the-variants.{Class, TooBig}
-use Rattle.classes.specs.Class.{classOf, classCount, firstClass, recordBytes}
-use Rattle.classes.proofs.Smallest.{none-holds}
+use Rattle.classes.specs.Class.{classOf}
+use Rattle.classes.proofs.Smallest.{past-limit}
 use Rattle.classes.proofs.class_of.Tie as tie
 use Rattle.classes.proofs.class_of.Statement.{statement}
 
@@ -46,11 +44,10 @@ array-read-class c = search needs
 returns : tie.Need-returns
 unfolding table right isClass
 returns c =
-    isClass-eq (classOf (c .before .args .fields)) (getD table (c .before .args .fields) 0) (at 0 right table tt (c .before .args .fields) (c .if1 .taken))
+    isClass-eq (classOf (c .before .args .fields)) (getD table (c .before .args .fields) 0) (at 0 right table tt (c .before .args .fields) (omega (arith, c .if1 .taken)))
 
 returns-2 : tie.Need-returns-2
-returns-2 c =
-    sym (none-holds classCount firstClass (recordBytes (c .before .args .fields)) (λ k l h. lt-of-le-of-lt (pow-mono {i = k} {j = 12} (omega arith)) (omega arith)))
+returns-2 c = sym (past-limit (c .before .args .fields) (omega (arith, c .if1 .left)))
 
 pub class-of-spec : {M : Type 1} → statement M
 class-of-spec = tie.close (tie.spec mul-class array-read-class returns returns-2)

@@ -16,7 +16,7 @@ use Rattle.words.specs.Levels.{wordsFor}
 use Rattle.words.proofs.Trees.{words-in, room-behind}
 use Rattle.bitmap_search.specs.declared.BitPos.{BitPos}
 use Rattle.bitmap_search.specs.declared.Next.{Next}
-use Rattle.bitmap_search.specs.declared.Next.the-variants as next
+use Rattle.bitmap_search.specs.declared.Next.the-variants as moved
 use Rattle.bitmap_search.proofs.BitPtr.forward.Reads as forward
 use Rattle.bitmap_search.proofs.BitPtr.forward.Kinds as forward-kinds
 use Rattle.bitmap_search.proofs.BitPtr.+forward.Lts-forward as forward-lts
@@ -76,7 +76,7 @@ forward-with-requires t c κs = search needs
 forward-returns-2 : (t : ℕ) → forward-lts.Need-returns-2 (claims t) (forward-at t) forward.Post
 forward-returns-2 t c =
     let a = c .before .before .before .before .before .before .before .before .args in
-    ap next.At (c .with .ensures) ∙ ahead-at (a .above) (a .s .now) (a .n) (a .self) (a .level) (c .before .before .before .before .before .before .at .result) (c .before .before .before .before .before .before .at .ensures) (omega (arith, c .before .before .before .before .before .words-for .ensures, c .before .before .before .before .if1 .left)) (c .before .before .clear-from .result) (c .before .before .clear-from .ensures) (c .before .if2 .taken)
+    ap moved.At (c .with .ensures) ∙ ahead-at (a .above) (a .s .now) (a .n) (a .self) (a .level) (c .before .before .before .before .before .before .at .result) (c .before .before .before .before .before .before .at .ensures) (omega (arith, c .before .before .before .before .before .words-for .ensures, c .before .before .before .before .if1 .left)) (c .before .before .clear-from .result) (c .before .before .clear-from .ensures) (c .before .if2 .taken)
 
 forward-returns-3 : (t : ℕ) → forward-lts.Need-returns-3 (claims t) (forward-at t) forward.Post
 forward-returns-3 t c =
@@ -156,13 +156,13 @@ forward-returns-4 : (t : ℕ) → forward-lts.Need-returns-4 (claims t) (forward
 forward-returns-4 t c =
     let a = c .before .before .before .before .before .before .before .before .before .before .before .before .before .before .before .args in
     let q = c .before .before .found .given .0 .0 in
-    c .descend .ensures ∙ ap (λ (m : ℕ). lowered (a .s .now) m q (a .level)) (c .before .before .before .before .before .before .before .before .before .before .before .before .words-for .ensures) ∙ down t (c .before .before .before .before) (next.At q) (c .before .before .found .given .1)
+    c .descend .ensures ∙ ap (λ (m : ℕ). lowered (a .s .now) m q (a .level)) (c .before .before .before .before .before .before .before .before .before .before .before .before .words-for .ensures) ∙ down t (c .before .before .before .before) (moved.At q) (c .before .before .found .given .1)
 
 forward-returns-5 : (t : ℕ) → forward-lts.Need-returns-5 (claims t) (forward-at t) forward.Post
-forward-returns-5 t c = down t (c .before .before) next.Nothing (c .enum-told .given .1)
+forward-returns-5 t c = down t (c .before .before) moved.Nothing (c .enum-told .given .1)
 
 forward-returns-6 : (t : ℕ) → forward-lts.Need-returns-6 (claims t) (forward-at t) forward.Post
-forward-returns-6 t c = down t (c .before .before) next.Torn (c .enum-told2 .given .1)
+forward-returns-6 t c = down t (c .before .before) moved.Torn (c .enum-told2 .given .1)
 
 pub +forward-spec : {M : Type 1} → statement M
 +forward-spec = close μ-forward λ t. forward-lts.spec (claims t)

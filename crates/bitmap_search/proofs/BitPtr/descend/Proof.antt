@@ -4,7 +4,7 @@ use native.Mathlib.Omega.{arith}
 use borrow.Author.Needs.{needs}
 use Rattle.bitmap_search.specs.Pointer.{indexOf}
 use Rattle.bitmap_search.proofs.Moves.{down-past, down-at, down-full}
-use Rattle.bitmap_search.specs.declared.Next.the-variants as next
+use Rattle.bitmap_search.specs.declared.Next.the-variants as moved
 use Rattle.bitmap_search.proofs.BitPtr.descend.Tie as tie
 use Rattle.bitmap_search.proofs.BitPtr.descend.Statement.{statement}
 
@@ -38,7 +38,7 @@ with-requires c κs = search needs
 returns-2 : tie.Need-returns-2
 returns-2 c =
     let a = c .before .before .before .before .before .before .before .before .args in
-    ap next.At (c .with .ensures) ∙ down-at (a .s .now) (a .words) (a .self) (a .level) (c .before .before .before .before .before .index .result) (c .before .before .before .before .before .index .ensures ∙ ap indexOf (c .before .before .before .before .before .before .at .ensures)) (c .before .before .before .before .if1 .left) (c .before .before .clear-from .result) (c .before .before .clear-from .ensures) (c .before .if2 .taken)
+    ap moved.At (c .with .ensures) ∙ down-at (a .s .now) (a .words) (a .self) (a .level) (c .before .before .before .before .before .index .result) (c .before .before .before .before .before .index .ensures ∙ ap indexOf (c .before .before .before .before .before .before .at .ensures)) (c .before .before .before .before .if1 .left) (c .before .before .clear-from .result) (c .before .before .clear-from .ensures) (c .before .if2 .taken)
 
 returns-3 : tie.Need-returns-3
 returns-3 c =

@@ -1,0 +1,3 @@
+-- Laws of the layout.
+pub mod Cut
+pub mod Regions

@@ -1,0 +1,66 @@
+-- The words of the lent slice and those of the regions; k is the region. Assumes nothing.
+use Prim.Native.Nat.{ℕ, _+_, _-_, _≤_, _<_}
+use mathlib.Core.Path.{_≡_, refl, sym, _∙_, ap}
+use mathlib.Core.Bool.{Bool, true, false, true≢false}
+use mathlib.Core.List.{List, [], append-assoc, append-nil}
+use native.Mathlib.Omega.{arith}
+use lib.ListN.{length, getD, take, drop, set, length-take, length-drop, drop-of-length-le}
+use lib.Seq.{sets, sets-eq, drop-drop}
+use lib.Dec.{ltb}
+use borrow.Rule.Slice.PartMut.{midOf, putMid}
+use borrow.Author.Tests.{ltb-false, eqb-true, not-false}
+use Rattle.rules.specs.Pick.{pick}
+use Rattle.layout.specs.declared.Geometry.{Geometry}
+use Rattle.layout.specs.Parts.{parts, joined}
+use Rattle.layout.specs.Geometry.{lens, len, from, total, regionCount, maxSegments, Sized, wrongSize}
+use Rattle.layout.specs.Mem.{Mem, memOf, flat, ofParts, regions, region, run, withRegion, setRun, Fits}
+use Rattle.layout.proofs.Cut.{read, write, writes, lent, whole, apart, long-at}
+
+module _ (g : Geometry) (l : List ℕ) where
+  pub get-at : (k i j : ℕ) → (j ≡ from g k + i) × (i < len g k) → getD l j 0 ≡ getD (region (memOf g l) k) i 0
+  unfolding memOf
+  get-at k i j (e, h) = rw e (sym (read (lens g) l k i h))
+
+  pub set-at : (k i j v : ℕ) → (j ≡ from g k + i) × (i < len g k) → memOf g (set l j v) ≡ withRegion (memOf g l) k (set (region (memOf g l) k) i v)
+  unfolding memOf
+  set-at k i j v (e, h) = rw e (ap ofParts (write (lens g) l k i v h))
+
+  -- w words from word i of region k, lent to a leaf that makes g of them: `&mut mem[a..a + w]`
+  pub leaf-at : (k i w a : ℕ) (make : List ℕ → List ℕ) (ys : List ℕ) → ys ≡ make (midOf a (a + w - a) l) → length ys ≡ length (midOf a (a + w - a) l) → (a ≡ from g k + i) × (i + w ≤ len g k) × (k < regionCount) × (a + w ≤ length l) → memOf g (putMid a (a + w - a) l ys) ≡ setRun (memOf g l) k i (make (run (memOf g l) k i w))
+  unfolding memOf setRun
+  leaf-at k i w a make ys t s (e, h, q, u) =
+      let f : a + w - a ≡ w = omega arith in
+      let z : length ys ≡ w = s ∙ length-take (a + w - a) (drop a l) ∙ simp length-drop (omega arith) in
+      rw (f, drop-drop w a l, ← z, ← append-assoc (take a l) ys (drop (a + length ys) l), ← sets-eq ys l a (omega arith), e)
+      (ap ofParts (writes (lens g) l k i ys (omega arith)) ∙ ap (λ (x : List ℕ). ofParts (set (parts (lens g) l) k (sets (getD (parts (lens g) l) k []) i x))) (t ∙ ap make (rw (f, e, z) (lent (lens g) l k i w h q))))
+
+  pub length-region : (k : ℕ) → length l ≡ total g → from g k + len g k ≤ total g → length (region (memOf g l) k) ≡ len g k
+  unfolding memOf
+  length-region k e h = long-at (lens g) l k (omega arith)
+
+  -- a whole region set
+  pub run-all : (k : ℕ) (ys : List ℕ) → length l ≡ total g → from g k + len g k ≤ total g → length ys ≡ len g k → setRun (memOf g l) k 0 ys ≡ withRegion (memOf g l) k ys
+  unfolding setRun
+  run-all k ys e h f =
+      let r = region (memOf g l) k in
+      let z : length r ≡ len g k = length-region k e h in
+      ap (withRegion (memOf g l) k) (sets-eq ys r 0 (omega arith) ∙ rw (drop-of-length-le r {i = 0 + length ys} (omega arith)) (append-nil ys))
+
+  pub flat-memOf : length l ≡ total g → flat (memOf g l) ≡ l
+  unfolding memOf flat
+  flat-memOf e = whole (lens g) l (omega arith)
+
+pub memOf-flat : (g : Geometry) (m : Mem) → Fits g m → memOf g (flat m) ≡ m
+unfolding memOf flat
+memOf-flat g m f = ap (λ (ks : List ℕ). ofParts (parts ks (joined (regions m)))) (sym (f .same)) ∙ ap ofParts (apart (regions m))
+
+or-false : (b : Bool) {x : Bool} → pick b true x ≡ false → (b ≡ false) × (x ≡ false)
+or-false true e = absurd (true≢false e)
+or-false false e = (refl, e)
+
+pub sized : (g : Geometry) (x : ℕ) → wrongSize g x ≡ false → Sized g x
+unfolding wrongSize
+sized g x e =
+    let a = or-false (ltb (g .segments) 1) e in
+    let b = or-false (ltb maxSegments (g .segments)) (a .1) in
+    record { some = ltb-false (g .segments) 1 (a .0); few = ltb-false maxSegments (g .segments) (b .0); is = eqb-true x (total g) (not-false _ (b .1)) }

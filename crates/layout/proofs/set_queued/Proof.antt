@@ -1,0 +1,33 @@
+-- `layout::set_queued` meets its contract. Assumes nothing.
+use native.Mathlib.Omega.{arith}
+use borrow.Author.Needs.{needs}
+use Rattle.layout.specs.Mem.{setQueued}
+use Rattle.layout.proofs.Regions.{set-at}
+use Rattle.layout.proofs.set_queued.Tie as tie
+use Rattle.layout.proofs.set_queued.Statement.{statement}
+
+mul-mem : tie.Need-mul-mem
+mul-mem c = search needs
+
+add-mem : tie.Need-add-mem
+add-mem c = search needs
+
+add-mem-2 : tie.Need-add-mem-2
+add-mem-2 c = search needs
+
+mul-mem-2 : tie.Need-mul-mem-2
+mul-mem-2 c = search needs
+
+slice-write-mem : tie.Need-slice-write-mem
+slice-write-mem c = search needs
+
+same-length : tie.Need-same-length
+same-length c = search needs
+
+returns : tie.Need-returns
+unfolding setQueued
+returns c = set-at _ _ 6 _ _ _ (omega arith)
+
+pub set-queued-spec : {M : Type 1} → statement M
+set-queued-spec =
+    tie.close (tie.spec mul-mem add-mem add-mem-2 mul-mem-2 slice-write-mem same-length returns)

@@ -1,0 +1,4 @@
+-- The lent memory: its regions, their lengths, and the memory as one value.
+pub mod Parts
+pub mod Geometry
+pub mod Mem

@@ -1,0 +1,113 @@
+-- The lent memory as one value with a list of words for each region, cut from the slice and joined to it again.
+use Prim.Native.Nat.{ℕ}
+use mathlib.Core.Path.{_≡_}
+use mathlib.Core.List.{List, [], _∷_}
+use lib.ListN.{getD, take, drop, set}
+use lib.Seq.{sets}
+use Rattle.layout.specs.declared.Geometry.{Geometry}
+use Rattle.layout.specs.Geometry.{lens}
+use Rattle.layout.specs.Parts.{parts, joined, lengths}
+
+pub record Mem : Type 0 where
+  pub control : List ℕ
+  pub mutators : List ℕ
+  pub segments : List ℕ
+  pub stacks : List ℕ
+  pub bitmaps : List ℕ
+  pub marks : List ℕ
+  pub queued : List ℕ
+  pub trace : List ℕ
+  pub heap : List ℕ
+
+abbrev pub ofParts : List (List ℕ) → Mem
+ofParts xs = record {
+  control = getD xs 0 [];
+  mutators = getD xs 1 [];
+  segments = getD xs 2 [];
+  stacks = getD xs 3 [];
+  bitmaps = getD xs 4 [];
+  marks = getD xs 5 [];
+  queued = getD xs 6 [];
+  trace = getD xs 7 [];
+  heap = getD xs 8 [];
+}
+
+abbrev pub regions : Mem → List (List ℕ)
+regions m = m .control ∷ m .mutators ∷ m .segments ∷ m .stacks ∷ m .bitmaps ∷ m .marks ∷ m .queued ∷ m .trace ∷ m .heap ∷ []
+
+unfoldable pub memOf : Geometry → List ℕ → Mem
+memOf g l = ofParts (parts (lens g) l)
+
+unfoldable pub flat : Mem → List ℕ
+flat m = joined (regions m)
+
+-- every region has its length
+pub record Fits (g : Geometry) (m : Mem) : Type 0 where
+  pub same : lengths (regions m) ≡ lens g
+
+-- region k, and the memory with another in its place
+abbrev pub region : Mem → ℕ → List ℕ
+region m k = getD (regions m) k []
+
+abbrev pub withRegion : Mem → ℕ → List ℕ → Mem
+withRegion m k l = ofParts (set (regions m) k l)
+
+-- one word of a region, read
+abbrev pub controlWord : Mem → ℕ → ℕ
+controlWord m i = getD (m .control) i 0
+
+abbrev pub mutatorWord : Mem → ℕ → ℕ
+mutatorWord m i = getD (m .mutators) i 0
+
+abbrev pub segmentWord : Mem → ℕ → ℕ
+segmentWord m i = getD (m .segments) i 0
+
+abbrev pub stackWord : Mem → ℕ → ℕ
+stackWord m i = getD (m .stacks) i 0
+
+abbrev pub bitmapWord : Mem → ℕ → ℕ
+bitmapWord m i = getD (m .bitmaps) i 0
+
+abbrev pub markWord : Mem → ℕ → ℕ
+markWord m i = getD (m .marks) i 0
+
+abbrev pub queuedWord : Mem → ℕ → ℕ
+queuedWord m i = getD (m .queued) i 0
+
+abbrev pub traceWord : Mem → ℕ → ℕ
+traceWord m i = getD (m .trace) i 0
+
+abbrev pub heapWord : Mem → ℕ → ℕ
+heapWord m i = getD (m .heap) i 0
+
+-- one word of a region, set
+unfoldable pub setControl : Mem → ℕ → ℕ → Mem
+setControl m i v = withRegion m 0 (set (m .control) i v)
+
+unfoldable pub setMutator : Mem → ℕ → ℕ → Mem
+setMutator m i v = withRegion m 1 (set (m .mutators) i v)
+
+unfoldable pub setSegment : Mem → ℕ → ℕ → Mem
+setSegment m i v = withRegion m 2 (set (m .segments) i v)
+
+unfoldable pub setStack : Mem → ℕ → ℕ → Mem
+setStack m i v = withRegion m 3 (set (m .stacks) i v)
+
+unfoldable pub setMark : Mem → ℕ → ℕ → Mem
+setMark m i v = withRegion m 5 (set (m .marks) i v)
+
+unfoldable pub setQueued : Mem → ℕ → ℕ → Mem
+setQueued m i v = withRegion m 6 (set (m .queued) i v)
+
+unfoldable pub setTrace : Mem → ℕ → ℕ → Mem
+setTrace m i v = withRegion m 7 (set (m .trace) i v)
+
+unfoldable pub setHeap : Mem → ℕ → ℕ → Mem
+setHeap m i v = withRegion m 8 (set (m .heap) i v)
+
+-- w words of region k from word i on, read and set
+abbrev pub run : Mem → ℕ → ℕ → ℕ → List ℕ
+run m k i w = take w (drop i (region m k))
+
+unfoldable pub setRun : Mem → ℕ → ℕ → List ℕ → Mem
+setRun m k i vs = withRegion m k (sets (region m k) i vs)

@@ -1,0 +1,327 @@
+-- A mutator call answers as the unbounded heap does, or is refused 10 or 11 and changes nothing; either way all is kept.
+-- Assumes nothing.
+use mathlib.Core.Path.{_≡_, refl, ap, sym, _∙_, subst, fun-ext}
+use mathlib.Core.Logic.{_⊎_, inl, inr, ⊎-elim, _≢_}
+use mathlib.Core.Bool.{Bool, true, false, not}
+use mathlib.Core.Option.{Option, none, some, Option·map, Option·some-injective}
+use mathlib.Core.List.{List}
+use Prim.Native.Nat.{ℕ, zero, suc, _<_}
+use native.Mathlib.Omega.{arith}
+use lib.Dec.{T, ltb, eqb, ltb→lt, lt→ltb, eqb→eq, eqb-refl}
+use lib.ListN.{length, getD, set, replicate}
+use Rattle.theory.proofs.Completeness.{Complete, same-comp, root-comp, store-comp, values-comp, make-comp, side-comp, attach-comp, detach-comp}
+use Rattle.theory.proofs.CycleKeeps.{check-inv, detach-inv, attach-inv, side-inv, values-inv, acknowledge-live}
+use Rattle.theory.proofs.Graph.{clash}
+use Rattle.theory.proofs.Invariant.{Inv, none-some, load-inv, copy-inv, clear-inv}
+use Rattle.theory.specs.Machine.{State, Holds, Root, Live, make, attach, detach, setInside, setValues, acknowledge, check}
+use Rattle.theory.specs.MachineCalls.{shapeAt, face, unless, room, act, exec}
+use Rattle.theory.proofs.MakeKeeps.{make-inv}
+use Rattle.theory.proofs.Simulation.{Simulates, Same, root-sim, store-sim, make-sim, attach-sim, detach-sim, side-sim, values-sim, gc-sim}
+use Rattle.theory.proofs.StoreKeeps.{store-inv}
+use Rattle.theory.proofs.Updates.{upd-cases}
+use Rattle.theory.specs.Calls.{Call, c-attach, c-detach, c-check, c-leave, c-enter, c-spawn, c-make, c-load, c-store, c-copy, c-clear, c-put, c-get, c-same, c-shape, Answer, a-ok, a-num, a-flag, a-no, Face, shapeIf, require, ifRecord, ifInside, pointer?, refusal, sameRef, onRecord, refuse}
+use Rattle.theory.specs.Phases.{Phase, idle, sync1, sync2, mark, sweep, inHandshake}
+use Rattle.theory.specs.Reach.{root, next}
+use Rattle.theory.specs.Unbounded.{Unbounded, uAttach, uDetach, uSetInside, uSetValues, ushapeAt, uface, uact, uexec}
+use Rattle.theory.specs.Update.{upd}
+use Rattle.layout.specs.Geometry.{rootCount, mutatorCount}
+
+-- ---- facts out of a refusal that is 0
+
+require-ok : (b : Bool) (n k : ℕ) → 0 < n → require b n k ≡ 0 → (b ≡ true) × (k ≡ 0)
+unfolding require
+require-ok true n k h e = (refl, e)
+require-ok false n k h e = absurd (omega arith)
+
+lt-of : (m n : ℕ) → ltb m n ≡ true → m < n
+lt-of m n e = ltb→lt m n (subst T (sym e) tt)
+
+-- ---- both sides show the same face
+
+module _ (put : ℕ → Option ℕ) (st : State) (un : Unbounded) (s : Simulates put st un) where
+  shape-eq : (v w : Option ℕ) → Same put v w → ((b : ℕ) → v ≡ some b → Live st b) → Option·map (shapeAt st) v ≡ Option·map (ushapeAt un) w
+  shape-eq none none c l = refl
+  shape-eq none (some r) c l = cc
+  shape-eq (some b) none c l = cc
+  shape-eq (some b) (some r) c l =
+      let q = s .rec b (l b refl) in
+      let e : q .id ≡ r = (let z : put b ≡ some r = cc in Option·some-injective (q .id) r (sym (q .is) ∙ z)) in
+      ap some (λ i. ((q .pointers ∙ ap (un .pointers) e) i, length ((q .values ∙ ap (un .values) e) i)))
+
+  sh-eq : (i k : ℕ) → face st .shape i k ≡ uface un .shape i k
+  sh-eq i k = go (st .attached i) (un .attached i) (ltb k rootCount) refl (s .attached i) refl
+    where
+      go : (a b c : Bool) → st .attached i ≡ a → a ≡ b → ltb k rootCount ≡ c → shapeIf a c (Option·map (shapeAt st) (st .root i k)) ≡ shapeIf b c (Option·map (ushapeAt un) (un .root i k))
+      go true true true e f h = shape-eq (st .root i k) (un .root i k) (s .root i k e (lt-of k 16 h)) (λ b q. root (inl (i, (k, e, lt-of k 16 h, q))))
+      go true true false e f h = refl
+      go true false c e f h = clash refl f
+      go false true c e f h = clash f refl
+      go false false c e f h = refl
+
+  face-eq : face st ≡ uface un
+  face-eq = λ z. record { attached = fun-ext (s .attached) z; inside = fun-ext (s .inside) z; shape = fun-ext (λ i. fun-ext (sh-eq i)) z }
+
+-- ---- the state of a run
+
+pub record Good (segmentOf : ℕ → ℕ) (P : ℕ → Type 0) (put : ℕ → Option ℕ) (st : State) (un : Unbounded) : Type 0 where
+  pub inv : Inv segmentOf st
+  pub sim : Simulates put st un
+  pub few : (i : ℕ) → st .attached i ≡ true → i < mutatorCount
+  pub comp : Complete segmentOf P st
+
+-- a call's outcome: refused for want of room or of the right time; or as on the unbounded heap
+abbrev pub Dropped : State → Answer × State → Type 0
+Dropped st r = ((r .0 ≡ a-no 10) ⊎ (r .0 ≡ a-no 11)) × (r .1 ≡ st)
+
+pub record Alike (segmentOf : ℕ → ℕ) (P : ℕ → Type 0) (put : ℕ → Option ℕ) (r : Answer × State) (q : Answer × Unbounded) : Type 0 where
+  pub same : r .0 ≡ q .0
+  pub ok : Good segmentOf P put (r .1) (q .1)
+
+abbrev pub Agrees : (ℕ → ℕ) → (ℕ → Type 0) → (ℕ → Option ℕ) → (ℕ → Option ℕ) → State → Answer × State → Answer × Unbounded → Type 0
+Agrees segmentOf P put put′ st r q = (Dropped st r × (put′ ≡ put)) ⊎ Alike segmentOf P put′ r q
+
+-- the record last put into each block: a make that is not refused puts its record, the unbounded heap's next, into the block handed out
+abbrev pub madePut : Option ℕ → (ℕ → Option ℕ) → ℕ → ℕ → Option ℕ
+madePut none put n = put
+madePut (some b) put n = upd put b (some n)
+
+abbrev pub actPut : (State → ℕ → ℕ → ℕ → Option ℕ) → (ℕ → Option ℕ) → State → ℕ → Call → ℕ → Option ℕ
+actPut alloc put st n (c-attach i) = put
+actPut alloc put st n (c-spawn i p k) = put
+actPut alloc put st n (c-detach i) = put
+actPut alloc put st n (c-check i) = put
+actPut alloc put st n (c-leave i) = put
+actPut alloc put st n (c-enter i) = put
+actPut alloc put st n (c-make i d p m) = madePut (alloc st i p m) put n
+actPut alloc put st n (c-load i d s f) = put
+actPut alloc put st n (c-store i s f t) = put
+actPut alloc put st n (c-copy i d s) = put
+actPut alloc put st n (c-clear i d) = put
+actPut alloc put st n (c-put i s k v) = put
+actPut alloc put st n (c-get i s k) = put
+actPut alloc put st n (c-same i s t) = put
+actPut alloc put st n (c-shape i s) = put
+
+abbrev pub refPut : ℕ → (ℕ → Option ℕ) → (ℕ → Option ℕ) → ℕ → Option ℕ
+refPut zero put put′ = put′
+refPut (suc n) put put′ = put
+
+abbrev pub nextPut : (State → ℕ → ℕ → ℕ → Option ℕ) → (ℕ → Option ℕ) → State → ℕ → Call → ℕ → Option ℕ
+nextPut alloc put st n c = refPut (refusal (face st) c) put (actPut alloc put st n c)
+
+-- a refused make or coming or going of a mutator; what the block is
+pub record Alloc (segmentOf : ℕ → ℕ) (alloc : State → ℕ → ℕ → ℕ → Option ℕ) (st : State) : Type 0 where
+  pub free : (i p n b : ℕ) → alloc st i p n ≡ some b → st .used b ≡ false
+  pub sound : (i p n b : ℕ) → alloc st i p n ≡ some b → st .collect (segmentOf b) ≡ false
+
+by-ok : (F : Face) (i k : ℕ) → ifInside F i k ≡ 0 → (i < mutatorCount) × (F .attached i ≡ true) × (F .inside i ≡ true) × (k ≡ 0)
+by-ok F i k e =
+    let a = require-ok (ltb i mutatorCount) 2 _ (omega arith) e in
+    let b = require-ok (F .attached i) 4 _ (omega arith) (a .1) in
+    let c = require-ok (F .inside i) 5 _ (omega arith) (b .1) in
+    (lt-of i 32 (a .0), b .0, c .0, c .1)
+
+root-ok : (d k : ℕ) → require (ltb d rootCount) 6 k ≡ 0 → (d < rootCount) × (k ≡ 0)
+root-ok d k e = let a = require-ok (ltb d rootCount) 6 k (omega arith) e in (lt-of d 16 (a .0), a .1)
+
+shape-ok : (b c : Bool) (v : Option ℕ) (g : ℕ → ℕ × ℕ) (k : ℕ × ℕ → ℕ) (a : ℕ) → b ≡ true → c ≡ true → v ≡ some a → ifRecord (shapeIf b c (Option·map g v)) k ≡ 0 → k (g a) ≡ 0
+unfolding ifRecord
+shape-ok b c v g k a p q e h = rw (p, q, e) at h
+
+lt-true : (m n : ℕ) → m < n → ltb m n ≡ true
+lt-true m n h = go (ltb m n) (lt→ltb m n h)
+  where
+    go : (b : Bool) → T b → b ≡ true
+    go true t = refl
+    go false t = absurd t
+
+T-true : (b : Bool) → T b → b ≡ true
+T-true true t = refl
+T-true false t = absurd t
+
+eqb-iff : (a b c d : ℕ) → (a ≡ b → c ≡ d) → (c ≡ d → a ≡ b) → eqb a b ≡ eqb c d
+eqb-iff a b c d f g = go (eqb a b) (eqb c d) refl refl
+  where
+    go : (x y : Bool) → eqb a b ≡ x → eqb c d ≡ y → x ≡ y
+    go true true p q = refl
+    go false false p q = refl
+    go true false p q = clash (T-true _ (subst (λ z. T (eqb c z)) (f (eqb→eq a b (subst T (sym p) tt))) (eqb-refl c))) q
+    go false true p q = clash (T-true _ (subst (λ z. T (eqb a z)) (g (eqb→eq c d (subst T (sym q) tt))) (eqb-refl a))) p
+
+same-same : (put : ℕ → Option ℕ) → ((b c r : ℕ) → put b ≡ some r → put c ≡ some r → b ≡ c) → (v v′ w w′ : Option ℕ) → Same put v w → Same put v′ w′ → sameRef v v′ ≡ sameRef w w′
+same-same put inj none none none none c d = refl
+same-same put inj none none none (some r) c d = cc
+same-same put inj none none (some r) w c d = cc
+same-same put inj none (some b) none none c d = cc
+same-same put inj none (some b) none (some r) c d = refl
+same-same put inj none (some b) (some r) w c d = cc
+same-same put inj (some b) none none w c d = cc
+same-same put inj (some b) none (some r) none c d = refl
+same-same put inj (some b) none (some r) (some q) c d = cc
+same-same put inj (some b) (some b′) none w c d = cc
+same-same put inj (some b) (some b′) (some r) none c d = cc
+same-same put inj (some b) (some b′) (some r) (some r′) c d =
+    let e : put b ≡ some r = cc in
+    let f : put b′ ≡ some r′ = cc in
+    eqb-iff b b′ r r′ (λ h. Option·some-injective r r′ (sym e ∙ ap put h ∙ f)) (λ h. inj b b′ r e (f ∙ ap some (sym h)))
+
+module _ (segmentOf : ℕ → ℕ) (P : ℕ → Type 0) (put : ℕ → Option ℕ) (st : State) (un : Unbounded) (o : Good segmentOf P put st un) where
+  acknowledge-ok : (p : Phase) (n i : ℕ) → st .attached i ≡ true → Inv segmentOf (acknowledge p n st i) → Good segmentOf P put (acknowledge p n st i) un
+  acknowledge-ok idle n i h v = o
+  acknowledge-ok sync1 zero i h v = record { inv = v; sim = gc-sim put st un (o .sim) _ _ _ _ _ _ (λ b q. q); few = o .few; comp = same-comp segmentOf P st (o .inv) (o .comp) _ (λ b q. q) (λ b. refl) (λ g. refl) }
+  acknowledge-ok sync1 (suc n) i h v = o
+  acknowledge-ok sync2 zero i h v = record { inv = v; sim = gc-sim put st un (o .sim) _ _ _ _ _ _ (λ b q. acknowledge-live st i h q); few = o .few; comp = same-comp segmentOf P st (o .inv) (o .comp) _ (λ b q. acknowledge-live st i h q) (λ b. refl) (λ g. refl) }
+  acknowledge-ok sync2 (suc zero) i h v = record { inv = v; sim = gc-sim put st un (o .sim) _ _ _ _ _ _ (λ b q. acknowledge-live st i h q); few = o .few; comp = same-comp segmentOf P st (o .inv) (o .comp) _ (λ b q. acknowledge-live st i h q) (λ b. refl) (λ g. refl) }
+  acknowledge-ok sync2 (suc (suc n)) i h v = o
+  acknowledge-ok mark n i h v = o
+  acknowledge-ok sweep n i h v = o
+
+  pub check-ok : (i : ℕ) → st .attached i ≡ true → Good segmentOf P put (check st i) un
+  check-ok i h = acknowledge-ok (st .phase) (st .acks i) i h (check-inv segmentOf st (o .inv) i h)
+
+module _ (segmentOf : ℕ → ℕ) (alloc : State → ℕ → ℕ → ℕ → Option ℕ) (P : ℕ → Type 0) (put : ℕ → Option ℕ) (st : State) (al : Alloc segmentOf alloc st) (un : Unbounded) (o : Good segmentOf P put st un) where
+  same-at : (i k : ℕ) → st .attached i ≡ true → k < rootCount → Same put (st .root i k) (un .root i k)
+  same-at i k h l = o .sim .root i k h l
+
+  stay : (x y : Answer) → x ≡ y → Agrees segmentOf P put put st (x, st) (y, un)
+  stay x y e = inr (record { same = e; ok = o })
+
+  onRecord-ok : (v w : Option ℕ) → Same put v w → (K : ℕ → Answer × State) (L : ℕ → Answer × Unbounded) → ((a r : ℕ) → v ≡ some a → w ≡ some r → put a ≡ some r → Agrees segmentOf P put put st (K a) (L r)) → Agrees segmentOf P put put st (onRecord v st K) (onRecord w un L)
+  onRecord-ok none none c K L f = stay _ _ refl
+  onRecord-ok none (some r) c K L f = let z : _≡_ {A = ℕ} 0 1 = cc in absurd (omega arith)
+  onRecord-ok (some a) none c K L f = let z : _≡_ {A = ℕ} 0 1 = cc in absurd (omega arith)
+  onRecord-ok (some a) (some r) c K L f = f a r refl refl cc
+
+  unless-ok : (b : Bool) (st′ : State) (rk′ : Unbounded) → (b ≡ false → Good segmentOf P put st′ rk′) → Agrees segmentOf P put put st (unless b 11 st st′) (a-ok, rk′)
+  unless-ok true st′ rk′ f = inl ((inr refl, refl), refl)
+  unless-ok false st′ rk′ f = inr (record { same = refl; ok = f refl })
+
+  same-id : (a r : ℕ) (h : Live st a) → put a ≡ some r → o .sim .rec a h .id ≡ r
+  same-id a r h e = let q = o .sim .rec a h in Option·some-injective (q .id) r (sym (q .is) ∙ e)
+
+  act-load : (i d s f : ℕ) → refusal (face st) (c-load i d s f) ≡ 0 → Agrees segmentOf P put put st (act alloc st (c-load i d s f)) (uact un (c-load i d s f))
+  act-load i d s f e =
+      let a = by-ok (face st) i _ e in
+      let b = root-ok d _ (a .3) in
+      let c = root-ok s _ (b .1) in
+      onRecord-ok (st .root i s) (un .root i s) (same-at i s (a .1) (c .0)) _ _ (λ x r p q u.
+      let h : Holds st i x = (s, a .1, c .0, p) in
+      let l : f < st .pointers x = lt-of f (st .pointers x) (require-ok _ 8 0 (omega arith) (shape-ok (st .attached i) (ltb s rootCount) (st .root i s) (shapeAt st) (pointer? f) x (a .1) (lt-true s 16 (c .0)) p (c .1)) .0) in
+      let v : Same put (st .pointer x f) (un .pointer r f) = subst (λ z. Same put (st .pointer x f) (un .pointer z f)) (same-id x r (root (inl (i, h))) u) (o .sim .rec x (root (inl (i, h))) .pointer f l) in
+      inr (record { same = refl; ok = record { inv = load-inv segmentOf st (o .inv) i d x f h l; sim = root-sim segmentOf put st un (o .inv) (o .sim) i d (st .pointer x f) (un .pointer r f) v (λ b k. next (root (i, h)) (f, l, k)); few = o .few; comp = root-comp segmentOf P st (o .inv) (o .comp) i d (st .pointer x f) (λ b k. next (root (i, h)) (f, l, k)) } }))
+
+  act-store : (i s f t : ℕ) → refusal (face st) (c-store i s f t) ≡ 0 → Agrees segmentOf P put put st (act alloc st (c-store i s f t)) (uact un (c-store i s f t))
+  act-store i s f t e =
+      let a = by-ok (face st) i _ e in
+      let b = root-ok s _ (a .3) in
+      let c = root-ok t _ (b .1) in
+      onRecord-ok (st .root i s) (un .root i s) (same-at i s (a .1) (b .0)) _ _ (λ x r p q u.
+      let h : Holds st i x = (s, a .1, b .0, p) in
+      let l : f < st .pointers x = lt-of f (st .pointers x) (require-ok _ 8 0 (omega arith) (shape-ok (st .attached i) (ltb s rootCount) (st .root i s) (shapeAt st) (pointer? f) x (a .1) (lt-true s 16 (b .0)) p (c .1)) .0) in
+      let n : (y : ℕ) → st .root i t ≡ some y → Holds st i y = (λ y k. (t, a .1, c .0, k)) in
+      inr (record { same = refl; ok = record { inv = store-inv segmentOf st (o .inv) i x f (st .root i t) h l n; sim = store-sim segmentOf put st un (o .inv) (o .sim) i x f r (st .root i t) (un .root i t) h l n u (same-at i t (a .1) (c .0)); few = o .few; comp = store-comp segmentOf P st (o .inv) (o .comp) i x f (st .root i t) h l n } }))
+
+  act-put : (i s k v : ℕ) → refusal (face st) (c-put i s k v) ≡ 0 → Agrees segmentOf P put put st (act alloc st (c-put i s k v)) (uact un (c-put i s k v))
+  act-put i s k v e =
+      let a = by-ok (face st) i _ e in
+      let b = root-ok s _ (a .3) in
+      onRecord-ok (st .root i s) (un .root i s) (same-at i s (a .1) (b .0)) _ _ (λ x r p q u.
+      let h : Live st x = root (inl (i, (s, a .1, b .0, p))) in
+      let n : st .values x ≡ un .values r = o .sim .rec x h .values ∙ ap (un .values) (same-id x r h u) in
+      inr (record { same = refl; ok = record { inv = values-inv segmentOf st (o .inv) x (set (st .values x) k v); sim = subst (λ z. Simulates put (setValues st x (set (st .values x) k v)) (uSetValues un r (set z k v))) n (values-sim segmentOf put st un (o .inv) (o .sim) x r (set (st .values x) k v) u); few = o .few; comp = values-comp segmentOf P st (o .inv) (o .comp) x (set (st .values x) k v) } }))
+
+  act-get : (i s k : ℕ) → refusal (face st) (c-get i s k) ≡ 0 → Agrees segmentOf P put put st (act alloc st (c-get i s k)) (uact un (c-get i s k))
+  act-get i s k e =
+      let a = by-ok (face st) i _ e in
+      let b = root-ok s _ (a .3) in
+      onRecord-ok (st .root i s) (un .root i s) (same-at i s (a .1) (b .0)) _ _ (λ x r p q u.
+      let h : Live st x = root (inl (i, (s, a .1, b .0, p))) in
+      stay _ _ (ap (λ (z : List ℕ). a-num (getD z k 0)) (o .sim .rec x h .values ∙ ap (un .values) (same-id x r h u))))
+
+  act-shape : (i s : ℕ) → refusal (face st) (c-shape i s) ≡ 0 → Agrees segmentOf P put put st (act alloc st (c-shape i s)) (uact un (c-shape i s))
+  act-shape i s e =
+      let a = by-ok (face st) i _ e in
+      let b = root-ok s _ (a .3) in
+      onRecord-ok (st .root i s) (un .root i s) (same-at i s (a .1) (b .0)) _ _ (λ x r p q u.
+      let h : Live st x = root (inl (i, (s, a .1, b .0, p))) in
+      let n : st .values x ≡ un .values r = o .sim .rec x h .values ∙ ap (un .values) (same-id x r h u) in
+      let m : st .pointers x ≡ un .pointers r = o .sim .rec x h .pointers ∙ ap (un .pointers) (same-id x r h u) in
+      stay _ _ cc)
+
+  act-same : (i s t : ℕ) → refusal (face st) (c-same i s t) ≡ 0 → Agrees segmentOf P put put st (act alloc st (c-same i s t)) (uact un (c-same i s t))
+  act-same i s t e =
+      let a = by-ok (face st) i _ e in
+      let b = root-ok s _ (a .3) in
+      let c = root-ok t _ (b .1) in
+      stay _ _ (ap a-flag (same-same put (o .sim .inj) (st .root i s) (st .root i t) (un .root i s) (un .root i t) (same-at i s (a .1) (b .0)) (same-at i t (a .1) (c .0))))
+
+  act-copy : (i d s : ℕ) → refusal (face st) (c-copy i d s) ≡ 0 → Agrees segmentOf P put put st (act alloc st (c-copy i d s)) (uact un (c-copy i d s))
+  act-copy i d s e =
+      let a = by-ok (face st) i _ e in
+      let b = root-ok d _ (a .3) in
+      let c = root-ok s _ (b .1) in
+      inr (record { same = refl; ok = record { inv = copy-inv segmentOf st (o .inv) i d s (a .1) (c .0); sim = root-sim segmentOf put st un (o .inv) (o .sim) i d (st .root i s) (un .root i s) (same-at i s (a .1) (c .0)) (λ b k. root (i, (s, a .1, c .0, k))); few = o .few; comp = root-comp segmentOf P st (o .inv) (o .comp) i d (st .root i s) (λ b k. root (i, (s, a .1, c .0, k))) } })
+
+  act-clear : (i d : ℕ) → Agrees segmentOf P put put st (act alloc st (c-clear i d)) (uact un (c-clear i d))
+  act-clear i d = inr (record { same = refl; ok = record { inv = clear-inv segmentOf st (o .inv) i d; sim = root-sim segmentOf put st un (o .inv) (o .sim) i d none none refl (λ b k. none-some k); few = o .few; comp = root-comp segmentOf P st (o .inv) (o .comp) i d none (λ b k. none-some k) } })
+
+  act-make : (i d p n : ℕ) → Agrees segmentOf P put (madePut (alloc st i p n) put (un .count)) st (act alloc st (c-make i d p n)) (uact un (c-make i d p n))
+  act-make i d p n = go (alloc st i p n) refl
+    where
+      go : (v : Option ℕ) → alloc st i p n ≡ v → Agrees segmentOf P put (madePut v put (un .count)) st (room v st (λ b. make st i d b p (replicate n 0))) (uact un (c-make i d p n))
+      go none e = inl ((inl refl, refl), refl)
+      go (some b) e = inr (record { same = refl; ok = record { inv = make-inv segmentOf st (o .inv) i d b p (replicate n 0) (al .free i p n b e) (al .sound i p n b e); sim = make-sim segmentOf put st un (o .inv) (o .sim) i d b p (replicate n 0) (al .free i p n b e) (al .sound i p n b e); few = o .few; comp = make-comp segmentOf P st (o .inv) (o .comp) i d b p (replicate n 0) (al .free i p n b e) (al .sound i p n b e) } })
+
+  not-rolling : (p : Phase) → inHandshake p ≡ false → (p ≢ sync1) × (p ≢ sync2)
+  not-rolling p e = ((λ (q : p ≡ sync1). clash refl (sym (ap inHandshake q) ∙ e)), (λ (q : p ≡ sync2). clash refl (sym (ap inHandshake q) ∙ e)))
+
+  few-attach : (i j : ℕ) → i < mutatorCount → upd (st .attached) i true j ≡ true → j < mutatorCount
+  few-attach i j l h = ⊎-elim (λ q. subst (λ z. z < mutatorCount) (sym (q .0)) l) (λ q. o .few j (sym (q .1) ∙ h)) (upd-cases (st .attached) i true j)
+
+  act-attach : (i : ℕ) (v w : Option ℕ) → i < mutatorCount → Same put v w → ((b : ℕ) → v ≡ some b → Root st b) → Agrees segmentOf P put put st (unless (inHandshake (st .phase)) 11 st (attach st i v)) (a-ok, uAttach un i w)
+  act-attach i v w l c h = unless-ok (inHandshake (st .phase)) (attach st i v) (uAttach un i w) (λ e. let n = not-rolling (st .phase) e in
+      record { inv = attach-inv segmentOf st (o .inv) i v h (n .0) (n .1); sim = attach-sim segmentOf put st un (o .inv) (o .sim) i v w h (n .0) (n .1) c; few = λ j k. few-attach i j l k; comp = attach-comp segmentOf P st (o .inv) (o .comp) i v h (n .0) (n .1) })
+
+  few-detach : (i j : ℕ) → upd (st .attached) i false j ≡ true → j < mutatorCount
+  few-detach i j h = ⊎-elim (λ q. clash h (q .1)) (λ q. o .few j (sym (q .1) ∙ h)) (upd-cases (st .attached) i false j)
+
+  act-detach : (i : ℕ) → Agrees segmentOf P put put st (act alloc st (c-detach i)) (uact un (c-detach i))
+  act-detach i = unless-ok (inHandshake (st .phase)) (detach st i) (uDetach un i) (λ e. record { inv = detach-inv segmentOf st (o .inv) i; sim = detach-sim segmentOf put st un (o .inv) (o .sim) i; few = λ j k. few-detach i j k; comp = detach-comp segmentOf P st (o .inv) (o .comp) i })
+
+pub side-ok : (segmentOf : ℕ → ℕ) (P : ℕ → Type 0) (put : ℕ → Option ℕ) (st : State) (un : Unbounded) → Good segmentOf P put st un → (i : ℕ) (v : Bool) → Good segmentOf P put (setInside st i v) (uSetInside un i v)
+side-ok segmentOf P put st un o i v = record { inv = side-inv segmentOf st (o .inv) i v; sim = side-sim segmentOf put st un (o .inv) (o .sim) i v; few = o .few; comp = side-comp segmentOf P st (o .inv) (o .comp) i v }
+
+module _ (segmentOf : ℕ → ℕ) (alloc : State → ℕ → ℕ → ℕ → Option ℕ) (P : ℕ → Type 0) (put : ℕ → Option ℕ) (st : State) (al : Alloc segmentOf alloc st) (un : Unbounded) (o : Good segmentOf P put st un) where
+  act-ok : (c : Call) → refusal (face st) c ≡ 0 → Agrees segmentOf P put (actPut alloc put st (un .count) c) st (act alloc st c) (uact un c)
+  act-ok (c-attach i) e = act-attach segmentOf alloc P put st al un o i none none (lt-of i 32 (require-ok _ 2 _ (omega arith) e .0)) refl (λ b k. none-some k)
+  act-ok (c-spawn i p k) e =
+      let a = require-ok (ltb i mutatorCount) 2 _ (omega arith) e in
+      let b = require-ok (ltb p mutatorCount) 2 _ (omega arith) (a .1) in
+      let c = require-ok (not (st .attached i)) 3 _ (omega arith) (b .1) in
+      let d = require-ok (st .attached p) 4 _ (omega arith) (c .1) in
+      let f = require-ok (st .inside p) 5 _ (omega arith) (d .1) in
+      let g = root-ok k _ (f .1) in
+      act-attach segmentOf alloc P put st al un o i (st .root p k) (un .root p k) (lt-of i 32 (a .0)) (o .sim .root p k (d .0) (g .0)) (λ x q. (p, (k, d .0, g .0, q)))
+  act-ok (c-detach i) e = act-detach segmentOf alloc P put st al un o i
+  act-ok (c-check i) e = inr (record { same = refl; ok = check-ok segmentOf P put st un o i (by-ok (face st) i _ e .1) })
+  act-ok (c-leave i) e = inr (record { same = refl; ok = side-ok segmentOf P put (check st i) un (check-ok segmentOf P put st un o i (by-ok (face st) i _ e .1)) i false })
+  act-ok (c-enter i) e = inr (record { same = refl; ok = side-ok segmentOf P put st un o i true })
+  act-ok (c-make i d p n) e = act-make segmentOf alloc P put st al un o i d p n
+  act-ok (c-load i d s f) e = act-load segmentOf alloc P put st al un o i d s f e
+  act-ok (c-store i s f t) e = act-store segmentOf alloc P put st al un o i s f t e
+  act-ok (c-copy i d s) e = act-copy segmentOf alloc P put st al un o i d s e
+  act-ok (c-clear i d) e = act-clear segmentOf alloc P put st al un o i d
+  act-ok (c-put i s k v) e = act-put segmentOf alloc P put st al un o i s k v e
+  act-ok (c-get i s k) e = act-get segmentOf alloc P put st al un o i s k e
+  act-ok (c-same i s t) e = act-same segmentOf alloc P put st al un o i s t e
+  act-ok (c-shape i s) e = act-shape segmentOf alloc P put st al un o i s e
+
+  -- the theorem of the mutator calls
+  pub exec-ok : (c : Call) → Agrees segmentOf P put (nextPut alloc put st (un .count) c) st (exec alloc st c) (uexec un c)
+  exec-ok c = go (refusal (face st) c) (refusal (uface un) c) refl (ap (λ F. refusal F c) (face-eq put st un (o .sim)))
+    where
+      go : (n m : ℕ) → refusal (face st) c ≡ n → n ≡ m → Agrees segmentOf P put (refPut n put (actPut alloc put st (un .count) c)) st (refuse n st (act alloc st c)) (refuse m un (uact un c))
+      go zero zero e f = act-ok c e
+      go zero (suc m) e f = absurd (omega arith)
+      go (suc n) zero e f = absurd (omega arith)
+      go (suc n) (suc m) e f = inr (record { same = ap a-no f; ok = o })

@@ -1,0 +1,103 @@
+-- The invariant of the machine, and that the calls that set a root keep it. Assumes nothing.
+use mathlib.Core.Path.{_≡_, sym, _∙_, subst}
+use mathlib.Core.Logic.{_⊎_, inl, inr, ⊎-elim}
+use mathlib.Core.Bool.{true, false}
+use mathlib.Core.Option.{Option, none, some, Option·none-ne-some}
+use mathlib.Core.List.{[]}
+use Prim.Native.Nat.{ℕ, _≤_, _<_}
+use Rattle.theory.proofs.Graph.{reach-map, safe-edge}
+use Rattle.theory.specs.Reach.{Protected, root, next}
+use Rattle.theory.specs.Machine.{State, Holds, Root, Points, Grey, LiveRoot, Live, Reached, Covered, setRoot}
+use Rattle.theory.proofs.Updates.{upd2-cases, StackOk, In}
+use Rattle.theory.specs.Phases.{Phase, idle, sync1, sync2, mark, sweep}
+use Rattle.theory.specs.Update.{upd2}
+use Rattle.layout.specs.Geometry.{rootCount}
+
+abbrev pub Tracing : Phase → Type 0
+Tracing idle = ⊥
+Tracing sync1 = Unit {0}
+Tracing sync2 = Unit {0}
+Tracing mark = Unit {0}
+Tracing sweep = ⊥
+
+abbrev pub Quiet : Phase → Type 0
+Quiet idle = Unit {0}
+Quiet sync1 = ⊥
+Quiet sync2 = ⊥
+Quiet mark = ⊥
+Quiet sweep = Unit {0}
+
+-- the tricolour invariant
+pub record Core (st : State) : Type 0 where
+  pub m1 : (i b : ℕ) → 2 ≤ st .acks i → Holds st i b → Covered st b
+  pub m2 : (x y : ℕ) → Live st x → st .marked x ≡ true → Points st x y → Covered st y
+
+pub record Inv (segmentOf : ℕ → ℕ) (st : State) : Type 0 where
+  pub valid : (b : ℕ) → Live st b → st .used b ≡ true
+  pub stack : StackOk (st .marked) (st .stack)
+  pub quiet : Quiet (st .phase) → st .stack ≡ []
+  pub blank : st .phase ≡ sync1 → (b : ℕ) → Live st b → st .marked b ≡ false
+  pub first : st .phase ≡ sync1 → (i : ℕ) → st .acks i ≤ 1
+  pub second : st .phase ≡ sync2 → (i : ℕ) → st .attached i ≡ true → 1 ≤ st .acks i
+  pub all : st .phase ≡ mark → (i : ℕ) → st .attached i ≡ true → 2 ≤ st .acks i
+  pub core : Tracing (st .phase) → Core st
+  pub kept : st .phase ≡ sweep → (b : ℕ) → Reached st b → st .collect (segmentOf b) ≡ true → st .marked b ≡ true
+
+-- ---- small facts
+
+pub reached-live : (st : State) {b : ℕ} → Reached st b → Live st b
+reached-live st p = reach-map {R = Root st} {R′ = LiveRoot st} (λ x h. root (inl h)) (λ x y q e. inl e) p
+
+pub prot-live : (st : State) {b : ℕ} → Protected (Grey st) (st .marked) (Points st) b → Live st b
+prot-live st p = reach-map {R = Grey st} {R′ = LiveRoot st} (λ x h. root (inr h)) (λ x y q e. inl (e .1)) p
+
+pub in-safe : (st : State) (b : ℕ) → In (st .marked) (st .stack) b → Covered st b
+in-safe st b (inl h) = inl h
+in-safe st b (inr h) = inr (root h)
+
+pub none-some : {b : ℕ} {A : Type 0} → none ≡ some b → A
+none-some {b} e = absurd (Option·none-ne-some b e)
+
+-- ---- roots: load, copy, clear
+
+module _ (segmentOf : ℕ → ℕ) (st : State) (inv : Inv segmentOf st) (i k : ℕ) (v : Option ℕ) where
+  pub root-holds : (j b : ℕ) → Holds (setRoot st i k v) j b → Holds st j b ⊎ ((j ≡ i) × (v ≡ some b))
+  root-holds j b h = go (upd2-cases (st .root) i k v j (h .0))
+    where
+      go : ((j ≡ i) × (h .0 ≡ k) × (upd2 (st .root) i k v j (h .0) ≡ v)) ⊎ (upd2 (st .root) i k v j (h .0) ≡ st .root j (h .0)) → Holds st j b ⊎ ((j ≡ i) × (v ≡ some b))
+      go (inl q) = inr (q .0, sym (q .2) ∙ h .3)
+      go (inr q) = inl (h .0, h .1, h .2, sym q ∙ h .3)
+
+  module _ (r : (b : ℕ) → v ≡ some b → Reached st b) where
+    pub root-reached : {b : ℕ} → Reached (setRoot st i k v) b → Reached st b
+    root-reached p = reach-map (λ x h. ⊎-elim (λ q. root (h .0, q)) (λ q. r x (q .1)) (root-holds (h .0) x (h .1))) (λ x y q e. inl e) p
+
+    pub root-live : {b : ℕ} → Live (setRoot st i k v) b → Live st b
+    root-live p = reach-map (λ x h. ⊎-elim (λ (h′ : Root (setRoot st i k v) x). reached-live st (root-reached (root h′))) (λ g. root (inr g)) h) (λ x y q e. inl e) p
+
+    pub root-inv : ((b : ℕ) → v ≡ some b → Tracing (st .phase) → 2 ≤ st .acks i → Covered st b) → Inv segmentOf (setRoot st i k v)
+    root-inv s = record {
+      valid = λ b p. inv .valid b (root-live p);
+      stack = inv .stack;
+      quiet = inv .quiet;
+      blank = λ e b p. inv .blank e b (root-live p);
+      first = inv .first;
+      second = inv .second;
+      all = inv .all;
+      core = λ t. record {
+        m1 = λ j b a h. ⊎-elim (inv .core t .m1 j b a) (λ q. s b (q .1) t (subst (λ z. 2 ≤ st .acks z) (q .0) a)) (root-holds j b h);
+        m2 = λ x y p. inv .core t .m2 x y (root-live p);
+      };
+      kept = λ e b p. inv .kept e b (root-reached p);
+    }
+
+module _ (segmentOf : ℕ → ℕ) (st : State) (inv : Inv segmentOf st) (i : ℕ) where
+  -- root d takes the pointer f of the block a that a root holds
+  pub load-inv : (d a f : ℕ) → Holds st i a → f < st .pointers a → Inv segmentOf (setRoot st i d (st .pointer a f))
+  load-inv d a f h l = root-inv segmentOf st inv i d (st .pointer a f) (λ b e. next (root (i, h)) (f, l, e)) (λ b e t q. safe-edge (λ m. inv .core t .m2 a b (root (inl (i, h))) m (f, l, e)) (inv .core t .m1 i a q h) (f, l, e))
+
+  pub copy-inv : (d k : ℕ) → st .attached i ≡ true → k < rootCount → Inv segmentOf (setRoot st i d (st .root i k))
+  copy-inv d k o l = root-inv segmentOf st inv i d (st .root i k) (λ b e. root (i, (k, o, l, e))) (λ b e t q. inv .core t .m1 i b q (k, o, l, e))
+
+  pub clear-inv : (d : ℕ) → Inv segmentOf (setRoot st i d none)
+  clear-inv d = root-inv segmentOf st inv i d none (λ b e. none-some e) (λ b e t q. none-some e)

@@ -1,0 +1,13 @@
+-- The invariants of the abstract machine, and the collector argument.
+pub mod Graph
+pub mod Updates
+pub mod Invariant
+pub mod StoreKeeps
+pub mod MakeKeeps
+pub mod CycleKeeps
+pub mod Simulation
+pub mod Completeness
+pub mod Agree
+pub mod CallKeeps
+pub mod Runs
+pub mod Bridge

@@ -1,0 +1,102 @@
+-- The calls on the abstract machine, with their refusals and answers.
+use mathlib.Core.Bool.{Bool, true, false, _&&_}
+use mathlib.Core.Option.{Option, none, some, Option·map}
+use mathlib.Core.List.{List, [], _∷_}
+use Prim.Native.Nat.{ℕ, zero, suc, _+_}
+use lib.Dec.{ltb}
+use lib.ListN.{length, getD, set, replicate}
+use Rattle.theory.specs.Machine.{State, setRoot, store, make, attach, detach, setInside, setValues, check, start, setPhase, trace, sweepSegment}
+use Rattle.theory.specs.Calls.{Call, Answer, Face, refusal, shapeIf, refuse, onRecord, sameRef, c-attach, c-detach, c-check, c-leave, c-enter, c-spawn, c-make, c-load, c-store, c-copy, c-clear, c-put, c-get, c-same, c-shape, a-ok, a-moved, a-traced, a-done, a-idle, a-num, a-flag, a-shape, a-no, a-waiting, a-swept}
+use Rattle.theory.specs.Phases.{Phase, idle, sync1, sync2, mark, sweep, inHandshake, owes}
+use Rattle.theory.specs.Reach.{root}
+use Rattle.layout.specs.Geometry.{rootCount, mutatorCount}
+
+-- ---- refusals 2 to 9, by what both sides show
+
+abbrev pub shapeAt : State → ℕ → ℕ × ℕ
+shapeAt st b = (st .pointers b, length (st .values b))
+
+abbrev pub face : State → Face
+face st = record { attached = st .attached; inside = st .inside; shape = λ i k. shapeIf (st .attached i) (ltb k rootCount) (Option·map (shapeAt st) (st .root i k)) }
+
+-- ---- what a call does that is not refused so
+
+module _ {S : Type 0} where
+  abbrev pub unless : Bool → ℕ → S → S → Answer × S
+  unless true n st st′ = (a-no n, st)
+  unless false n st st′ = (a-ok, st′)
+
+  abbrev pub room : Option ℕ → S → (ℕ → S) → Answer × S
+  room none st k = (a-no 10, st)
+  room (some b) st k = (a-ok, k b)
+
+-- alloc: the block that a make gets
+abbrev pub act : (State → ℕ → ℕ → ℕ → Option ℕ) → State → Call → Answer × State
+act alloc st (c-attach i) = unless (inHandshake (st .phase)) 11 st (attach st i none)
+act alloc st (c-spawn i p k) = unless (inHandshake (st .phase)) 11 st (attach st i (st .root p k))
+act alloc st (c-detach i) = unless (inHandshake (st .phase)) 11 st (detach st i)
+act alloc st (c-check i) = (a-ok, check st i)
+act alloc st (c-leave i) = (a-ok, setInside (check st i) i false)
+act alloc st (c-enter i) = (a-ok, setInside st i true)
+act alloc st (c-make i d p n) = room (alloc st i p n) st (λ b. make st i d b p (replicate n 0))
+act alloc st (c-load i d s f) = onRecord (st .root i s) st (λ a. (a-ok, setRoot st i d (st .pointer a f)))
+act alloc st (c-store i s f t) = onRecord (st .root i s) st (λ a. (a-ok, store st i a f (st .root i t)))
+act alloc st (c-copy i d s) = (a-ok, setRoot st i d (st .root i s))
+act alloc st (c-clear i d) = (a-ok, setRoot st i d none)
+act alloc st (c-put i s k v) = onRecord (st .root i s) st (λ a. (a-ok, setValues st a (set (st .values a) k v)))
+act alloc st (c-get i s k) = onRecord (st .root i s) st (λ a. (a-num (getD (st .values a) k 0), st))
+act alloc st (c-same i s t) = (a-flag (sameRef (st .root i s) (st .root i t)), st)
+act alloc st (c-shape i s) = onRecord (st .root i s) st (λ a. (a-shape (st .pointers a) (length (st .values a)), st))
+
+abbrev pub exec : (State → ℕ → ℕ → ℕ → Option ℕ) → State → Call → Answer × State
+exec alloc st c = refuse (refusal (face st) c) st (act alloc st c)
+
+-- ---- the collector's calls
+
+abbrev pub outside : Bool → Bool → State → State → State
+outside true false st st′ = st′
+outside true true st st′ = st
+outside false b st st′ = st
+
+-- the outside mutators below n acknowledge, in order
+abbrev pub answerOutside : ℕ → State → State
+answerOutside zero st = st
+answerOutside (suc n) st = let st₁ : State = answerOutside n st in outside (st₁ .attached n) (st₁ .inside n) st₁ (check st₁ n)
+
+abbrev pub oneIf : Bool → ℕ
+oneIf true = 1
+oneIf false = 0
+
+-- inside mutators below n that owe
+abbrev pub waiting : ℕ → State → ℕ
+waiting zero st = 0
+waiting (suc n) st = oneIf (st .attached n && (st .inside n && owes (st .phase) (st .acks n))) + waiting n st
+
+abbrev pub move : ℕ → State → Phase → Answer × State
+move zero st p = (a-moved, setPhase st p)
+move (suc n) st p = (a-waiting (suc n), st)
+
+abbrev pub traceStep : List ℕ → State → Answer × State
+traceStep [] st = (a-moved, setPhase st sweep)
+traceStep (b ∷ l) st = (a-traced, trace st b l)
+
+abbrev pub sweepStep : (ℕ → ℕ) → Option ℕ → State → Answer × State
+sweepStep segmentOf none st = (a-done, setPhase st idle)
+sweepStep segmentOf (some g) st = (a-swept g, sweepSegment segmentOf st g)
+
+abbrev pub stepBy : (ℕ → ℕ) → (State → Option ℕ) → Phase → State → Answer × State
+stepBy segmentOf lowest idle st = (a-idle, st)
+stepBy segmentOf lowest sync1 st = move (waiting mutatorCount (answerOutside mutatorCount st)) (answerOutside mutatorCount st) sync2
+stepBy segmentOf lowest sync2 st = move (waiting mutatorCount (answerOutside mutatorCount st)) (answerOutside mutatorCount st) mark
+stepBy segmentOf lowest mark st = traceStep (st .stack) st
+stepBy segmentOf lowest sweep st = sweepStep segmentOf (lowest st) st
+
+abbrev pub step : (ℕ → ℕ) → (State → Option ℕ) → State → Answer × State
+step segmentOf lowest st = stepBy segmentOf lowest (st .phase) st
+
+abbrev pub startBy : Phase → (ℕ → Bool) → State → Answer × State
+startBy idle full st = (a-ok, start st full)
+startBy sync1 full st = (a-no 11, st)
+startBy sync2 full st = (a-no 11, st)
+startBy mark full st = (a-no 11, st)
+startBy sweep full st = (a-no 11, st)
