@@ -9,7 +9,7 @@ use lib.Dec.{leb, ltb, leb→le}
 use lib.ListN.{replicate}
 use borrow.Author.Tests.{ltb-true, ltb-false}
 use Rattle.rules.specs.Pick.{pick}
-use Rattle.rules.proofs.Table.{at}
+use Rattle.rules.proofs.Table.{every-at}
 use Rattle.words.specs.Levels.{Height, treeWords}
 use Rattle.words.proofs.Trees.{levels-pos, levels-le, levels-end}
 use Rattle.classes.specs.declared.Shape.{Shape}
@@ -56,4 +56,4 @@ pub class-fits : (c : ℕ) (x : Shape) → IsShape c x → treeWords (x .levels 
 unfolding fits
 class-fits c x i =
     let k : firstClass + (c - firstClass) ≡ c = omega (arith, i .least) in
-    rw (i .shape, ← k) (leb→le _ _ (at 0 fits (replicate classCount 0) tt (c - firstClass) (omega (arith, i .least, i .most))))
+    rw (i .shape, ← k) (leb→le _ _ (every-at fits 0 (replicate classCount 0) tt (c - firstClass) (omega (arith, i .least, i .most))))

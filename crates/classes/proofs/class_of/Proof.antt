@@ -8,7 +8,7 @@ use native.Mathlib.Omega.{arith}
 use lib.Dec.{T, eqb, eqb→eq}
 use lib.ListN.{getD, replicate}
 use borrow.Author.Needs.{needs}
-use Rattle.rules.proofs.Table.{at}
+use Rattle.rules.proofs.Table.{every-at}
 use Rattle.classes.specs.declared.SizeClass.{SizeClass}
 use Rattle.classes.specs.declared.SizeClass.the-variants.{Class, TooBig}
 use Rattle.classes.specs.Class.{classOf}
@@ -44,7 +44,7 @@ array-read-class c = search needs
 returns : tie.Need-returns
 unfolding table right isClass
 returns c =
-    isClass-eq (classOf (c .before .args .fields)) (getD table (c .before .args .fields) 0) (at 0 right table tt (c .before .args .fields) (omega (arith, c .if1 .taken)))
+    isClass-eq (classOf (c .before .args .fields)) (getD table (c .before .args .fields) 0) (every-at right 0 table tt (c .before .args .fields) (omega (arith, c .if1 .taken)))
 
 returns-2 : tie.Need-returns-2
 returns-2 c = sym (past-limit (c .before .args .fields) (omega (arith, c .if1 .left)))

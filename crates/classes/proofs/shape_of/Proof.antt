@@ -2,7 +2,7 @@
 -- Assumes nothing.
 use mathlib.Core.Path.{_≡_, sym, ap, _∙_}
 use mathlib.Core.List.{List, [], _∷_}
-use mathlib.Core.Bool.{Bool}
+use mathlib.Core.Bool.{Bool, _&&_}
 use Prim.Native.Nat.{ℕ, _+_, _-_, _<_, _≤_}
 use native.Mathlib.Omega.{arith}
 use lib.Dec.{T, eqb, eqb→eq}
@@ -10,7 +10,7 @@ use lib.ListN.{getD}
 use borrow.Author.Needs.{needs}
 use borrow.Author.Tests.{lt-ltb, le-ltb}
 use Rattle.rules.proofs.Tests.{tests}
-use Rattle.rules.proofs.Table.{both, both-left, both-right, at}
+use Rattle.rules.proofs.Table.{and-left, and-right, every-at}
 use Rattle.classes.specs.declared.Shape.{Shape}
 use Rattle.classes.specs.declared.ClassShape.the-variants.{Of}
 use Rattle.classes.specs.Class.{firstClass, classCount}
@@ -35,20 +35,20 @@ past = shape 0 0 0 0 0
 
 same : Shape → Shape → Bool
 same x y =
-    both (eqb (x .blocks) (y .blocks))
-    (both (eqb (x .levels) (y .levels)) (both (eqb (x .words0) (y .words0)) (both (eqb (x .words1) (y .words1)) (eqb (x .words2) (y .words2)))))
+    eqb (x .blocks) (y .blocks)
+    && (eqb (x .levels) (y .levels) && (eqb (x .words0) (y .words0) && (eqb (x .words1) (y .words1) && eqb (x .words2) (y .words2))))
 
 same-eq : (x y : Shape) → T (same x y) → x ≡ y
 unfolding same
 same-eq x y t =
-    let b = eqb→eq (x .blocks) (y .blocks) (both-left (eqb (x .blocks) (y .blocks)) _ t) in
-    let t1 = both-right (eqb (x .blocks) (y .blocks)) _ t in
-    let l = eqb→eq (x .levels) (y .levels) (both-left (eqb (x .levels) (y .levels)) _ t1) in
-    let t2 = both-right (eqb (x .levels) (y .levels)) _ t1 in
-    let w0 = eqb→eq (x .words0) (y .words0) (both-left (eqb (x .words0) (y .words0)) _ t2) in
-    let t3 = both-right (eqb (x .words0) (y .words0)) _ t2 in
-    let w1 = eqb→eq (x .words1) (y .words1) (both-left (eqb (x .words1) (y .words1)) _ t3) in
-    let w2 = eqb→eq (x .words2) (y .words2) (both-right (eqb (x .words1) (y .words1)) _ t3) in
+    let b = eqb→eq (x .blocks) (y .blocks) (and-left (eqb (x .blocks) (y .blocks)) _ t) in
+    let t1 = and-right (eqb (x .blocks) (y .blocks)) _ t in
+    let l = eqb→eq (x .levels) (y .levels) (and-left (eqb (x .levels) (y .levels)) _ t1) in
+    let t2 = and-right (eqb (x .levels) (y .levels)) _ t1 in
+    let w0 = eqb→eq (x .words0) (y .words0) (and-left (eqb (x .words0) (y .words0)) _ t2) in
+    let t3 = and-right (eqb (x .words0) (y .words0)) _ t2 in
+    let w1 = eqb→eq (x .words1) (y .words1) (and-left (eqb (x .words1) (y .words1)) _ t3) in
+    let w2 = eqb→eq (x .words2) (y .words2) (and-right (eqb (x .words1) (y .words1)) _ t3) in
     λ i. record { blocks = b i; levels = l i; words0 = w0 i; words1 = w1 i; words2 = w2 i }
 
 -- the rule at entry k: it is the shape of class k + 3
@@ -60,7 +60,7 @@ in-table : (class : ℕ) → firstClass ≤ class → class - firstClass < class
 unfolding table past right
 in-table class l h =
     let e : firstClass + (class - firstClass) ≡ class = omega arith in
-    ap Of (same-eq (getD table (class - firstClass) past) (shapeFor (blocksIn (firstClass + (class - firstClass)))) (at past right table tt (class - firstClass) h)
+    ap Of (same-eq (getD table (class - firstClass) past) (shapeFor (blocksIn (firstClass + (class - firstClass)))) (every-at right past table tt (class - firstClass) h)
     ∙ ap (λ (n : ℕ). shapeFor (blocksIn n)) e)
     ∙ sym (rw (le-ltb class firstClass l, lt-ltb class (firstClass + classCount) (omega arith)))
 

@@ -1,0 +1,14 @@
+-- `bracket_forms::load_of` meets its contract: the two mutator numbers are compared.
+-- Assumes nothing.
+use borrow.Author.Tests.{eq-eqb, ne-eqb}
+use Rattle.bracket_forms.proofs.load_of.Statement.{statement}
+use Rattle.bracket_forms.proofs.load_of.Tie as tie
+
+returns : tie.Need-returns
+returns c = rw (eq-eqb _ _ (c .if1 .taken))
+
+returns-2 : tie.Need-returns-2
+returns-2 c = rw (ne-eqb _ _ (c .if1 .left))
+
+pub load-of-spec : {M : Type 1} → statement M
+load-of-spec = tie.close (tie.spec returns returns-2)

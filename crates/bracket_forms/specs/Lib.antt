@@ -1,0 +1,5 @@
+-- What the contracts of this crate cite. Forms and Replies are the grammar, to compare with document 01; Kinds is the table
+-- by which the functions go.
+pub mod Forms
+pub mod Replies
+pub mod Kinds

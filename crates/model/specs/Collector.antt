@@ -1,0 +1,127 @@
+-- The collector's calls: start, and step in each of the five phases. Document 01, "The cycle".
+use mathlib.Core.Bool.{Bool, true, false, _&&_}
+use mathlib.Core.Option.{Option, none, some}
+use Prim.Native.Nat.{ℕ, zero, suc, _+_, _-_}
+use lib.Dec.{eqb}
+use lib.ListN.{length, replicate}
+use Rattle.rules.specs.Pick.{pick}
+use Rattle.words.specs.Bits.{bitAt, onesAmong}
+use Rattle.classes.specs.Shape.{blocksIn}
+use Rattle.layout.specs.declared.Geometry.{Geometry}
+use Rattle.layout.specs.Geometry.{mutatorCount}
+use Rattle.layout.specs.Mem.{Mem, traceWord, withRegion}
+use Rattle.bitmap_write.specs.Ready.{adopted}
+use Rattle.theory.specs.Phases.{Phase, idle, sync1, sync2, mark, sweep, owes}
+use Rattle.theory.specs.Calls.{Answer, a-ok, a-no}
+use Rattle.model.specs.declared.Step.{Step}
+use Rattle.model.specs.declared.Step.the-variants.{Waiting, Moved, Traced, Swept, Done, Idle}
+use Rattle.model.specs.declared.SegmentState.the-variants as segment
+use Rattle.model.specs.Fields.{phase, setPhase, traceCount, inside, outside, state, acks, setAcks, tag, class}
+use Rattle.model.specs.Segments.{setState, freeStack, partStack, stacked, above, bitmap, setBitmap, marksOf, inUse}
+use Rattle.model.specs.Tracing.{traced}
+use Rattle.model.specs.Mutators.{acknowledged}
+
+-- ---- start: "every full segment becomes condemned, all marks are cleared, the phase is roll 1"
+
+abbrev pub isFull : Mem → ℕ → Bool
+isFull m s = eqb (tag m s) 3
+
+-- the full ones of the first n segments become condemned
+unfoldable pub condemned : Mem → ℕ → Mem
+condemned m zero = m
+condemned m (suc s) = pick (isFull m s) (setState (condemned m s) s (segment.Condemned (class m s))) (condemned m s)
+
+-- whether any of the first n segments is full
+unfoldable pub anyFull : Mem → ℕ → Bool
+anyFull m zero = false
+anyFull m (suc s) = pick (isFull m s) true (anyFull m s)
+
+-- the acknowledgements of the first n mutators begin anew
+unfoldable pub acksReset : Mem → ℕ → Mem
+acksReset m zero = m
+acksReset m (suc k) = setAcks (acksReset m k) k 0
+
+abbrev pub marksCleared : Mem → Mem
+marksCleared m = withRegion m 5 (replicate (length (m .marks)) 0)
+
+unfoldable pub started : Geometry → Mem → Mem
+started g m = setPhase (marksCleared (acksReset (condemned m (g .segments)) mutatorCount)) sync1
+
+-- "11, not now: start outside idle"; "12, none full: start in idle with no full segment"
+abbrev pub startIn : Phase → Geometry → Mem → Answer × Mem
+startIn idle g m = pick (anyFull m (g .segments)) (a-ok, started g m) (a-no 12, m)
+startIn sync1 g m = (a-no 11, m)
+startIn sync2 g m = (a-no 11, m)
+startIn mark g m = (a-no 11, m)
+startIn sweep g m = (a-no 11, m)
+
+unfoldable pub startOf : Geometry → Mem → Answer × Mem
+startOf g m = startIn (phase m) g m
+
+-- ---- step, in a handshake
+
+-- "answers for outside scripts, in number order, as check does": those of the first n mutators
+unfoldable pub outsideAnswered : Mem → ℕ → Mem
+outsideAnswered m zero = m
+outsideAnswered m (suc k) = pick (eqb (state m k) outside) (acknowledged (outsideAnswered m k) k) (outsideAnswered m k)
+
+abbrev pub oneIf : Bool → ℕ
+oneIf true = 1
+oneIf false = 0
+
+-- "If inside scripts still owe": how many of the first n mutators
+unfoldable pub waiting : Mem → ℕ → ℕ
+waiting m zero = 0
+waiting m (suc k) = oneIf (eqb (state m k) inside && owes (phase m) (acks m k)) + waiting m k
+
+-- "it answers waiting and how many; else the next phase, and moved"
+abbrev pub moves : ℕ → Mem → Phase → Step × Mem
+moves zero m p = (Moved, setPhase m p)
+moves (suc n) m p = (Waiting (suc n), m)
+
+-- ---- step, in mark: "takes the last entered record .. With an empty stack: sweep, and moved."
+
+abbrev pub traces : ℕ → Mem → Step × Mem
+traces zero m = (Moved, setPhase m sweep)
+traces (suc n) m = (Traced, traced m (traceWord m n - 1))
+
+-- ---- step, in sweep: "the lowest condemned segment"
+
+-- the lowest of the first n segments that is condemned
+abbrev pub orThen : Option ℕ → Option ℕ → Option ℕ
+orThen none o = o
+orThen (some s) o = some s
+
+unfoldable pub lowest : Mem → ℕ → Option ℕ
+lowest m zero = none
+lowest m (suc s) = orThen (lowest m s) (pick (eqb (tag m s) 4) (some s) none)
+
+-- how many blocks of a segment are marked
+abbrev pub keptBy : Mem → ℕ → ℕ
+keptBy m s = onesAmong (bitAt (marksOf m s)) (blocksIn (class m s))
+
+-- "its level 0 becomes the marks, upper levels rebuilt"
+abbrev pub rebuiltBy : Mem → ℕ → Mem
+rebuiltBy m s = setBitmap m s (adopted (above (class m s)) (blocksIn (class m s)) (marksOf m s) (bitmap m s))
+
+-- "place 0 unless it becomes full. No mark: free. All blocks marked: full. Else part."
+unfoldable pub swept : Geometry → Mem → ℕ → Mem
+swept g m s =
+    pick (eqb (keptBy m s) 0) (stacked g (setState (rebuiltBy m s) s segment.Free) freeStack s)
+    (pick (eqb (keptBy m s) (blocksIn (class m s))) (setState (rebuiltBy m s) s (segment.Full (class m s)))
+    (stacked g (setState (rebuiltBy m s) s (segment.Part (class m s) 0)) (partStack (class m s)) s))
+
+-- "how many blocks in use became free": those in use before less those after. "With none left: idle, and done."
+abbrev pub sweeps : Geometry → Option ℕ → Mem → Step × Mem
+sweeps g none m = (Done, setPhase m idle)
+sweeps g (some s) m = (Swept s (inUse m s - inUse (swept g m s) s), swept g m s)
+
+abbrev pub stepIn : Phase → Geometry → Mem → Step × Mem
+stepIn idle g m = (Idle, m)
+stepIn sync1 g m = moves (waiting (outsideAnswered m mutatorCount) mutatorCount) (outsideAnswered m mutatorCount) sync2
+stepIn sync2 g m = moves (waiting (outsideAnswered m mutatorCount) mutatorCount) (outsideAnswered m mutatorCount) mark
+stepIn mark g m = traces (traceCount m) m
+stepIn sweep g m = sweeps g (lowest m (g .segments)) m
+
+unfoldable pub stepOf : Geometry → Mem → Step × Mem
+stepOf g m = stepIn (phase m) g m

@@ -1,0 +1,78 @@
+-- The words of the memory by name: control, mutators' entries, segment records. docs/LAYOUT.md has the order of the words.
+use Prim.Native.Nat.{ℕ, _+_, _-_, _*_}
+use Rattle.classes.specs.Class.{firstClass, classCount}
+use Rattle.layout.specs.Geometry.{mutatorWords, rootCount, recordWords}
+use Rattle.layout.specs.Mem.{Mem, controlWord, mutatorWord, segmentWord, setControl, setMutator, setSegment}
+use Rattle.theory.specs.Phases.{Phase}
+use Rattle.model.specs.Rules.{phaseOf, phaseNumber}
+
+-- ---- control
+
+abbrev pub phase : Mem → Phase
+phase m = phaseOf (controlWord m 0)
+
+abbrev pub setPhase : Mem → Phase → Mem
+setPhase m p = setControl m 0 (phaseNumber p)
+
+abbrev pub traceCount : Mem → ℕ
+traceCount m = controlWord m 1
+
+abbrev pub setTraceCount : Mem → ℕ → Mem
+setTraceCount m n = setControl m 1 n
+
+-- ---- mutator k: its state (0 absent, 1 inside, 2 outside), its acknowledgements, root i, and the segment that it holds of class c
+-- (0, or 1 + the segment)
+
+abbrev pub rootsFrom : ℕ
+rootsFrom = 2
+
+abbrev pub heldFrom : ℕ
+heldFrom = rootsFrom + rootCount
+
+abbrev pub absent : ℕ
+absent = 0
+
+abbrev pub inside : ℕ
+inside = 1
+
+abbrev pub outside : ℕ
+outside = 2
+
+abbrev pub state : Mem → ℕ → ℕ
+state m k = mutatorWord m (k * mutatorWords)
+
+abbrev pub setState : Mem → ℕ → ℕ → Mem
+setState m k v = setMutator m (k * mutatorWords) v
+
+abbrev pub acks : Mem → ℕ → ℕ
+acks m k = mutatorWord m (k * mutatorWords + 1)
+
+abbrev pub setAcks : Mem → ℕ → ℕ → Mem
+setAcks m k v = setMutator m (k * mutatorWords + 1) v
+
+abbrev pub root : Mem → ℕ → ℕ → ℕ
+root m k i = mutatorWord m (k * mutatorWords + rootsFrom + i)
+
+abbrev pub setRoot : Mem → ℕ → ℕ → ℕ → Mem
+setRoot m k i v = setMutator m (k * mutatorWords + rootsFrom + i) v
+
+abbrev pub holding : Mem → ℕ → ℕ → ℕ
+holding m k c = mutatorWord m (k * mutatorWords + heldFrom + (c - firstClass))
+
+abbrev pub setHolding : Mem → ℕ → ℕ → ℕ → Mem
+setHolding m k c v = setMutator m (k * mutatorWords + heldFrom + (c - firstClass)) v
+
+-- ---- segment s: tag (0 free, 1 part, 2 held, 3 full, 4 condemned), class, place, mutator
+
+abbrev pub tag : Mem → ℕ → ℕ
+tag m s = segmentWord m (s * recordWords)
+
+abbrev pub class : Mem → ℕ → ℕ
+class m s = segmentWord m (s * recordWords + 1)
+
+-- document 01: place; the allocation pointer
+abbrev pub place : Mem → ℕ → ℕ
+place m s = segmentWord m (s * recordWords + 2)
+
+abbrev pub owner : Mem → ℕ → ℕ
+owner m s = segmentWord m (s * recordWords + 3)

@@ -1,0 +1,11 @@
+-- Document 01 as definitions over the memory.
+pub mod Rules
+pub mod Fields
+pub mod Segments
+pub mod Records
+pub mod Tracing
+pub mod Mutators
+pub mod Making
+pub mod Calls
+pub mod Collector
+pub mod Opening

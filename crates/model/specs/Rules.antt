@@ -1,0 +1,26 @@
+-- The phase by its number, and the declared form of the barrier's duty.
+use Prim.Native.Nat.{ℕ, zero, suc}
+use Rattle.theory.specs.Phases.{Phase, idle, sync1, sync2, mark, sweep, nothing, both, old}
+use Rattle.theory.specs.Phases as phases
+use Rattle.model.specs.declared.Duty.{Duty}
+use Rattle.model.specs.declared.Duty.the-variants.{Nothing, Both, Old}
+
+-- the phase that a number stands for: IDLE to SWEEP are 0 to 4
+abbrev pub phaseOf : ℕ → Phase
+phaseOf zero = idle
+phaseOf (suc zero) = sync1
+phaseOf (suc (suc zero)) = sync2
+phaseOf (suc (suc (suc zero))) = mark
+phaseOf (suc (suc (suc (suc n)))) = sweep
+
+abbrev pub dutyOf : phases.Duty → Duty
+dutyOf nothing = Nothing
+dutyOf both = Both
+dutyOf old = Old
+
+abbrev pub phaseNumber : Phase → ℕ
+phaseNumber idle = 0
+phaseNumber sync1 = 1
+phaseNumber sync2 = 2
+phaseNumber mark = 3
+phaseNumber sweep = 4

@@ -1,0 +1,95 @@
+-- A segment's state in its record's words, the stacks of segments, its bitmap, and which of its blocks are in use.
+use mathlib.Core.List.{List}
+use Prim.Native.Nat.{ℕ, zero, suc, _+_, _-_, _*_}
+use lib.Dec.{eqb, ltb}
+use lib.ListN.{getD}
+use Rattle.rules.specs.Pick.{pick}
+use Rattle.words.specs.Bits.{bitAt, onesAmong}
+use Rattle.classes.specs.Class.{firstClass}
+use Rattle.classes.specs.Shape.{blocksIn, shapeFor, bitmapWords}
+use Rattle.layout.specs.declared.Geometry.{Geometry}
+use Rattle.layout.specs.Geometry.{recordWords, mostBlocks, markWords}
+use Rattle.layout.specs.Mem.{Mem, stackWord, setSegment, setStack, run, setRun}
+use Rattle.bitmap_search.specs.declared.Found.{Found}
+use Rattle.bitmap_search.specs.Scan.{nextFree}
+use Rattle.bitmap_write.specs.Ready.{fresh, adopted}
+use Rattle.model.specs.declared.SegmentState.{SegmentState}
+use Rattle.model.specs.declared.SegmentState.the-variants as state
+use Rattle.model.specs.Fields.{tag, class, place, owner}
+
+-- "A segment is free, part (class, place), held (class, place, script), full (class) or condemned (class)."
+abbrev pub stateOf : ℕ → ℕ → ℕ → ℕ → SegmentState
+stateOf zero c p k = state.Free
+stateOf (suc zero) c p k = state.Part c p
+stateOf (suc (suc zero)) c p k = state.Held c p k
+stateOf (suc (suc (suc zero))) c p k = state.Full c
+stateOf (suc (suc (suc (suc t)))) c p k = state.Condemned c
+
+abbrev pub segment : Mem → ℕ → SegmentState
+segment m s = stateOf (tag m s) (class m s) (place m s) (owner m s)
+
+-- the four words of a segment's record
+abbrev pub setRecord : Mem → ℕ → ℕ → ℕ → ℕ → ℕ → Mem
+setRecord m s t c p k =
+    setSegment (setSegment (setSegment (setSegment m (s * recordWords) t) (s * recordWords + 1) c) (s * recordWords + 2) p) (s * recordWords + 3) k
+
+-- "A full segment's place is its number of blocks, kept when it is condemned."
+unfoldable pub setState : Mem → ℕ → SegmentState → Mem
+setState m s state.Free = setRecord m s 0 0 0 0
+setState m s (state.Part c p) = setRecord m s 1 c p 0
+setState m s (state.Held c p k) = setRecord m s 2 c p k
+setState m s (state.Full c) = setRecord m s 3 c (blocksIn c) 0
+setState m s (state.Condemned c) = setRecord m s 4 c (blocksIn c) 0
+
+-- ---- stacks: "the last put on taken first; each class has its own part stack"
+
+-- the free stack, and the part stack of class c
+abbrev pub freeStack : ℕ
+freeStack = 0
+
+abbrev pub partStack : ℕ → ℕ
+partStack c = 1 + (c - firstClass)
+
+module _ (g : Geometry) where
+  abbrev pub count : Mem → ℕ → ℕ
+  count m t = stackWord m (t * (1 + g .segments))
+
+  abbrev pub entry : Mem → ℕ → ℕ → ℕ
+  entry m t i = stackWord m (t * (1 + g .segments) + 1 + i)
+
+  -- the segment last put on
+  abbrev pub top : Mem → ℕ → ℕ
+  top m t = entry m t (count m t - 1)
+
+  abbrev pub pop : Mem → ℕ → Mem
+  pop m t = setStack m (t * (1 + g .segments)) (count m t - 1)
+
+  abbrev pub stacked : Mem → ℕ → ℕ → Mem
+  stacked m t s = setStack (setStack m (t * (1 + g .segments) + 1 + count m t) s) (t * (1 + g .segments)) (count m t + 1)
+
+-- ---- bitmaps
+
+-- the levels above level 0 of a class's bitmap
+abbrev pub above : ℕ → ℕ
+above c = shapeFor (blocksIn c) .levels - 1
+
+abbrev pub bitmap : Mem → ℕ → List ℕ
+bitmap m s = run m 4 (s * bitmapWords) bitmapWords
+
+abbrev pub setBitmap : Mem → ℕ → List ℕ → Mem
+setBitmap m s ws = setRun m 4 (s * bitmapWords) ws
+
+abbrev pub marksOf : Mem → ℕ → List ℕ
+marksOf m s = run m 5 (s * markWords) markWords
+
+-- "the next free block": the first at or after the place whose bit is 0
+abbrev pub free : Mem → ℕ → ℕ → ℕ → Found
+free m s c p = nextFree (bitAt (bitmap m s)) (blocksIn c) p
+
+-- "A block is in use when it lies before the place or its bit is 1."
+abbrev pub usedBit : Mem → ℕ → ℕ → ℕ
+usedBit m s b = pick (ltb b (place m s)) 1 (bitAt (bitmap m s) b)
+
+-- how many blocks of a segment are in use; none of a free one
+abbrev pub inUse : Mem → ℕ → ℕ
+inUse m s = pick (eqb (tag m s) 0) 0 (onesAmong (usedBit m s) (blocksIn (class m s)))
