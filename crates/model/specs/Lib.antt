@@ -9,3 +9,8 @@ pub mod Making
 pub mod Calls
 pub mod Collector
 pub mod Opening
+pub mod Reaching
+pub mod Consistent
+pub mod Answers
+pub mod Promise
+pub mod Lists

@@ -1,0 +1,80 @@
+-- The guarantee: "Nobody who works through script calls can learn that a collector exists." One record with both halves, over every list of
+-- calls from an accepted opening of memory of any content to the next accepted one, where of each call only its promise is known.
+use mathlib.Core.Path.{_≡_}
+use mathlib.Core.Logic.{_⊎_}
+use mathlib.Core.Bool.{false}
+use mathlib.Core.Option.{none}
+use mathlib.Core.List.{List, [], _∷_, _++_}
+use Prim.Native.Nat.{ℕ, _<_, _^_}
+use lib.ListN.{length, getD}
+use Rattle.classes.specs.Shape.{blocksIn}
+use Rattle.layout.specs.declared.Geometry.{Geometry}
+use Rattle.layout.specs.Geometry.{wrongSize}
+use Rattle.layout.specs.Mem.{Mem, memOf}
+use Rattle.theory.specs.Unbounded.{empty, uanswers}
+use Rattle.model.specs.declared.Answer.{Answer}
+use Rattle.model.specs.declared.Answer.the-variants.{Ok}
+use Rattle.model.specs.declared.Step.{Step}
+use Rattle.model.specs.declared.Step.the-variants.{Swept}
+use Rattle.model.specs.Fields.{tag, class}
+use Rattle.model.specs.Segments.{usedBit}
+use Rattle.model.specs.Records.{headerOf}
+use Rattle.model.specs.Consistent.{Consistent}
+use Rattle.model.specs.Promise.{OpenPromise}
+use Rattle.model.specs.Lists.{Element, started, stepped, Chain, onward, remainingCalls, remainingAnswers, Beside, beside, BlockReached}
+
+-- the unbounded heap at an opening: no record, and none put into a block
+abbrev pub begun : Beside
+begun = record { heap = empty; put = λ at. none }
+
+-- the memory after a list of calls
+abbrev pub wordsAfter : List ℕ → List Element → List ℕ
+wordsAfter words [] = words
+wordsAfter words (e ∷ es) = wordsAfter (onward words e) es
+
+-- "Free .. : the block is not in use, or its segment is free."
+abbrev pub BlockFree : Mem → ℕ → ℕ → Type 0
+BlockFree m s b = (usedBit m s b ≡ 0) ⊎ (tag m s ≡ 0)
+
+-- a block of a segment that was full when the cycle began, and that was not reached then
+pub record Garbage (atStart : Mem) (w : Beside) (s b : ℕ) : Type 0 where
+  pub full : tag atStart s ≡ 3
+  pub block : b < blocksIn (class atStart s)
+  pub unreached : BlockReached w (headerOf s (class atStart s) b) → ⊥
+
+-- "A cycle begins with a start that is not refused": the list is one of calls, such a start, further calls with no such start among them, and a
+-- step that answers swept for a segment
+pub record SweptIn (g : Geometry) (words : List ℕ) (es : List Element) : Type 0 where
+  pub before : List Element
+  pub during : List Element
+  pub rest : List Element
+  pub startBefore : List ℕ
+  pub startAfter : List ℕ
+  pub stepBefore : List ℕ
+  pub stepAfter : List ℕ
+  pub segment : ℕ
+  pub freed : ℕ
+  pub whole : es ≡ before ++ (started g startBefore Ok startAfter ∷ (during ++ (stepped g stepBefore (Swept segment freed) stepAfter ∷ rest)))
+  pub accepted : wrongSize g (length startBefore) ≡ false
+  pub same : (xs ys : List Element) (u v : List ℕ) → wrongSize g (length u) ≡ false → during ≡ xs ++ (started g u Ok v ∷ ys) → ⊥
+
+-- the opening: of memory of any content, not refused
+pub record Opened (g : Geometry) (content words : List ℕ) : Type 0 where
+  pub sized : wrongSize g (length content) ≡ false
+  pub opening : OpenPromise g content Ok words
+  pub long : length words ≡ length content
+  pub fits : (i : ℕ) → getD words i 0 < 2 ^ 32
+
+pub record Demand3 : Type 0 where
+  -- "the remaining answers, one by one and in order, equal those that document 01's endless rack .. gives to the same calls"
+  pub answers : (g : Geometry) (content words : List ℕ) (es : List Element) → Opened g content words → Chain g words es
+      → remainingAnswers es ≡ uanswers empty (remainingCalls es)
+  -- "a block in a segment that was full when the cycle began, which no script could then reach, is free once that segment is swept"
+  pub freed : (g : Geometry) (content words : List ℕ) (es : List Element) → Opened g content words → Chain g words es → (c : SweptIn g words es)
+      → (b : ℕ) → Garbage (memOf g (c .startBefore)) (beside begun (c .before)) (c .segment) b → BlockFree (memOf g (c .stepAfter)) (c .segment) b
+
+-- beside it: the memory is consistent at every point of every such list, so that the promises apply to each call
+abbrev pub AlwaysConsistent : Type 0
+AlwaysConsistent =
+    (g : Geometry) (content words : List ℕ) (xs ys : List Element) → Opened g content words → Chain g words (xs ++ ys)
+    → Consistent g (memOf g (wordsAfter words xs))

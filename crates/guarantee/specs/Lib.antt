@@ -1,0 +1,2 @@
+-- The statement of the guarantee.
+pub mod Demand3

@@ -1,0 +1,69 @@
+-- The declared answers as document 01 has them: a result, or a refusal by its number. Promises and lists of calls use these.
+use mathlib.Core.Bool.{Bool, true, false}
+use mathlib.Core.List.{List, [], _∷_}
+use mathlib.Core.Option.{Option, none, some}
+use Prim.Native.Nat.{ℕ}
+use lib.Dec.{eqb}
+use Rattle.rules.specs.Pick.{pick}
+use Rattle.theory.specs.Calls.{Call, c-attach, c-detach, c-check, c-leave, c-enter, c-spawn, c-make, c-load, c-store, c-copy, c-clear, c-put, c-get, c-same, c-shape, a-ok, a-num, a-flag, a-shape, a-no}
+use Rattle.theory.specs.Calls as theory
+use Rattle.model.specs.declared.Answer.{Answer}
+use Rattle.model.specs.declared.Answer.the-variants.{Ok, Number, Same, Shape, Refused}
+use Rattle.model.specs.declared.Step.{Step}
+use Rattle.model.specs.declared.Step.the-variants as step
+
+-- the value of each case: ok, a number, whether two roots are equal, a shape, or a refusal
+abbrev pub answerOf : Answer → theory.Answer
+answerOf Ok = a-ok
+answerOf (Number v) = a-num v
+answerOf (Same b) = a-flag b
+answerOf (Shape p n) = a-shape p n
+answerOf (Refused n) = a-no n
+
+-- the number of a refusal
+abbrev pub refusalOf : Answer → Option ℕ
+refusalOf Ok = none
+refusalOf (Number v) = none
+refusalOf (Same b) = none
+refusalOf (Shape p n) = none
+refusalOf (Refused n) = some n
+
+abbrev pub stepRefusalOf : Step → Option ℕ
+stepRefusalOf (step.Waiting n) = none
+stepRefusalOf step.Moved = none
+stepRefusalOf step.Traced = none
+stepRefusalOf (step.Swept s f) = none
+stepRefusalOf step.Done = none
+stepRefusalOf step.Idle = none
+stepRefusalOf (step.Refused n) = some n
+
+-- ---- which numbers of the table a call may give, over memory of any content
+
+abbrev pub among : ℕ → List ℕ → Bool
+among n [] = false
+among n (x ∷ xs) = pick (eqb n x) true (among n xs)
+
+abbrev pub mayGive : Call → List ℕ
+mayGive (c-attach k) = 1 ∷ 2 ∷ 3 ∷ 11 ∷ 13 ∷ []
+mayGive (c-spawn k p i) = 1 ∷ 2 ∷ 3 ∷ 4 ∷ 5 ∷ 6 ∷ 11 ∷ 13 ∷ []
+mayGive (c-detach k) = 1 ∷ 2 ∷ 4 ∷ 5 ∷ 11 ∷ 13 ∷ []
+mayGive (c-check k) = 1 ∷ 2 ∷ 4 ∷ 5 ∷ 13 ∷ []
+mayGive (c-leave k) = 1 ∷ 2 ∷ 4 ∷ 5 ∷ 13 ∷ []
+mayGive (c-enter k) = 1 ∷ 2 ∷ 4 ∷ 5 ∷ 13 ∷ []
+mayGive (c-make k d p n) = 1 ∷ 2 ∷ 4 ∷ 5 ∷ 6 ∷ 9 ∷ 10 ∷ 13 ∷ []
+mayGive (c-load k d i f) = 1 ∷ 2 ∷ 4 ∷ 5 ∷ 6 ∷ 7 ∷ 8 ∷ 13 ∷ []
+mayGive (c-store k i f j) = 1 ∷ 2 ∷ 4 ∷ 5 ∷ 6 ∷ 7 ∷ 8 ∷ 13 ∷ []
+mayGive (c-copy k d i) = 1 ∷ 2 ∷ 4 ∷ 5 ∷ 6 ∷ 13 ∷ []
+mayGive (c-clear k d) = 1 ∷ 2 ∷ 4 ∷ 5 ∷ 6 ∷ 13 ∷ []
+mayGive (c-put k i f v) = 1 ∷ 2 ∷ 4 ∷ 5 ∷ 6 ∷ 7 ∷ 8 ∷ 13 ∷ []
+mayGive (c-get k i f) = 1 ∷ 2 ∷ 4 ∷ 5 ∷ 6 ∷ 7 ∷ 8 ∷ 13 ∷ []
+mayGive (c-same k i j) = 1 ∷ 2 ∷ 4 ∷ 5 ∷ 6 ∷ 13 ∷ []
+mayGive (c-shape k i) = 1 ∷ 2 ∷ 4 ∷ 5 ∷ 6 ∷ 7 ∷ 13 ∷ []
+
+-- "11, not now", "12, none full"
+abbrev pub startMayGive : List ℕ
+startMayGive = 1 ∷ 11 ∷ 12 ∷ 13 ∷ []
+
+-- "step refuses only with 1 and 13"
+abbrev pub stepMayGive : List ℕ
+stepMayGive = 1 ∷ 13 ∷ []

@@ -1,0 +1,195 @@
+-- Lists of calls from one opening to the next, as document 01's section on the endless rack takes them. An element is a call with what it was
+-- lent, its answer, and what it left; all that is known of it is its promise.
+use mathlib.Core.Path.{_≡_}
+use mathlib.Core.Logic.{_⊎_}
+use mathlib.Core.Bool.{Bool, true, false}
+use mathlib.Core.Option.{Option, none, some}
+use mathlib.Core.List.{List, [], _∷_}
+use Prim.Native.Nat.{ℕ, zero, suc, _-_, _<_, _^_}
+use lib.Dec.{eqb}
+use lib.ListN.{length, getD}
+use Rattle.rules.specs.Pick.{pick}
+use Rattle.layout.specs.declared.Geometry.{Geometry}
+use Rattle.layout.specs.Geometry.{wrongSize}
+use Rattle.layout.specs.Mem.{Mem, memOf}
+use Rattle.theory.specs.Update.{upd}
+use Rattle.theory.specs.Calls.{Call, c-attach, c-detach, c-check, c-leave, c-enter, c-spawn, c-make, c-load, c-store, c-copy, c-clear, c-put, c-get, c-same, c-shape}
+use Rattle.theory.specs.Calls as theory
+use Rattle.theory.specs.Unbounded.{Unbounded, UReached, uexec}
+use Rattle.model.specs.declared.Answer.{Answer}
+use Rattle.model.specs.declared.Answer.the-variants.{Ok, Number, Same, Shape, Refused}
+use Rattle.model.specs.declared.Step.{Step}
+use Rattle.model.specs.declared.PhaseLook.{PhaseLook}
+use Rattle.model.specs.declared.Examined.{Examined}
+use Rattle.model.specs.Answers.{answerOf}
+use Rattle.model.specs.Promise.{Promise, StartPromise, StepPromise, OpenPromise, PhasePromise, StatesPromise, ExaminePromise}
+use Rattle.model.specs.Fields.{root}
+
+-- mutators' calls, collector's calls, openings and looks
+pub data Element : Type 0 where
+  called : Call → Geometry → (before : List ℕ) → Answer → (after : List ℕ) → Element
+  started : Geometry → (before : List ℕ) → Answer → (after : List ℕ) → Element
+  stepped : Geometry → (before : List ℕ) → Step → (after : List ℕ) → Element
+  openedBy : Geometry → (before : List ℕ) → Answer → (after : List ℕ) → Element
+  sawPhase : Geometry → (mem : List ℕ) → PhaseLook → Element
+  sawStates : Geometry → (mem output : List ℕ) → Answer → (after : List ℕ) → Element
+  examinedBy : Geometry → (mem scratch : List ℕ) → Examined → (after : List ℕ) → Element
+
+-- it keeps its promise
+abbrev pub Meets : Element → Type 0
+Meets (called c g before r after) = Promise c g before r after
+Meets (started g before r after) = StartPromise g before r after
+Meets (stepped g before r after) = StepPromise g before r after
+Meets (openedBy g before r after) = OpenPromise g before r after
+Meets (sawPhase g mem r) = PhasePromise g mem r
+Meets (sawStates g mem output r after) = StatesPromise g mem output r after
+Meets (examinedBy g mem scratch r after) = ExaminePromise g mem scratch r after
+
+abbrev pub geometryOf : Element → Geometry
+geometryOf (called c g before r after) = g
+geometryOf (started g before r after) = g
+geometryOf (stepped g before r after) = g
+geometryOf (openedBy g before r after) = g
+geometryOf (sawPhase g mem r) = g
+geometryOf (sawStates g mem output r after) = g
+geometryOf (examinedBy g mem scratch r after) = g
+
+-- the memory that it was lent, and the memory that it left
+abbrev pub lent : Element → List ℕ
+lent (called c g before r after) = before
+lent (started g before r after) = before
+lent (stepped g before r after) = before
+lent (openedBy g before r after) = before
+lent (sawPhase g mem r) = mem
+lent (sawStates g mem output r after) = mem
+lent (examinedBy g mem scratch r after) = mem
+
+abbrev pub left : Element → List ℕ
+left (called c g before r after) = after
+left (started g before r after) = after
+left (stepped g before r after) = after
+left (openedBy g before r after) = after
+left (sawPhase g mem r) = mem
+left (sawStates g mem output r after) = mem
+left (examinedBy g mem scratch r after) = mem
+
+-- an opening that is not refused ends the list
+abbrev pub IsOpening : Element → Type 0
+IsOpening (called c g before r after) = ⊥
+IsOpening (started g before r after) = ⊥
+IsOpening (stepped g before r after) = ⊥
+IsOpening (openedBy g before r after) = Unit
+IsOpening (sawPhase g mem r) = ⊥
+IsOpening (sawStates g mem output r after) = ⊥
+IsOpening (examinedBy g mem scratch r after) = ⊥
+
+-- "A call refused 1 may have another count or other lengths, and changes no word of the memory."
+abbrev pub wrongSized : Element → Bool
+wrongSized e = wrongSize (geometryOf e) (length (lent e))
+
+-- "Each call gets the memory whole, as the one before it left it, with the opening's segment count."
+pub record Gets (g : Geometry) (words : List ℕ) (e : Element) : Type 0 where
+  pub geometry : geometryOf e ≡ g
+  pub memory : lent e ≡ words
+  pub opening : IsOpening e → ⊥
+
+-- a slice keeps its length, and its elements are words of 32 bits
+pub record Slices (e : Element) : Type 0 where
+  pub long : length (left e) ≡ length (lent e)
+  pub words : (i : ℕ) → getD (left e) i 0 < 2 ^ 32
+
+-- the memory after an element
+abbrev pub onward : List ℕ → Element → List ℕ
+onward words e = pick (wrongSized e) words (left e)
+
+abbrev pub Chain : Geometry → List ℕ → List Element → Type 0
+Chain g words [] = Unit
+Chain g words (e ∷ es) = Meets e × Slices e × ((wrongSized e ≡ true) ⊎ Gets g words e) × Chain g (onward words e) es
+
+-- ---- "Strike out the collector's calls, the looks, and every call refused "size", "no room" or "not now""
+
+abbrev pub struckNumber : ℕ → Bool
+struckNumber n = pick (eqb n 1) true (pick (eqb n 10) true (eqb n 11))
+
+abbrev pub struck : Answer → Bool
+struck Ok = false
+struck (Number v) = false
+struck (Same b) = false
+struck (Shape p n) = false
+struck (Refused n) = struckNumber n
+
+abbrev pub keepUnless : {A : Type 0} → Bool → A → List A → List A
+keepUnless true a l = l
+keepUnless false a l = a ∷ l
+
+-- the mutators' calls that remain, and their answers
+abbrev pub remainingCalls : List Element → List Call
+remainingCalls [] = []
+remainingCalls (called c g before r after ∷ es) = keepUnless (struck r) c (remainingCalls es)
+remainingCalls (started g before r after ∷ es) = remainingCalls es
+remainingCalls (stepped g before r after ∷ es) = remainingCalls es
+remainingCalls (openedBy g before r after ∷ es) = remainingCalls es
+remainingCalls (sawPhase g mem r ∷ es) = remainingCalls es
+remainingCalls (sawStates g mem output r after ∷ es) = remainingCalls es
+remainingCalls (examinedBy g mem scratch r after ∷ es) = remainingCalls es
+
+abbrev pub remainingAnswers : List Element → List theory.Answer
+remainingAnswers [] = []
+remainingAnswers (called c g before r after ∷ es) = keepUnless (struck r) (answerOf r) (remainingAnswers es)
+remainingAnswers (started g before r after ∷ es) = remainingAnswers es
+remainingAnswers (stepped g before r after ∷ es) = remainingAnswers es
+remainingAnswers (openedBy g before r after ∷ es) = remainingAnswers es
+remainingAnswers (sawPhase g mem r ∷ es) = remainingAnswers es
+remainingAnswers (sawStates g mem output r after ∷ es) = remainingAnswers es
+remainingAnswers (examinedBy g mem scratch r after ∷ es) = remainingAnswers es
+
+-- ---- the unbounded heap beside the list, and the record last put into each block, by the word of its header
+
+pub record Beside : Type 0 where
+  pub heap : Unbounded
+  pub put : ℕ → Option ℕ
+
+-- "A make that is not refused puts its record into the block handed out", which the root then names
+abbrev pub putBy : Call → Geometry → List ℕ → ℕ → (ℕ → Option ℕ) → ℕ → Option ℕ
+putBy (c-make k d p n) g after r put = upd put (root (memOf g after) k d - 1) (some r)
+putBy (c-attach k) g after r put = put
+putBy (c-spawn k p i) g after r put = put
+putBy (c-detach k) g after r put = put
+putBy (c-check k) g after r put = put
+putBy (c-leave k) g after r put = put
+putBy (c-enter k) g after r put = put
+putBy (c-load k d i f) g after r put = put
+putBy (c-store k i f j) g after r put = put
+putBy (c-copy k d i) g after r put = put
+putBy (c-clear k d) g after r put = put
+putBy (c-put k i f v) g after r put = put
+putBy (c-get k i f) g after r put = put
+putBy (c-same k i j) g after r put = put
+putBy (c-shape k i) g after r put = put
+
+abbrev pub putIf : Answer → Call → Geometry → List ℕ → ℕ → (ℕ → Option ℕ) → ℕ → Option ℕ
+putIf Ok c g after r put = putBy c g after r put
+putIf (Number v) c g after r put = put
+putIf (Same b) c g after r put = put
+putIf (Shape p n) c g after r put = put
+putIf (Refused n) c g after r put = put
+
+abbrev pub besideOne : Beside → Element → Beside
+besideOne w (called c g before r after) =
+    pick (struck r) w (record { heap = uexec (w .heap) c .1; put = putIf r c g after (w .heap .count) (w .put) })
+besideOne w (started g before r after) = w
+besideOne w (stepped g before r after) = w
+besideOne w (openedBy g before r after) = w
+besideOne w (sawPhase g mem r) = w
+besideOne w (sawStates g mem output r after) = w
+besideOne w (examinedBy g mem scratch r after) = w
+
+abbrev pub beside : Beside → List Element → Beside
+beside w [] = w
+beside w (e ∷ es) = beside (besideOne w e) es
+
+-- "A block is reached when the record last put there is; one without a record is not."
+pub record BlockReached (w : Beside) (at : ℕ) : Type 0 where
+  pub number : ℕ
+  pub last : w .put at ≡ some number
+  pub reached : UReached (w .heap) number

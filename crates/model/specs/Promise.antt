@@ -1,0 +1,77 @@
+-- What each public call promises of its answer and of the lent words afterwards: the record that its `ensures` cites whole. Over memory that
+-- fails the examination a call is only safe and finite, and its refusals are numbers that document 01 allows it.
+use mathlib.Core.Path.{_≡_}
+use mathlib.Core.Bool.{Bool, true, false}
+use mathlib.Core.Option.{Option, none, some}
+use mathlib.Core.List.{List}
+use Prim.Native.Nat.{ℕ}
+use lib.ListN.{length, replicate, getD}
+use Rattle.layout.specs.declared.Geometry.{Geometry}
+use Rattle.layout.specs.Geometry.{len, wrongSize}
+use Rattle.layout.specs.Mem.{Mem, memOf, flat, controlWord}
+use Rattle.theory.specs.Calls.{Call}
+use Rattle.theory.specs.Calls as theory
+use Rattle.model.specs.declared.Answer.{Answer}
+use Rattle.model.specs.declared.Answer.the-variants.{Ok, Refused}
+use Rattle.model.specs.declared.Step.{Step}
+use Rattle.model.specs.declared.Step.the-variants as step
+use Rattle.model.specs.declared.PhaseLook.{PhaseLook}
+use Rattle.model.specs.declared.PhaseLook.the-variants as look
+use Rattle.model.specs.declared.Examined.{Examined}
+use Rattle.model.specs.declared.Examined.the-variants.{Yes, No}
+use Rattle.model.specs.declared.Examined.the-variants as examined
+use Rattle.model.specs.Answers.{answerOf, refusalOf, stepRefusalOf, among, mayGive, startMayGive, stepMayGive}
+use Rattle.model.specs.Calls.{exec}
+use Rattle.model.specs.Collector.{startOf, stepOf}
+use Rattle.model.specs.Opening.{opened}
+use Rattle.model.specs.Consistent.{Consistent}
+
+-- a call that answers and leaves the memory as a definition says, may refuse with some numbers only, and gives 1 exactly where a size is wrong
+module _ {A B : Type 0} (value : A → B) (refusal : A → Option ℕ) (sizeAnswer : A) (mayRefuse : List ℕ) (does : Geometry → Mem → B × Mem) where
+  pub record Keeps (g : Geometry) (before : List ℕ) (r : A) (after : List ℕ) : Type 0 where
+    -- "1, size: .. (any call)"; not a word is changed
+    pub sizes : wrongSize g (length before) ≡ true → (r ≡ sizeAnswer) × (after ≡ before)
+    -- over memory that passes the examination, answer and memory are the definition's
+    pub exact : wrongSize g (length before) ≡ false → Consistent g (memOf g before)
+        → (value r ≡ does g (memOf g before) .0) × (memOf g after ≡ does g (memOf g before) .1)
+    -- always: a refusal is a number that the call may give, and 1 only where a size is wrong
+    pub allowed : (n : ℕ) → refusal r ≡ some n → among n mayRefuse ≡ true
+    pub onlySize : refusal r ≡ some 1 → wrongSize g (length before) ≡ true
+
+-- a mutator's call
+abbrev pub Promise : Call → Geometry → List ℕ → Answer → List ℕ → Type 0
+Promise c = Keeps answerOf refusalOf (Refused 1) (mayGive c) (λ g m. exec g m c)
+
+abbrev pub StartPromise : Geometry → List ℕ → Answer → List ℕ → Type 0
+StartPromise = Keeps answerOf refusalOf (Refused 1) startMayGive startOf
+
+abbrev pub StepPromise : Geometry → List ℕ → Step → List ℕ → Type 0
+StepPromise = Keeps (λ s. s) stepRefusalOf (step.Refused 1) stepMayGive stepOf
+
+-- an opening is exact over memory of any content: "an opening .. only with 1"
+pub record OpenPromise (g : Geometry) (before : List ℕ) (r : Answer) (after : List ℕ) : Type 0 where
+  pub sizes : wrongSize g (length before) ≡ true → (r ≡ Refused 1) × (after ≡ before)
+  pub exact : wrongSize g (length before) ≡ false → (r ≡ Ok) × (memOf g after ≡ opened g (memOf g before))
+
+-- the look at the phase: its number, over memory that passes the examination; nothing changes
+pub record PhasePromise (g : Geometry) (mem : List ℕ) (r : PhaseLook) : Type 0 where
+  pub sizes : wrongSize g (length mem) ≡ true → r ≡ look.Refused 1
+  pub exact : wrongSize g (length mem) ≡ false → Consistent g (memOf g mem) → r ≡ look.Phase (controlWord (memOf g mem) 0)
+  pub torn : wrongSize g (length mem) ≡ false → (n : ℕ) → r ≡ look.Refused n → n ≡ 13
+
+-- the look at the segments' states: the output, of as many words as the segment records, gets their words; "Refused, it leaves the output
+-- unchanged"
+pub record StatesPromise (g : Geometry) (mem output : List ℕ) (r : Answer) (after : List ℕ) : Type 0 where
+  pub sizes : (wrongSize g (length mem) ≡ true → r ≡ Refused 1) × ((length output ≡ len g 2 → ⊥) → r ≡ Refused 1)
+  pub exact : wrongSize g (length mem) ≡ false → length output ≡ len g 2 → Consistent g (memOf g mem) → (r ≡ Ok) × (after ≡ memOf g mem .segments)
+  pub torn : wrongSize g (length mem) ≡ false → length output ≡ len g 2 → (n : ℕ) → r ≡ Refused n → n ≡ 13
+  pub unchanged : (n : ℕ) → r ≡ Refused n → after ≡ output
+
+-- the examination: yes exactly when the memory is consistent, over memory of any content; the scratch, of as many words as the marks, ends all
+-- zero, "refused 1, the scratch too" unchanged
+pub record ExaminePromise (g : Geometry) (mem scratch : List ℕ) (r : Examined) (after : List ℕ) : Type 0 where
+  pub sizes : (wrongSize g (length mem) ≡ true → (r ≡ examined.Refused 1) × (after ≡ scratch)) × ((length scratch ≡ len g 5 → ⊥) → (r ≡ examined.Refused 1) × (after ≡ scratch))
+  pub sound : r ≡ Yes → Consistent g (memOf g mem)
+  pub complete : wrongSize g (length mem) ≡ false → length scratch ≡ len g 5 → Consistent g (memOf g mem) → r ≡ Yes
+  pub answers : wrongSize g (length mem) ≡ false → length scratch ≡ len g 5 → (n : ℕ) → r ≡ examined.Refused n → ⊥
+  pub cleared : wrongSize g (length mem) ≡ false → length scratch ≡ len g 5 → after ≡ replicate (len g 5) 0
