@@ -19,7 +19,7 @@ use Rattle.rules.proofs.Table.{Each, each-at}
 use Rattle.bracket_text.proofs.Laws.{_also_}
 use Rattle.bracket_text.proofs.Templates.{holes, fill-length, matched-sound, matched-complete, differ-apart}
 use Rattle.bracket_forms.specs.Forms.{textOf, numbersOf, Fitting, FormRead}
-use Rattle.bracket_forms.specs.Kinds.{templateAt, zeros, readings, readingOf, readingAt, loadOf, tried, kindOf, padded}
+use Rattle.bracket_forms.specs.Kinds.{templateAt, zeros, readings, readingOf, readingAt, loadOf, triedAs, kindOf, padded}
 use Rattle.bracket_forms.specs.declared.Form.{Form}
 use Rattle.bracket_forms.specs.declared.Form.the-variants.{Rack, Attach, Spawn, Detach, Make, Load, Store, Copy, Clear, Put, Get, Same, Shape, Check, Leave, Enter, Start, Step}
 use Rattle.bracket_forms.specs.declared.Reading.{Reading}
@@ -185,7 +185,7 @@ module _ (line : List ℕ) (k : ℕ) (h : k < 18) (ns : List ℕ) (e : matched (
         short =
             λ f q. subst (λ (x : List ℕ). length x ≤ 80) read-text
             (omega (arith, fill-length (templateAt k) ns, template-most k (form-kind h)));
-        fitting = λ f q. subst Words (sym (read-said f q .2)) (words-take (read-said f q .1) ns read-words);
+        fits = λ f q. subst Words (sym (read-said f q .2)) (words-take (read-said f q .1) ns read-words);
         complete = read-complete;
       }
 
@@ -195,7 +195,7 @@ missed line h =
     record {
       sound = λ f q. absurd (never f q);
       short = λ f q. absurd (never f q);
-      fitting = λ f q. absurd (never f q);
+      fits = λ f q. absurd (never f q);
       complete = λ f w q. absurd (unmatched f w q);
     }
   where
@@ -226,7 +226,7 @@ bad-exactly line r h = (λ e f w q. let p = h .complete f w q in let z : _≡_ {
   where
     go : (x : Reading) → FormRead line x → ((f : Form) → Fitting f → textOf f ≡ line → ⊥) → x ≡ Bad
     go Bad u n = refl
-    go (Is f) u n = absurd (n f (u .fitting f refl) (u .sound f refl))
+    go (Is f) u n = absurd (n f (u .fits f refl) (u .sound f refl))
 
 -- a line of more than 80 bytes is no form's text
 pub long-is-bad : (line : List ℕ) → 80 < length line → (r : Reading) → FormRead line r → r ≡ Bad
@@ -236,27 +236,27 @@ long-is-bad line h (Is f) u = absurd (omega (arith, u .short f refl))
 -- what `read_kind` learns from the match of a text that is its kind's
 pub kind-text : (line part ns : List ℕ) (k : ℕ) (b : Bool) → part ≡ templateAt k → Matches (matched part 0 zeros line) b ns
     → b ≡ true
-    → Known (readingAt k ns) ≡ tried k (matched (templateAt k) 0 zeros line)
+    → Known (readingAt k ns) ≡ triedAs k (matched (templateAt k) 0 zeros line)
 kind-text line part ns k b e m q =
     let n : matched part 0 zeros line ≡ some ns = subst (λ (x : Bool). Matches (matched part 0 zeros line) x ns) q m in
-    sym (ap (tried k) (ap (λ (t : List ℕ). matched t 0 zeros line) (sym e) ∙ n))
+    sym (ap (triedAs k) (ap (λ (t : List ℕ). matched t 0 zeros line) (sym e) ∙ n))
 
 pub kind-other : (line part ns : List ℕ) (k : ℕ) (b : Bool) → part ≡ templateAt k → Matches (matched part 0 zeros line) b ns
     → b ≡ false
-    → Other ≡ tried k (matched (templateAt k) 0 zeros line)
+    → Other ≡ triedAs k (matched (templateAt k) 0 zeros line)
 kind-other line part ns k b e m q =
     let n : matched part 0 zeros line ≡ none = subst (λ (x : Bool). Matches (matched part 0 zeros line) x ns) q m in
-    sym (ap (tried k) (ap (λ (t : List ℕ). matched t 0 zeros line) (sym e) ∙ n))
+    sym (ap (triedAs k) (ap (λ (t : List ℕ). matched t 0 zeros line) (sym e) ∙ n))
 
 -- what `read_form` learns from `read_kind`
-pub text-found : (line : List ℕ) (k : ℕ) (r : Reading) → k < 18 → Known r ≡ tried k (matched (templateAt k) 0 zeros line)
+pub text-found : (line : List ℕ) (k : ℕ) (r : Reading) → k < 18 → Known r ≡ triedAs k (matched (templateAt k) 0 zeros line)
     → FormRead line r
 text-found line k r h e = go (matched (templateAt k) 0 zeros line) refl e
   where
-    go : (o : Option (List ℕ)) → matched (templateAt k) 0 zeros line ≡ o → Known r ≡ tried k o → FormRead line r
+    go : (o : Option (List ℕ)) → matched (templateAt k) 0 zeros line ≡ o → Known r ≡ triedAs k o → FormRead line r
     go none q f = let z : _≡_ {A = ℕ} 0 1 = cc in absurd (omega arith)
     go (some ns) q f = let p : readingAt k ns ≡ r = cc in subst (FormRead line) p (found line k h ns q)
 
-pub other-missed : (k : ℕ) (o : Option (List ℕ)) → Other ≡ tried k o → o ≡ none
+pub other-missed : (k : ℕ) (o : Option (List ℕ)) → Other ≡ triedAs k o → o ≡ none
 other-missed k none e = refl
 other-missed k (some ns) e = let z : _≡_ {A = ℕ} 0 1 = cc in absurd (omega arith)

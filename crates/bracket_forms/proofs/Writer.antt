@@ -1,14 +1,17 @@
 -- The writers go by a kind and its numbers: the text of a form or a reply is its kind's with its numbers, and fits the buffer.
 -- Assumes nothing.
+use Rattle.bracket_forms.specs.declared.Reading.the-variants.{Is}
+use Rattle.bracket_forms.specs.declared.Reading.{Reading}
+use lib.Seq.{take-at}
 use Prim.Native.Nat.{ℕ, _≤_, _<_}
 use mathlib.Core.Path.{_≡_, refl, sym, subst}
 use mathlib.Core.List.{List}
 use native.Mathlib.Omega.{arith}
 use lib.Dec.{lit<, lit≤}
-use lib.ListN.{length}
+use lib.ListN.{length, take, drop}
 use Rattle.bracket_text.specs.Text.{fill, text, Written}
 use Rattle.bracket_text.proofs.Templates.{fill-length}
-use Rattle.bracket_forms.specs.Forms.{textOf}
+use Rattle.bracket_forms.specs.Forms.{textOf, Fitting, FormRead}
 use Rattle.bracket_forms.specs.Replies.{replySpelt, replyText}
 use Rattle.bracket_forms.specs.Kinds.{templateAt, padded, formParts, replyKind, replyParts}
 use Rattle.bracket_forms.specs.declared.Form.{Form}
@@ -71,3 +74,16 @@ reply-stands r p q =
 pub stands-written : {text : List ℕ} {limit : ℕ} {p : Parts} → Stands text limit p → (before after : List ℕ) (n : ℕ)
     → Written (fill (templateAt (p .0)) (p .1)) before n after → Written text before n after
 stands-written s before after n w = subst (λ (x : List ℕ). Written x before n after) (s .is) w
+
+-- the text of a form of any numbers has at most 80 bytes
+pub form-short : (f : Form) → length (textOf f) ≤ 80
+form-short f = let s = form-stands f (formParts f) refl in subst (λ (x : List ℕ). length x ≤ 80) (s .is) (s .short)
+
+-- what a writer of text has written is that text
+pub written-text : (text before : List ℕ) (n : ℕ) (after : List ℕ) → Written text before n after → take n after ≡ text
+written-text text before n after w = rw (w .says, w .front) (take-at text (drop (length text) before) (length text) refl)
+
+-- so what the writer of forms writes is read as the form
+pub written-back : (f : Form) → Fitting f → (before : List ℕ) (n : ℕ) (after : List ℕ) → Written (textOf f) before n after
+    → (r : Reading) → FormRead (take n after) r → r ≡ Is f
+written-back f w before n after h r u = u .complete f w (sym (written-text (textOf f) before n after h))

@@ -47,5 +47,5 @@ Fitting f = Words (numbersOf f)
 pub record FormRead (line : List ℕ) (r : Reading) : Type 0 where
   pub sound : (f : Form) → r ≡ Is f → textOf f ≡ line
   pub short : (f : Form) → r ≡ Is f → length line ≤ 80
-  pub fitting : (f : Form) → r ≡ Is f → Fitting f
+  pub fits : (f : Form) → r ≡ Is f → Fitting f
   pub complete : (f : Form) → Fitting f → textOf f ≡ line → r ≡ Is f

@@ -15,9 +15,9 @@ use Rattle.bracket_forms.specs.Replies.{replySpelt}
 use Rattle.bracket_forms.specs.declared.Parts.{Parts}
 use Rattle.bracket_forms.specs.declared.Reply.{Reply}
 use Rattle.bracket_forms.specs.declared.Reply.the-variants.{Ok, OkOne, OkTwo, No, Waiting, Moved, Traced, Swept, Done, Idle}
-use Rattle.bracket_forms.specs.declared.Reply.the-variants as Reply
 use Rattle.bracket_forms.specs.declared.Tried.{Tried}
 use Rattle.bracket_forms.specs.declared.Tried.the-variants.{Known, Other}
+use Rattle.bracket_forms.specs.declared.Reply.the-variants as Reply
 
 -- the templates by kind: those of the forms, in the order in which the reader tries them, and then those of the replies
 abbrev pub templates : List (List ℕ)
@@ -70,9 +70,9 @@ abbrev pub readingAt : ℕ → List ℕ → Reading
 readingAt k ns = readingOf k (getD ns 0 0) (getD ns 1 0) (getD ns 2 0) (getD ns 3 0) (getD ns 4 0)
 
 -- the answer of `read_kind`, from the numbers that its text gives
-abbrev pub tried : ℕ → Option (List ℕ) → Tried
-tried k none = Other
-tried k (some ns) = Known (readingAt k ns)
+abbrev pub triedAs : ℕ → Option (List ℕ) → Tried
+triedAs k none = Other
+triedAs k (some ns) = Known (readingAt k ns)
 
 -- a form's kind, and its numbers with zeros up to five
 abbrev pub kindOf : Form → ℕ

@@ -6,7 +6,7 @@ ghost use lib.ListN.{length};
 ghost use Rattle.bracket_text.specs.Text.{fill, Written};
 ghost use Rattle.bracket_text.specs.Scan.{matched};
 ghost use Rattle.bracket_forms.specs.Forms.{FormRead, textOf};
-ghost use Rattle.bracket_forms.specs.Kinds.{templateAt, zeros, readingOf, loadOf, tried, formParts, replyParts};
+ghost use Rattle.bracket_forms.specs.Kinds.{templateAt, zeros, readingOf, loadOf, triedAs, formParts, replyParts};
 ghost use Rattle.bracket_forms.specs.Replies.{replyText};
 
 // A form with its numbers, in the order of its text. A load names its mutator twice, and holds it once.
@@ -197,7 +197,7 @@ fn reading_of(kind: usize, a: u32, b: u32, c: u32, d: u32, e: u32) -> Reading
 // Tries the text of one kind.
 fn read_kind(line: &[u8], kind: usize) -> Tried
     requires { ⌜ kind < 18 ⌝ }
-    ensures { λ r. ⌜ r ≡ tried kind (matched (templateAt kind) 0 zeros (now (line .entry))) ⌝ }
+    ensures { λ r. ⌜ r ≡ triedAs kind (matched (templateAt kind) 0 zeros (now (line .entry))) ⌝ }
 {
     let texts: &[u8] = &TEXTS;
     let from = STARTS[kind];

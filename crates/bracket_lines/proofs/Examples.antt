@@ -3,7 +3,7 @@ use Prim.Native.Nat.{ℕ}
 use mathlib.Core.Path.{_≡_, refl}
 use mathlib.Core.List.{List, [], _∷_}
 use lib.ListN.{replicate}
-use Rattle.bracket_lines.specs.Lines.{linesOf, whole, overlong, told}
+use Rattle.bracket_lines.specs.Lines.{linesOf, whole, tooLong, told}
 
 -- a stream, and its lines: no line in no byte, none after a final line feed, and an empty one between two
 abbrev pub rows : List (List ℕ × List (List ℕ))
@@ -29,6 +29,6 @@ pub eighty : told (replicate 80 97) ≡ whole (replicate 80 97)
 unfolding told
 eighty = refl
 
-pub eighty-one : told (replicate 81 97) ≡ overlong
+pub eighty-one : told (replicate 81 97) ≡ tooLong
 unfolding told
 eighty-one = refl

@@ -1,14 +1,18 @@
 -- The loop over a piece of a stream: what holds while no line has ended, a turn, and the two ways out. Assumes nothing.
 use Prim.Native.Nat.{ℕ, suc, _+_, _-_, _≤_, _<_}
 use mathlib.Core.Path.{_≡_, refl, sym, _∙_, ap}
+use mathlib.Core.Bool.{Bool, true, false, cond}
 use mathlib.Core.List.{List, [], _∷_, _++_, append-nil, append-assoc}
+use native.Mathlib.Numerals.{add-one}
 use native.Mathlib.Omega.{arith}
-use lib.ListN.{length, getD, take, drop, length-drop}
-use lib.Seq.{take-suc, getD-drop}
-use Rattle.bracket_lines.specs.Lines.{Telling}
-use Rattle.bracket_lines.specs.Split.{Splitter, stepOf, keep, after, heard, through, tells, Scans}
+use lib.Dec.{ltb, leb}
+use lib.ListN.{length, getD, take, drop, length-drop, drop-of-length-le}
+use lib.Seq.{take-suc, getD-drop, drop-cons}
+use borrow.Author.Tests.{leb-true}
+use Rattle.bracket_lines.specs.Lines.{isFeed, Telling}
+use Rattle.bracket_lines.specs.Split.{Splitter, stepOf, keep, after, heard, through, tells, Scanned, goOn, scanned, Scans}
 use Rattle.bracket_lines.specs.declared.Found.{Found}
-use Rattle.bracket_lines.specs.declared.Found.the-variants.{More}
+use Rattle.bracket_lines.specs.declared.Found.the-variants.{More, Line, Overlong}
 use Rattle.bracket_lines.specs.declared.Step.{Step}
 
 -- a run of bytes in two parts
@@ -34,6 +38,21 @@ part-more l from at h k =
     ∙ take-suc (drop from l) (at - from) 0 (omega (arith, length-drop from l))
     ∙ ap (λ (x : ℕ). take (at - from) (drop from l) ++ (x ∷ [])) (getD-drop from l (at - from) 0 ∙ ap (λ (n : ℕ). getD l n 0) f)
 
+-- a line that is told has at most 80 bytes
+none-line : {k : ℕ} {A : Type 0} → More ≡ Line k → A
+none-line e = let z : _≡_ {A = ℕ} 0 1 = cc in absurd (omega arith)
+
+pub step-bounded : (n b k : ℕ) → stepOf n b .found ≡ Line k → k ≤ 80
+unfolding stepOf
+step-bounded n b k e = go (isFeed b) (leb n 80) refl (ltb n 80) e
+  where
+    go : (t u : Bool) → leb n 80 ≡ u → (w : Bool)
+        → (cond {A = Step} t (record { count = 0; found = cond u (Line n) Overlong }) (cond w (record { count = n + 1; found = More }) (record { count = 81; found = More }))) .found ≡ Line k → k ≤ 80
+    go true true q w f = let z : n ≡ k = cc in omega (arith, leb-true n 80 q)
+    go true false q w f = let z : _≡_ {A = ℕ} 0 1 = cc in absurd (omega arith)
+    go false u q true f = none-line f
+    go false u q false f = none-line f
+
 module _ (chunk : List ℕ) (from count : ℕ) (line : List ℕ) where
   abbrev before : Splitter
   before = record { count = count; line = line }
@@ -46,6 +65,7 @@ module _ (chunk : List ℕ) (from count : ℕ) (line : List ℕ) where
     pub inside : from ≤ length chunk → at ≤ length chunk
     pub state : through before (part at) ≡ record { count = n; line = now }
     pub none : tells before (part at) ≡ []
+    pub rest : scanned from before (drop from chunk) ≡ scanned at (record { count = n; line = now }) (drop at chunk)
 
   pub scanning-none : Scanning from count line
   unfolding through tells
@@ -56,6 +76,7 @@ module _ (chunk : List ℕ) (from count : ℕ) (line : List ℕ) where
         inside = λ h. h;
         state = ap (through before) e;
         none = ap (tells before) e;
+        rest = refl;
       }
     where
       zero-left : from - from ≡ 0
@@ -84,6 +105,20 @@ module _ (chunk : List ℕ) (from count : ℕ) (line : List ℕ) where
           ∙ append-nil (heard (stepOf n byte .found) (keep n byte now))
           ∙ (λ i. heard (sym e i .found) (sym f i))
 
+      -- the run at this byte
+      one-run : scanned from before (drop from chunk)
+          ≡ goOn (s .found) (record { answer = record { next = at + 1; count = s .count; found = s .found }; line = next }) (scanned (at + 1) (record { count = s .count; line = next }) (drop (at + 1) chunk))
+      unfolding scanned after
+      one-run =
+          v .rest
+          ∙ ap (scanned at (record { count = n; line = now })) (drop-cons chunk at 0 h ∙ ap (λ (k : ℕ). byte ∷ drop k chunk) (sym (add-one at)))
+          ∙ (λ i. goOn (sym e i .found) (record { answer = record { next = at + 1; count = sym e i .count; found = sym e i .found }; line = sym f i }) (scanned (at + 1) (record { count = sym e i .count; line = sym f i }) (drop (at + 1) chunk)))
+
+      stops : (x : Found) → (x ≡ More → ⊥) → (p q : Scanned) → goOn x p q ≡ p
+      stops More r p q = absurd (r refl)
+      stops (Line k) r p q = refl
+      stops Overlong r p q = refl
+
       pub scanning-more : s .found ≡ More → Scanning (at + 1) (s .count) next
       scanning-more q =
           record {
@@ -91,12 +126,17 @@ module _ (chunk : List ℕ) (from count : ℕ) (line : List ℕ) where
             inside = λ k. omega arith;
             state = one-state;
             none = one-told ∙ ap (λ (x : Found). heard x next) q;
+            rest = one-run ∙ ap (λ (x : Found). goOn x (record { answer = record { next = at + 1; count = s .count; found = s .found }; line = next }) (scanned (at + 1) (record { count = s .count; line = next }) (drop (at + 1) chunk))) q;
           }
 
       pub scanning-told : (x : Found) → s .found ≡ x → (x ≡ More → ⊥)
           → Scans chunk from count line (record { next = at + 1; count = s .count; found = x }) next
       scanning-told x q r =
           record {
+            exact = one-run
+                ∙ stops (s .found) (λ z. r (sym q ∙ z)) _ _
+                ∙ ap (λ (y : Found). record { answer = record { next = at + 1; count = s .count; found = y }; line = next }) q;
+            bounded = λ k z. step-bounded n byte k (sym (ap (λ (y : Step). y .found) e) ∙ q ∙ z);
             onward = omega (arith, v .onward);
             moves = λ k. omega (arith, v .onward);
             inside = λ k. omega arith;
@@ -106,5 +146,6 @@ module _ (chunk : List ℕ) (from count : ℕ) (line : List ℕ) where
           }
 
     pub scanning-all : length chunk ≤ at → Scans chunk from count line (record { next = at; count = n; found = More }) now
+    unfolding scanned
     scanning-all h =
-        record { onward = v .onward; moves = λ k. omega arith; inside = v .inside; state = v .state; all = v .none; done = λ z. h }
+        record { exact = v .rest ∙ ap (scanned at (record { count = n; line = now })) (drop-of-length-le chunk h); bounded = λ k z. none-line z; onward = v .onward; moves = λ k. omega arith; inside = v .inside; state = v .state; all = v .none; done = λ z. h }

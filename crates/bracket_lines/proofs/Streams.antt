@@ -216,3 +216,22 @@ runs-tell chunk {from = from} {s = s} (call {ts = ts} {r = r} {left = left} c re
           ∙ ap (tells s) (sym e),
       i .1 ∙ ap (λ (x : Splitter). through x q) (sym (c .state)) ∙ sym (through-append s p q) ∙ ap (through s) (sym e),
     )
+
+-- the calls of a program over a whole stream: `next_line` over each piece from its start, and `finish` at the end
+pub data Program : List (List ℕ) → Splitter → List Telling → Type 0 where
+  ends : {s : Splitter} → Program [] s (heard (finished (s .count)) (s .line))
+  reads : {chunk : List ℕ} {cs : List (List ℕ)} {s end : Splitter} {ts us : List Telling} → Runs chunk 0 s ts end → Program cs end us
+      → Program (chunk ∷ cs) s (ts ++ us)
+
+program-fed : {cs : List (List ℕ)} {s : Splitter} {ts : List Telling} → Program cs s ts → ts ≡ fed s cs
+program-fed ends = refl
+program-fed (reads {chunk = chunk} {cs = cs} {s = s} {end = end} {ts = ts} {us = us} r rest) =
+    let e = runs-tell chunk r (omega arith) in
+    ap (λ (x : List Telling). ts ++ x) (program-fed rest)
+    ∙ ap (λ (x : List Telling). x ++ fed end cs) (e .0)
+    ∙ ap (λ (x : Splitter). tells s chunk ++ fed x cs) (e .1)
+
+-- whatever the pieces are, they tell exactly the stream's lines: none lost, none split
+pub program-told : (line : List ℕ) → length line ≡ 80 → {cs : List (List ℕ)} {ts : List Telling} → Program cs (record { count = 0; line = line }) ts
+    → ts ≡ toldOf (joined cs)
+program-told line h {cs} p = program-fed p ∙ stream-told line h cs

@@ -23,10 +23,10 @@ linesOf (b ∷ s) = cond (isFeed b) ([] ∷ linesOf s) (begun b (linesOf s))
 -- a line of "at most 80 bytes" whole, or that there was a longer one
 pub data Telling : Type 0 where
   whole : List ℕ → Telling
-  overlong : Telling
+  tooLong : Telling
 
 unfoldable pub told : List ℕ → Telling
-told l = cond (leb (length l) 80) (whole l) overlong
+told l = cond (leb (length l) 80) (whole l) tooLong
 
 -- what is told of a stream: one thing for each line, in order
 abbrev pub toldOf : List ℕ → List Telling

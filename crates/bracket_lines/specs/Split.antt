@@ -6,7 +6,7 @@ use mathlib.Core.Bool.{cond}
 use mathlib.Core.List.{List, [], _∷_, _++_}
 use lib.Dec.{ltb, leb, eqb}
 use lib.ListN.{length, take, drop, set}
-use Rattle.bracket_lines.specs.Lines.{isFeed, Telling, whole, overlong}
+use Rattle.bracket_lines.specs.Lines.{isFeed, Telling, whole, tooLong}
 use Rattle.bracket_lines.specs.declared.Found.{Found}
 use Rattle.bracket_lines.specs.declared.Found.the-variants.{More, Line, Overlong}
 use Rattle.bracket_lines.specs.declared.Step.{Step}
@@ -42,7 +42,7 @@ after s b = record { count = stepOf (s .count) b .count; line = keep (s .count) 
 abbrev pub heard : Found → List ℕ → List Telling
 heard More l = []
 heard (Line n) l = whole (take n l) ∷ []
-heard Overlong l = overlong ∷ []
+heard Overlong l = tooLong ∷ []
 
 -- a run of bytes: the splitter after it, and all that is told on the way
 unfoldable pub through : Splitter → List ℕ → Splitter
@@ -53,8 +53,29 @@ unfoldable pub tells : Splitter → List ℕ → List Telling
 tells s [] = []
 tells s (b ∷ bs) = heard (stepOf (s .count) b .found) (keep (s .count) b (s .line)) ++ tells (after s b) bs
 
--- the answer of `next_line`: it has taken a run of bytes from `from` on, and tells all that the run tells
+-- a run of bytes until a line ends: the place after it, the count, what is told, and the bytes kept
+pub record Scanned : Type 0 where
+  pub answer : Scan
+  pub line : List ℕ
+
+-- after a byte: at the end of a line the run stops, else it goes on
+abbrev pub goOn : Found → Scanned → Scanned → Scanned
+goOn More stop rest = rest
+goOn (Line n) stop rest = stop
+goOn Overlong stop rest = stop
+
+unfoldable pub scanned : ℕ → Splitter → List ℕ → Scanned
+scanned at s [] = record { answer = record { next = at; count = s .count; found = More }; line = s .line }
+scanned at s (b ∷ bs) =
+    goOn (stepOf (s .count) b .found)
+    (record { answer = record { next = at + 1; count = stepOf (s .count) b .count; found = stepOf (s .count) b .found }; line = keep (s .count) b (s .line) })
+    (scanned (at + 1) (after s b) bs)
+
+-- the answer of `next_line`: it is that run from `from` on. What follows from it: the run tells all that its bytes tell, and a line that is
+-- told has at most 80 bytes
 pub record Scans (chunk : List ℕ) (from count : ℕ) (line : List ℕ) (r : Scan) (left : List ℕ) : Type 0 where
+  pub exact : scanned from (record { count = count; line = line }) (drop from chunk) ≡ record { answer = r; line = left }
+  pub bounded : (n : ℕ) → r .found ≡ Line n → n ≤ 80
   pub onward : from ≤ r .next
   pub moves : from < length chunk → from < r .next
   pub inside : from ≤ length chunk → r .next ≤ length chunk

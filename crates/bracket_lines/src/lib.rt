@@ -3,7 +3,7 @@
 ghost use mathlib.Core.Path.{_≡_};
 ghost use Rattle.bracket_lines.specs.Split.{stepOf, keep, finished, Scans};
 
-// What a byte, a run of bytes or the end of the stream tells: nothing yet; a line of so many bytes, which are at the front
+// What a byte, a run of bytes or the end of the stream tells: no line; a line of so many bytes, which are at the front
 // of the buffer; or a line of more than 80 bytes.
 pub enum Found {
     More,

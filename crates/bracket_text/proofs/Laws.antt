@@ -1,10 +1,10 @@
--- Laws of lists: the rest at a place, a run of bytes placed in a list, and a test of every entry of a table.
+-- Laws of lists: the rest at a place, a run of bytes placed in a list, and two lists compared.
 -- Assumes nothing.
-use Prim.Native.Nat.{ℕ, zero, suc, _+_, _≤_, _<_}
-use mathlib.Core.Path.{_≡_, refl, sym, _∙_, ap, subst}
+use Prim.Native.Nat.{ℕ, _+_, _≤_, _<_}
+use mathlib.Core.Path.{_≡_, refl, sym, _∙_, ap}
 use mathlib.Core.List.{List, [], _∷_, _++_, append-assoc}
 use mathlib.Core.Bool.{Bool, true, false, _&&_}
-use native.Mathlib.Nat.{add-zero, zero-add, add-suc, suc-add, le-of-suc-le-suc, not-suc-le-zero}
+use native.Mathlib.Nat.{add-zero, zero-add}
 use Rattle.rules.proofs.Table.{and-left, and-right}
 use lib.Dec.{T, eqb, eqb→eq}
 use native.Mathlib.Numerals.{add-one}

@@ -1,10 +1,9 @@
--- `bracket_cases::hear` is safe: the part of the buffer that it lends has the length that the splitter told.
--- Assumes nothing.
+-- `bracket_cases::hear` is safe: the part of the buffer that it lends is within it, by the test. Assumes nothing.
 use mathlib.Core.Path.{sym}
 use lib.Seq.{length-take-le}
 use borrow.Author.Needs.{needs}
-use Rattle.bracket_cases.proofs.hear.Statement.{statement}
 use Rattle.bracket_cases.proofs.hear.Tie as tie
+use Rattle.bracket_cases.proofs.hear.Statement.{statement}
 
 enum-told : tie.Need-enum-told
 enum-told c = search needs
@@ -23,6 +22,12 @@ enum-told-2 c = search needs
 
 print-bad-requires : tie.Need-print-bad-requires
 print-bad-requires c κs = search needs
+
+slice-aggregate-print : tie.Need-slice-aggregate-print
+slice-aggregate-print c = search needs
+
+print-requires : tie.Need-print-requires
+print-requires c κs = search needs
 
 returns : tie.Need-returns
 returns c = search needs
@@ -46,6 +51,8 @@ hear-spec =
     read-line-requires
     enum-told-2
     print-bad-requires
+    slice-aggregate-print
+    print-requires
     returns
     returns-2
     returns-3
