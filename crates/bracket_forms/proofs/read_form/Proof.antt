@@ -1,4 +1,4 @@
--- `bracket_forms::read_form` meets its contract. The loop's invariant: the texts of the kinds triedAs so far do not match.
+-- `bracket_forms::read_form` meets its contract. The loop's invariant: the texts of the kinds tried so far do not match.
 -- Assumes nothing.
 use borrow.Author.Needs.{needs}
 use borrow.Author.Count.{below-more}

@@ -1,0 +1,2 @@
+-- Laws of references.
+pub mod References

@@ -1,0 +1,2 @@
+-- Laws of a mutator's standing.
+pub mod Inside

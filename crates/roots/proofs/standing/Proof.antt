@@ -1,0 +1,31 @@
+-- `roots::standing` meets its contract. Assumes nothing.
+use mathlib.Core.Path.{sym, _∙_}
+use borrow.Author.Needs.{needs}
+use Rattle.roots.proofs.Inside.{unknown-2, absent-4, outside-5, inside-rest}
+use Rattle.roots.proofs.standing.Tie as tie
+use Rattle.roots.proofs.standing.Statement.{statement}
+
+returns : tie.Need-returns
+returns c = unknown-2 _ _ _ (c .if1 .taken)
+
+mul-mutator : tie.Need-mul-mutator
+mul-mutator c = search needs
+
+mutator-requires : tie.Need-mutator-requires
+mutator-requires c κs = search needs
+
+returns-2 : tie.Need-returns-2
+returns-2 c = absent-4 _ _ _ (c .before .before .if1 .left) (sym (c .before .mutator .ensures) ∙ c .if2 .taken)
+
+returns-3 : tie.Need-returns-3
+returns-3 c =
+    outside-5 _ _ _ (c .before .before .before .if1 .left)
+    (λ e. c .before .if2 .left (c .before .before .mutator .ensures ∙ e))
+    (λ e. c .if3 .taken (c .before .before .mutator .ensures ∙ e))
+
+returns-4 : tie.Need-returns-4
+returns-4 c = inside-rest _ _ _ (c .before .before .before .if1 .left) (sym (c .before .before .mutator .ensures) ∙ c .if3 .left)
+
+pub standing-spec : {M : Type 1} → statement M
+standing-spec =
+    tie.close (tie.spec returns mul-mutator mutator-requires returns-2 returns-3 returns-4)

@@ -1,0 +1,2 @@
+-- What a mutator must be to call.
+pub mod Inside
