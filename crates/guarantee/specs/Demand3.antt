@@ -12,14 +12,11 @@ use Rattle.layout.specs.declared.Geometry.{Geometry}
 use Rattle.layout.specs.Geometry.{wrongSize}
 use Rattle.layout.specs.Mem.{Mem, memOf}
 use Rattle.theory.specs.Unbounded.{empty, uanswers}
-use Rattle.model.specs.declared.Answer.{Answer}
 use Rattle.model.specs.declared.Answer.the-variants.{Ok}
-use Rattle.model.specs.declared.Step.{Step}
 use Rattle.model.specs.declared.Step.the-variants.{Swept}
 use Rattle.model.specs.Fields.{tag, class}
 use Rattle.model.specs.Segments.{usedBit}
 use Rattle.model.specs.Records.{headerOf}
-use Rattle.model.specs.Consistent.{Consistent}
 use Rattle.model.specs.Promise.{OpenPromise}
 use Rattle.model.specs.Lists.{Element, started, stepped, Chain, onward, remainingCalls, remainingAnswers, Beside, beside, BlockReached}
 
@@ -44,7 +41,7 @@ pub record Garbage (atStart : Mem) (w : Beside) (s b : ℕ) : Type 0 where
 
 -- "A cycle begins with a start that is not refused": the list is one of calls, such a start, further calls with no such start among them, and a
 -- step that answers swept for a segment
-pub record SweptIn (g : Geometry) (words : List ℕ) (es : List Element) : Type 0 where
+pub record SweptIn (g : Geometry) (es : List Element) : Type 0 where
   pub before : List Element
   pub during : List Element
   pub rest : List Element
@@ -55,8 +52,7 @@ pub record SweptIn (g : Geometry) (words : List ℕ) (es : List Element) : Type 
   pub segment : ℕ
   pub freed : ℕ
   pub whole : es ≡ before ++ (started g startBefore Ok startAfter ∷ (during ++ (stepped g stepBefore (Swept segment freed) stepAfter ∷ rest)))
-  pub accepted : wrongSize g (length startBefore) ≡ false
-  pub same : (xs ys : List Element) (u v : List ℕ) → wrongSize g (length u) ≡ false → during ≡ xs ++ (started g u Ok v ∷ ys) → ⊥
+  pub oneStart : (xs ys : List Element) (u v : List ℕ) → during ≡ xs ++ (started g u Ok v ∷ ys) → ⊥
 
 -- the opening: of memory of any content, not refused
 pub record Opened (g : Geometry) (content words : List ℕ) : Type 0 where
@@ -70,11 +66,5 @@ pub record Demand3 : Type 0 where
   pub answers : (g : Geometry) (content words : List ℕ) (es : List Element) → Opened g content words → Chain g words es
       → remainingAnswers es ≡ uanswers empty (remainingCalls es)
   -- "a block in a segment that was full when the cycle began, which no script could then reach, is free once that segment is swept"
-  pub freed : (g : Geometry) (content words : List ℕ) (es : List Element) → Opened g content words → Chain g words es → (c : SweptIn g words es)
+  pub freed : (g : Geometry) (content words : List ℕ) (es : List Element) → Opened g content words → Chain g words es → (c : SweptIn g es)
       → (b : ℕ) → Garbage (memOf g (c .startBefore)) (beside begun (c .before)) (c .segment) b → BlockFree (memOf g (c .stepAfter)) (c .segment) b
-
--- beside it: the memory is consistent at every point of every such list, so that the promises apply to each call
-abbrev pub AlwaysConsistent : Type 0
-AlwaysConsistent =
-    (g : Geometry) (content words : List ℕ) (xs ys : List Element) → Opened g content words → Chain g words (xs ++ ys)
-    → Consistent g (memOf g (wordsAfter words xs))

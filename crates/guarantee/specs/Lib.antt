@@ -1,2 +1,3 @@
 -- The statement of the guarantee.
 pub mod Demand3
+pub mod Keeping

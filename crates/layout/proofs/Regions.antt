@@ -1,11 +1,11 @@
 -- The words of the lent slice and those of the regions; k is the region. Assumes nothing.
 use Prim.Native.Nat.{ℕ, _+_, _-_, _≤_, _<_}
-use mathlib.Core.Path.{_≡_, refl, sym, _∙_, ap}
+use mathlib.Core.Path.{_≡_, refl, sym, _∙_, ap, subst}
 use mathlib.Core.Bool.{Bool, true, false, true≢false}
 use mathlib.Core.List.{List, [], append-assoc, append-nil}
 use native.Mathlib.Omega.{arith}
-use lib.ListN.{length, getD, take, drop, set, length-take, length-drop, drop-of-length-le}
-use lib.Seq.{sets, sets-eq, drop-drop}
+use lib.ListN.{length, getD, take, drop, set, replicate, length-take, length-drop, length-replicate, drop-of-length-le}
+use lib.Seq.{sets, sets-eq, drop-drop, length-take-le}
 use lib.Dec.{ltb}
 use borrow.Rule.Slice.PartMut.{midOf, putMid}
 use borrow.Author.Tests.{ltb-false, eqb-true, not-false}
@@ -13,7 +13,7 @@ use Rattle.rules.specs.Pick.{pick}
 use Rattle.layout.specs.declared.Geometry.{Geometry}
 use Rattle.layout.specs.Parts.{parts, joined}
 use Rattle.layout.specs.Geometry.{lens, len, from, total, regionCount, maxSegments, Sized, wrongSize}
-use Rattle.layout.specs.Mem.{Mem, memOf, flat, ofParts, regions, region, run, withRegion, setRun, Fits}
+use Rattle.layout.specs.Mem.{Mem, memOf, flat, ofParts, regions, region, run, withRegion, setRun, clearRegion, Fits}
 use Rattle.layout.proofs.Cut.{read, write, writes, lent, whole, apart, long-at}
 
 module _ (g : Geometry) (l : List ℕ) where
@@ -46,6 +46,17 @@ module _ (g : Geometry) (l : List ℕ) where
       let z : length r ≡ len g k = length-region k e h in
       ap (withRegion (memOf g l) k) (sets-eq ys r 0 (omega arith) ∙ rw (drop-of-length-le r {i = 0 + length ys} (omega arith)) (append-nil ys))
 
+  -- a whole region lent to a leaf that clears what it is lent: `&mut mem[a..b]`
+  pub cleared-at : (k a b : ℕ) (ys : List ℕ) → ys ≡ replicate (length (midOf a (b - a) l)) 0 → (a ≡ from g k) × (b ≡ a + len g k) × (k < regionCount) → length l ≡ total g → from g k + len g k ≤ total g → memOf g (putMid a (b - a) l ys) ≡ clearRegion g (memOf g l) k
+  unfolding clearRegion
+  cleared-at k a b ys t (e, h, q) f o =
+      let w : length (take (len g k) (region (memOf g l) k)) ≡ len g k = length-take-le (len g k) (region (memOf g l) k) (omega (arith, length-region k f o)) in
+      let t′ : ys ≡ replicate (length (midOf a (a + len g k - a) l)) 0 = subst (λ z. ys ≡ replicate (length (midOf a (z - a) l)) 0) h t in
+      ap (λ z. memOf g (putMid a (z - a) l ys)) h
+      ∙ leaf-at k 0 (len g k) a (λ (x : List ℕ). replicate (length x) 0) ys t′ (ap length t′ ∙ length-replicate _ 0) (omega arith)
+      ∙ ap (setRun (memOf g l) k 0) (ap (λ (j : ℕ). replicate j 0) w)
+      ∙ run-all k (replicate (len g k) 0) f o (length-replicate (len g k) 0)
+
   pub flat-memOf : length l ≡ total g → flat (memOf g l) ≡ l
   unfolding memOf flat
   flat-memOf e = whole (lens g) l (omega arith)
@@ -64,3 +75,7 @@ sized g x e =
     let a = or-false (ltb (g .segments) 1) e in
     let b = or-false (ltb maxSegments (g .segments)) (a .1) in
     record { some = ltb-false (g .segments) 1 (a .0); few = ltb-false maxSegments (g .segments) (b .0); is = eqb-true x (total g) (not-false _ (b .1)) }
+
+-- a slice of the same length
+pub resized : (g : Geometry) (x y : ℕ) → Sized g x → y ≡ x → Sized g y
+resized g x y s e = record { some = s .some; few = s .few; is = e ∙ s .is }

@@ -69,6 +69,10 @@ regionCount = 9
 abbrev pub total : Geometry → ℕ
 total g = from g regionCount
 
+-- the length of the examination's scratch: two bits for each block, and a stack with an entry for each
+abbrev pub scratchWords : Geometry → ℕ
+scratchWords g = len g 5 + len g 6 + len g 7
+
 -- "segment count not 1 to 256, or a slice not of its length"
 unfoldable pub wrongSize : Geometry → ℕ → Bool
 wrongSize g x = pick (ltb (g .segments) 1) true (pick (ltb maxSegments (g .segments)) true (not (eqb x (total g))))

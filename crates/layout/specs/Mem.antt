@@ -2,10 +2,10 @@
 use Prim.Native.Nat.{ℕ}
 use mathlib.Core.Path.{_≡_}
 use mathlib.Core.List.{List, [], _∷_}
-use lib.ListN.{getD, take, drop, set}
+use lib.ListN.{getD, take, drop, set, replicate}
 use lib.Seq.{sets}
 use Rattle.layout.specs.declared.Geometry.{Geometry}
-use Rattle.layout.specs.Geometry.{lens}
+use Rattle.layout.specs.Geometry.{lens, len}
 use Rattle.layout.specs.Parts.{parts, joined, lengths}
 
 pub record Mem : Type 0 where
@@ -51,6 +51,10 @@ region m k = getD (regions m) k []
 
 abbrev pub withRegion : Mem → ℕ → List ℕ → Mem
 withRegion m k l = ofParts (set (regions m) k l)
+
+-- region k with every word 0
+unfoldable pub clearRegion : Geometry → Mem → ℕ → Mem
+clearRegion g m k = withRegion m k (replicate (len g k) 0)
 
 -- one word of a region, read
 abbrev pub controlWord : Mem → ℕ → ℕ

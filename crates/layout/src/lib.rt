@@ -2,9 +2,9 @@
 // Nothing above this crate mentions an offset: words are read and written through these functions, whose contracts speak of `Mem`.
 ghost use mathlib.Core.Path.{_≡_};
 ghost use Prim.Native.Nat.{_≤_, _<_};
-ghost use lib.ListN.{length};
+ghost use lib.ListN.{length, replicate};
 ghost use Rattle.layout.specs.Geometry.{len, from, total, maxSegments, Sized, wrongSize};
-ghost use Rattle.layout.specs.Mem.{memOf, controlWord, mutatorWord, segmentWord, stackWord, bitmapWord, markWord, queuedWord, traceWord, heapWord, setControl, setMutator, setSegment, setStack, setMark, setQueued, setTrace, setHeap};
+ghost use Rattle.layout.specs.Mem.{memOf, controlWord, mutatorWord, segmentWord, stackWord, bitmapWord, markWord, queuedWord, traceWord, heapWord, setControl, setMutator, setSegment, setStack, setMark, setQueued, setTrace, setHeap, clearRegion};
 
 // The size of the heap: today its number of segments.
 pub struct Geometry {
@@ -215,4 +215,59 @@ pub fn set_word(g: Geometry, mem: &mut [u32], i: usize, v: u32)
 {
     let n = g.segments;
     mem[n * HEAP_PER + FIXED + i] = v;
+}
+
+// All words 0.
+fn zero(s: &mut [u32])
+    ensures { λ _. ⌜ now (s .exit) ≡ replicate (length (now (s .entry))) 0 ⌝ }
+{
+    let mut i = 0;
+    while i < s.len() {
+        s[i] = 0;
+        i += 1;
+    }
+}
+
+// A region cleared, lent whole to a leaf.
+pub fn clear_control(g: Geometry, mem: &mut [u32])
+    requires { ⌜ Sized g (length (now mem)) ⌝ }
+    ensures { λ _. ⌜ memOf g (now (mem .exit)) ≡ clearRegion g (memOf g (now (mem .entry))) 0 ⌝ }
+{
+    zero(&mut mem[0..CONTROL_WORDS]);
+}
+
+pub fn clear_mutators(g: Geometry, mem: &mut [u32])
+    requires { ⌜ Sized g (length (now mem)) ⌝ }
+    ensures { λ _. ⌜ memOf g (now (mem .exit)) ≡ clearRegion g (memOf g (now (mem .entry))) 1 ⌝ }
+{
+    zero(&mut mem[CONTROL_WORDS..SEGMENTS_FROM]);
+}
+
+pub fn clear_segments(g: Geometry, mem: &mut [u32])
+    requires { ⌜ Sized g (length (now mem)) ⌝ }
+    ensures { λ _. ⌜ memOf g (now (mem .exit)) ≡ clearRegion g (memOf g (now (mem .entry))) 2 ⌝ }
+{
+    let n = g.segments;
+    let end = SEGMENTS_FROM + n * RECORD_WORDS;
+    zero(&mut mem[SEGMENTS_FROM..end]);
+}
+
+pub fn clear_stacks(g: Geometry, mem: &mut [u32])
+    requires { ⌜ Sized g (length (now mem)) ⌝ }
+    ensures { λ _. ⌜ memOf g (now (mem .exit)) ≡ clearRegion g (memOf g (now (mem .entry))) 3 ⌝ }
+{
+    let n = g.segments;
+    let a = n * RECORD_WORDS + SEGMENTS_FROM;
+    let end = a + (1 + n) * STACKS;
+    zero(&mut mem[a..end]);
+}
+
+pub fn clear_queued(g: Geometry, mem: &mut [u32])
+    requires { ⌜ Sized g (length (now mem)) ⌝ }
+    ensures { λ _. ⌜ memOf g (now (mem .exit)) ≡ clearRegion g (memOf g (now (mem .entry))) 6 ⌝ }
+{
+    let n = g.segments;
+    let a = n * QUEUED_PER + FIXED;
+    let end = a + n * MARK_WORDS;
+    zero(&mut mem[a..end]);
 }

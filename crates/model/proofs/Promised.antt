@@ -11,12 +11,13 @@ use Rattle.layout.specs.declared.Geometry.{Geometry}
 use Rattle.layout.specs.Geometry.{wrongSize}
 use Rattle.layout.specs.Mem.{Mem, memOf}
 use Rattle.theory.specs.Calls.{Call, c-attach, c-detach, c-check, c-leave, c-enter, c-spawn, c-make, c-load, c-store, c-copy, c-clear, c-put, c-get, c-same, c-shape, Face, require, ifRecord, refusal, refuse, a-no}
-use Rattle.theory.specs.Calls as theory
 use Rattle.model.specs.declared.Answer.{Answer}
 use Rattle.model.specs.declared.Answer.the-variants.{Refused}
-use Rattle.model.specs.Answers.{answerOf, refusalOf, among, mayGive}
+use Rattle.model.specs.Answers.{answerOf, resultOf, refusalOf, among, mayGive}
 use Rattle.model.specs.Calls.{face, act, exec}
-use Rattle.model.specs.Promise.{Keeps, Promise}
+use Rattle.model.specs.Consistent.{Consistent}
+use Rattle.model.specs.Promise.{Promise}
+use Rattle.theory.specs.Calls as theory
 
 -- no refusal, or a number of the list that is not 1
 record Among (ns : List ℕ) (n : ℕ) : Type 0 where
@@ -69,6 +70,23 @@ gives-1 (c-get i s k) = refl
 gives-1 (c-same i s t) = refl
 gives-1 (c-shape i s) = refl
 
+gives-13 : (c : Call) → among 13 (mayGive c) ≡ true
+gives-13 (c-attach i) = refl
+gives-13 (c-spawn i p k) = refl
+gives-13 (c-detach i) = refl
+gives-13 (c-check i) = refl
+gives-13 (c-leave i) = refl
+gives-13 (c-enter i) = refl
+gives-13 (c-make i d p n) = refl
+gives-13 (c-load i d s f) = refl
+gives-13 (c-store i s f t) = refl
+gives-13 (c-copy i d s) = refl
+gives-13 (c-clear i d) = refl
+gives-13 (c-put i s k v) = refl
+gives-13 (c-get i s k) = refl
+gives-13 (c-same i s t) = refl
+gives-13 (c-shape i s) = refl
+
 refuse-is : {S : Type 0} (n : ℕ) (st : S) (r : theory.Answer × S) → (n ≡ 0 → ⊥) → refuse n st r ≡ (a-no n, st)
 refuse-is zero st r f = absurd (f refl)
 refuse-is (suc n) st r f = refl
@@ -90,6 +108,7 @@ module _ (c : Call) (g : Geometry) (xs : List ℕ) where
   size-1 e = record {
     sizes = λ _. (refl, refl);
     exact = λ f. absurd (true≢false (sym e ∙ f));
+    kind = λ q. absurd (Option·none-ne-some 1 (sym q));
     allowed = λ n q. subst (λ k. among k (mayGive c) ≡ true) (Option·some-injective 1 n q) (gives-1 c);
     onlySize = λ _. e;
   }
@@ -99,6 +118,7 @@ module _ (c : Call) (g : Geometry) (xs : List ℕ) where
   refused {n} e r f = record {
     sizes = λ h. absurd (true≢false (sym h ∙ e));
     exact = λ _ _. (sym (ap (λ a. a .0) does), sym (ap (λ a. a .1) does));
+    kind = λ q. absurd (Option·none-ne-some n (sym q));
     allowed = λ k q. subst (λ k. among k (mayGive c) ≡ true) (Option·some-injective n k q) (can .0);
     onlySize = λ q. absurd (big (Option·some-injective n 1 q));
   }
@@ -113,14 +133,25 @@ module _ (c : Call) (g : Geometry) (xs : List ℕ) where
       big q = let l = can .1 in omega arith
 
   -- not refused so, answer and memory are the definition's
-  pub done : {r : Answer} {ys : List ℕ} → wrongSize g (length xs) ≡ false → 0 ≡ refusal (face (memOf g xs)) c → refusalOf r ≡ none
+  pub done : {r : Answer} {ys : List ℕ} → wrongSize g (length xs) ≡ false → 0 ≡ refusal (face (memOf g xs)) c → resultOf c r ≡ true → refusalOf r ≡ none
       → answerOf r ≡ act g (memOf g xs) c .0 → memOf g ys ≡ act g (memOf g xs) c .1 → Promise c g xs r ys
-  done {r} {ys} e z v a m = record {
+  done {r} {ys} e z k v a m = record {
     sizes = λ h. absurd (true≢false (sym h ∙ e));
     exact = λ _ _. (a ∙ sym (ap (λ w. w .0) does), m ∙ sym (ap (λ w. w .1) does));
+    kind = λ _. k;
     allowed = λ k q. absurd (Option·none-ne-some k (sym v ∙ q));
     onlySize = λ q. absurd (Option·none-ne-some 1 (sym v ∙ q));
   }
     where
       does : exec g (memOf g xs) c ≡ act g (memOf g xs) c
       does = exec-by g (memOf g xs) c z
+
+  -- "13, torn": only where the memory fails the examination
+  pub torn-13 : {ys : List ℕ} → wrongSize g (length xs) ≡ false → (Consistent g (memOf g xs) → ⊥) → Promise c g xs (Refused 13) ys
+  torn-13 e f = record {
+    sizes = λ h. absurd (true≢false (sym h ∙ e));
+    exact = λ _ k. absurd (f k);
+    kind = λ q. absurd (Option·none-ne-some 13 (sym q));
+    allowed = λ n q. subst (λ k. among k (mayGive c) ≡ true) (Option·some-injective 13 n q) (gives-13 c);
+    onlySize = λ q. absurd (let z = Option·some-injective 13 1 q in omega arith);
+  }

@@ -6,11 +6,15 @@ use Prim.Native.Nat.{ℕ}
 use lib.Dec.{eqb}
 use Rattle.rules.specs.Pick.{pick}
 use Rattle.theory.specs.Calls.{Call, c-attach, c-detach, c-check, c-leave, c-enter, c-spawn, c-make, c-load, c-store, c-copy, c-clear, c-put, c-get, c-same, c-shape, a-ok, a-num, a-flag, a-shape, a-no}
-use Rattle.theory.specs.Calls as theory
 use Rattle.model.specs.declared.Answer.{Answer}
 use Rattle.model.specs.declared.Answer.the-variants.{Ok, Number, Same, Shape, Refused}
 use Rattle.model.specs.declared.Step.{Step}
+use Rattle.model.specs.declared.PhaseLook.{PhaseLook}
+use Rattle.model.specs.declared.Examined.{Examined}
+use Rattle.theory.specs.Calls as theory
 use Rattle.model.specs.declared.Step.the-variants as step
+use Rattle.model.specs.declared.PhaseLook.the-variants as look
+use Rattle.model.specs.declared.Examined.the-variants as examined
 
 -- the value of each case: ok, a number, whether two roots are equal, a shape, or a refusal
 abbrev pub answerOf : Answer → theory.Answer
@@ -36,6 +40,62 @@ stepRefusalOf (step.Swept s f) = none
 stepRefusalOf step.Done = none
 stepRefusalOf step.Idle = none
 stepRefusalOf (step.Refused n) = some n
+
+abbrev pub phaseRefusalOf : PhaseLook → Option ℕ
+phaseRefusalOf (look.Phase p) = none
+phaseRefusalOf (look.Refused n) = some n
+
+abbrev pub examinedRefusalOf : Examined → Option ℕ
+examinedRefusalOf examined.Yes = none
+examinedRefusalOf examined.No = none
+examinedRefusalOf (examined.Refused n) = some n
+
+-- ---- which result a call gives, over memory of any content: "No script call answers a block or segment number"
+
+abbrev pub isOk : Answer → Bool
+isOk Ok = true
+isOk (Number v) = false
+isOk (Same b) = false
+isOk (Shape p n) = false
+isOk (Refused n) = false
+
+abbrev pub isNumber : Answer → Bool
+isNumber Ok = false
+isNumber (Number v) = true
+isNumber (Same b) = false
+isNumber (Shape p n) = false
+isNumber (Refused n) = false
+
+abbrev pub isSame : Answer → Bool
+isSame Ok = false
+isSame (Number v) = false
+isSame (Same b) = true
+isSame (Shape p n) = false
+isSame (Refused n) = false
+
+abbrev pub isShape : Answer → Bool
+isShape Ok = false
+isShape (Number v) = false
+isShape (Same b) = false
+isShape (Shape p n) = true
+isShape (Refused n) = false
+
+abbrev pub resultOf : Call → Answer → Bool
+resultOf (c-attach k) = isOk
+resultOf (c-spawn k p i) = isOk
+resultOf (c-detach k) = isOk
+resultOf (c-check k) = isOk
+resultOf (c-leave k) = isOk
+resultOf (c-enter k) = isOk
+resultOf (c-make k d p n) = isOk
+resultOf (c-load k d i f) = isOk
+resultOf (c-store k i f j) = isOk
+resultOf (c-copy k d i) = isOk
+resultOf (c-clear k d) = isOk
+resultOf (c-put k i f v) = isOk
+resultOf (c-get k i f) = isNumber
+resultOf (c-same k i j) = isSame
+resultOf (c-shape k i) = isShape
 
 -- ---- which numbers of the table a call may give, over memory of any content
 

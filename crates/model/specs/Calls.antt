@@ -1,7 +1,7 @@
 -- Every mutator call over the memory: its refusals 2 to 9 by what the memory shows, in the order that theory's `refusal` writes once, then
 -- 10 and 11, and what it does.
-use mathlib.Core.Bool.{Bool, true, false, not}
-use mathlib.Core.Option.{Option, none, some, Option·map}
+use mathlib.Core.Bool.{Bool, not}
+use mathlib.Core.Option.{Option·map}
 use Prim.Native.Nat.{ℕ, _+_}
 use lib.Dec.{eqb, ltb}
 use Rattle.classes.specs.Class.{classOf}
@@ -11,8 +11,7 @@ use Rattle.layout.specs.declared.Geometry.{Geometry}
 use Rattle.layout.specs.Geometry.{rootCount}
 use Rattle.layout.specs.Mem.{Mem}
 use Rattle.theory.specs.Phases.{duty, inHandshake}
-use Rattle.theory.specs.Calls.{Call, c-attach, c-detach, c-check, c-leave, c-enter, c-spawn, c-make, c-load, c-store, c-copy, c-clear, c-put, c-get, c-same, c-shape, Answer, a-ok, a-num, a-flag, a-shape, a-no, Face, shapeIf, refusal, refuse, onRecord, sameRef}
-use Rattle.theory.specs.MachineCalls.{unless}
+use Rattle.theory.specs.Calls.{Call, c-attach, c-detach, c-check, c-leave, c-enter, c-spawn, c-make, c-load, c-store, c-copy, c-clear, c-put, c-get, c-same, c-shape, Answer, a-ok, a-num, a-flag, a-shape, a-no, Face, shapeIf, refusal, refuse, onRecord, unless, sameRef}
 use Rattle.model.specs.Fields.{phase, absent, inside, outside, state, setState, acks, root, setRoot}
 use Rattle.model.specs.Records.{record?, pointers, values, pointer, setPointer, value, setValue}
 use Rattle.model.specs.Tracing.{barrier}

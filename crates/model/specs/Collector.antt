@@ -4,7 +4,7 @@ use mathlib.Core.Option.{Option, none, some}
 use Prim.Native.Nat.{ℕ, zero, suc, _+_, _-_}
 use lib.Dec.{eqb}
 use lib.ListN.{length, replicate}
-use Rattle.rules.specs.Pick.{pick}
+use Rattle.rules.specs.Pick.{pick, oneIf}
 use Rattle.words.specs.Bits.{bitAt, onesAmong}
 use Rattle.classes.specs.Shape.{blocksIn}
 use Rattle.layout.specs.declared.Geometry.{Geometry}
@@ -15,11 +15,11 @@ use Rattle.theory.specs.Phases.{Phase, idle, sync1, sync2, mark, sweep, owes}
 use Rattle.theory.specs.Calls.{Answer, a-ok, a-no}
 use Rattle.model.specs.declared.Step.{Step}
 use Rattle.model.specs.declared.Step.the-variants.{Waiting, Moved, Traced, Swept, Done, Idle}
-use Rattle.model.specs.declared.SegmentState.the-variants as segment
 use Rattle.model.specs.Fields.{phase, setPhase, traceCount, inside, outside, state, acks, setAcks, tag, class}
 use Rattle.model.specs.Segments.{setState, freeStack, partStack, stacked, above, bitmap, setBitmap, marksOf, inUse}
 use Rattle.model.specs.Tracing.{traced}
 use Rattle.model.specs.Mutators.{acknowledged}
+use Rattle.model.specs.declared.SegmentState.the-variants as segment
 
 -- ---- start: "every full segment becomes condemned, all marks are cleared, the phase is roll 1"
 
@@ -65,10 +65,6 @@ unfoldable pub outsideAnswered : Mem → ℕ → Mem
 outsideAnswered m zero = m
 outsideAnswered m (suc k) = pick (eqb (state m k) outside) (acknowledged (outsideAnswered m k) k) (outsideAnswered m k)
 
-abbrev pub oneIf : Bool → ℕ
-oneIf true = 1
-oneIf false = 0
-
 -- "If inside scripts still owe": how many of the first n mutators
 unfoldable pub waiting : Mem → ℕ → ℕ
 waiting m zero = 0
@@ -87,11 +83,11 @@ traces (suc n) m = (Traced, traced m (traceWord m n - 1))
 
 -- ---- step, in sweep: "the lowest condemned segment"
 
--- the lowest of the first n segments that is condemned
 abbrev pub orThen : Option ℕ → Option ℕ → Option ℕ
 orThen none o = o
 orThen (some s) o = some s
 
+-- the lowest of the first n segments that is condemned
 unfoldable pub lowest : Mem → ℕ → Option ℕ
 lowest m zero = none
 lowest m (suc s) = orThen (lowest m s) (pick (eqb (tag m s) 4) (some s) none)

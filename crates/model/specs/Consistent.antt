@@ -1,8 +1,8 @@
 -- The consistency of the memory: what the examination decides, "the consistency definition that an opening establishes and every call
 -- keeps. That definition binds the links of records reachable from slots or trace stack only."
 use mathlib.Core.Path.{_≡_}
-use mathlib.Core.Bool.{Bool, true, false, _&&_}
-use Prim.Native.Nat.{ℕ, suc, _+_, _-_, _*_, _/_, _%_, _≤_, _<_}
+use mathlib.Core.Bool.{Bool, true, _&&_}
+use Prim.Native.Nat.{ℕ, suc, _+_, _*_, _%_, _≤_, _<_}
 use lib.Dec.{eqb}
 use Rattle.words.specs.Bits.{bitAt, onesAmong}
 use Rattle.words.specs.Tree.{Tree}
@@ -10,14 +10,13 @@ use Rattle.classes.specs.Class.{firstClass, classCount, classOf}
 use Rattle.classes.specs.Shape.{blocksIn}
 use Rattle.classes.specs.declared.SizeClass.the-variants.{Class}
 use Rattle.layout.specs.declared.Geometry.{Geometry}
-use Rattle.layout.specs.Geometry.{mutatorCount, mutatorWords, rootCount, segmentWords, mostBlocks}
+use Rattle.layout.specs.Geometry.{mutatorCount, mutatorWords, segmentWords, mostBlocks}
 use Rattle.layout.specs.Mem.{Mem, controlWord, mutatorWord, traceWord}
 use Rattle.theory.specs.Phases.{Phase, idle, sync1, sync2, mark, sweep}
-use Rattle.model.specs.Rules.{phaseNumber}
 use Rattle.model.specs.Fields.{phase, traceCount, absent, outside, state, acks, holding, tag, class, place, owner}
 use Rattle.model.specs.Segments.{freeStack, partStack, count, entry, above, bitmap, usedBit}
-use Rattle.model.specs.Records.{pointers, values, segmentOf, blockWords, marked, queued}
-use Rattle.model.specs.Collector.{oneIf}
+use Rattle.model.specs.Records.{pointers, values, segmentOf, blockWords, blockOf, bitIn, marked, queued}
+use Rattle.rules.specs.Pick.{oneIf}
 use Rattle.model.specs.Reaching.{IsEntry, Live, Reached, Covered, IsRoot, PointsTo}
 
 -- a class number
@@ -31,7 +30,7 @@ pub record SegmentOk (m : Mem) (s : ℕ) : Type 0 where
   pub free : tag m s ≡ 0 → (class m s ≡ 0) × (place m s ≡ 0) × (owner m s ≡ 0)
   pub unowned : (tag m s ≡ 2 → ⊥) → owner m s ≡ 0
   pub classes : (tag m s ≡ 0 → ⊥) → IsClass (class m s)
-  -- "Bits past a level's end are 1. A bit above level 0 is 1 exactly when its word below is all ones."
+  -- "A bit above level 0 is 1 exactly when its word below is all ones. Bits past a level's end are 1."
   pub tree : (tag m s ≡ 0 → ⊥) → Tree (above (class m s)) (blocksIn (class m s)) (bitmap m s)
   -- part and held: a free block remains at or after the place
   pub remains : (1 ≤ tag m s) → (tag m s ≤ 2) → (b : ℕ) × (place m s ≤ b) × (b < blocksIn (class m s)) × (bitAt (bitmap m s) b ≡ 0)
@@ -77,7 +76,7 @@ pub record RecordOk (g : Geometry) (m : Mem) (at : ℕ) : Type 0 where
   pub inside : at < g .segments * segmentWords
   pub used : tag m (segmentOf at) ≡ 0 → ⊥
   pub aligned : at % segmentWords % blockWords (class m (segmentOf at)) ≡ 0
-  pub block : usedBit m (segmentOf at) (at % segmentWords / blockWords (class m (segmentOf at))) ≡ 1
+  pub block : usedBit m (segmentOf at) (blockOf m at) ≡ 1
   pub sized : classOf (pointers m at + values m at) ≡ Class (class m (segmentOf at))
 
 -- ---- the trace stack: entries are records, distinct and unmarked, and the queued bits are theirs
@@ -99,7 +98,7 @@ pub record BlockInUse (m : Mem) (s b : ℕ) : Type 0 where
 
 -- only blocks in use of the segments of a test have marks
 abbrev pub MarksOf : Geometry → Mem → (ℕ → Type 0) → Type 0
-MarksOf g m test = (s b : ℕ) → s < g .segments → test s → b < mostBlocks → bitAt (m .marks) (s * mostBlocks + b) ≡ 1 → BlockInUse m s b
+MarksOf g m test = (s b : ℕ) → s < g .segments → test s → b < mostBlocks → bitAt (m .marks) (bitIn s b) ≡ 1 → BlockInUse m s b
 
 -- the tricolour invariant: roots of mutators that have acknowledged twice, and pointers of live marked records, are covered
 pub record Tricolour (m : Mem) : Type 0 where

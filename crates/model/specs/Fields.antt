@@ -1,8 +1,8 @@
 -- The words of the memory by name: control, mutators' entries, segment records. docs/LAYOUT.md has the order of the words.
 use Prim.Native.Nat.{ℕ, _+_, _-_, _*_}
-use Rattle.classes.specs.Class.{firstClass, classCount}
+use Rattle.classes.specs.Class.{firstClass}
 use Rattle.layout.specs.Geometry.{mutatorWords, rootCount, recordWords}
-use Rattle.layout.specs.Mem.{Mem, controlWord, mutatorWord, segmentWord, setControl, setMutator, setSegment}
+use Rattle.layout.specs.Mem.{Mem, controlWord, mutatorWord, segmentWord, setControl, setMutator}
 use Rattle.theory.specs.Phases.{Phase}
 use Rattle.model.specs.Rules.{phaseOf, phaseNumber}
 

@@ -2,28 +2,28 @@
 -- lent, its answer, and what it left; all that is known of it is its promise.
 use mathlib.Core.Path.{_≡_}
 use mathlib.Core.Logic.{_⊎_}
-use mathlib.Core.Bool.{Bool, true, false}
-use mathlib.Core.Option.{Option, none, some}
+use mathlib.Core.Bool.{Bool, true, false, not}
+use mathlib.Core.Option.{Option, some}
 use mathlib.Core.List.{List, [], _∷_}
-use Prim.Native.Nat.{ℕ, zero, suc, _-_, _<_, _^_}
+use Prim.Native.Nat.{ℕ, _-_, _<_, _^_}
 use lib.Dec.{eqb}
 use lib.ListN.{length, getD}
 use Rattle.rules.specs.Pick.{pick}
 use Rattle.layout.specs.declared.Geometry.{Geometry}
-use Rattle.layout.specs.Geometry.{wrongSize}
-use Rattle.layout.specs.Mem.{Mem, memOf}
+use Rattle.layout.specs.Geometry.{len, scratchWords, wrongSize}
+use Rattle.layout.specs.Mem.{memOf}
 use Rattle.theory.specs.Update.{upd}
 use Rattle.theory.specs.Calls.{Call, c-attach, c-detach, c-check, c-leave, c-enter, c-spawn, c-make, c-load, c-store, c-copy, c-clear, c-put, c-get, c-same, c-shape}
-use Rattle.theory.specs.Calls as theory
 use Rattle.theory.specs.Unbounded.{Unbounded, UReached, uexec}
 use Rattle.model.specs.declared.Answer.{Answer}
 use Rattle.model.specs.declared.Answer.the-variants.{Ok, Number, Same, Shape, Refused}
 use Rattle.model.specs.declared.Step.{Step}
 use Rattle.model.specs.declared.PhaseLook.{PhaseLook}
 use Rattle.model.specs.declared.Examined.{Examined}
-use Rattle.model.specs.Answers.{answerOf}
+use Rattle.model.specs.Answers.{answerOf, refusalOf, stepRefusalOf, phaseRefusalOf, examinedRefusalOf}
 use Rattle.model.specs.Promise.{Promise, StartPromise, StepPromise, OpenPromise, PhasePromise, StatesPromise, ExaminePromise}
 use Rattle.model.specs.Fields.{root}
+use Rattle.theory.specs.Calls as theory
 
 -- mutators' calls, collector's calls, openings and looks
 pub data Element : Type 0 where
@@ -73,7 +73,7 @@ left (sawPhase g mem r) = mem
 left (sawStates g mem output r after) = mem
 left (examinedBy g mem scratch r after) = mem
 
--- an opening that is not refused ends the list
+-- an opening; one that is not refused 1 ends the list
 abbrev pub IsOpening : Element → Type 0
 IsOpening (called c g before r after) = ⊥
 IsOpening (started g before r after) = ⊥
@@ -83,9 +83,25 @@ IsOpening (sawPhase g mem r) = ⊥
 IsOpening (sawStates g mem output r after) = ⊥
 IsOpening (examinedBy g mem scratch r after) = ⊥
 
--- "A call refused 1 may have another count or other lengths, and changes no word of the memory."
+-- "A call refused 1 may have another count or other lengths, and changes no word of the memory": of the memory, of an output or of a scratch
 abbrev pub wrongSized : Element → Bool
-wrongSized e = wrongSize (geometryOf e) (length (lent e))
+wrongSized (called c g before r after) = wrongSize g (length before)
+wrongSized (started g before r after) = wrongSize g (length before)
+wrongSized (stepped g before r after) = wrongSize g (length before)
+wrongSized (openedBy g before r after) = wrongSize g (length before)
+wrongSized (sawPhase g mem r) = wrongSize g (length mem)
+wrongSized (sawStates g mem output r after) = pick (wrongSize g (length mem)) true (not (eqb (length output) (len g 2)))
+wrongSized (examinedBy g mem scratch r after) = pick (wrongSize g (length mem)) true (not (eqb (length scratch) (scratchWords g)))
+
+-- the number of its refusal
+abbrev pub numberOf : Element → Option ℕ
+numberOf (called c g before r after) = refusalOf r
+numberOf (started g before r after) = refusalOf r
+numberOf (stepped g before r after) = stepRefusalOf r
+numberOf (openedBy g before r after) = refusalOf r
+numberOf (sawPhase g mem r) = phaseRefusalOf r
+numberOf (sawStates g mem output r after) = refusalOf r
+numberOf (examinedBy g mem scratch r after) = examinedRefusalOf r
 
 -- "Each call gets the memory whole, as the one before it left it, with the opening's segment count."
 pub record Gets (g : Geometry) (words : List ℕ) (e : Element) : Type 0 where

@@ -1,7 +1,7 @@
 -- make: the segment it takes from, the block it is handed, and the record there. Document 01: "takes the next free block of the script's held
 -- segment of that class; the place moves just past it. Without one, it first takes a part segment of the class, else a free one".
-use mathlib.Core.Bool.{Bool, true, false}
-use Prim.Native.Nat.{ℕ, zero, suc, _+_, _-_}
+use mathlib.Core.Path.{_≡_}
+use Prim.Native.Nat.{ℕ, suc, _+_, _-_, _<_}
 use lib.Dec.{eqb}
 use Rattle.rules.specs.Pick.{pick}
 use Rattle.classes.specs.Shape.{blocksIn}
@@ -13,7 +13,7 @@ use Rattle.bitmap_write.specs.Ready.{fresh}
 use Rattle.theory.specs.Phases.{black}
 use Rattle.theory.specs.Calls.{Answer, a-ok, a-no}
 use Rattle.model.specs.declared.SegmentState.the-variants.{Held, Full}
-use Rattle.model.specs.Fields.{phase, acks, holding, setHolding, setRoot, place}
+use Rattle.model.specs.Fields.{phase, acks, holding, setHolding, setRoot, tag, class, place, owner}
 use Rattle.model.specs.Segments.{setState, freeStack, partStack, count, top, pop, above, bitmap, setBitmap, free}
 use Rattle.model.specs.Records.{headerOf, written, setMarked}
 
@@ -22,12 +22,18 @@ pub data Seat : Type 0 where
   held part unused : (segment : ℕ) → Seat
   noRoom : Seat
 
--- "no room: the script has no held segment of the class, no part one of it exists, none is free"
+-- by the held segments of the mutator's entry and the counts of the stacks; `NoRoom` says it of the segments
 abbrev pub seat : Geometry → Mem → ℕ → ℕ → Seat
 seat g m k c =
     pick (eqb (holding m k c) 0)
     (pick (eqb (count g m (partStack c)) 0) (pick (eqb (count g m freeStack) 0) noRoom (unused (top g m freeStack))) (part (top g m (partStack c))))
     (held (holding m k c - 1))
+
+-- "10, no room: make: the script has no held segment of the class, no part one of it exists, none is free"
+pub record NoRoom (g : Geometry) (m : Mem) (k c : ℕ) : Type 0 where
+  pub noHeld : (s : ℕ) → s < g .segments → tag m s ≡ 2 → class m s ≡ c → owner m s ≡ k → ⊥
+  pub noPart : (s : ℕ) → s < g .segments → tag m s ≡ 1 → class m s ≡ c → ⊥
+  pub noFree : (s : ℕ) → s < g .segments → tag m s ≡ 0 → ⊥
 
 -- mutator k holds segment s of class c from a place on
 abbrev pub takes : Mem → ℕ → ℕ → ℕ → ℕ → Mem

@@ -1,5 +1,4 @@
 -- Mutators that acknowledge a handshake, come and go.
-use mathlib.Core.Bool.{Bool, true, false}
 use mathlib.Core.List.{List, _∷_}
 use Prim.Native.Nat.{ℕ, zero, suc, _+_, _-_, _*_}
 use lib.Dec.{eqb}
@@ -11,8 +10,7 @@ use Rattle.layout.specs.Geometry.{mutatorWords, rootCount}
 use Rattle.layout.specs.Mem.{Mem, setRun}
 use Rattle.theory.specs.Phases.{Phase, idle, sync1, sync2, mark, sweep, owes, newcomer}
 use Rattle.model.specs.declared.SegmentState.the-variants.{Part}
-use Rattle.model.specs.Fields.{phase, inside, outside, acks, setAcks, holding, place}
-use Rattle.model.specs.Fields as fields
+use Rattle.model.specs.Fields.{phase, inside, acks, setAcks, holding, place}
 use Rattle.model.specs.Segments.{setState, partStack, stacked}
 use Rattle.model.specs.Tracing.{pushRoots}
 

@@ -1,7 +1,7 @@
 -- The opening. Document 01: "An opening stacks the free ones so that segment 0 comes off first. It works on memory of any content, and leaves
 -- every segment free, no script attached, the trace stack empty and the phase idle."
 use mathlib.Core.List.{List, [], _∷_, _++_}
-use Prim.Native.Nat.{ℕ, zero, suc, _+_, _-_, _*_}
+use Prim.Native.Nat.{ℕ, zero, suc, _+_, _-_}
 use lib.ListN.{replicate}
 use Rattle.layout.specs.declared.Geometry.{Geometry}
 use Rattle.layout.specs.Geometry.{len}

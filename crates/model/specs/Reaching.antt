@@ -38,9 +38,9 @@ Live m = Reach (λ at. IsRoot m at ⊎ IsEntry m at) (PointsTo m)
 abbrev pub Reached : Mem → ℕ → Type 0
 Reached m = Reach (IsRoot m) (PointsTo m)
 
--- marked, or reachable from an entry of the trace stack through unmarked records only
 abbrev pub isMarked : Mem → ℕ → Bool
 isMarked m at = eqb (marked m at) 1
 
+-- marked, or reachable from an entry of the trace stack through unmarked records only
 abbrev pub Covered : Mem → ℕ → Type 0
 Covered m = Cover (IsEntry m) (isMarked m) (PointsTo m)

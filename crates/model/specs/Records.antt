@@ -1,7 +1,7 @@
 -- Records in the heap: references, headers, fields, and the block and the bits of a record. Document 01: "A header word P × 65,536 + N comes
 -- first, then the links, then the numbers. A link is nil or names a record."
 use mathlib.Core.Option.{Option, none, some}
-use Prim.Native.Nat.{ℕ, zero, suc, _+_, _-_, _*_, _/_, _%_, _^_}
+use Prim.Native.Nat.{ℕ, zero, suc, _+_, _*_, _/_, _%_, _^_}
 use lib.ListN.{replicate}
 use Rattle.words.specs.Bits.{bitAt, setBit, clearBit}
 use Rattle.classes.specs.Class.{wordBytes}
@@ -51,9 +51,15 @@ blockWords c = 2 ^ c / wordBytes
 abbrev pub headerOf : ℕ → ℕ → ℕ → ℕ
 headerOf s c b = s * segmentWords + b * blockWords c
 
--- the number of a record's bit among the marks and the queued bits: one for each block of each segment
+abbrev pub blockOf : Mem → ℕ → ℕ
+blockOf m at = at % segmentWords / blockWords (class m (segmentOf at))
+
+-- the number of a block's bit among the marks and the queued bits: one for each block of each segment
+abbrev pub bitIn : ℕ → ℕ → ℕ
+bitIn s b = s * mostBlocks + b
+
 abbrev pub bitOf : Mem → ℕ → ℕ
-bitOf m at = segmentOf at * mostBlocks + at % segmentWords / blockWords (class m (segmentOf at))
+bitOf m at = bitIn (segmentOf at) (blockOf m at)
 
 abbrev pub marked : Mem → ℕ → ℕ
 marked m at = bitAt (m .marks) (bitOf m at)

@@ -1,9 +1,9 @@
 -- The phase by its number, and the declared form of the barrier's duty.
 use Prim.Native.Nat.{ℕ, zero, suc}
 use Rattle.theory.specs.Phases.{Phase, idle, sync1, sync2, mark, sweep, nothing, both, old}
-use Rattle.theory.specs.Phases as phases
 use Rattle.model.specs.declared.Duty.{Duty}
 use Rattle.model.specs.declared.Duty.the-variants.{Nothing, Both, Old}
+use Rattle.theory.specs.Phases as phases
 
 -- the phase that a number stands for: IDLE to SWEEP are 0 to 4
 abbrev pub phaseOf : ℕ → Phase

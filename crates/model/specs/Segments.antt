@@ -2,20 +2,18 @@
 use mathlib.Core.List.{List}
 use Prim.Native.Nat.{ℕ, zero, suc, _+_, _-_, _*_}
 use lib.Dec.{eqb, ltb}
-use lib.ListN.{getD}
 use Rattle.rules.specs.Pick.{pick}
 use Rattle.words.specs.Bits.{bitAt, onesAmong}
 use Rattle.classes.specs.Class.{firstClass}
 use Rattle.classes.specs.Shape.{blocksIn, shapeFor, bitmapWords}
 use Rattle.layout.specs.declared.Geometry.{Geometry}
-use Rattle.layout.specs.Geometry.{recordWords, mostBlocks, markWords}
+use Rattle.layout.specs.Geometry.{recordWords, markWords}
 use Rattle.layout.specs.Mem.{Mem, stackWord, setSegment, setStack, run, setRun}
 use Rattle.bitmap_search.specs.declared.Found.{Found}
 use Rattle.bitmap_search.specs.Scan.{nextFree}
-use Rattle.bitmap_write.specs.Ready.{fresh, adopted}
 use Rattle.model.specs.declared.SegmentState.{SegmentState}
-use Rattle.model.specs.declared.SegmentState.the-variants as state
 use Rattle.model.specs.Fields.{tag, class, place, owner}
+use Rattle.model.specs.declared.SegmentState.the-variants as state
 
 -- "A segment is free, part (class, place), held (class, place, script), full (class) or condemned (class)."
 abbrev pub stateOf : ℕ → ℕ → ℕ → ℕ → SegmentState

@@ -4,8 +4,7 @@ use mathlib.Core.Option.{Option, none, some}
 use Prim.Native.Nat.{ℕ, zero, suc, _+_, _-_}
 use lib.Dec.{eqb}
 use Rattle.rules.specs.Pick.{pick}
-use Rattle.layout.specs.Geometry.{rootCount}
-use Rattle.layout.specs.Mem.{Mem, traceWord, setTrace}
+use Rattle.layout.specs.Mem.{Mem, setTrace}
 use Rattle.theory.specs.Phases.{Duty, nothing, both, old}
 use Rattle.model.specs.Fields.{traceCount, setTraceCount, root}
 use Rattle.model.specs.Records.{record?, pointers, pointer, marked, queued, setMarked, setQueued, clearQueued}

@@ -3,7 +3,7 @@ use mathlib.Core.Path.{_≡_, refl, _∙_, sym}
 use mathlib.Core.Bool.{Bool, true, false}
 use Prim.Native.Nat.{ℕ, _≤_, _<_}
 use native.Mathlib.Omega.{arith}
-use lib.Dec.{ltb, eqb}
+use lib.Dec.{ltb}
 use borrow.Author.Tests.{lt-ltb, le-ltb, eq-eqb, ne-eqb, ltb-true}
 use Rattle.layout.specs.Geometry.{mutatorCount, rootCount}
 use Rattle.layout.specs.Mem.{Mem}
@@ -91,3 +91,28 @@ in-range m k i j n e z =
     let p = passed m k (ifRoot i (ifRoot j 0)) (sym z ∙ e) in
     let q = root-in i (ifRoot j 0) (p .rest-0) in
     (p .known, q .0, root-in j 0 (q .1) .0)
+
+-- ---- a mutator inside and two roots' indices, and what follows
+
+module _ (m : Mem) (k i j n rest : ℕ) where
+  pub with-rest : n ≡ insideThen m k (ifRoot i (ifRoot j 0)) → n ≡ 0 → rest ≡ insideThen m k (ifRoot i (ifRoot j rest))
+  unfolding require insideThen
+  with-rest e z =
+      let p = passed m k (ifRoot i (ifRoot j 0)) (sym z ∙ e) in
+      let r = in-range m k i j n e z in
+      rw (lt-ltb _ _ (p .known), p .attached, p .inside, lt-ltb _ _ (r .1), lt-ltb _ _ (r .2))
+
+  pub with-refused : n ≡ insideThen m k (ifRoot i (ifRoot j 0)) → (n ≡ 0 → ⊥) → n ≡ insideThen m k (ifRoot i (ifRoot j rest))
+  unfolding require insideThen
+  with-refused e f = go (ltb k mutatorCount) (isAttached m k) (isInside m k) (ltb i rootCount) (ltb j rootCount) e
+    where
+      by : Bool → Bool → Bool → Bool → Bool → ℕ → ℕ
+      by a b c d h x = require a 2 (require b 4 (require c 5 (require d 6 (require h 6 x))))
+
+      go : (a b c d h : Bool) → n ≡ by a b c d h 0 → n ≡ by a b c d h rest
+      go true true true true true e = absurd (f e)
+      go true true true true false e = e
+      go true true true false h e = e
+      go true true false d h e = e
+      go true false c d h e = e
+      go false b c d h e = e

@@ -14,12 +14,12 @@ use Rattle.theory.proofs.CycleKeeps.{check-inv, detach-inv, attach-inv,
 use Rattle.theory.proofs.Graph.{clash}
 use Rattle.theory.proofs.Invariant.{Inv, none-some, load-inv, copy-inv, clear-inv}
 use Rattle.theory.specs.Machine.{State, Holds, Root, Live, make, attach, detach, setInside, setValues, acknowledge, check}
-use Rattle.theory.specs.MachineCalls.{shapeAt, face, unless, room, act, exec}
+use Rattle.theory.specs.MachineCalls.{shapeAt, face, room, act, exec}
 use Rattle.theory.proofs.MakeKeeps.{make-inv}
 use Rattle.theory.proofs.Simulation.{Simulates, Same, root-sim, store-sim, make-sim, attach-sim, detach-sim, side-sim, values-sim, gc-sim}
 use Rattle.theory.proofs.StoreKeeps.{store-inv}
 use Rattle.theory.proofs.Updates.{upd-cases}
-use Rattle.theory.specs.Calls.{Call, c-attach, c-detach, c-check, c-leave, c-enter, c-spawn, c-make, c-load, c-store, c-copy, c-clear, c-put, c-get, c-same, c-shape, Answer, a-ok, a-num, a-flag, a-no, Face, shapeIf, require, ifRecord, ifInside, pointer?, refusal, sameRef, onRecord, refuse}
+use Rattle.theory.specs.Calls.{Call, c-attach, c-detach, c-check, c-leave, c-enter, c-spawn, c-make, c-load, c-store, c-copy, c-clear, c-put, c-get, c-same, c-shape, Answer, a-ok, a-num, a-flag, a-no, Face, shapeIf, require, ifRecord, ifInside, pointer?, refusal, sameRef, onRecord, refuse, unless}
 use Rattle.theory.specs.Phases.{Phase, idle, sync1, sync2, mark, sweep, inHandshake}
 use Rattle.theory.specs.Reach.{root, next}
 use Rattle.theory.specs.Unbounded.{Unbounded, uAttach, uDetach, uSetInside, uSetValues, ushapeAt, uface, uact, uexec}

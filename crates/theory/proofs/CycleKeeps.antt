@@ -285,6 +285,12 @@ module _ (segmentOf : ℕ → ℕ) (st : State) (inv : Inv segmentOf st) (i : �
   detach-on : (j : ℕ) → detach st i .attached j ≡ true → st .attached j ≡ true
   detach-on j o = ⊎-elim (λ q. clash o (q .1)) (λ q. sym (q .1) ∙ o) (upd-cases (st .attached) i false j)
 
+  detach-acks : (j : ℕ) → detach st i .attached j ≡ true → detach st i .acks j ≡ st .acks j
+  detach-acks j o = ⊎-elim (λ q. clash o (q .1)) (λ q. upd-other (st .acks) i 0 j (q .0)) (upd-cases (st .attached) i false j)
+
+  detach-low : st .phase ≡ sync1 → (j : ℕ) → detach st i .acks j ≤ 1
+  detach-low e j = ⊎-elim (λ q. subst (λ a. a ≤ 1) (sym (q .1)) (omega arith)) (λ q. subst (λ a. a ≤ 1) (sym (q .1)) (inv .first e j)) (upd-cases (st .acks) i 0 j)
+
   detach-reached : {b : ℕ} → Reached (detach st i) b → Reached st b
   detach-reached p = reach-map (λ x h. root (h .0, detach-holds (h .0) x (h .1))) (λ x y q e. inl e) p
 
@@ -297,10 +303,10 @@ module _ (segmentOf : ℕ → ℕ) (st : State) (inv : Inv segmentOf st) (i : �
     stack = inv .stack;
     quiet = inv .quiet;
     blank = λ e b p. inv .blank e b (detach-live p);
-    first = inv .first;
-    second = λ e j o. inv .second e j (detach-on j o);
-    all = λ e j o. inv .all e j (detach-on j o);
-    core = λ t. record { m1 = λ j b q h. inv .core t .m1 j b q (detach-holds j b h); m2 = λ x y p. inv .core t .m2 x y (detach-live p) };
+    first = detach-low;
+    second = λ e j o. subst (λ a. 1 ≤ a) (sym (detach-acks j o)) (inv .second e j (detach-on j o));
+    all = λ e j o. subst (λ a. 2 ≤ a) (sym (detach-acks j o)) (inv .all e j (detach-on j o));
+    core = λ t. record { m1 = λ j b q h. inv .core t .m1 j b (subst (λ a. 2 ≤ a) (detach-acks j (h .1)) q) (detach-holds j b h); m2 = λ x y p. inv .core t .m2 x y (detach-live p) };
     kept = λ e b p. inv .kept e b (detach-reached p);
   }
 

@@ -13,10 +13,11 @@ use Rattle.theory.proofs.Completeness.{Complete, start-comp, phase-comp
 use Rattle.theory.proofs.Graph.{bool-cases, clash, reach-empty}
 use Rattle.theory.proofs.Invariant.{Inv, Quiet, reached-live, none-some}
 use Rattle.theory.specs.Machine.{State, LiveRoot, Live, setAcks, acknowledge, check, start, setPhase, sweepSegment}
-use Rattle.theory.specs.MachineCalls.{face, unless, room, act, outside, answerOutside, oneIf, waiting, move, traceStep, sweepStep, stepBy, step, startBy, exec}
+use Rattle.rules.specs.Pick.{oneIf}
+use Rattle.theory.specs.MachineCalls.{face, room, act, outside, answerOutside, waiting, move, traceStep, sweepStep, stepBy, step, startBy, exec}
 use Rattle.theory.proofs.Simulation.{gc-sim, reach-up, reach-down}
 use Rattle.theory.proofs.Updates.{upd-cases, upd-same, upd-other}
-use Rattle.theory.specs.Calls.{a-num, a-flag, a-shape, Call, c-attach, c-detach, c-check, c-leave, c-enter, c-spawn, c-make, c-load, c-store, c-copy, c-clear, c-put, c-get, c-same, c-shape, Face, require, ifRecord, ifInside, refusal, onRecord, refuse, Answer, a-ok, a-moved, a-traced, a-done, a-idle, a-no, a-waiting, a-swept}
+use Rattle.theory.specs.Calls.{a-num, a-flag, a-shape, Call, c-attach, c-detach, c-check, c-leave, c-enter, c-spawn, c-make, c-load, c-store, c-copy, c-clear, c-put, c-get, c-same, c-shape, Face, require, ifRecord, ifInside, refusal, onRecord, refuse, Answer, a-ok, a-moved, a-traced, a-done, a-idle, a-no, a-waiting, a-swept, unless}
 use Rattle.theory.specs.Phases.{Phase, idle, sync1, sync2, mark, sweep, inHandshake, owes, black, old}
 use Rattle.theory.specs.Reach.{root}
 use Rattle.theory.specs.Unbounded.{Unbounded, UReached, uface, uact, uexec, empty, uanswers}

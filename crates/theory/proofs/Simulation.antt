@@ -222,7 +222,7 @@ module _ (segmentOf : ℕ → ℕ) (put : ℕ → Option ℕ) (st : State) (un :
   pub detach-sim : (i : ℕ) → Simulates put (detach st i) (uDetach un i)
   detach-sim i = record {
     attached = λ j. upd-rel _≡_ (st .attached) (un .attached) i false false j refl (λ _. s .attached j);
-    inside = s .inside;
+    inside = λ j. upd-rel _≡_ (st .inside) (un .inside) i false false j refl (λ _. s .inside j);
     root = λ j k o l. upd-rel (λ (f g : ℕ → Option ℕ). Same put (f k) (g k)) (st .root) (un .root) i (λ _. none) (λ _. none) j refl (λ m. s .root j k (sym (upd-other (st .attached) i false j m) ∙ o) l);
     rec = λ b h. let c = s .rec b (detach-live segmentOf st inv i h) in record { id = c .id; is = c .is; pointers = c .pointers; values = c .values; pointer = c .pointer };
     inj = s .inj;

@@ -21,7 +21,7 @@ pub data Call : Type 0 where
   c-same : (mutator root other : ℕ) → Call
   c-shape : (mutator root : ℕ) → Call
 
--- an answer, as document 01 has it: a result or a refusal's number; then step's answers
+-- an answer, as document 01 has it: a result or a refusal's number; then the abstract machine's answers to step, which counts no blocks
 pub data Answer : Type 0 where
   a-ok a-moved a-traced a-done a-idle : Answer
   a-num : ℕ → Answer
@@ -96,6 +96,11 @@ module _ {S : Type 0} where
   abbrev pub refuse : ℕ → S → Answer × S → Answer × S
   refuse zero st r = r
   refuse (suc n) st r = (a-no (suc n), st)
+
+  -- refused n where the test holds, else done
+  abbrev pub unless : Bool → ℕ → S → S → Answer × S
+  unless true n st st′ = (a-no n, st)
+  unless false n st st′ = (a-ok, st′)
 
   -- with the record in a root
   abbrev pub onRecord : Option ℕ → S → (ℕ → Answer × S) → Answer × S

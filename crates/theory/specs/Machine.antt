@@ -75,7 +75,7 @@ abbrev pub attach : State → ℕ → Option ℕ → State
 attach st i v = record { pointers = st .pointers; values = st .values; pointer = st .pointer; used = st .used; collect = st .collect; marked = st .marked; stack = st .stack; attached = upd (st .attached) i true; inside = upd (st .inside) i true; acks = upd (st .acks) i (newcomer (st .phase)); root = upd (st .root) i (upd (λ _. none) 0 v); phase = st .phase }
 
 abbrev pub detach : State → ℕ → State
-detach st i = record { pointers = st .pointers; values = st .values; pointer = st .pointer; used = st .used; collect = st .collect; marked = st .marked; stack = st .stack; attached = upd (st .attached) i false; inside = st .inside; acks = st .acks; root = upd (st .root) i (λ _. none); phase = st .phase }
+detach st i = record { pointers = st .pointers; values = st .values; pointer = st .pointer; used = st .used; collect = st .collect; marked = st .marked; stack = st .stack; attached = upd (st .attached) i false; inside = upd (st .inside) i false; acks = upd (st .acks) i 0; root = upd (st .root) i (λ _. none); phase = st .phase }
 
 -- the data fields of the record in block a become z
 abbrev pub setValues : State → ℕ → List ℕ → State

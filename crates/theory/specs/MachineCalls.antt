@@ -6,9 +6,10 @@ use Prim.Native.Nat.{ℕ, zero, suc, _+_}
 use lib.Dec.{ltb}
 use lib.ListN.{length, getD, set, replicate}
 use Rattle.theory.specs.Machine.{State, setRoot, store, make, attach, detach, setInside, setValues, check, start, setPhase, trace, sweepSegment}
-use Rattle.theory.specs.Calls.{Call, Answer, Face, refusal, shapeIf, refuse, onRecord, sameRef, c-attach, c-detach, c-check, c-leave, c-enter, c-spawn, c-make, c-load, c-store, c-copy, c-clear, c-put, c-get, c-same, c-shape, a-ok, a-moved, a-traced, a-done, a-idle, a-num, a-flag, a-shape, a-no, a-waiting, a-swept}
+use Rattle.theory.specs.Calls.{Call, Answer, Face, refusal, shapeIf, refuse, onRecord, unless, sameRef, c-attach, c-detach, c-check, c-leave, c-enter, c-spawn, c-make, c-load, c-store, c-copy, c-clear, c-put, c-get, c-same, c-shape, a-ok, a-moved, a-traced, a-done, a-idle, a-num, a-flag, a-shape, a-no, a-waiting, a-swept}
 use Rattle.theory.specs.Phases.{Phase, idle, sync1, sync2, mark, sweep, inHandshake, owes}
 use Rattle.theory.specs.Reach.{root}
+use Rattle.rules.specs.Pick.{oneIf}
 use Rattle.layout.specs.Geometry.{rootCount, mutatorCount}
 
 -- ---- refusals 2 to 9, by what both sides show
@@ -22,10 +23,6 @@ face st = record { attached = st .attached; inside = st .inside; shape = λ i k.
 -- ---- what a call does that is not refused so
 
 module _ {S : Type 0} where
-  abbrev pub unless : Bool → ℕ → S → S → Answer × S
-  unless true n st st′ = (a-no n, st)
-  unless false n st st′ = (a-ok, st′)
-
   abbrev pub room : Option ℕ → S → (ℕ → S) → Answer × S
   room none st k = (a-no 10, st)
   room (some b) st k = (a-ok, k b)
@@ -62,10 +59,6 @@ outside false b st st′ = st
 abbrev pub answerOutside : ℕ → State → State
 answerOutside zero st = st
 answerOutside (suc n) st = let st₁ : State = answerOutside n st in outside (st₁ .attached n) (st₁ .inside n) st₁ (check st₁ n)
-
-abbrev pub oneIf : Bool → ℕ
-oneIf true = 1
-oneIf false = 0
 
 -- inside mutators below n that owe
 abbrev pub waiting : ℕ → State → ℕ

@@ -79,7 +79,7 @@ uDetach un i = record {
   values = un .values;
   pointer = un .pointer;
   attached = upd (un .attached) i false;
-  inside = un .inside;
+  inside = upd (un .inside) i false;
   root = upd (un .root) i (λ _. none);
 }
 

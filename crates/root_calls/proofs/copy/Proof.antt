@@ -43,7 +43,7 @@ same-length-2 c = search needs
 returns-3 : tie.Need-returns-3
 unfolding insideThen act
 returns-3 c =
-    done (c-copy _ _ _) _ _ (sym (c .before .before .before .before .before .before .before .before .before .before .wrong-size .ensures) ∙ c .before .before .before .before .before .before .before .before .before .if1 .left) (sym (c .before .before .before .before .before .before .if2 .left) ∙ c .before .before .before .before .before .before .before .standing-with .ensures) refl refl
+    done (c-copy _ _ _) _ _ (sym (c .before .before .before .before .before .before .before .before .before .before .wrong-size .ensures) ∙ c .before .before .before .before .before .before .before .before .before .if1 .left) (sym (c .before .before .before .before .before .before .if2 .left) ∙ c .before .before .before .before .before .before .before .standing-with .ensures) refl refl refl
     (c .before .before .set-root .ensures ∙ ap (setRoot _ _ _) (c .before .before .before .before .root .ensures))
 
 pub copy-spec : {M : Type 1} → statement M

@@ -1,0 +1,2 @@
+-- Laws of calls on fields.
+pub mod Loading

@@ -1,0 +1,108 @@
+-- `field_calls::load` meets its contract. Assumes nothing.
+use mathlib.Core.Path.{refl, sym, _∙_}
+use borrow.Author.Needs.{needs}
+use Rattle.records.proofs.Found.{pointer-stands}
+use Rattle.layout.proofs.Regions.{sized}
+use Rattle.model.proofs.Promised.{size-1}
+use Rattle.roots.proofs.Inside.{in-range}
+use Rattle.field_calls.proofs.Loading.{load-standing, load-7, load-lacks, load-done}
+use Rattle.field_calls.proofs.load.Tie as tie
+use Rattle.field_calls.proofs.load.Statement.{statement}
+
+wrong-size-requires : tie.Need-wrong-size-requires
+wrong-size-requires c κs = search needs
+
+returns : tie.Need-returns
+returns c = size-1 _ _ _ (sym (c .before .wrong-size .ensures) ∙ c .if1 .taken)
+
+standing-with-requires : tie.Need-standing-with-requires
+standing-with-requires c κs = sized _ _ (sym (c .before .before .wrong-size .ensures) ∙ c .before .if1 .left)
+
+same-length : tie.Need-same-length
+same-length c = search needs
+
+returns-2 : tie.Need-returns-2
+returns-2 c = load-standing _ _ _ _ _ _ _ _ (sym (c .before .before .before .before .wrong-size .ensures) ∙ c .before .before .before .if1 .left) (c .before .standing-with .ensures) refl (c .if2 .taken)
+
+root-requires : tie.Need-root-requires
+root-requires c κs =
+    let p = in-range _ _ (c .before .before .before .before .before .before .before .args .to) _ _ (c .before .before .standing-with .ensures) (c .before .if2 .left) in
+    (sized _ _ (sym (c .before .before .before .before .before .wrong-size .ensures) ∙ c .before .before .before .before .if1 .left), p .0, p .2)
+
+held-of-requires : tie.Need-held-of-requires
+held-of-requires c κs = search needs
+
+enum-known-slot : tie.Need-enum-known-slot
+enum-known-slot c = search needs
+
+enum-told : tie.Need-enum-told
+enum-told c = search needs
+
+same-length-2 : tie.Need-same-length-2
+same-length-2 c = search needs
+
+returns-3 : tie.Need-returns-3
+returns-3 c =
+    load-7 _ _ _ _ _ _ _ _ (sym (c .before .before .before .before .before .before .before .before .before .wrong-size .ensures) ∙ c .before .before .before .before .before .before .before .before .if1 .left) (c .before .before .before .before .before .before .standing-with .ensures) (c .before .before .before .root .ensures) (c .before .before .before .before .before .if2 .left)
+    (sym (c .enum-told .given .1) ∙ c .before .before .held-of .ensures)
+
+pointer-place-requires : tie.Need-pointer-place-requires
+pointer-place-requires c κs = sized _ _ (sym (c .before .before .before .before .before .before .before .before .before .before .before .wrong-size .ensures) ∙ c .before .before .before .before .before .before .before .before .before .before .if1 .left)
+
+enum-known-n : tie.Need-enum-known-n
+enum-known-n c = search needs
+
+enum-known-place : tie.Need-enum-known-place
+enum-known-place c = search needs
+
+word-requires : tie.Need-word-requires
+word-requires c κs =
+    let t = pointer-stands _ _ _ _ _ (sym (c .before .before .place .given .1) ∙ c .before .before .before .before .pointer-place .ensures) in
+    (sized _ _ (sym (c .before .before .before .before .before .before .before .before .before .before .before .before .before .before .before .before .wrong-size .ensures) ∙ c .before .before .before .before .before .before .before .before .before .before .before .before .before .before .before .if1 .left), t .within)
+
+set-root-requires : tie.Need-set-root-requires
+set-root-requires c κs =
+    let p = in-range _ _ _ (c .before .before .before .before .before .before .before .before .before .before .before .before .before .before .before .before .before .before .before .before .args .i) _ (c .before .before .before .before .before .before .before .before .before .before .before .before .before .before .before .standing-with .ensures) (c .before .before .before .before .before .before .before .before .before .before .before .before .before .before .if2 .left) in
+    (sized _ _ (sym (c .before .before .before .before .before .before .before .before .before .before .before .before .before .before .before .before .before .before .wrong-size .ensures) ∙ c .before .before .before .before .before .before .before .before .before .before .before .before .before .before .before .before .before .if1 .left), p .0, p .1)
+
+same-length-3 : tie.Need-same-length-3
+same-length-3 c = search needs
+
+returns-4 : tie.Need-returns-4
+returns-4 c =
+    load-lacks _ _ _ _ _ _ _ _ (sym (c .before .before .before .before .before .before .before .before .before .before .before .before .before .before .before .wrong-size .ensures) ∙ c .before .before .before .before .before .before .before .before .before .before .before .before .before .before .if1 .left) (c .before .before .before .before .before .before .before .before .before .before .before .before .standing-with .ensures) (c .before .before .before .before .before .before .before .before .before .root .ensures) (c .before .before .before .before .before .before .before .before .before .before .before .if2 .left) _
+    (sym (c .before .before .before .before .before .before .slot .given .1) ∙ c .before .before .before .before .before .before .before .before .held-of .ensures) _ (sym (c .before .n .given .1) ∙ c .before .before .before .pointer-place .ensures)
+
+same-length-4 : tie.Need-same-length-4
+same-length-4 c = search needs
+
+returns-5 : tie.Need-returns-5
+returns-5 c =
+    load-done _ _ _ _ _ _ _ _ (sym (c .before .before .before .before .before .before .before .before .before .before .before .before .before .before .before .before .before .before .before .before .before .wrong-size .ensures) ∙ c .before .before .before .before .before .before .before .before .before .before .before .before .before .before .before .before .before .before .before .before .if1 .left) (c .before .before .before .before .before .before .before .before .before .before .before .before .before .before .before .before .before .before .standing-with .ensures) (c .before .before .before .before .before .before .before .before .before .before .before .before .before .before .before .root .ensures) (c .before .before .before .before .before .before .before .before .before .before .before .before .before .before .before .before .before .if2 .left) _
+    (sym (c .before .before .before .before .before .before .before .before .before .before .before .before .slot .given .1) ∙ c .before .before .before .before .before .before .before .before .before .before .before .before .before .before .held-of .ensures) _ _ _ (sym (c .before .before .before .before .before .before .before .place .given .1) ∙ c .before .before .before .before .before .before .before .before .before .pointer-place .ensures)
+    (c .before .before .before .before .word .ensures) (c .before .before .set-root .ensures)
+
+pub load-spec : {M : Type 1} → statement M
+load-spec =
+    tie.close
+    (tie.spec
+    wrong-size-requires
+    returns
+    standing-with-requires
+    same-length
+    returns-2
+    root-requires
+    held-of-requires
+    enum-known-slot
+    enum-told
+    same-length-2
+    returns-3
+    pointer-place-requires
+    enum-known-n
+    enum-known-place
+    word-requires
+    set-root-requires
+    same-length-3
+    returns-4
+    same-length-4
+    returns-5)

@@ -1,0 +1,54 @@
+-- What stands beside the guarantee: the opening establishes consistency, every call keeps it, over memory that passes the examination and not
+-- only along lists from an opening; such memory never meets 13; and "no room" comes exactly when document 01 says so.
+use mathlib.Core.Path.{_≡_}
+use mathlib.Core.Bool.{false}
+use mathlib.Core.Option.{some}
+use mathlib.Core.List.{List, _++_}
+use Prim.Native.Nat.{ℕ, _+_}
+use lib.ListN.{length}
+use Rattle.classes.specs.Class.{classOf}
+use Rattle.classes.specs.declared.SizeClass.the-variants.{Class}
+use Rattle.layout.specs.declared.Geometry.{Geometry}
+use Rattle.layout.specs.Geometry.{wrongSize}
+use Rattle.layout.specs.Mem.{Mem, memOf}
+use Rattle.theory.specs.Calls.{c-make, a-no, refusal}
+use Rattle.model.specs.Calls.{face, exec}
+use Rattle.model.specs.Making.{NoRoom}
+use Rattle.model.specs.Consistent.{Consistent}
+use Rattle.model.specs.Lists.{Element, Meets, Slices, Gets, Chain, left, numberOf}
+use Rattle.guarantee.specs.Demand3.{Opened, wordsAfter}
+
+-- "the consistency definition that an opening establishes and every call keeps"
+abbrev pub OpeningEstablishes : Type 0
+OpeningEstablishes = (g : Geometry) (content words : List ℕ) → Opened g content words → Consistent g (memOf g words)
+
+-- a call of the memory's own size, lent memory that passes the examination
+pub record Applied (g : Geometry) (words : List ℕ) (e : Element) : Type 0 where
+  pub sized : wrongSize g (length words) ≡ false
+  pub consistent : Consistent g (memOf g words)
+  pub meets : Meets e
+  pub slices : Slices e
+  pub gets : Gets g words e
+
+abbrev pub EveryCallKeeps : Type 0
+EveryCallKeeps = (g : Geometry) (words : List ℕ) (e : Element) → Applied g words e → Consistent g (memOf g (left e))
+
+-- "Memory that passes the examination never meets 13"
+abbrev pub NeverTorn : Type 0
+NeverTorn = (g : Geometry) (words : List ℕ) (e : Element) → Applied g words e → numberOf e ≡ some 13 → ⊥
+
+-- the memory is consistent at every point of every list from an opening, so that the promises apply to each call
+abbrev pub AlwaysConsistent : Type 0
+AlwaysConsistent =
+    (g : Geometry) (content words : List ℕ) (xs ys : List Element) → Opened g content words → Chain g words (xs ++ ys)
+    → Consistent g (memOf g (wordsAfter words xs))
+
+-- "10, no room", of a make that no lower number refuses
+pub record NoRoomExactly (g : Geometry) (m : Mem) (k d p n c : ℕ) : Type 0 where
+  pub only : exec g m (c-make k d p n) .0 ≡ a-no 10 → NoRoom g m k c
+  pub whenever : NoRoom g m k c → exec g m (c-make k d p n) .0 ≡ a-no 10
+
+abbrev pub NoRoomAlways : Type 0
+NoRoomAlways =
+    (g : Geometry) (m : Mem) (k d p n c : ℕ) → Consistent g m → refusal (face m) (c-make k d p n) ≡ 0 → classOf (p + n) ≡ Class c
+    → NoRoomExactly g m k d p n c

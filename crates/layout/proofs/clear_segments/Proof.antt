@@ -1,0 +1,45 @@
+-- `layout::clear_segments` meets its contract. Assumes nothing.
+use Prim.Native.Nat.{_+_, _*_}
+use native.Mathlib.Omega.{arith}
+use borrow.Author.Needs.{needs}
+use Rattle.layout.proofs.Regions.{cleared-at}
+use Rattle.layout.proofs.clear_segments.Tie as tie
+use Rattle.layout.proofs.clear_segments.Statement.{statement}
+
+mul-end : tie.Need-mul-end
+mul-end c = search needs
+
+add-end : tie.Need-add-end
+add-end c = search needs
+
+sub-zero : tie.Need-sub-zero
+sub-zero c = search needs
+
+part-zero-start : tie.Need-part-zero-start
+part-zero-start c = search needs
+
+part-zero-end : tie.Need-part-zero-end
+part-zero-end c = search needs
+
+zero-requires : tie.Need-zero-requires
+zero-requires c κs = search needs
+
+same-length : tie.Need-same-length
+same-length c = search needs
+
+returns : tie.Need-returns
+returns c =
+    cleared-at (c .before .before .before .before .before .args .g) (c .before .before .before .before .before .args .mem .now) 2 898 (898 + c .before .before .before .before .before .args .g .segments * 4) _ (c .before .before .zero .ensures) (omega arith) (c .before .before .before .before .before .pre .is) (omega arith)
+
+pub clear-segments-spec : {M : Type 1} → statement M
+clear-segments-spec =
+    tie.close
+    (tie.spec
+    mul-end
+    add-end
+    sub-zero
+    part-zero-start
+    part-zero-end
+    zero-requires
+    same-length
+    returns)

@@ -1,0 +1,107 @@
+-- A list of calls, and the replies that the model's definitions give to it, each call from the memory that the one before it left.
+use mathlib.Core.Path.{_≡_}
+use mathlib.Core.List.{List, [], _∷_, _++_}
+use Prim.Native.Nat.{ℕ, zero, suc}
+use lib.ListN.{take, replicate}
+use Rattle.words.specs.Bits.{bitOf, bitAt, withBit, withoutBit, setBit, clearBit, onesAmong}
+use Rattle.layout.specs.declared.Geometry.{Geometry}
+use Rattle.layout.specs.Geometry.{len}
+use Rattle.layout.specs.Mem.{Mem, setControl, setMutator, setSegment, setStack, setTrace, setHeap, setRun}
+use Rattle.bitmap_search.specs.Scan.{nextFree}
+use Rattle.bitmap_write.specs.Rebuild.{wordFrom, packed, fullBit, summed, rebuilt}
+use Rattle.bitmap_write.specs.Ready.{padded, completed, cleared, copied, fresh, adopted}
+use Rattle.theory.specs.Phases.{Phase}
+use Rattle.theory.specs.Calls.{Call, Answer, a-ok, a-no, require, ifRecord}
+use Rattle.model.specs.declared.Step.{Step}
+use Rattle.model.specs.declared.SegmentState.{SegmentState}
+use Rattle.model.specs.Fields.{phase, traceCount}
+use Rattle.model.specs.Segments.{setState, segment}
+use Rattle.model.specs.Records.{setMarked, setQueued, clearQueued}
+use Rattle.model.specs.Tracing.{push, pushRoots, pushPointers}
+use Rattle.model.specs.Mutators.{acknowledged, attached, released, detached}
+use Rattle.model.specs.Making.{handedOut, made}
+use Rattle.model.specs.Calls.{act, exec}
+use Rattle.model.specs.Collector.{condemned, anyFull, acksReset, started, startOf, outsideAnswered, waiting, lowest, swept, stepOf}
+use Rattle.model.specs.Opening.{downTo0, opened}
+
+-- an opening, one of the collector's calls, a look, or a mutator's call
+pub data Event : Type 0 where
+  rack start step look : Event
+  call : Call → Event
+
+-- an answer; an answer of step; what a look shows: the phase, the segments' states, and the trace stack, its last entry last
+pub data Reply : Type 0 where
+  answer : Answer → Reply
+  stepped : Step → Reply
+  seen : Phase → List SegmentState → List ℕ → Reply
+
+-- the states of the first n segments
+abbrev pub states : Mem → ℕ → List SegmentState
+states m zero = []
+states m (suc n) = states m n ++ segment m n ∷ []
+
+abbrev pub shown : Geometry → Mem → Reply
+shown g m = seen (phase m) (states m (g .segments)) (take (traceCount m) (m .trace))
+
+abbrev pub answered : Answer × Mem → Reply × Mem
+answered r = (answer (r .0), r .1)
+
+abbrev pub hasStepped : Step × Mem → Reply × Mem
+hasStepped r = (stepped (r .0), r .1)
+
+-- one event: its reply, and the memory after it
+abbrev pub does : Geometry → Mem → Event → Reply × Mem
+does g m rack = (answer a-ok, opened g m)
+does g m start = answered (startOf g m)
+does g m step = hasStepped (stepOf g m)
+does g m look = (shown g m, m)
+does g m (call c) = answered (exec g m c)
+
+-- the replies to a list of events, in order; to unfold it is to unfold every definition that it stands on
+unfoldable pub replies : Geometry → Mem → List Event → List Reply
+unfolding bitOf bitAt withBit withoutBit setBit clearBit onesAmong setControl setMutator setSegment setStack setTrace setHeap setRun nextFree wordFrom packed fullBit summed rebuilt padded completed cleared copied fresh adopted require ifRecord setState setMarked setQueued clearQueued push pushRoots pushPointers acknowledged attached released detached handedOut made act exec condemned anyFull acksReset started startOf outsideAnswered waiting lowest swept stepOf downTo0 opened
+replies g m [] = []
+replies g m (e ∷ es) = let r = does g m e in r .0 ∷ replies g (r .1) es
+
+-- so many segments
+abbrev pub geometry : ℕ → Geometry
+geometry n = record { segments = n }
+
+-- lent memory of the right lengths, in which every word is 7
+abbrev pub sevens : Geometry → Mem
+sevens g = record {
+  control = replicate (len g 0) 7;
+  mutators = replicate (len g 1) 7;
+  segments = replicate (len g 2) 7;
+  stacks = replicate (len g 3) 7;
+  bitmaps = replicate (len g 4) 7;
+  marks = replicate (len g 5) 7;
+  queued = replicate (len g 6) 7;
+  trace = replicate (len g 7) 7;
+  heap = replicate (len g 8) 7;
+}
+
+-- ---- a case: lines of an event and its reply
+
+pub data Line : Type 0 where
+  _⇒_ : Event → Reply → Line
+
+infix 80 _⇒_
+abbrev pub inputs : List Line → List Event
+inputs [] = []
+inputs ((e ⇒ r) ∷ ls) = e ∷ inputs ls
+
+abbrev pub outputs : List Line → List Reply
+outputs [] = []
+outputs ((e ⇒ r) ∷ ls) = r ∷ outputs ls
+
+-- from so many segments of sevens on, each event of the case gets its reply
+abbrev pub Holds : ℕ → List Line → Type 0
+Holds n ls = replies (geometry n) (sevens (geometry n)) (inputs ls) ≡ outputs ls
+
+abbrev pub ok : Reply
+ok = answer a-ok
+
+-- refused with a number
+abbrev pub no : ℕ → Reply
+no n = answer (a-no n)

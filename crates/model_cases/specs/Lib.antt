@@ -1,0 +1,5 @@
+-- Events, the replies to a list of them, and the cases.
+pub mod Events
+pub mod Whole
+pub mod Refusals
+pub mod Cycles

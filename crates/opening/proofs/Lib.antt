@@ -1,0 +1,2 @@
+-- Laws of what the opening writes.
+pub mod Stacks

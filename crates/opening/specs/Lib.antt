@@ -1,0 +1,2 @@
+-- What the opening writes.
+pub mod Stacking

@@ -1,0 +1,8 @@
+-- The free stack as it is filled: n - 1 down to 0, from a word on.
+use Prim.Native.Nat.{ℕ}
+use lib.Seq.{sets}
+use Rattle.layout.specs.Mem.{Mem, withRegion}
+use Rattle.model.specs.Opening.{downTo0}
+
+unfoldable pub stackedDown : Mem → ℕ → ℕ → Mem
+stackedDown m at n = withRegion m 3 (sets (m .stacks) at (downTo0 n))

@@ -1,0 +1,2 @@
+-- What a word names, and where fields stand.
+pub mod Places
