@@ -1,2 +1,3 @@
 -- Laws of calls on fields.
-pub mod Loading
+pub mod Reaching
+pub mod Answering

@@ -4,7 +4,7 @@ use layout::Geometry;
 use model::Answer;
 use model::Held;
 use records::Place;
-ghost use Rattle.theory.specs.Calls.{c-load};
+ghost use Rattle.theory.specs.Calls.{c-load, c-get, c-put, c-shape};
 ghost use Rattle.model.specs.Promise.{Promise};
 
 // Root `to` gets what pointer f of the record in root i holds.
@@ -30,4 +30,75 @@ pub fn load(g: Geometry, mem: &mut [u32], k: u32, to: u32, i: u32, f: u32) -> An
             Answer::Ok
         }
     }
+}
+
+// Value f of the record in root i.
+pub fn get(g: Geometry, mem: &[u32], k: u32, i: u32, f: u32) -> Answer
+    ensures { λ r. ⌜ Promise (c-get k i f) g (now (mem .entry)) r (now (mem .entry)) ⌝ }
+{
+    if layout::wrong_size(g, mem.len()) {
+        return Answer::Refused(1);
+    }
+    let refused = roots::standing_at(g, mem, k, i);
+    if refused != 0 {
+        return Answer::Refused(refused);
+    }
+    let slot = records::held_of(roots::root(g, mem, k, i));
+    let Held::Record(at) = slot else {
+        return Answer::Refused(7);
+    };
+    match records::value_place(g, mem, at, f) {
+        Place::Refused(n) => Answer::Refused(n),
+        Place::At(place) => {
+            let value = layout::word(g, mem, place);
+            Answer::Number(value)
+        }
+    }
+}
+
+// Value f of the record in root i becomes v.
+pub fn put(g: Geometry, mem: &mut [u32], k: u32, i: u32, f: u32, v: u32) -> Answer
+    ensures { λ r. ⌜ Promise (c-put k i f v) g (now (mem .entry)) r (now (mem .exit)) ⌝ }
+{
+    if layout::wrong_size(g, mem.len()) {
+        return Answer::Refused(1);
+    }
+    let refused = roots::standing_at(g, mem, k, i);
+    if refused != 0 {
+        return Answer::Refused(refused);
+    }
+    let slot = records::held_of(roots::root(g, mem, k, i));
+    let Held::Record(at) = slot else {
+        return Answer::Refused(7);
+    };
+    match records::value_place(g, mem, at, f) {
+        Place::Refused(n) => Answer::Refused(n),
+        Place::At(place) => {
+            layout::set_word(g, mem, place, v);
+            Answer::Ok
+        }
+    }
+}
+
+// How many pointers and how many values the record in root i has.
+pub fn shape(g: Geometry, mem: &[u32], k: u32, i: u32) -> Answer
+    ensures { λ r. ⌜ Promise (c-shape k i) g (now (mem .entry)) r (now (mem .entry)) ⌝ }
+{
+    if layout::wrong_size(g, mem.len()) {
+        return Answer::Refused(1);
+    }
+    let refused = roots::standing_at(g, mem, k, i);
+    if refused != 0 {
+        return Answer::Refused(refused);
+    }
+    let slot = records::held_of(roots::root(g, mem, k, i));
+    let Held::Record(at) = slot else {
+        return Answer::Refused(7);
+    };
+    let end = g.segments * layout::SEGMENT_WORDS;
+    if end <= at {
+        return Answer::Refused(13);
+    }
+    let header = layout::word(g, mem, at);
+    Answer::Shape(header / 65536, header % 65536)
 }

@@ -12,9 +12,9 @@ use Rattle.model.specs.declared.Step.{Step}
 use Rattle.model.specs.declared.PhaseLook.{PhaseLook}
 use Rattle.model.specs.declared.Examined.{Examined}
 use Rattle.theory.specs.Calls as theory
-use Rattle.model.specs.declared.Step.the-variants as step
+use Rattle.model.specs.declared.Step.the-variants as stepAnswer
 use Rattle.model.specs.declared.PhaseLook.the-variants as look
-use Rattle.model.specs.declared.Examined.the-variants as examined
+use Rattle.model.specs.declared.Examined.the-variants as examination
 
 -- the value of each case: ok, a number, whether two roots are equal, a shape, or a refusal
 abbrev pub answerOf : Answer → theory.Answer
@@ -33,22 +33,22 @@ refusalOf (Shape p n) = none
 refusalOf (Refused n) = some n
 
 abbrev pub stepRefusalOf : Step → Option ℕ
-stepRefusalOf (step.Waiting n) = none
-stepRefusalOf step.Moved = none
-stepRefusalOf step.Traced = none
-stepRefusalOf (step.Swept s f) = none
-stepRefusalOf step.Done = none
-stepRefusalOf step.Idle = none
-stepRefusalOf (step.Refused n) = some n
+stepRefusalOf (stepAnswer.Waiting n) = none
+stepRefusalOf stepAnswer.Moved = none
+stepRefusalOf stepAnswer.Traced = none
+stepRefusalOf (stepAnswer.Swept s f) = none
+stepRefusalOf stepAnswer.Done = none
+stepRefusalOf stepAnswer.Idle = none
+stepRefusalOf (stepAnswer.Refused n) = some n
 
 abbrev pub phaseRefusalOf : PhaseLook → Option ℕ
 phaseRefusalOf (look.Phase p) = none
 phaseRefusalOf (look.Refused n) = some n
 
 abbrev pub examinedRefusalOf : Examined → Option ℕ
-examinedRefusalOf examined.Yes = none
-examinedRefusalOf examined.No = none
-examinedRefusalOf (examined.Refused n) = some n
+examinedRefusalOf examination.Yes = none
+examinedRefusalOf examination.No = none
+examinedRefusalOf (examination.Refused n) = some n
 
 -- ---- which result a call gives, over memory of any content: "No script call answers a block or segment number"
 

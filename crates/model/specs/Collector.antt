@@ -14,7 +14,7 @@ use Rattle.bitmap_write.specs.Ready.{adopted}
 use Rattle.theory.specs.Phases.{Phase, idle, sync1, sync2, mark, sweep, owes}
 use Rattle.theory.specs.Calls.{Answer, a-ok, a-no}
 use Rattle.model.specs.declared.Step.{Step}
-use Rattle.model.specs.declared.Step.the-variants.{Waiting, Moved, Traced, Swept, Done, Idle}
+use Rattle.model.specs.declared.Step.the-variants as stepAnswer
 use Rattle.model.specs.Fields.{phase, setPhase, traceCount, inside, outside, state, acks, setAcks, tag, class}
 use Rattle.model.specs.Segments.{setState, freeStack, partStack, stacked, above, bitmap, setBitmap, marksOf, inUse}
 use Rattle.model.specs.Tracing.{traced}
@@ -72,14 +72,14 @@ waiting m (suc k) = oneIf (eqb (state m k) inside && owes (phase m) (acks m k)) 
 
 -- "it answers waiting and how many; else the next phase, and moved"
 abbrev pub moves : ℕ → Mem → Phase → Step × Mem
-moves zero m p = (Moved, setPhase m p)
-moves (suc n) m p = (Waiting (suc n), m)
+moves zero m p = (stepAnswer.Moved, setPhase m p)
+moves (suc n) m p = (stepAnswer.Waiting (suc n), m)
 
 -- ---- step, in mark: "takes the last entered record .. With an empty stack: sweep, and moved."
 
 abbrev pub traces : ℕ → Mem → Step × Mem
-traces zero m = (Moved, setPhase m sweep)
-traces (suc n) m = (Traced, traced m (traceWord m n - 1))
+traces zero m = (stepAnswer.Moved, setPhase m sweep)
+traces (suc n) m = (stepAnswer.Traced, traced m (traceWord m n - 1))
 
 -- ---- step, in sweep: "the lowest condemned segment"
 
@@ -109,11 +109,11 @@ swept g m s =
 
 -- "how many blocks in use became free": those in use before less those after. "With none left: idle, and done."
 abbrev pub sweeps : Geometry → Option ℕ → Mem → Step × Mem
-sweeps g none m = (Done, setPhase m idle)
-sweeps g (some s) m = (Swept s (inUse m s - inUse (swept g m s) s), swept g m s)
+sweeps g none m = (stepAnswer.Done, setPhase m idle)
+sweeps g (some s) m = (stepAnswer.Swept s (inUse m s - inUse (swept g m s) s), swept g m s)
 
 abbrev pub stepIn : Phase → Geometry → Mem → Step × Mem
-stepIn idle g m = (Idle, m)
+stepIn idle g m = (stepAnswer.Idle, m)
 stepIn sync1 g m = moves (waiting (outsideAnswered m mutatorCount) mutatorCount) (outsideAnswered m mutatorCount) sync2
 stepIn sync2 g m = moves (waiting (outsideAnswered m mutatorCount) mutatorCount) (outsideAnswered m mutatorCount) mark
 stepIn mark g m = traces (traceCount m) m

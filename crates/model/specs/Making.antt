@@ -18,13 +18,13 @@ use Rattle.model.specs.Segments.{setState, freeStack, partStack, count, 
 use Rattle.model.specs.Records.{headerOf, written, setMarked}
 
 -- the segment that a make of class c takes its block from
-pub data Seat : Type 0 where
-  held part unused : (segment : ℕ) → Seat
-  noRoom : Seat
+pub data Source : Type 0 where
+  held part unused : (segment : ℕ) → Source
+  noRoom : Source
 
 -- by the held segments of the mutator's entry and the counts of the stacks; `NoRoom` says it of the segments
-abbrev pub seat : Geometry → Mem → ℕ → ℕ → Seat
-seat g m k c =
+abbrev pub sourceOf : Geometry → Mem → ℕ → ℕ → Source
+sourceOf g m k c =
     pick (eqb (holding m k c) 0)
     (pick (eqb (count g m (partStack c)) 0) (pick (eqb (count g m freeStack) 0) noRoom (unused (top g m freeStack))) (part (top g m (partStack c))))
     (held (holding m k c - 1))
@@ -67,7 +67,7 @@ inBlock m taken Torn k d c s p n = (a-no 13, m)
 abbrev pub inSegment : Mem → Mem → ℕ → ℕ → ℕ → ℕ → ℕ → ℕ → Answer × Mem
 inSegment m taken k d c s p n = inBlock m taken (free taken s c (place taken s)) k d c s p n
 
-abbrev pub fromSeat : Geometry → Mem → ℕ → ℕ → ℕ → ℕ → ℕ → Seat → Answer × Mem
+abbrev pub fromSeat : Geometry → Mem → ℕ → ℕ → ℕ → ℕ → ℕ → Source → Answer × Mem
 fromSeat g m k d c p n (held s) = inSegment m m k d c s p n
 fromSeat g m k d c p n (part s) = inSegment m (takes (pop g m (partStack c)) k c s (place m s)) k d c s p n
 fromSeat g m k d c p n (unused s) = inSegment m (freshened (takes (pop g m freeStack) k c s 0) s c) k d c s p n
@@ -75,4 +75,4 @@ fromSeat g m k d c p n noRoom = (a-no 10, m)
 
 -- a make of class c by mutator k into root d
 unfoldable pub made : Geometry → Mem → ℕ → ℕ → ℕ → ℕ → ℕ → Answer × Mem
-made g m k d c p n = fromSeat g m k d c p n (seat g m k c)
+made g m k d c p n = fromSeat g m k d c p n (sourceOf g m k c)

@@ -21,9 +21,9 @@ use Rattle.model.specs.Calls.{exec}
 use Rattle.model.specs.Collector.{startOf, stepOf}
 use Rattle.model.specs.Opening.{opened}
 use Rattle.model.specs.Consistent.{Consistent}
-use Rattle.model.specs.declared.Step.the-variants as step
+use Rattle.model.specs.declared.Step.the-variants as stepAnswer
 use Rattle.model.specs.declared.PhaseLook.the-variants as look
-use Rattle.model.specs.declared.Examined.the-variants as examined
+use Rattle.model.specs.declared.Examined.the-variants as examination
 
 -- a call that answers and leaves the memory as a definition says, may refuse with some numbers only, and gives 1 exactly where a size is wrong
 module _ {A B : Type 0} (value : A → B) (result : A → Bool) (refusal : A → Option ℕ) (sizeAnswer : A) (mayRefuse : List ℕ) (does : Geometry → Mem → B × Mem) where
@@ -47,7 +47,7 @@ StartPromise = Keeps answerOf isOk refusalOf (Refused 1) startMayGive startOf
 
 -- every case of step's enum but the refusal is a result of step
 abbrev pub StepPromise : Geometry → List ℕ → Step → List ℕ → Type 0
-StepPromise = Keeps (λ s. s) (λ s. true) stepRefusalOf (step.Refused 1) stepMayGive stepOf
+StepPromise = Keeps (λ s. s) (λ s. true) stepRefusalOf (stepAnswer.Refused 1) stepMayGive stepOf
 
 -- an opening is exact over memory of any content: "an opening .. only with 1"
 pub record OpenPromise (g : Geometry) (before : List ℕ) (r : Answer) (after : List ℕ) : Type 0 where
@@ -72,7 +72,7 @@ pub record StatesPromise (g : Geometry) (mem output : List ℕ) (r : Answer) (af
 -- the examination: yes exactly when the memory is consistent, over memory of any content; the scratch, of its own length (docs/LAYOUT.md), ends all
 -- zero, "refused 1, the scratch too" unchanged
 pub record ExaminePromise (g : Geometry) (mem scratch : List ℕ) (r : Examined) (after : List ℕ) : Type 0 where
-  pub sizes : (wrongSize g (length mem) ≡ true → (r ≡ examined.Refused 1) × (after ≡ scratch)) × ((length scratch ≡ scratchWords g → ⊥) → (r ≡ examined.Refused 1) × (after ≡ scratch))
+  pub sizes : (wrongSize g (length mem) ≡ true → (r ≡ examination.Refused 1) × (after ≡ scratch)) × ((length scratch ≡ scratchWords g → ⊥) → (r ≡ examination.Refused 1) × (after ≡ scratch))
   pub sound : r ≡ Yes → Consistent g (memOf g mem)
   pub complete : wrongSize g (length mem) ≡ false → length scratch ≡ scratchWords g → Consistent g (memOf g mem) → r ≡ Yes
   pub answers : wrongSize g (length mem) ≡ false → length scratch ≡ scratchWords g → examinedRefusalOf r ≡ none

@@ -1,6 +1,6 @@
 -- The phase by its number, and the declared form of the barrier's duty.
 use Prim.Native.Nat.{ℕ, zero, suc}
-use Rattle.theory.specs.Phases.{Phase, idle, sync1, sync2, mark, sweep, nothing, both, old}
+use Rattle.theory.specs.Phases.{Phase, idle, sync1, sync2, mark, sweep}
 use Rattle.model.specs.declared.Duty.{Duty}
 use Rattle.model.specs.declared.Duty.the-variants.{Nothing, Both, Old}
 use Rattle.theory.specs.Phases as phases
@@ -14,9 +14,9 @@ phaseOf (suc (suc (suc zero))) = mark
 phaseOf (suc (suc (suc (suc n)))) = sweep
 
 abbrev pub dutyOf : phases.Duty → Duty
-dutyOf nothing = Nothing
-dutyOf both = Both
-dutyOf old = Old
+dutyOf phases.nothing = Nothing
+dutyOf phases.both = Both
+dutyOf phases.old = Old
 
 abbrev pub phaseNumber : Phase → ℕ
 phaseNumber idle = 0

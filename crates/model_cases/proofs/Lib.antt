@@ -1,4 +1,4 @@
 -- The cases hold.
 pub mod Whole
 pub mod Refusals
-pub mod Cycles
+pub mod Stacks

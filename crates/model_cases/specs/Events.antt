@@ -26,7 +26,7 @@ use Rattle.model.specs.Opening.{downTo0, opened}
 
 -- an opening, one of the collector's calls, a look, or a mutator's call
 pub data Event : Type 0 where
-  rack start step look : Event
+  opening start step look : Event
   call : Call → Event
 
 -- an answer; an answer of step; what a look shows: the phase, the segments' states, and the trace stack, its last entry last
@@ -51,7 +51,7 @@ hasStepped r = (stepped (r .0), r .1)
 
 -- one event: its reply, and the memory after it
 abbrev pub does : Geometry → Mem → Event → Reply × Mem
-does g m rack = (answer a-ok, opened g m)
+does g m opening = (answer a-ok, opened g m)
 does g m start = answered (startOf g m)
 does g m step = hasStepped (stepOf g m)
 does g m look = (shown g m, m)

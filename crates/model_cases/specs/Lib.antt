@@ -2,4 +2,4 @@
 pub mod Events
 pub mod Whole
 pub mod Refusals
-pub mod Cycles
+pub mod Stacks

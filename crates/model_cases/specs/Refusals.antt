@@ -3,11 +3,11 @@
 use mathlib.Core.Bool.{true, false}
 use mathlib.Core.List.{List, [], _∷_}
 use Rattle.theory.specs.Calls.{c-attach, c-detach, c-check, c-leave, c-enter, c-spawn, c-make, c-load, c-store, c-copy, c-clear, c-put, c-get, c-same, c-shape, a-num, a-flag, a-shape}
-use Rattle.model_cases.specs.Events.{Line, _⇒_, rack, start, call, answer, ok, no}
+use Rattle.model_cases.specs.Events.{Line, _⇒_, opening, start, call, answer, ok, no}
 
 abbrev pub refusals : List Line
 refusals =
-    rack ⇒ ok
+    opening ⇒ ok
     -- 12: in idle with no full segment
     ∷ start ⇒ no 12
     -- 2, 3 and 4, and a spawn's two numbers
@@ -46,7 +46,7 @@ refusals =
     ∷ call (c-same 0 1 2) ⇒ answer (a-flag true)
     ∷ call (c-copy 0 1 0) ⇒ ok
     ∷ call (c-same 0 0 1) ⇒ answer (a-flag true)
-    -- 10: another class, and another script, while script 0 holds the one segment
+    -- 10: another class, and another mutator, while mutator 0 holds the one segment
     ∷ call (c-make 0 1 0 0) ⇒ no 10
     ∷ call (c-attach 1) ⇒ ok
     ∷ call (c-make 1 0 2 510) ⇒ no 10

@@ -2,11 +2,11 @@
 use mathlib.Core.List.{List, [], _∷_}
 use Rattle.theory.specs.Calls.{c-attach, c-check, c-make, c-load, c-store, c-clear, c-put, c-get, a-num}
 use Rattle.model.specs.declared.Step.the-variants.{Waiting, Moved, Traced, Swept, Done}
-use Rattle.model_cases.specs.Events.{Line, _⇒_, rack, start, step, call, answer, stepped, ok}
+use Rattle.model_cases.specs.Events.{Line, _⇒_, opening, start, step, call, answer, stepped, ok}
 
 abbrev pub whole : List Line
 whole =
-    rack ⇒ ok
+    opening ⇒ ok
     ∷ call (c-attach 0) ⇒ ok
     ∷ call (c-make 0 0 1 600) ⇒ ok
     ∷ call (c-make 0 1 1 600) ⇒ ok

@@ -1,2 +1,2 @@
-// Document 01's whole case, a cycle on one segment and the refusals, computed from the model's definitions: see specs/ and proofs/.
+// Document 01's whole case, the refusals and the order of the stacks, computed from the model's definitions: see specs/ and proofs/.
 // There is no code here.

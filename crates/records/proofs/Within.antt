@@ -15,6 +15,7 @@ use Rattle.theory.specs.Reach.{root}
 use Rattle.model.specs.Fields.{absent, state, class}
 use Rattle.model.specs.Records.{pointers, values, segmentOf}
 use Rattle.model.specs.Calls.{isAttached}
+use Rattle.model.specs.Reaching.{Live}
 use Rattle.model.specs.Consistent.{RecordOk, Consistent}
 use Rattle.model.specs.Fields as fields
 
@@ -77,6 +78,8 @@ module _ (g : Geometry) (m : Mem) (at : ℕ) (r : RecordOk g m at) where
 attached-state : (m : Mem) (k : ℕ) → isAttached m k ≡ true → state m k ≡ absent → ⊥
 attached-state m k a e = let q : eqb (state m k) absent ≡ true = eq-eqb _ _ e in absurd (true≢false (sym a ∙ rw q))
 
+pub live-root : (g : Geometry) (m : Mem) (k i at : ℕ) → k < mutatorCount → i < rootCount → isAttached m k ≡ true → fields.root m k i ≡ suc at → Live m at
+live-root g m k i at l h a e = root (inl (record { mutator = k; index = i; few = l; within = h; attached = attached-state m k a; names = e }))
+
 pub rooted : (g : Geometry) (m : Mem) (k i at : ℕ) → Consistent g m → k < mutatorCount → i < rootCount → isAttached m k ≡ true → fields.root m k i ≡ suc at → RecordOk g m at
-rooted g m k i at c l h a e =
-    c .records at (root (inl (record { mutator = k; index = i; few = l; within = h; attached = attached-state m k a; names = e })))
+rooted g m k i at c l h a e = c .records at (live-root g m k i at l h a e)

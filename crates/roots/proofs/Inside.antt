@@ -116,3 +116,27 @@ module _ (m : Mem) (k i j n rest : ℕ) where
       go true true false d h e = e
       go true false c d h e = e
       go false b c d h e = e
+
+-- ---- a mutator inside and one root's index, and what follows
+
+module _ (m : Mem) (k i n rest : ℕ) where
+  pub at-rest : n ≡ insideThen m k (ifRoot i 0) → n ≡ 0 → rest ≡ insideThen m k (ifRoot i rest)
+  unfolding require insideThen
+  at-rest e z =
+      let p = passed m k (ifRoot i 0) (sym z ∙ e) in
+      let r = in-range-at m k i n e z in
+      rw (lt-ltb _ _ (p .known), p .attached, p .inside, lt-ltb _ _ (r .1))
+
+  pub at-refused : n ≡ insideThen m k (ifRoot i 0) → (n ≡ 0 → ⊥) → n ≡ insideThen m k (ifRoot i rest)
+  unfolding require insideThen
+  at-refused e f = go (ltb k mutatorCount) (isAttached m k) (isInside m k) (ltb i rootCount) e
+    where
+      by : Bool → Bool → Bool → Bool → ℕ → ℕ
+      by a b c d x = require a 2 (require b 4 (require c 5 (require d 6 x)))
+
+      go : (a b c d : Bool) → n ≡ by a b c d 0 → n ≡ by a b c d rest
+      go true true true true e = absurd (f e)
+      go true true true false e = e
+      go true true false d e = e
+      go true false c d e = e
+      go false b c d e = e

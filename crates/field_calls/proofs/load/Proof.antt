@@ -1,11 +1,13 @@
 -- `field_calls::load` meets its contract. Assumes nothing.
-use mathlib.Core.Path.{refl, sym, _∙_}
+use mathlib.Core.Path.{sym, _∙_}
 use borrow.Author.Needs.{needs}
-use Rattle.records.proofs.Found.{pointer-stands}
 use Rattle.layout.proofs.Regions.{sized}
+use Rattle.theory.specs.Calls.{c-load}
 use Rattle.model.proofs.Promised.{size-1}
 use Rattle.roots.proofs.Inside.{in-range}
-use Rattle.field_calls.proofs.Loading.{load-standing, load-7, load-lacks, load-done}
+use Rattle.records.proofs.Found.{pointer-stands}
+use Rattle.field_calls.proofs.Reaching.{names, nil-7, pointer-refused}
+use Rattle.field_calls.proofs.Answering.{load-standing, load-reaches, load-done}
 use Rattle.field_calls.proofs.load.Tie as tie
 use Rattle.field_calls.proofs.load.Statement.{statement}
 
@@ -22,11 +24,11 @@ same-length : tie.Need-same-length
 same-length c = search needs
 
 returns-2 : tie.Need-returns-2
-returns-2 c = load-standing _ _ _ _ _ _ _ _ (sym (c .before .before .before .before .wrong-size .ensures) ∙ c .before .before .before .if1 .left) (c .before .standing-with .ensures) refl (c .if2 .taken)
+returns-2 c = load-standing _ _ _ _ _ _ _ (sym (c .before .before .before .before .wrong-size .ensures) ∙ c .before .before .before .if1 .left) (c .before .standing-with .ensures) (c .if2 .taken)
 
 root-requires : tie.Need-root-requires
 root-requires c κs =
-    let p = in-range _ _ (c .before .before .before .before .before .before .before .args .to) _ _ (c .before .before .standing-with .ensures) (c .before .if2 .left) in
+    let p = in-range _ _ (c .before .before .before .before .before .before .before .args .to) (c .before .before .before .before .before .before .before .args .i) _ (c .before .before .standing-with .ensures) (c .before .if2 .left) in
     (sized _ _ (sym (c .before .before .before .before .before .wrong-size .ensures) ∙ c .before .before .before .before .if1 .left), p .0, p .2)
 
 held-of-requires : tie.Need-held-of-requires
@@ -43,7 +45,10 @@ same-length-2 c = search needs
 
 returns-3 : tie.Need-returns-3
 returns-3 c =
-    load-7 _ _ _ _ _ _ _ _ (sym (c .before .before .before .before .before .before .before .before .before .wrong-size .ensures) ∙ c .before .before .before .before .before .before .before .before .if1 .left) (c .before .before .before .before .before .before .standing-with .ensures) (c .before .before .before .root .ensures) (c .before .before .before .before .before .if2 .left)
+    nil-7 (c-load _ _ _ _) _ _ _ _ _
+    (load-reaches _ _ _ _ _ _ _ (sym (c .before .before .before .before .before .before .before .before .before .wrong-size .ensures) ∙ c .before .before .before .before .before .before .before .before .if1 .left) (c .before .before .before .before .before .before .standing-with .ensures) (c .before .before .before .before .before .if2 .left))
+    _
+    (c .before .before .before .root .ensures)
     (sym (c .enum-told .given .1) ∙ c .before .before .held-of .ensures)
 
 pointer-place-requires : tie.Need-pointer-place-requires
@@ -62,7 +67,7 @@ word-requires c κs =
 
 set-root-requires : tie.Need-set-root-requires
 set-root-requires c κs =
-    let p = in-range _ _ _ (c .before .before .before .before .before .before .before .before .before .before .before .before .before .before .before .before .before .before .before .before .args .i) _ (c .before .before .before .before .before .before .before .before .before .before .before .before .before .before .before .standing-with .ensures) (c .before .before .before .before .before .before .before .before .before .before .before .before .before .before .if2 .left) in
+    let p = in-range _ _ (c .before .before .before .before .before .before .before .before .before .before .before .before .before .before .before .before .before .before .before .before .args .to) (c .before .before .before .before .before .before .before .before .before .before .before .before .before .before .before .before .before .before .before .before .args .i) _ (c .before .before .before .before .before .before .before .before .before .before .before .before .before .before .before .standing-with .ensures) (c .before .before .before .before .before .before .before .before .before .before .before .before .before .before .if2 .left) in
     (sized _ _ (sym (c .before .before .before .before .before .before .before .before .before .before .before .before .before .before .before .before .before .before .wrong-size .ensures) ∙ c .before .before .before .before .before .before .before .before .before .before .before .before .before .before .before .before .before .if1 .left), p .0, p .1)
 
 same-length-3 : tie.Need-same-length-3
@@ -70,17 +75,23 @@ same-length-3 c = search needs
 
 returns-4 : tie.Need-returns-4
 returns-4 c =
-    load-lacks _ _ _ _ _ _ _ _ (sym (c .before .before .before .before .before .before .before .before .before .before .before .before .before .before .before .wrong-size .ensures) ∙ c .before .before .before .before .before .before .before .before .before .before .before .before .before .before .if1 .left) (c .before .before .before .before .before .before .before .before .before .before .before .before .standing-with .ensures) (c .before .before .before .before .before .before .before .before .before .root .ensures) (c .before .before .before .before .before .before .before .before .before .before .before .if2 .left) _
-    (sym (c .before .before .before .before .before .before .slot .given .1) ∙ c .before .before .before .before .before .before .before .before .held-of .ensures) _ (sym (c .before .n .given .1) ∙ c .before .before .before .pointer-place .ensures)
+    pointer-refused (c-load _ _ _ _) _ _ _ _ _ _
+    (names _ _ _ _ _ _ (c .before .before .before .before .before .before .before .before .before .root .ensures) (sym (c .before .before .before .before .before .before .slot .given .1) ∙ c .before .before .before .before .before .before .before .before .held-of .ensures))
+    (load-reaches _ _ _ _ _ _ _ (sym (c .before .before .before .before .before .before .before .before .before .before .before .before .before .before .before .wrong-size .ensures) ∙ c .before .before .before .before .before .before .before .before .before .before .before .before .before .before .if1 .left) (c .before .before .before .before .before .before .before .before .before .before .before .before .standing-with .ensures) (c .before .before .before .before .before .before .before .before .before .before .before .if2 .left))
+    _
+    (sym (c .before .n .given .1) ∙ c .before .before .before .pointer-place .ensures)
 
 same-length-4 : tie.Need-same-length-4
 same-length-4 c = search needs
 
 returns-5 : tie.Need-returns-5
 returns-5 c =
-    load-done _ _ _ _ _ _ _ _ (sym (c .before .before .before .before .before .before .before .before .before .before .before .before .before .before .before .before .before .before .before .before .before .wrong-size .ensures) ∙ c .before .before .before .before .before .before .before .before .before .before .before .before .before .before .before .before .before .before .before .before .if1 .left) (c .before .before .before .before .before .before .before .before .before .before .before .before .before .before .before .before .before .before .standing-with .ensures) (c .before .before .before .before .before .before .before .before .before .before .before .before .before .before .before .root .ensures) (c .before .before .before .before .before .before .before .before .before .before .before .before .before .before .before .before .before .if2 .left) _
-    (sym (c .before .before .before .before .before .before .before .before .before .before .before .before .slot .given .1) ∙ c .before .before .before .before .before .before .before .before .before .before .before .before .before .before .held-of .ensures) _ _ _ (sym (c .before .before .before .before .before .before .before .place .given .1) ∙ c .before .before .before .before .before .before .before .before .before .pointer-place .ensures)
-    (c .before .before .before .before .word .ensures) (c .before .before .set-root .ensures)
+    load-done _ _ _ _ _ _ _ _ _ _
+    (load-reaches _ _ _ _ _ _ _ (sym (c .before .before .before .before .before .before .before .before .before .before .before .before .before .before .before .before .before .before .before .before .before .wrong-size .ensures) ∙ c .before .before .before .before .before .before .before .before .before .before .before .before .before .before .before .before .before .before .before .before .if1 .left) (c .before .before .before .before .before .before .before .before .before .before .before .before .before .before .before .before .before .before .standing-with .ensures) (c .before .before .before .before .before .before .before .before .before .before .before .before .before .before .before .before .before .if2 .left))
+    (names _ _ _ _ _ _ (c .before .before .before .before .before .before .before .before .before .before .before .before .before .before .before .root .ensures) (sym (c .before .before .before .before .before .before .before .before .before .before .before .before .slot .given .1) ∙ c .before .before .before .before .before .before .before .before .before .before .before .before .before .before .held-of .ensures))
+    (sym (c .before .before .before .before .before .before .before .place .given .1) ∙ c .before .before .before .before .before .before .before .before .before .pointer-place .ensures)
+    (c .before .before .before .before .word .ensures)
+    (c .before .before .set-root .ensures)
 
 pub load-spec : {M : Type 1} → statement M
 load-spec =

@@ -1,17 +1,16 @@
 -- Cycles of the collector, with looks at the phase, the segments and the trace stack between the calls. Nearly all records are of class 12, four
 -- to a segment: a reference is 1 + the index of a header, so those of segment 0 are 1, 1025, 2049 and 3073.
-use mathlib.Core.Bool.{true}
 use mathlib.Core.List.{List, [], _∷_}
 use Rattle.theory.specs.Phases.{idle, sync1, sync2, mark, sweep}
-use Rattle.theory.specs.Calls.{c-attach, c-detach, c-check, c-leave, c-enter, c-spawn, c-make, c-store, c-clear, c-same, a-flag}
+use Rattle.theory.specs.Calls.{c-attach, c-detach, c-check, c-leave, c-enter, c-spawn, c-make, c-store, c-clear}
 use Rattle.model.specs.declared.Step.the-variants.{Waiting, Moved, Traced, Swept, Done, Idle}
 use Rattle.model.specs.declared.SegmentState.the-variants.{Free, Part, Held, Full, Condemned}
-use Rattle.model_cases.specs.Events.{Line, _⇒_, rack, start, step, look, call, answer, stepped, seen, ok, no}
+use Rattle.model_cases.specs.Events.{Line, _⇒_, opening, start, step, look, call, stepped, seen, ok, no}
 
 -- one segment, four records, two dropped: two blocks become free, and are handed out again from place 0 on
 abbrev pub cycle : List Line
 cycle =
-    rack ⇒ ok
+    opening ⇒ ok
     ∷ look ⇒ seen idle (Free ∷ []) []
     ∷ step ⇒ stepped Idle
     ∷ call (c-attach 0) ⇒ ok
@@ -49,10 +48,10 @@ cycle =
     ∷ look ⇒ seen idle (Full 12 ∷ []) []
     ∷ []
 
--- one segment, three cycles: what a store enters in each phase, the script outside, all blocks marked, one free, and all free
+-- one segment, three cycles: what a store enters in each phase, the mutator outside, all blocks marked, one free, and all free
 abbrev pub barriers : List Line
 barriers =
-    rack ⇒ ok
+    opening ⇒ ok
     ∷ call (c-attach 0) ⇒ ok
     ∷ call (c-make 0 0 1 511) ⇒ ok
     ∷ call (c-make 0 1 1 511) ⇒ ok
@@ -92,7 +91,7 @@ barriers =
     ∷ step ⇒ stepped (Swept 0 0)
     ∷ look ⇒ seen sweep (Full 12 ∷ []) []
     ∷ step ⇒ stepped Done
-    -- the second cycle, with the script outside: the record that no slot and no link names is freed
+    -- the second cycle, with the mutator outside: the record that no root and no pointer names is freed
     ∷ start ⇒ ok
     ∷ call (c-leave 0) ⇒ ok
     ∷ step ⇒ stepped Moved
@@ -109,7 +108,7 @@ barriers =
     ∷ call (c-make 0 1 1 511) ⇒ ok
     ∷ look ⇒ seen sweep (Full 12 ∷ []) []
     ∷ step ⇒ stepped Done
-    -- the third, with empty slots
+    -- the third, with empty roots
     ∷ call (c-clear 0 0) ⇒ ok
     ∷ call (c-clear 0 1) ⇒ ok
     ∷ call (c-clear 0 2) ⇒ ok
@@ -126,10 +125,10 @@ barriers =
     ∷ step ⇒ stepped Idle
     ∷ []
 
--- two segments and several scripts: who owes an answer, for whom step gives it, and a block born marked
-abbrev pub scripts : List Line
-scripts =
-    rack ⇒ ok
+-- two segments and several mutators: who owes an answer, for whom step gives it, and a block born marked
+abbrev pub mutators : List Line
+mutators =
+    opening ⇒ ok
     ∷ call (c-attach 0) ⇒ ok
     ∷ call (c-make 0 0 3 509) ⇒ ok
     ∷ call (c-make 0 1 1 511) ⇒ ok
@@ -143,14 +142,14 @@ scripts =
     ∷ call (c-leave 1) ⇒ ok
     ∷ call (c-spawn 2 0 1) ⇒ ok
     ∷ start ⇒ ok
-    -- roll 1: step answers for script 1
+    -- first handshake: step answers for mutator 1
     ∷ step ⇒ stepped (Waiting 2)
     ∷ call (c-check 0) ⇒ ok
     ∷ step ⇒ stepped (Waiting 1)
     ∷ call (c-leave 2) ⇒ ok
     ∷ call (c-enter 1) ⇒ ok
     ∷ step ⇒ stepped Moved
-    -- roll 2: step answers for script 2, and enters its slot
+    -- second handshake: step answers for mutator 2, and enters its root
     ∷ call (c-make 0 4 1 63) ⇒ ok
     ∷ look ⇒ seen sync2 (Condemned 12 ∷ Held 9 1 0 ∷ []) []
     ∷ step ⇒ stepped (Waiting 2)
@@ -210,105 +209,4 @@ scripts =
     ∷ look ⇒ seen idle (Full 12 ∷ Held 9 2 0 ∷ []) []
     ∷ call (c-detach 0) ⇒ ok
     ∷ look ⇒ seen idle (Full 12 ∷ Part 9 2 ∷ []) []
-    ∷ []
-
--- two segments: which comes off a stack first, and that a part segment is taken before a free one
-abbrev pub stacks : List Line
-stacks =
-    rack ⇒ ok
-    ∷ call (c-attach 0) ⇒ ok
-    ∷ call (c-make 0 0 1 511) ⇒ ok
-    ∷ look ⇒ seen idle (Held 12 1 0 ∷ Free ∷ []) []
-    ∷ call (c-detach 0) ⇒ ok
-    ∷ look ⇒ seen idle (Part 12 1 ∷ Free ∷ []) []
-    ∷ call (c-attach 5) ⇒ ok
-    ∷ call (c-make 5 0 1 511) ⇒ ok
-    ∷ call (c-make 5 1 1 300) ⇒ ok
-    ∷ look ⇒ seen idle (Held 12 2 5 ∷ Held 11 1 5 ∷ []) []
-    ∷ call (c-make 5 2 0 0) ⇒ no 10
-    ∷ call (c-detach 5) ⇒ ok
-    ∷ look ⇒ seen idle (Part 12 2 ∷ Part 11 1 ∷ []) []
-    ∷ call (c-attach 5) ⇒ ok
-    ∷ call (c-same 5 0 1) ⇒ answer (a-flag true)
-    ∷ call (c-make 5 0 0 0) ⇒ no 10
-    ∷ call (c-make 5 0 300 0) ⇒ ok
-    ∷ look ⇒ seen idle (Part 12 2 ∷ Held 11 2 5 ∷ []) []
-    -- opened anew, with the words that are there
-    ∷ rack ⇒ ok
-    ∷ look ⇒ seen idle (Free ∷ Free ∷ []) []
-    ∷ call (c-check 5) ⇒ no 4
-    ∷ call (c-attach 0) ⇒ ok
-    ∷ call (c-make 0 0 1 511) ⇒ ok
-    ∷ call (c-attach 1) ⇒ ok
-    ∷ call (c-make 1 0 1 511) ⇒ ok
-    ∷ look ⇒ seen idle (Held 12 1 0 ∷ Held 12 1 1 ∷ []) []
-    ∷ call (c-detach 1) ⇒ ok
-    ∷ call (c-detach 0) ⇒ ok
-    ∷ call (c-attach 2) ⇒ ok
-    ∷ call (c-make 2 0 1 511) ⇒ ok
-    ∷ look ⇒ seen idle (Held 12 2 2 ∷ Part 12 1 ∷ []) []
-    ∷ []
-
--- two segments, three cycles, with no record kept: a segment that becomes full during a cycle is not condemned, the lowest condemned one is swept
--- first, and the free one put on last is taken first
-abbrev pub fills : List Line
-fills =
-    rack ⇒ ok
-    ∷ call (c-attach 0) ⇒ ok
-    ∷ call (c-make 0 0 1 511) ⇒ ok
-    ∷ call (c-make 0 0 1 511) ⇒ ok
-    ∷ call (c-make 0 0 1 511) ⇒ ok
-    ∷ call (c-make 0 0 1 511) ⇒ ok
-    ∷ look ⇒ seen idle (Full 12 ∷ Free ∷ []) []
-    ∷ call (c-clear 0 0) ⇒ ok
-    ∷ start ⇒ ok
-    ∷ call (c-check 0) ⇒ ok
-    ∷ step ⇒ stepped Moved
-    ∷ call (c-check 0) ⇒ ok
-    ∷ step ⇒ stepped Moved
-    ∷ call (c-make 0 0 1 511) ⇒ ok
-    ∷ call (c-make 0 0 1 511) ⇒ ok
-    ∷ call (c-make 0 0 1 511) ⇒ ok
-    ∷ look ⇒ seen mark (Condemned 12 ∷ Held 12 3 0 ∷ []) []
-    ∷ call (c-make 0 0 1 511) ⇒ ok
-    ∷ look ⇒ seen mark (Condemned 12 ∷ Full 12 ∷ []) []
-    ∷ step ⇒ stepped Moved
-    ∷ step ⇒ stepped (Swept 0 4)
-    ∷ step ⇒ stepped Done
-    ∷ look ⇒ seen idle (Free ∷ Full 12 ∷ []) []
-    ∷ start ⇒ ok
-    ∷ call (c-make 0 0 1 511) ⇒ ok
-    ∷ call (c-make 0 0 1 511) ⇒ ok
-    ∷ call (c-make 0 0 1 511) ⇒ ok
-    ∷ call (c-make 0 0 1 511) ⇒ ok
-    ∷ look ⇒ seen sync1 (Full 12 ∷ Condemned 12 ∷ []) []
-    ∷ call (c-make 0 0 1 511) ⇒ no 10
-    ∷ call (c-clear 0 0) ⇒ ok
-    ∷ call (c-check 0) ⇒ ok
-    ∷ step ⇒ stepped Moved
-    ∷ call (c-check 0) ⇒ ok
-    ∷ step ⇒ stepped Moved
-    ∷ step ⇒ stepped Moved
-    ∷ step ⇒ stepped (Swept 1 4)
-    ∷ step ⇒ stepped Done
-    ∷ look ⇒ seen idle (Full 12 ∷ Free ∷ []) []
-    ∷ call (c-make 0 0 1 511) ⇒ ok
-    ∷ call (c-make 0 0 1 511) ⇒ ok
-    ∷ call (c-make 0 0 1 511) ⇒ ok
-    ∷ call (c-make 0 0 1 511) ⇒ ok
-    ∷ call (c-clear 0 0) ⇒ ok
-    ∷ start ⇒ ok
-    ∷ look ⇒ seen sync1 (Condemned 12 ∷ Condemned 12 ∷ []) []
-    ∷ call (c-check 0) ⇒ ok
-    ∷ step ⇒ stepped Moved
-    ∷ call (c-check 0) ⇒ ok
-    ∷ step ⇒ stepped Moved
-    ∷ step ⇒ stepped Moved
-    ∷ step ⇒ stepped (Swept 0 4)
-    ∷ look ⇒ seen sweep (Free ∷ Condemned 12 ∷ []) []
-    ∷ step ⇒ stepped (Swept 1 4)
-    ∷ step ⇒ stepped Done
-    ∷ look ⇒ seen idle (Free ∷ Free ∷ []) []
-    ∷ call (c-make 0 0 1 511) ⇒ ok
-    ∷ look ⇒ seen idle (Free ∷ Held 12 1 0 ∷ []) []
     ∷ []

@@ -1,0 +1,141 @@
+-- Each call on a field: refused as its mutator and roots stand, reaching the record in its root, and done. Assumes nothing.
+use mathlib.Core.Path.{_≡_, refl, sym, _∙_, ap}
+use mathlib.Core.Bool.{false}
+use mathlib.Core.List.{List}
+use Prim.Native.Nat.{ℕ, _/_, _%_}
+use lib.ListN.{length}
+use Rattle.layout.specs.declared.Geometry.{Geometry}
+use Rattle.layout.specs.Geometry.{wrongSize}
+use Rattle.layout.specs.Mem.{Mem, memOf, heapWord, setHeap}
+use Rattle.theory.specs.Calls.{Call, c-load, c-get, c-put, c-shape, a-ok, a-num, a-shape, ifRecord, ifRoot, pointer?, value?, refusal}
+use Rattle.model.specs.declared.Answer.the-variants.{Ok, Number, Shape, Refused}
+use Rattle.model.specs.Fields.{setRoot}
+use Rattle.model.specs.Records.{pointers, values, pointer, value, setValue}
+use Rattle.model.specs.Calls.{face, act}
+use Rattle.model.specs.Promise.{Promise}
+use Rattle.model.proofs.Promised.{refused, done}
+use Rattle.roots.specs.Inside.{insideThen}
+use Rattle.roots.proofs.Inside.{passed, in-range, in-range-at, with-rest, with-refused, at-rest, at-refused}
+use Rattle.records.specs.declared.Place.the-variants.{At}
+use Rattle.records.specs.Places.{pointerPlace, valuePlace}
+use Rattle.records.proofs.Found.{pointer-stands, value-stands}
+use Rattle.field_calls.proofs.Reaching.{Names, Reaches, by-test, pointer-0, value-0}
+
+-- ---- from the answer of the standing: two roots
+
+module _ (g : Geometry) (xs : List ℕ) (k d i f n : ℕ) (e : wrongSize g (length xs) ≡ false) (s : n ≡ insideThen (memOf g xs) k (ifRoot d (ifRoot i 0))) where
+  abbrev load-rest : ℕ
+  load-rest = ifRecord (face (memOf g xs) .shape k i) (pointer? f)
+
+  pub load-standing : (n ≡ 0 → ⊥) → Promise (c-load k d i f) g xs (Refused n) xs
+  unfolding insideThen
+  load-standing z = refused (c-load k d i f) g xs e (with-refused (memOf g xs) k d i n load-rest s z) z
+
+  pub load-reaches : n ≡ 0 → Reaches (c-load k d i f) g xs k i (pointer? f)
+  unfolding insideThen
+  load-reaches z =
+      let p = in-range (memOf g xs) k d i n s z in
+      record {
+        size = e;
+        known = p .0;
+        within = p .2;
+        attached = passed (memOf g xs) k (ifRoot d (ifRoot i 0)) (sym z ∙ s) .attached;
+        rest = with-rest (memOf g xs) k d i n load-rest s z;
+      }
+
+-- ---- one root
+
+module _ (g : Geometry) (xs : List ℕ) (k i n : ℕ) (e : wrongSize g (length xs) ≡ false) (s : n ≡ insideThen (memOf g xs) k (ifRoot i 0)) where
+  abbrev one-rest : (ℕ × ℕ → ℕ) → ℕ
+  one-rest test = ifRecord (face (memOf g xs) .shape k i) test
+
+  module _ (c : Call) (test : ℕ × ℕ → ℕ) (is : insideThen (memOf g xs) k (ifRoot i (one-rest test)) ≡ refusal (face (memOf g xs)) c) where
+    one-standing : (n ≡ 0 → ⊥) → Promise c g xs (Refused n) xs
+    one-standing z = refused c g xs e (at-refused (memOf g xs) k i n (one-rest test) s z ∙ is) z
+
+    one-reaches : n ≡ 0 → Reaches c g xs k i test
+    one-reaches z =
+        let p = in-range-at (memOf g xs) k i n s z in
+        record {
+          size = e;
+          known = p .0;
+          within = p .1;
+          attached = passed (memOf g xs) k (ifRoot i 0) (sym z ∙ s) .attached;
+          rest = at-rest (memOf g xs) k i n (one-rest test) s z ∙ is;
+        }
+
+  pub get-standing : (f : ℕ) → (n ≡ 0 → ⊥) → Promise (c-get k i f) g xs (Refused n) xs
+  unfolding insideThen
+  get-standing f = one-standing (c-get k i f) (value? f) refl
+
+  pub get-reaches : (f : ℕ) → n ≡ 0 → Reaches (c-get k i f) g xs k i (value? f)
+  unfolding insideThen
+  get-reaches f = one-reaches (c-get k i f) (value? f) refl
+
+  pub put-standing : (f v : ℕ) → (n ≡ 0 → ⊥) → Promise (c-put k i f v) g xs (Refused n) xs
+  unfolding insideThen
+  put-standing f v = one-standing (c-put k i f v) (value? f) refl
+
+  pub put-reaches : (f v : ℕ) → n ≡ 0 → Reaches (c-put k i f v) g xs k i (value? f)
+  unfolding insideThen
+  put-reaches f v = one-reaches (c-put k i f v) (value? f) refl
+
+  pub shape-standing : (n ≡ 0 → ⊥) → Promise (c-shape k i) g xs (Refused n) xs
+  unfolding insideThen
+  shape-standing = one-standing (c-shape k i) (λ _. 0) refl
+
+  pub shape-reaches : n ≡ 0 → Reaches (c-shape k i) g xs k i (λ _. 0)
+  unfolding insideThen
+  shape-reaches = one-reaches (c-shape k i) (λ _. 0) refl
+
+-- ---- done
+
+module _ (g : Geometry) (xs : List ℕ) (k i at : ℕ) where
+  abbrev m : Mem
+  m = memOf g xs
+
+  load-acts : (d f : ℕ) → Names g xs k i at → act g m (c-load k d i f) ≡ (a-ok, setRoot m k d (pointer m at f))
+  unfolding act
+  load-acts d f w = rw (w .word) refl
+
+  pub load-done : (d f p v : ℕ) (ys : List ℕ) → Reaches (c-load k d i f) g xs k i (pointer? f) → Names g xs k i at
+      → At p ≡ pointerPlace g m at f → v ≡ heapWord m p → memOf g ys ≡ setRoot m k d v → Promise (c-load k d i f) g xs Ok ys
+  load-done d f p v ys q w s u y =
+      let t = pointer-stands g m at f p s in
+      done (c-load k d i f) g xs (q .size) (pointer-0 (c-load k d i f) g xs k i f at w q p s) refl refl
+      (sym (ap (λ a. a .0) (load-acts d f w)))
+      (y ∙ ap (setRoot m k d) (u ∙ ap (heapWord m) (t .is)) ∙ sym (ap (λ a. a .1) (load-acts d f w)))
+
+  get-acts : (f : ℕ) → Names g xs k i at → act g m (c-get k i f) ≡ (a-num (value m at f), m)
+  unfolding act
+  get-acts f w = rw (w .word) refl
+
+  pub get-done : (f p v : ℕ) → Reaches (c-get k i f) g xs k i (value? f) → Names g xs k i at
+      → At p ≡ valuePlace g m at f → v ≡ heapWord m p → Promise (c-get k i f) g xs (Number v) xs
+  get-done f p v q w s u =
+      let t = value-stands g m at f p s in
+      done (c-get k i f) g xs (q .size) (value-0 (c-get k i f) g xs k i f at w q p s) refl refl
+      (ap a-num (u ∙ ap (heapWord m) (t .is)) ∙ sym (ap (λ a. a .0) (get-acts f w)))
+      (sym (ap (λ a. a .1) (get-acts f w)))
+
+  put-acts : (f v : ℕ) → Names g xs k i at → act g m (c-put k i f v) ≡ (a-ok, setValue m at f v)
+  unfolding act
+  put-acts f v w = rw (w .word) refl
+
+  pub put-done : (f v p : ℕ) (ys : List ℕ) → Reaches (c-put k i f v) g xs k i (value? f) → Names g xs k i at
+      → At p ≡ valuePlace g m at f → memOf g ys ≡ setHeap m p v → Promise (c-put k i f v) g xs Ok ys
+  put-done f v p ys q w s y =
+      let t = value-stands g m at f p s in
+      done (c-put k i f v) g xs (q .size) (value-0 (c-put k i f v) g xs k i f at w q p s) refl refl
+      (sym (ap (λ a. a .0) (put-acts f v w)))
+      (y ∙ ap (λ x. setHeap m x v) (t .is) ∙ sym (ap (λ a. a .1) (put-acts f v w)))
+
+  shape-acts : Names g xs k i at → act g m (c-shape k i) ≡ (a-shape (pointers m at) (values m at), m)
+  unfolding act
+  shape-acts w = rw (w .word) refl
+
+  pub shape-done : (h : ℕ) → Reaches (c-shape k i) g xs k i (λ _. 0) → Names g xs k i at → h ≡ heapWord m at → Promise (c-shape k i) g xs (Shape (h / 65536) (h % 65536)) xs
+  shape-done h q w u =
+      done (c-shape k i) g xs (q .size) (by-test (c-shape k i) g xs k i (λ _. 0) q at w 0 refl) refl refl
+      (ap (λ x. a-shape (x / 65536) (x % 65536)) u ∙ sym (ap (λ a. a .0) (shape-acts w)))
+      (sym (ap (λ a. a .1) (shape-acts w)))

@@ -1,0 +1,112 @@
+-- `field_calls::put` meets its contract. Assumes nothing.
+use mathlib.Core.Path.{sym, _∙_}
+use borrow.Author.Needs.{needs}
+use Rattle.layout.proofs.Regions.{sized}
+use Rattle.theory.specs.Calls.{c-put}
+use Rattle.model.proofs.Promised.{size-1}
+use Rattle.roots.proofs.Inside.{in-range-at}
+use Rattle.records.proofs.Found.{value-stands}
+use Rattle.field_calls.proofs.Reaching.{names, nil-7, value-refused}
+use Rattle.field_calls.proofs.Answering.{put-standing, put-reaches, put-done}
+use Rattle.field_calls.proofs.put.Tie as tie
+use Rattle.field_calls.proofs.put.Statement.{statement}
+
+wrong-size-requires : tie.Need-wrong-size-requires
+wrong-size-requires c κs = search needs
+
+returns : tie.Need-returns
+returns c = size-1 _ _ _ (sym (c .before .wrong-size .ensures) ∙ c .if1 .taken)
+
+standing-at-requires : tie.Need-standing-at-requires
+standing-at-requires c κs = sized _ _ (sym (c .before .before .wrong-size .ensures) ∙ c .before .if1 .left)
+
+same-length : tie.Need-same-length
+same-length c = search needs
+
+returns-2 : tie.Need-returns-2
+returns-2 c = put-standing _ _ _ _ _ (sym (c .before .before .before .before .wrong-size .ensures) ∙ c .before .before .before .if1 .left) (c .before .standing-at .ensures) _ _ (c .if2 .taken)
+
+root-requires : tie.Need-root-requires
+root-requires c κs =
+    let p = in-range-at _ _ (c .before .before .before .before .before .before .before .args .i) _ (c .before .before .standing-at .ensures) (c .before .if2 .left) in
+    (sized _ _ (sym (c .before .before .before .before .before .wrong-size .ensures) ∙ c .before .before .before .before .if1 .left), p .0, p .1)
+
+held-of-requires : tie.Need-held-of-requires
+held-of-requires c κs = search needs
+
+enum-known-slot : tie.Need-enum-known-slot
+enum-known-slot c = search needs
+
+enum-told : tie.Need-enum-told
+enum-told c = search needs
+
+same-length-2 : tie.Need-same-length-2
+same-length-2 c = search needs
+
+returns-3 : tie.Need-returns-3
+returns-3 c =
+    nil-7 (c-put _ _ _ _) _ _ _ _ _
+    (put-reaches _ _ _ _ _ (sym (c .before .before .before .before .before .before .before .before .before .wrong-size .ensures) ∙ c .before .before .before .before .before .before .before .before .if1 .left) (c .before .before .before .before .before .before .standing-at .ensures) _ _ (c .before .before .before .before .before .if2 .left))
+    _
+    (c .before .before .before .root .ensures)
+    (sym (c .enum-told .given .1) ∙ c .before .before .held-of .ensures)
+
+value-place-requires : tie.Need-value-place-requires
+value-place-requires c κs = sized _ _ (sym (c .before .before .before .before .before .before .before .before .before .before .before .wrong-size .ensures) ∙ c .before .before .before .before .before .before .before .before .before .before .if1 .left)
+
+enum-known-n : tie.Need-enum-known-n
+enum-known-n c = search needs
+
+enum-known-place : tie.Need-enum-known-place
+enum-known-place c = search needs
+
+set-word-requires : tie.Need-set-word-requires
+set-word-requires c κs =
+    let t = value-stands _ _ _ _ _ (sym (c .before .before .place .given .1) ∙ c .before .before .before .before .value-place .ensures) in
+    (sized _ _ (sym (c .before .before .before .before .before .before .before .before .before .before .before .before .before .before .before .before .wrong-size .ensures) ∙ c .before .before .before .before .before .before .before .before .before .before .before .before .before .before .before .if1 .left), t .within)
+
+same-length-3 : tie.Need-same-length-3
+same-length-3 c = search needs
+
+returns-4 : tie.Need-returns-4
+returns-4 c =
+    value-refused (c-put _ _ _ _) _ _ _ _ _ _
+    (names _ _ _ _ _ _ (c .before .before .before .before .before .before .before .before .before .root .ensures) (sym (c .before .before .before .before .before .before .slot .given .1) ∙ c .before .before .before .before .before .before .before .before .held-of .ensures))
+    (put-reaches _ _ _ _ _ (sym (c .before .before .before .before .before .before .before .before .before .before .before .before .before .before .before .wrong-size .ensures) ∙ c .before .before .before .before .before .before .before .before .before .before .before .before .before .before .if1 .left) (c .before .before .before .before .before .before .before .before .before .before .before .before .standing-at .ensures) _ _ (c .before .before .before .before .before .before .before .before .before .before .before .if2 .left))
+    _
+    (sym (c .before .n .given .1) ∙ c .before .before .before .value-place .ensures)
+
+same-length-4 : tie.Need-same-length-4
+same-length-4 c = search needs
+
+returns-5 : tie.Need-returns-5
+returns-5 c =
+    put-done _ _ _ _ _ _ _ _ _
+    (put-reaches _ _ _ _ _ (sym (c .before .before .before .before .before .before .before .before .before .before .before .before .before .before .before .before .before .before .before .wrong-size .ensures) ∙ c .before .before .before .before .before .before .before .before .before .before .before .before .before .before .before .before .before .before .if1 .left) (c .before .before .before .before .before .before .before .before .before .before .before .before .before .before .before .before .standing-at .ensures) _ _ (c .before .before .before .before .before .before .before .before .before .before .before .before .before .before .before .if2 .left))
+    (names _ _ _ _ _ _ (c .before .before .before .before .before .before .before .before .before .before .before .before .before .root .ensures) (sym (c .before .before .before .before .before .before .before .before .before .before .slot .given .1) ∙ c .before .before .before .before .before .before .before .before .before .before .before .before .held-of .ensures))
+    (sym (c .before .before .before .before .before .place .given .1) ∙ c .before .before .before .before .before .before .before .value-place .ensures)
+    (c .before .before .set-word .ensures)
+
+pub put-spec : {M : Type 1} → statement M
+put-spec =
+    tie.close
+    (tie.spec
+    wrong-size-requires
+    returns
+    standing-at-requires
+    same-length
+    returns-2
+    root-requires
+    held-of-requires
+    enum-known-slot
+    enum-told
+    same-length-2
+    returns-3
+    value-place-requires
+    enum-known-n
+    enum-known-place
+    set-word-requires
+    same-length-3
+    returns-4
+    same-length-4
+    returns-5)

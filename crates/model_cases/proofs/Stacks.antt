@@ -1,0 +1,12 @@
+-- The cases of the stacks hold, by computing the definitions. Assumes nothing.
+use mathlib.Core.Path.{refl}
+use Rattle.model_cases.specs.Events.{replies, Holds}
+use Rattle.model_cases.specs.Stacks.{stacks, fills}
+
+pub stacks-hold : Holds 2 stacks
+unfolding replies
+stacks-hold = refl
+
+pub fills-hold : Holds 2 fills
+unfolding replies
+fills-hold = refl

@@ -1,0 +1,2 @@
+-- The cycles hold.
+pub mod Cycles

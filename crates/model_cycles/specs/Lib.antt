@@ -1,0 +1,2 @@
+-- Whole cycles, call by call.
+pub mod Cycles

@@ -1,0 +1,2 @@
+-- Laws of store.
+pub mod Storage

@@ -1,0 +1,60 @@
+-- `storing::store_at` meets its contract. Assumes nothing.
+use borrow.Author.Needs.{needs}
+use Rattle.storing.proofs.Storage.{stores-ok, stores-13}
+use Rattle.storing.proofs.store_at.Tie as tie
+use Rattle.storing.proofs.store_at.Statement.{statement}
+
+control-requires : tie.Need-control-requires
+control-requires c κs = search needs
+
+mul-mutator : tie.Need-mul-mutator
+mul-mutator c = search needs
+
+add-mutator : tie.Need-add-mutator
+add-mutator c = search needs
+
+mutator-requires : tie.Need-mutator-requires
+mutator-requires c κs = search needs
+
+duty-requires : tie.Need-duty-requires
+duty-requires c κs = search needs
+
+word-requires : tie.Need-word-requires
+word-requires c κs = search needs
+
+barrier-requires : tie.Need-barrier-requires
+barrier-requires c κs = search needs
+
+set-word-requires : tie.Need-set-word-requires
+set-word-requires c κs = search needs
+
+same-length : tie.Need-same-length
+same-length c = search needs
+
+returns : tie.Need-returns
+returns c =
+    stores-ok _ _ _ _ _ _ _ _ _ _ _ (c .before .before .before .before .before .before .before .before .before .before .before .before .before .before .control .ensures) (c .before .before .before .before .before .before .before .before .before .before .before .before .mutator .ensures) (c .before .before .before .before .before .before .before .before .before .before .before .duty .ensures) (c .before .before .before .before .before .before .before .before .before .word .ensures) (c .before .before .before .before .before .before .before .barrier .ensures)
+    _ (c .before .before .before .before .if1 .taken) (c .before .before .set-word .ensures)
+
+same-length-2 : tie.Need-same-length-2
+same-length-2 c = search needs
+
+returns-2 : tie.Need-returns-2
+returns-2 c = stores-13 _ _ _ _ _ _ _ _ _ _ _ (c .before .before .before .before .before .before .before .before .before .before .control .ensures) (c .before .before .before .before .before .before .before .before .mutator .ensures) (c .before .before .before .before .before .before .before .duty .ensures) (c .before .before .before .before .before .word .ensures) (c .before .before .before .barrier .ensures) (c .if1 .left)
+
+pub store-at-spec : {M : Type 1} → statement M
+store-at-spec =
+    tie.close
+    (tie.spec
+    control-requires
+    mul-mutator
+    add-mutator
+    mutator-requires
+    duty-requires
+    word-requires
+    barrier-requires
+    set-word-requires
+    same-length
+    returns
+    same-length-2
+    returns-2)

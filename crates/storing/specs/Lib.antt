@@ -1,0 +1,2 @@
+-- What a store does to a word.
+pub mod Stored

@@ -1,0 +1,56 @@
+// store, with its write barrier. It has no `requires` and keeps the model's promise of it. Over memory that fails the examination a record
+// may have no bit, or the trace stack no room: then the answer is 13.
+use layout::Geometry;
+use model::Answer;
+use model::Held;
+use model::Phase;
+use records::Place;
+ghost use mathlib.Core.Path.{_≡_};
+ghost use Prim.Native.Nat.{_<_};
+ghost use lib.ListN.{length};
+ghost use Rattle.layout.specs.Geometry.{Sized, len, mutatorCount};
+ghost use Rattle.layout.specs.Mem.{memOf};
+ghost use Rattle.theory.specs.Calls.{c-store};
+ghost use Rattle.model.specs.Promise.{Promise};
+ghost use Rattle.storing.specs.Stored.{Stores};
+
+// A word of the heap gets a value, after the barrier of mutator k.
+fn store_at(g: Geometry, mem: &mut [u32], k: u32, place: usize, new: u32) -> Answer
+    requires { ⌜ (Sized g (length (now mem))) × (k < mutatorCount) × (place < len g 8) ⌝ }
+    ensures { λ r. ⌜ Stores g (memOf g (now (mem .entry))) k place new r (memOf g (now (mem .exit))) ⌝ }
+{
+    let phase = Phase {
+        number: layout::control(g, mem, 0),
+    };
+    let duty = phase.duty(layout::mutator(g, mem, k as usize * layout::MUTATOR_WORDS + 1));
+    let old = layout::word(g, mem, place);
+    if tracing::barrier(g, mem, duty, new, old) {
+        layout::set_word(g, mem, place, new);
+        return Answer::Ok;
+    }
+    Answer::Refused(13)
+}
+
+// Pointer f of the record in root i gets what root j holds.
+pub fn store(g: Geometry, mem: &mut [u32], k: u32, i: u32, f: u32, j: u32) -> Answer
+    ensures { λ r. ⌜ Promise (c-store k i f j) g (now (mem .entry)) r (now (mem .exit)) ⌝ }
+{
+    if layout::wrong_size(g, mem.len()) {
+        return Answer::Refused(1);
+    }
+    let refused = roots::standing_with(g, mem, k, i, j);
+    if refused != 0 {
+        return Answer::Refused(refused);
+    }
+    let slot = records::held_of(roots::root(g, mem, k, i));
+    let Held::Record(at) = slot else {
+        return Answer::Refused(7);
+    };
+    match records::pointer_place(g, mem, at, f) {
+        Place::Refused(n) => Answer::Refused(n),
+        Place::At(place) => {
+            let new = roots::root(g, mem, k, j);
+            store_at(g, mem, k, place, new)
+        }
+    }
+}

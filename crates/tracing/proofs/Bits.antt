@@ -1,0 +1,187 @@
+-- The words of a block by its class, as one test at each entry of the table, which is computed; the bit of a record; a push. Assumes nothing.
+use mathlib.Core.Path.{_≡_, refl, sym, _∙_, ap, subst}
+use mathlib.Core.Bool.{Bool, true, false, _&&_, true≢false}
+use mathlib.Core.Option.{some}
+use mathlib.Core.Logic.{inl, inr}
+use mathlib.Core.List.{List, [], _∷_}
+use Prim.Native.Nat.{ℕ, suc, _+_, _-_, _*_, _/_, _%_, _≤_, _<_}
+use native.Mathlib.Omega.{arith}
+use native.Mathlib.Nat.{pos-of-ne-zero, div-lt-iff-lt-mul}
+use lib.Dec.{T, eqb, ltb, eqb→eq, ltb→lt}
+use lib.ListN.{getD}
+use borrow.Author.Tests.{lt-ltb, le-ltb, eq-eqb, ne-eqb, ltb-true, ltb-false}
+use Rattle.rules.proofs.Table.{and-left, and-right, every-at}
+use Rattle.rules.specs.Pick.{pick}
+use Rattle.words.specs.Bits.{bitAt, withBit, setBit}
+use Rattle.layout.specs.declared.Geometry.{Geometry}
+use Rattle.layout.specs.Geometry.{len}
+use Rattle.layout.specs.Mem.{Mem, markWord, queuedWord, setQueued, setTrace, setControl}
+use Rattle.model.specs.Fields.{class, traceCount}
+use Rattle.model.specs.Records.{record?, segmentOf, blockWords, bitOf}
+use Rattle.model.specs.Tracing.{push}
+use Rattle.model.specs.declared.Duty.{Duty}
+use Rattle.tracing.specs.declared.Bit.{Bit}
+use Rattle.tracing.specs.declared.Bit.the-variants.{At, Torn}
+use Rattle.tracing.specs.Pushing.{bitPlace, pushedBit, PushesBit, Hindered, Pushes, Bars}
+use Rattle.words.specs.Bits as bits
+use Rattle.model.specs.Records as records
+use Rattle.model.specs.declared.Duty.the-variants as duty
+
+abbrev pub table : List ℕ
+table = 2 ∷ 4 ∷ 8 ∷ 16 ∷ 32 ∷ 64 ∷ 128 ∷ 256 ∷ 512 ∷ 1024 ∷ []
+
+right : ℕ → ℕ → Bool
+right k x = eqb x (blockWords (3 + k)) && ltb 1 x
+
+module _ (c : ℕ) (l : 3 ≤ c) (h : c ≤ 12) where
+  tested : T (right (c - 3) (getD table (c - 3) 0))
+  unfolding right
+  tested = every-at right 0 table tt (c - 3) (omega arith)
+
+  pub words-of : getD table (c - 3) 0 ≡ blockWords c
+  unfolding right
+  words-of =
+      let e : 3 + (c - 3) ≡ c = omega arith in
+      eqb→eq _ _ (and-left (eqb (getD table (c - 3) 0) (blockWords (3 + (c - 3)))) _ tested) ∙ ap blockWords e
+
+  pub words-pos : 1 < getD table (c - 3) 0
+  unfolding right
+  words-pos = ltb→lt _ _ (and-right (eqb (getD table (c - 3) 0) (blockWords (3 + (c - 3)))) _ tested)
+
+module _ (g : Geometry) (m : Mem) (at : ℕ) where
+  pub off-torn : len g 8 ≤ at → Torn ≡ bitPlace g m at
+  unfolding bitPlace
+  off-torn l = rw (le-ltb _ _ l)
+
+  module _ (c : ℕ) (e : c ≡ class m (segmentOf at)) (l : at < len g 8) where
+    pub low-torn : c < 3 → Torn ≡ bitPlace g m at
+    unfolding bitPlace
+    low-torn h = rw (lt-ltb _ _ l, ← e, lt-ltb _ _ h)
+
+    pub high-torn : 3 ≤ c → 12 < c → Torn ≡ bitPlace g m at
+    unfolding bitPlace
+    high-torn h i = rw (lt-ltb _ _ l, ← e, le-ltb _ _ h, lt-ltb _ _ i)
+
+    pub bit-at : 3 ≤ c → c ≤ 12 → At (at / 4096 * 2048 + at % 4096 / getD table (c - 3) 0) ≡ bitPlace g m at
+    unfolding bitPlace
+    bit-at h i = rw (lt-ltb _ _ l, ← e, le-ltb _ _ h, le-ltb _ _ i, words-of c h i) refl
+
+module _ (g : Geometry) (m : Mem) (w k : ℕ) where
+  pub push-marked : (x b : ℕ) → x ≡ markWord m (k / 32) → b ≡ bits.bitOf x (k % 32) → b ≡ 1 → PushesBit g m w k true m
+  unfolding pushedBit bitAt
+  push-marked x b e f h =
+      let q : bits.bitOf (markWord m (k / 32)) (k % 32) ≡ 1 = ap (λ z. bits.bitOf z (k % 32)) (sym e) ∙ sym f ∙ h in
+      record { done = λ _. rw q refl; full = λ t. absurd (true≢false t) }
+
+  module _ (x b : ℕ) (e : x ≡ markWord m (k / 32)) (f : b ≡ bits.bitOf x (k % 32)) (h : b ≡ 1 → ⊥) (y d : ℕ) (u : y ≡ queuedWord m (k / 32)) (v : d ≡ bits.bitOf y (k % 32)) where
+    unmarked : bitAt (m .marks) k ≡ 1 → ⊥
+    unfolding bitAt
+    unmarked q = h (f ∙ ap (λ z. bits.bitOf z (k % 32)) e ∙ q)
+
+    is-queued : d ≡ bitAt (m .queued) k
+    unfolding bitAt
+    is-queued = v ∙ ap (λ z. bits.bitOf z (k % 32)) u
+
+    pub push-queued : d ≡ 1 → PushesBit g m w k true m
+    unfolding pushedBit
+    push-queued i = record {
+      done = λ _. rw (ne-eqb _ _ unmarked, eq-eqb _ _ (sym is-queued ∙ i)) refl;
+      full = λ t. absurd (true≢false t);
+    }
+
+    module _ (i : d ≡ 1 → ⊥) (n : ℕ) (j : n ≡ traceCount m) where
+      pub push-full : len g 7 ≤ n → PushesBit g m w k false m
+      push-full o = record {
+        done = λ t. absurd (true≢false (sym t));
+        full = λ _. ((λ q. i (is-queued ∙ q)), subst (λ z. len g 7 ≤ z) j o);
+      }
+
+      pub push-done : (z : ℕ) (m₁ m₂ m₃ : Mem) → z ≡ withBit y (k % 32) → m₁ ≡ setQueued m (k / 32) z → m₂ ≡ setTrace m₁ n w → m₃ ≡ setControl m₂ 1 (n + 1)
+          → PushesBit g m w k true m₃
+      unfolding pushedBit setBit setQueued
+      push-done z m₁ m₂ m₃ a e₁ e₂ e₃ = record {
+        done = λ _. e₃ ∙ rw (e₂, e₁, a, u, j, ne-eqb _ _ unmarked, ne-eqb _ _ (λ q. i (is-queued ∙ q))) refl;
+        full = λ t. absurd (true≢false t);
+      }
+
+-- ---- a bit is one of the region's
+
+abbrev at-of : Bit → ℕ
+at-of (At k) = k
+at-of Torn = 0
+
+abbrev pub isAt : Bit → Bool
+isAt (At k) = true
+isAt Torn = false
+
+module _ (g : Geometry) (m : Mem) (at : ℕ) where
+  pub within : 3 ≤ class m (segmentOf at) → class m (segmentOf at) ≤ 12 → at < len g 8 → bitOf m at < g .segments * 2048
+  within h i l =
+      let p = words-pos (class m (segmentOf at)) h i in
+      let e = words-of (class m (segmentOf at)) h i in
+      let b = blockWords (class m (segmentOf at)) in
+      let q : 1 < b = subst (λ z. 1 < z) e p in
+      let d : at % 4096 / b < 2048 = div-lt-iff-lt-mul {k = b} {x = at % 4096} {y = 2048} (omega arith) .1 (omega arith) in
+      omega arith
+
+  pub bit-within : (k : ℕ) → At k ≡ bitPlace g m at → (k ≡ bitOf m at) × (k < g .segments * 2048)
+  unfolding bitPlace
+  bit-within k e = go (ltb at (len g 8)) (ltb (class m (segmentOf at)) 3) (ltb 12 (class m (segmentOf at))) refl refl refl e
+    where
+      go : (a b c : Bool) → ltb at (len g 8) ≡ a → ltb (class m (segmentOf at)) 3 ≡ b → ltb 12 (class m (segmentOf at)) ≡ c
+          → At k ≡ pick a (pick b Torn (pick c Torn (At (bitOf m at)))) Torn → (k ≡ bitOf m at) × (k < g .segments * 2048)
+      go true false false q r s e =
+          let z : k ≡ bitOf m at = ap at-of e in
+          (z, subst (λ y. y < g .segments * 2048) (sym z) (within (ltb-false _ _ r) (ltb-false _ _ s) (ltb-true _ _ q)))
+      go true false true q r s e = absurd (true≢false (ap isAt e))
+      go true true c q r s e = absurd (true≢false (ap isAt e))
+      go false b c q r s e = absurd (true≢false (ap isAt e))
+
+-- ---- a push of a word
+
+pushed-is : (m : Mem) (at k : ℕ) → k ≡ bitOf m at → pushedBit m (suc at) k ≡ push m (some at)
+unfolding push pushedBit records.setQueued
+pushed-is m at k e = rw e refl
+
+module _ (g : Geometry) (m : Mem) (w : ℕ) where
+  pub push-nil : w ≡ 0 → Pushes g m w true m
+  unfolding push
+  push-nil e = record { done = λ _. rw e refl; hindered = λ t. absurd (true≢false t) }
+
+  named : (w ≡ 0 → ⊥) → w ≡ suc (w - 1)
+  named f = let l = pos-of-ne-zero f in omega arith
+
+  pub push-torn : (w ≡ 0 → ⊥) → Torn ≡ bitPlace g m (w - 1) → Pushes g m w false m
+  push-torn f e = record { done = λ t. absurd (true≢false (sym t)); hindered = λ _. record { at = w - 1; names = named f; why = inl (sym e) } }
+
+  pub push-by : (k : ℕ) (r : Bool) (after : Mem) → (w ≡ 0 → ⊥) → At k ≡ bitPlace g m (w - 1) → PushesBit g m w k r after → Pushes g m w r after
+  push-by k r after f e p =
+      let z = bit-within g m (w - 1) k e .0 in
+      record {
+        done = λ t. p .done t ∙ subst (λ v. pushedBit m v k ≡ push m (record? v)) (sym (named f)) (pushed-is m (w - 1) k z);
+        hindered = λ t. let h = p .full t in record { at = w - 1; names = named f; why = inr ((λ q. h .0 (ap (bitAt (m .queued)) z ∙ q)), h .1) };
+      }
+
+-- ---- the barrier
+
+module _ (g : Geometry) (m : Mem) (d : Duty) (new o : ℕ) where
+  pub bars-nothing : d ≡ duty.Nothing → Bars g m d new o true m
+  bars-nothing k = subst (λ z. Bars g m z new o true m) (sym k) (record { done = λ _. refl; hindered = λ t. absurd (true≢false t) })
+
+  pub bars-old : d ≡ duty.Old → (r : Bool) (after : Mem) → Pushes g m o r after → Bars g m d new o r after
+  bars-old k r after p =
+      subst (λ z. Bars g m z new o r after) (sym k) (record { done = λ t. p .done t; hindered = λ t. inr (inl (p .hindered t)) })
+
+  pub bars-not : d ≡ duty.Both → (r : Bool) (after : Mem) → Pushes g m new r after → r ≡ false → Bars g m d new o false after
+  bars-not k r after p f =
+      subst (λ z. Bars g m z new o false after) (sym k)
+      (record { done = λ t. absurd (true≢false (sym t)); hindered = λ _. inl (p .hindered f) })
+
+  pub bars-both : d ≡ duty.Both → (r : Bool) (m₁ : Mem) (q : Bool) (after : Mem) → Pushes g m new r m₁ → r ≡ true → Pushes g m₁ o q after → Bars g m d new o q after
+  bars-both k r m₁ q after p t u =
+      let e = p .done t in
+      subst (λ z. Bars g m z new o q after) (sym k)
+      (record {
+        done = λ v. u .done v ∙ ap (λ z. push z (record? o)) e;
+        hindered = λ v. inr (inr (subst (λ z. Hindered g z o) e (u .hindered v)));
+      })

@@ -1,0 +1,148 @@
+-- In consistent memory nothing hinders a push of a live record, nor a second one after it. Assumes nothing.
+use mathlib.Core.Path.{_≡_, refl, sym, _∙_, ap, subst}
+use mathlib.Core.Bool.{Bool, true, false, true≢false}
+use mathlib.Core.Logic.{_⊎_, inl, inr}
+use Prim.Native.Nat.{ℕ, zero, suc, _+_, _*_, _/_, _≤_, _<_}
+use native.Mathlib.Omega.{arith}
+use lib.Dec.{eqb}
+use lib.ListN.{length}
+use lib.Seq.{getD-set-same}
+use borrow.Author.Tests.{lt-ltb, le-ltb, eqb-false}
+use Rattle.rules.specs.Pick.{pick}
+use Rattle.rules.proofs.Order.{le-or-lt, same-or-not}
+use Rattle.words.specs.Bits.{bitAt, setBit, onesAmong}
+use Rattle.words.proofs.Word.{one-of-not-zero}
+use Rattle.words.proofs.Ones.{among-le}
+use Rattle.words.proofs.Lists.{at-lt, set-there, set-elsewhere}
+use Rattle.layout.specs.declared.Geometry.{Geometry}
+use Rattle.layout.specs.Geometry.{len}
+use Rattle.layout.specs.Mem.{Mem, setTrace, setControl}
+use Rattle.model.specs.Fields.{class, traceCount}
+use Rattle.model.specs.Records.{record?, segmentOf, bitOf, marked, queued, setQueued}
+use Rattle.model.specs.Tracing.{push, onTop}
+use Rattle.model.specs.Consistent.{RecordOk, Consistent}
+use Rattle.tracing.specs.declared.Bit.the-variants.{At, Torn}
+use Rattle.tracing.specs.Pushing.{bitPlace, Hindered}
+use Rattle.tracing.proofs.Bits.{within, isAt}
+
+-- ---- counting
+
+same-at : {a b : ℕ} → suc a ≡ suc b → a ≡ b
+same-at e = omega arith
+
+lt-of-le-of-ne : {k n : ℕ} → k < suc n → (k ≡ n → ⊥) → k < n
+lt-of-le-of-ne {k} {n} l f = go (le-or-lt n k)
+  where
+    go : (n ≤ k) ⊎ (k < n) → k < n
+    go (inl h) = absurd (f (omega arith))
+    go (inr h) = h
+
+module _ (f : ℕ → ℕ) (two : (i : ℕ) → f i < 2) where
+  zero-less : (n k : ℕ) → k < n → f k ≡ 0 → onesAmong f n < n
+  unfolding onesAmong
+  zero-less zero k l e = absurd (omega arith)
+  zero-less (suc n) k l e = go (same-or-not k n) (λ h. zero-less n k h e)
+    where
+      go : (k ≡ n) ⊎ (k ≡ n → ⊥) → (k < n → onesAmong f n < n) → onesAmong f n + f n < suc n
+      go (inl q) ih = let z : f n ≡ 0 = ap f (sym q) ∙ e in let b = among-le f two n in omega arith
+      go (inr q) ih = let h = ih (lt-of-le-of-ne l q) in let t = two n in omega arith
+
+  two-less : (n k j : ℕ) → k < n → j < n → (j ≡ k → ⊥) → f k ≡ 0 → f j ≡ 0 → onesAmong f n + 1 < n
+  unfolding onesAmong
+  two-less zero k j l h d e u = absurd (omega arith)
+  two-less (suc n) k j l h d e u = go (same-or-not k n) (same-or-not j n) (λ a b. two-less n k j a b d e u)
+    where
+      go : (k ≡ n) ⊎ (k ≡ n → ⊥) → (j ≡ n) ⊎ (j ≡ n → ⊥) → (k < n → j < n → onesAmong f n + 1 < n) → onesAmong f n + f n + 1 < suc n
+      go (inl q) (inl r) ih = absurd (d (r ∙ sym q))
+      go (inl q) (inr r) ih = let z : f n ≡ 0 = ap f (sym q) ∙ e in let b = zero-less n j (lt-of-le-of-ne h r) u in omega arith
+      go (inr q) (inl r) ih = let z : f n ≡ 0 = ap f (sym r) ∙ u in let b = zero-less n k (lt-of-le-of-ne l q) e in omega arith
+      go (inr q) (inr r) ih = let b = ih (lt-of-le-of-ne l q) (lt-of-le-of-ne h r) in let t = two n in omega arith
+
+-- ---- one push
+
+zero-of : (b : ℕ) → b < 2 → (b ≡ 1 → ⊥) → b ≡ 0
+zero-of b l f = go (same-or-not b 0)
+  where
+    go : (b ≡ 0) ⊎ (b ≡ 0 → ⊥) → b ≡ 0
+    go (inl e) = e
+    go (inr g) = absurd (f (one-of-not-zero b l g))
+
+module _ (g : Geometry) (m : Mem) (c : Consistent g m) where
+  module _ (at : ℕ) (r : RecordOk g m at) where
+    of-class : (3 ≤ class m (segmentOf at)) × (class m (segmentOf at) ≤ 12)
+    of-class =
+        let i = r .inside in
+        let p = c .segments (segmentOf at) (omega arith) .classes (r .used) in
+        (p .0, omega arith)
+
+    has-bit : bitPlace g m at ≡ Torn → ⊥
+    unfolding bitPlace
+    has-bit e = let z : At (bitOf m at) ≡ Torn = sym (placed) ∙ e in true≢false (ap isAt z)
+      where
+        placed : bitPlace g m at ≡ At (bitOf m at)
+        placed = rw (lt-ltb _ _ (r .inside), le-ltb _ _ (of-class .0), le-ltb _ _ (of-class .1)) refl
+
+    bit-below : bitOf m at < g .segments * 2048
+    bit-below = within g m at (of-class .0) (of-class .1) (r .inside)
+
+    pub room : (queued m at ≡ 1 → ⊥) → traceCount m < len g 7
+    room f =
+        let h = zero-less (bitAt (m .queued)) (at-lt (m .queued)) (g .segments * 2048) (bitOf m at) bit-below (zero-of _ (at-lt (m .queued) (bitOf m at)) f) in
+        let e = c .trace .number in
+        omega arith
+
+  pub unhindered : (w : ℕ) → ((at : ℕ) → w ≡ suc at → RecordOk g m at) → Hindered g m w → ⊥
+  unhindered w r h = go (h .why)
+    where
+      ok : RecordOk g m (h .at)
+      ok = r (h .at) (h .names)
+
+      go : (bitPlace g m (h .at) ≡ Torn) ⊎ ((queued m (h .at) ≡ 1 → ⊥) × (len g 7 ≤ traceCount m)) → ⊥
+      go (inl e) = has-bit (h .at) ok e
+      go (inr p) = let l = room (h .at) ok (p .0) in let q = p .1 in omega arith
+
+  -- ---- a second push
+
+  module _ (lc : 1 < length (m .control)) (lq : length (m .queued) ≡ g .segments * 64) where
+    module _ (a : ℕ) (ra : RecordOk g m a) (ua : queued m a ≡ 1 → ⊥) (at : ℕ) (r : RecordOk g m at) where
+      count-more : traceCount (onTop m a) ≡ traceCount m + 1
+      unfolding setTrace setControl setQueued
+      count-more = getD-set-same (m .control) 1 (traceCount m + 1) 0 lc
+
+      same-place : bitPlace g (onTop m a) at ≡ bitPlace g m at
+      unfolding bitPlace setTrace setControl setQueued
+      same-place = refl
+
+      bits-after : queued (onTop m a) at ≡ bitAt (setBit (m .queued) (bitOf m a)) (bitOf m at)
+      unfolding setTrace setControl setQueued
+      bits-after = refl
+
+      in-words : bitOf m a / 32 < length (m .queued)
+      in-words = let l = bit-below a ra in omega arith
+
+      room-after : (queued (onTop m a) at ≡ 1 → ⊥) → traceCount (onTop m a) < len g 7
+      room-after f =
+          let d : bitOf m at ≡ bitOf m a → ⊥ = λ e. f (bits-after ∙ ap (bitAt (setBit (m .queued) (bitOf m a))) e ∙ set-there (m .queued) (bitOf m a) in-words) in
+          let u : bitAt (m .queued) (bitOf m at) ≡ 1 → ⊥ = λ e. f (bits-after ∙ set-elsewhere (m .queued) (bitOf m a) in-words (bitOf m at) d ∙ e) in
+          let h = two-less (bitAt (m .queued)) (at-lt (m .queued)) (g .segments * 2048) (bitOf m a) (bitOf m at) (bit-below a ra) (bit-below at r) d
+          (zero-of _ (at-lt (m .queued) (bitOf m a)) ua) (zero-of _ (at-lt (m .queued) (bitOf m at)) u) in
+          let e = c .trace .number in
+          let z = count-more in
+          omega arith
+
+      unhindered-on : (w : ℕ) → w ≡ suc at → Hindered g (onTop m a) w → ⊥
+      unhindered-on w e h = go (subst (λ y. (bitPlace g (onTop m a) y ≡ Torn) ⊎ ((queued (onTop m a) y ≡ 1 → ⊥) × (len g 7 ≤ traceCount (onTop m a)))) (same-at (sym (h .names) ∙ e)) (h .why))
+        where
+          go : (bitPlace g (onTop m a) at ≡ Torn) ⊎ ((queued (onTop m a) at ≡ 1 → ⊥) × (len g 7 ≤ traceCount (onTop m a))) → ⊥
+          go (inl q) = has-bit at r (sym same-place ∙ q)
+          go (inr p) = let l = room-after (p .0) in let q = p .1 in omega arith
+
+    pub unhindered-next : (v w : ℕ) → ((at : ℕ) → v ≡ suc at → RecordOk g m at) → ((at : ℕ) → w ≡ suc at → RecordOk g m at) → Hindered g (push m (record? v)) w → ⊥
+    unfolding push
+    unhindered-next zero w rv rw′ h = unhindered w rw′ h
+    unhindered-next (suc a) w rv rw′ h = go (eqb (marked m a) 1) (eqb (queued m a) 1) refl h
+      where
+        go : (x y : Bool) → eqb (queued m a) 1 ≡ y → Hindered g (pick x m (pick y m (onTop m a))) w → ⊥
+        go true y q h = unhindered w rw′ h
+        go false true q h = unhindered w rw′ h
+        go false false q h = unhindered-on a (rv a refl) (eqb-false _ _ q) (h .at) (rw′ (h .at) (h .names)) w (h .names) h

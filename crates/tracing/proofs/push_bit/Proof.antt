@@ -1,0 +1,100 @@
+-- `tracing::push_bit` meets its contract. Assumes nothing.
+use borrow.Author.Needs.{needs}
+use Rattle.tracing.proofs.Bits.{push-marked, push-queued, push-full, push-done}
+use Rattle.tracing.proofs.push_bit.Tie as tie
+use Rattle.tracing.proofs.push_bit.Statement.{statement}
+
+cast-b : tie.Need-cast-b
+cast-b c = search needs
+
+mark-requires : tie.Need-mark-requires
+mark-requires c κs = search needs
+
+bit-of-requires : tie.Need-bit-of-requires
+bit-of-requires c κs = search needs
+
+same-length : tie.Need-same-length
+same-length c = search needs
+
+returns : tie.Need-returns
+returns c = push-marked _ _ _ _ _ _ (c .before .before .mark .ensures) (c .before .bit-of .ensures) (c .if1 .taken)
+
+queued-requires : tie.Need-queued-requires
+queued-requires c κs = search needs
+
+bit-of-requires-2 : tie.Need-bit-of-requires-2
+bit-of-requires-2 c κs = search needs
+
+same-length-2 : tie.Need-same-length-2
+same-length-2 c = search needs
+
+returns-2 : tie.Need-returns-2
+returns-2 c = push-queued _ _ _ _ _ _ (c .before .before .before .before .before .before .mark .ensures) (c .before .before .before .before .before .bit-of .ensures) (c .before .before .before .before .if1 .left) _ _ (c .before .before .queued .ensures) (c .before .bit-of2 .ensures) (c .if2 .taken)
+
+control-requires : tie.Need-control-requires
+control-requires c κs = search needs
+
+mul-if3 : tie.Need-mul-if3
+mul-if3 c = search needs
+
+cast-if3 : tie.Need-cast-if3
+cast-if3 c = search needs
+
+same-length-3 : tie.Need-same-length-3
+same-length-3 c = search needs
+
+returns-3 : tie.Need-returns-3
+returns-3 c = push-full _ _ _ _ _ _ (c .before .before .before .before .before .before .before .before .before .before .mark .ensures) (c .before .before .before .before .before .before .before .before .before .bit-of .ensures) (c .before .before .before .before .before .before .before .before .if1 .left) _ _ (c .before .before .before .before .before .before .queued .ensures) (c .before .before .before .before .before .bit-of2 .ensures) (c .before .before .before .before .if2 .left) _ (c .before .before .control .ensures) (c .if3 .taken)
+
+with-bit-requires : tie.Need-with-bit-requires
+with-bit-requires c κs = search needs
+
+set-queued-requires : tie.Need-set-queued-requires
+set-queued-requires c κs = search needs
+
+cast-set-trace : tie.Need-cast-set-trace
+cast-set-trace c = search needs
+
+set-trace-requires : tie.Need-set-trace-requires
+set-trace-requires c κs = search needs
+
+add-set-control : tie.Need-add-set-control
+add-set-control c = search needs
+
+set-control-requires : tie.Need-set-control-requires
+set-control-requires c κs = search needs
+
+same-length-4 : tie.Need-same-length-4
+same-length-4 c = search needs
+
+returns-4 : tie.Need-returns-4
+returns-4 c =
+    push-done _ _ _ _ _ _ (c .before .before .before .before .before .before .before .before .before .before .before .before .before .before .before .before .before .before .before .before .before .before .before .mark .ensures) (c .before .before .before .before .before .before .before .before .before .before .before .before .before .before .before .before .before .before .before .before .before .before .bit-of .ensures) (c .before .before .before .before .before .before .before .before .before .before .before .before .before .before .before .before .before .before .before .before .before .if1 .left) _ _ (c .before .before .before .before .before .before .before .before .before .before .before .before .before .before .before .before .before .before .before .queued .ensures) (c .before .before .before .before .before .before .before .before .before .before .before .before .before .before .before .before .before .before .bit-of2 .ensures) (c .before .before .before .before .before .before .before .before .before .before .before .before .before .before .before .before .before .if2 .left) _ (c .before .before .before .before .before .before .before .before .before .before .before .before .before .before .before .control .ensures) _ _ _ _ (c .before .before .before .before .before .before .before .before .before .before .before .with-bit .ensures)
+    (c .before .before .before .before .before .before .before .before .before .before .set-queued .ensures) (c .before .before .before .before .before .before .set-trace .ensures) (c .before .before .set-control .ensures)
+
+pub push-bit-spec : {M : Type 1} → statement M
+push-bit-spec =
+    tie.close
+    (tie.spec
+    cast-b
+    mark-requires
+    bit-of-requires
+    same-length
+    returns
+    queued-requires
+    bit-of-requires-2
+    same-length-2
+    returns-2
+    control-requires
+    mul-if3
+    cast-if3
+    same-length-3
+    returns-3
+    with-bit-requires
+    set-queued-requires
+    cast-set-trace
+    set-trace-requires
+    add-set-control
+    set-control-requires
+    same-length-4
+    returns-4)

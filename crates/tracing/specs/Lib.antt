@@ -1,0 +1,2 @@
+-- Pushing on the trace stack, over memory of any content.
+pub mod Pushing

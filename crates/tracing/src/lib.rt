@@ -1,0 +1,94 @@
+// The trace stack in the lent slice: the bit of a record, and what is pushed. Over memory of any content nothing is read or written off its
+// region; where a record has no bit, or the stack no room, the answer says so.
+use layout::Geometry;
+use model::Duty;
+ghost use mathlib.Core.Path.{_≡_};
+ghost use Prim.Native.Nat.{_*_, _<_};
+ghost use lib.ListN.{length};
+ghost use Rattle.layout.specs.Geometry.{Sized, mostBlocks};
+ghost use Rattle.layout.specs.Mem.{memOf};
+ghost use Rattle.tracing.specs.Pushing.{bitPlace, PushesBit, Pushes, Bars};
+
+// The number of a record's bit among the marks and the queued bits, or none.
+pub enum Bit {
+    At(usize),
+    Torn,
+}
+
+// The words of a block, by the class less 3.
+const BLOCK_WORDS: [usize; 10] = [2, 4, 8, 16, 32, 64, 128, 256, 512, 1024];
+
+// The bit of the record at a word.
+pub fn bit_of(g: Geometry, mem: &[u32], at: usize) -> Bit
+    requires { ⌜ Sized g (length (now mem)) ⌝ }
+    ensures { λ r. ⌜ r ≡ bitPlace g (memOf g (now (mem .entry))) at ⌝ }
+{
+    if g.segments * layout::SEGMENT_WORDS <= at {
+        return Bit::Torn;
+    }
+    let s = at / layout::SEGMENT_WORDS;
+    let class = layout::segment(g, mem, s * layout::RECORD_WORDS + 1) as usize;
+    if class < 3 {
+        return Bit::Torn;
+    }
+    if 12 < class {
+        return Bit::Torn;
+    }
+    let words = BLOCK_WORDS[class - 3];
+    Bit::At(s * layout::MOST_BLOCKS + at % layout::SEGMENT_WORDS / words)
+}
+
+// Pushes the record of a word and a bit, unless it is marked or queued; false where the stack has no room.
+fn push_bit(g: Geometry, mem: &mut [u32], w: u32, k: usize) -> bool
+    requires { ⌜ (Sized g (length (now mem))) × (k < g .segments * mostBlocks) ⌝ }
+    ensures { λ r. ⌜ PushesBit g (memOf g (now (mem .entry))) w k r (memOf g (now (mem .exit))) ⌝ }
+{
+    let q = k / 32;
+    let b = (k % 32) as u32;
+    if words::bit_of(layout::mark(g, mem, q), b) == 1 {
+        return true;
+    }
+    let bits = layout::queued(g, mem, q);
+    if words::bit_of(bits, b) == 1 {
+        return true;
+    }
+    let count = layout::control(g, mem, 1);
+    if g.segments * layout::MOST_BLOCKS <= count as usize {
+        return false;
+    }
+    layout::set_queued(g, mem, q, words::with_bit(bits, b));
+    layout::set_trace(g, mem, count as usize, w);
+    layout::set_control(g, mem, 1, count + 1);
+    true
+}
+
+// Pushes the record that a word names; false where it has no bit, or the stack no room.
+pub fn push(g: Geometry, mem: &mut [u32], w: u32) -> bool
+    requires { ⌜ Sized g (length (now mem)) ⌝ }
+    ensures { λ r. ⌜ Pushes g (memOf g (now (mem .entry))) w r (memOf g (now (mem .exit))) ⌝ }
+{
+    if w == 0 {
+        return true;
+    }
+    match bit_of(g, mem, (w - 1) as usize) {
+        Bit::Torn => false,
+        Bit::At(k) => push_bit(g, mem, w, k),
+    }
+}
+
+// The write barrier of a store: the new value and then the old, the old, or nothing.
+pub fn barrier(g: Geometry, mem: &mut [u32], duty: Duty, new: u32, old: u32) -> bool
+    requires { ⌜ Sized g (length (now mem)) ⌝ }
+    ensures { λ r. ⌜ Bars g (memOf g (now (mem .entry))) duty new old r (memOf g (now (mem .exit))) ⌝ }
+{
+    match duty {
+        Duty::Nothing => true,
+        Duty::Both => {
+            if push(g, mem, new) {
+                return push(g, mem, old);
+            }
+            false
+        }
+        Duty::Old => push(g, mem, old),
+    }
+}
