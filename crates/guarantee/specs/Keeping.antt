@@ -1,5 +1,5 @@
 -- What stands beside the guarantee: the opening establishes consistency, every call keeps it, over memory that passes the examination and not
--- only along lists from an opening; such memory never meets 13; and "no room" comes exactly when document 01 says so.
+-- only along lists from an opening; such memory never meets 13 and a refusal changes no word of it; and "no room" comes exactly when document 01 says so.
 use mathlib.Core.Path.{_≡_}
 use mathlib.Core.Bool.{false}
 use mathlib.Core.Option.{some}
@@ -11,11 +11,13 @@ use Rattle.classes.specs.declared.SizeClass.the-variants.{Class}
 use Rattle.layout.specs.declared.Geometry.{Geometry}
 use Rattle.layout.specs.Geometry.{wrongSize}
 use Rattle.layout.specs.Mem.{Mem, memOf}
-use Rattle.theory.specs.Calls.{c-make, a-no, refusal}
-use Rattle.model.specs.Calls.{face, exec}
+use Rattle.theory.specs.Calls.{c-make, refusal}
+use Rattle.model.specs.declared.Answer.{Answer}
+use Rattle.model.specs.Answers.{refusalOf}
+use Rattle.model.specs.Calls.{face}
 use Rattle.model.specs.Making.{NoRoom}
 use Rattle.model.specs.Consistent.{Consistent}
-use Rattle.model.specs.Lists.{Element, Meets, Slices, Gets, Chain, left, numberOf}
+use Rattle.model.specs.Lists.{Element, called, Meets, Slices, Gets, Chain, left, numberOf}
 use Rattle.guarantee.specs.Demand3.{Opened, wordsAfter}
 
 -- "the consistency definition that an opening establishes and every call keeps"
@@ -43,12 +45,19 @@ AlwaysConsistent =
     (g : Geometry) (content words : List ℕ) (xs ys : List Element) → Opened g content words → Chain g words (xs ++ ys)
     → Consistent g (memOf g (wordsAfter words xs))
 
--- "10, no room", of a make that no lower number refuses
-pub record NoRoomExactly (g : Geometry) (m : Mem) (k d p n c : ℕ) : Type 0 where
-  pub only : exec g m (c-make k d p n) .0 ≡ a-no 10 → NoRoom g m k c
-  pub whenever : NoRoom g m k c → exec g m (c-make k d p n) .0 ≡ a-no 10
+-- "a refusal changes no word of it"
+abbrev pub RefusedUnchanged : Type 0
+RefusedUnchanged = (g : Geometry) (words : List ℕ) (e : Element) → Applied g words e → (n : ℕ) → numberOf e ≡ some n → left e ≡ words
 
-abbrev pub NoRoomAlways : Type 0
-NoRoomAlways =
-    (g : Geometry) (m : Mem) (k d p n c : ℕ) → Consistent g m → refusal (face m) (c-make k d p n) ≡ 0 → classOf (p + n) ≡ Class c
-    → NoRoomExactly g m k d p n c
+-- "'No room' comes if and only if document 01's condition for it holds and no number that goes before it applies."
+pub record OutOfRoom (g : Geometry) (m : Mem) (k d p n : ℕ) : Type 0 where
+  pub class : ℕ
+  pub lower : refusal (face m) (c-make k d p n) ≡ 0
+  pub sized : classOf (p + n) ≡ Class class
+  pub noRoom : NoRoom g m k class
+
+pub record NoRoomExactly : Type 0 where
+  pub only : (g : Geometry) (words after : List ℕ) (k d p n : ℕ) (r : Answer) → Applied g words (called (c-make k d p n) g words r after)
+      → refusalOf r ≡ some 10 → OutOfRoom g (memOf g words) k d p n
+  pub whenever : (g : Geometry) (words after : List ℕ) (k d p n : ℕ) (r : Answer) → Applied g words (called (c-make k d p n) g words r after)
+      → OutOfRoom g (memOf g words) k d p n → refusalOf r ≡ some 10
