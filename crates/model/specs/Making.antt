@@ -67,12 +67,12 @@ inBlock m taken Torn k d c s p n = (a-no 13, m)
 abbrev pub inSegment : Mem → Mem → ℕ → ℕ → ℕ → ℕ → ℕ → ℕ → Answer × Mem
 inSegment m taken k d c s p n = inBlock m taken (free taken s c (place taken s)) k d c s p n
 
-abbrev pub fromSeat : Geometry → Mem → ℕ → ℕ → ℕ → ℕ → ℕ → Source → Answer × Mem
-fromSeat g m k d c p n (held s) = inSegment m m k d c s p n
-fromSeat g m k d c p n (part s) = inSegment m (takes (pop g m (partStack c)) k c s (place m s)) k d c s p n
-fromSeat g m k d c p n (unused s) = inSegment m (freshened (takes (pop g m freeStack) k c s 0) s c) k d c s p n
-fromSeat g m k d c p n noRoom = (a-no 10, m)
+abbrev pub fromSource : Geometry → Mem → ℕ → ℕ → ℕ → ℕ → ℕ → Source → Answer × Mem
+fromSource g m k d c p n (held s) = inSegment m m k d c s p n
+fromSource g m k d c p n (part s) = inSegment m (takes (pop g m (partStack c)) k c s (place m s)) k d c s p n
+fromSource g m k d c p n (unused s) = inSegment m (freshened (takes (pop g m freeStack) k c s 0) s c) k d c s p n
+fromSource g m k d c p n noRoom = (a-no 10, m)
 
 -- a make of class c by mutator k into root d
 unfoldable pub made : Geometry → Mem → ℕ → ℕ → ℕ → ℕ → ℕ → Answer × Mem
-made g m k d c p n = fromSeat g m k d c p n (sourceOf g m k c)
+made g m k d c p n = fromSource g m k d c p n (sourceOf g m k c)
