@@ -1,12 +1,15 @@
 -- The guarantee: "Nobody who works through script calls can learn that a collector exists." One record with both halves, over every list of
--- calls from an accepted opening of memory of any content to the next accepted one, where of each call only its promise is known.
+-- calls from an accepted opening of memory of any content to the next accepted one, where of each call only its promise is known, and that its slice
+-- keeps its length.
 use mathlib.Core.Path.{_≡_}
 use mathlib.Core.Logic.{_⊎_}
-use mathlib.Core.Bool.{false}
+use mathlib.Core.Bool.{Bool, true, false}
 use mathlib.Core.Option.{none}
 use mathlib.Core.List.{List, [], _∷_, _++_}
-use Prim.Native.Nat.{ℕ, _<_, _^_}
-use lib.ListN.{length, getD}
+use Prim.Native.Nat.{ℕ, _<_}
+use lib.Dec.{eqb}
+use lib.ListN.{length}
+use Rattle.rules.specs.Pick.{pick}
 use Rattle.classes.specs.Shape.{blocksIn}
 use Rattle.layout.specs.declared.Geometry.{Geometry}
 use Rattle.layout.specs.Geometry.{wrongSize}
@@ -14,11 +17,17 @@ use Rattle.layout.specs.Mem.{Mem, memOf}
 use Rattle.theory.specs.Unbounded.{empty, uanswers}
 use Rattle.model.specs.declared.Answer.the-variants.{Ok}
 use Rattle.model.specs.declared.Step.the-variants.{Swept}
-use Rattle.model.specs.Fields.{tag, class}
+use Rattle.model.specs.Fields.{class}
 use Rattle.model.specs.Segments.{usedBit}
 use Rattle.model.specs.Records.{headerOf}
+use Rattle.model.specs.Collector.{isFull}
+use Rattle.model.specs.Consistent.{isFree}
 use Rattle.model.specs.Promise.{OpenPromise}
 use Rattle.model.specs.Lists.{Element, started, stepped, Chain, onward, remainingCalls, remainingAnswers, Beside, beside, BlockReached}
+
+-- "Strike out .. every call refused "size", "no room" or "not now""
+abbrev pub struckOut : ℕ → Bool
+struckOut n = pick (eqb n 1) true (pick (eqb n 10) true (eqb n 11))
 
 -- the unbounded heap at an opening: no record, and none put into a block
 abbrev pub begun : Beside
@@ -31,11 +40,10 @@ wordsAfter words (e ∷ es) = wordsAfter (onward words e) es
 
 -- "Free .. : the block is not in use, or its segment is free."
 abbrev pub BlockFree : Mem → ℕ → ℕ → Type 0
-BlockFree m s b = (usedBit m s b ≡ 0) ⊎ (tag m s ≡ 0)
+BlockFree m s b = (usedBit m s b ≡ 0) ⊎ (isFree m s ≡ true)
 
--- a block of a segment that was full when the cycle began, and that was not reached then
-pub record Garbage (atStart : Mem) (w : Beside) (s b : ℕ) : Type 0 where
-  pub full : tag atStart s ≡ 3
+-- a block of a segment, not reached when the cycle began: "one without a record is not"
+pub record Unreached (atStart : Mem) (w : Beside) (s b : ℕ) : Type 0 where
   pub block : b < blocksIn (class atStart s)
   pub unreached : BlockReached w (headerOf s (class atStart s) b) → ⊥
 
@@ -59,12 +67,20 @@ pub record Opened (g : Geometry) (content words : List ℕ) : Type 0 where
   pub sized : wrongSize g (length content) ≡ false
   pub opening : OpenPromise g content Ok words
   pub long : length words ≡ length content
-  pub fits : (i : ℕ) → getD words i 0 < 2 ^ 32
+
+-- "the remaining answers, one by one and in order, equal those that document 01's endless rack .. gives to the same calls"
+abbrev pub SameAnswers : Type 0
+SameAnswers =
+    (g : Geometry) (content words : List ℕ) (es : List Element) → Opened g content words → Chain g words es
+    → remainingAnswers struckOut es ≡ uanswers empty (remainingCalls struckOut es)
+
+-- "a block in a segment that was full when the cycle began, which no script could then reach, is free once that segment is swept"
+abbrev pub GarbageFreed : Type 0
+GarbageFreed =
+    (g : Geometry) (content words : List ℕ) (es : List Element) → Opened g content words → Chain g words es → (c : SweptIn g es) (s b : ℕ)
+    → isFull (memOf g (c .startBefore)) s ≡ true → Unreached (memOf g (c .startBefore)) (beside struckOut begun (c .before)) s b → s ≡ c .segment
+    → BlockFree (memOf g (c .stepAfter)) s b
 
 pub record Demand3 : Type 0 where
-  -- "the remaining answers, one by one and in order, equal those that document 01's endless rack .. gives to the same calls"
-  pub answers : (g : Geometry) (content words : List ℕ) (es : List Element) → Opened g content words → Chain g words es
-      → remainingAnswers es ≡ uanswers empty (remainingCalls es)
-  -- "a block in a segment that was full when the cycle began, which no script could then reach, is free once that segment is swept"
-  pub freed : (g : Geometry) (content words : List ℕ) (es : List Element) → Opened g content words → Chain g words es → (c : SweptIn g es)
-      → (b : ℕ) → Garbage (memOf g (c .startBefore)) (beside begun (c .before)) (c .segment) b → BlockFree (memOf g (c .stepAfter)) (c .segment) b
+  pub answers : SameAnswers
+  pub frees : GarbageFreed

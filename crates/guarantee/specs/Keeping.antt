@@ -1,7 +1,8 @@
 -- What stands beside the guarantee: the opening establishes consistency, every call keeps it, over memory that passes the examination and not
 -- only along lists from an opening; such memory never meets 13 and a refusal changes no word of it; and "no room" comes exactly when document 01 says so.
 use mathlib.Core.Path.{_≡_}
-use mathlib.Core.Bool.{false}
+use mathlib.Core.Logic.{_⊎_}
+use mathlib.Core.Bool.{true, false}
 use mathlib.Core.Option.{some}
 use mathlib.Core.List.{List, _++_}
 use Prim.Native.Nat.{ℕ, _+_}
@@ -10,14 +11,16 @@ use Rattle.classes.specs.Class.{classOf}
 use Rattle.classes.specs.declared.SizeClass.the-variants.{Class}
 use Rattle.layout.specs.declared.Geometry.{Geometry}
 use Rattle.layout.specs.Geometry.{wrongSize}
-use Rattle.layout.specs.Mem.{Mem, memOf}
+use Rattle.layout.specs.Mem.{Mem, memOf, flat}
 use Rattle.theory.specs.Calls.{c-make, refusal}
 use Rattle.model.specs.declared.Answer.{Answer}
 use Rattle.model.specs.Answers.{refusalOf}
 use Rattle.model.specs.Calls.{face}
 use Rattle.model.specs.Making.{NoRoom}
+use Rattle.model.specs.Opening.{opened}
+use Rattle.model.specs.Run.{Request, run}
 use Rattle.model.specs.Consistent.{Consistent}
-use Rattle.model.specs.Lists.{Element, called, Meets, Slices, Gets, Chain, left, numberOf}
+use Rattle.model.specs.Lists.{Element, called, Meets, KeepsLength, Gets, Chain, lent, left, wrongSized, numberOf}
 use Rattle.guarantee.specs.Demand3.{Opened, wordsAfter}
 
 -- "the consistency definition that an opening establishes and every call keeps"
@@ -29,7 +32,7 @@ pub record Applied (g : Geometry) (words : List ℕ) (e : Element) : Type 0 wher
   pub sized : wrongSize g (length words) ≡ false
   pub consistent : Consistent g (memOf g words)
   pub meets : Meets e
-  pub slices : Slices e
+  pub long : KeepsLength e
   pub gets : Gets g words e
 
 abbrev pub EveryCallKeeps : Type 0
@@ -45,9 +48,10 @@ AlwaysConsistent =
     (g : Geometry) (content words : List ℕ) (xs ys : List Element) → Opened g content words → Chain g words (xs ++ ys)
     → Consistent g (memOf g (wordsAfter words xs))
 
--- "a refusal changes no word of it"
+-- "a refusal changes no word of it": nor does one for a size
 abbrev pub RefusedUnchanged : Type 0
-RefusedUnchanged = (g : Geometry) (words : List ℕ) (e : Element) → Applied g words e → (n : ℕ) → numberOf e ≡ some n → left e ≡ words
+RefusedUnchanged =
+    (g : Geometry) (words : List ℕ) (e : Element) → Meets e → (wrongSized e ≡ true) ⊎ Applied g words e → (n : ℕ) → numberOf e ≡ some n → left e ≡ lent e
 
 -- "'No room' comes if and only if document 01's condition for it holds and no number that goes before it applies."
 pub record OutOfRoom (g : Geometry) (m : Mem) (k d p n : ℕ) : Type 0 where
@@ -61,3 +65,11 @@ pub record NoRoomExactly : Type 0 where
       → refusalOf r ≡ some 10 → OutOfRoom g (memOf g words) k d p n
   pub whenever : (g : Geometry) (words after : List ℕ) (k d p n : ℕ) (r : Answer) → Applied g words (called (c-make k d p n) g words r after)
       → OutOfRoom g (memOf g words) k d p n → refusalOf r ≡ some 10
+
+-- the model's own run, from the words that its opening leaves, is such a list
+pub record OwnRun (g : Geometry) (content : List ℕ) (rs : List Request) : Type 0 where
+  pub opening : Opened g content (flat (opened g (memOf g content)))
+  pub chain : Chain g (flat (opened g (memOf g content))) (run g (flat (opened g (memOf g content))) rs)
+
+abbrev pub RunsItself : Type 0
+RunsItself = (g : Geometry) (content : List ℕ) (rs : List Request) → wrongSize g (length content) ≡ false → OwnRun g content rs

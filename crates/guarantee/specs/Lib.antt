@@ -1,3 +1,4 @@
--- The statement of the guarantee.
+-- The statement of the guarantee, and what stands beside it.
 pub mod Demand3
 pub mod Keeping
+pub mod Instance

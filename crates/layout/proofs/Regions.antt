@@ -2,16 +2,16 @@
 use Prim.Native.Nat.{ℕ, _+_, _-_, _≤_, _<_}
 use mathlib.Core.Path.{_≡_, refl, sym, _∙_, ap, subst}
 use mathlib.Core.Bool.{Bool, true, false, true≢false}
-use mathlib.Core.List.{List, [], append-assoc, append-nil}
+use mathlib.Core.List.{List, [], _∷_, append-assoc, append-nil}
 use native.Mathlib.Omega.{arith}
-use lib.ListN.{length, getD, take, drop, set, replicate, length-take, length-drop, length-replicate, drop-of-length-le}
+use lib.ListN.{length, getD, take, drop, set, replicate, length-append, length-take, length-drop, length-replicate, drop-of-length-le}
 use lib.Seq.{sets, sets-eq, drop-drop, length-take-le}
 use lib.Dec.{ltb}
 use borrow.Rule.Slice.PartMut.{midOf, putMid}
-use borrow.Author.Tests.{ltb-false, eqb-true, not-false}
+use borrow.Author.Tests.{le-ltb, eq-eqb, ltb-false, eqb-true, not-false}
 use Rattle.rules.specs.Pick.{pick}
 use Rattle.layout.specs.declared.Geometry.{Geometry}
-use Rattle.layout.specs.Parts.{parts, joined}
+use Rattle.layout.specs.Parts.{parts, joined, start, lengths}
 use Rattle.layout.specs.Geometry.{lens, len, from, total, regionCount, maxSegments, Sized, wrongSize}
 use Rattle.layout.specs.Mem.{Mem, memOf, flat, ofParts, regions, region, run, withRegion, setRun, clearRegion, Fits}
 use Rattle.layout.proofs.Cut.{read, write, writes, lent, whole, apart, long-at}
@@ -65,6 +65,14 @@ pub memOf-flat : (g : Geometry) (m : Mem) → Fits g m → memOf g (flat m) ≡ 
 unfolding memOf flat
 memOf-flat g m f = ap (λ (ks : List ℕ). ofParts (parts ks (joined (regions m)))) (sym (f .same)) ∙ ap ofParts (apart (regions m))
 
+length-joined : (xs : List (List ℕ)) → length (joined xs) ≡ start (lengths xs) (length xs)
+length-joined [] = refl
+length-joined (x ∷ xs) = length-append x (joined xs) ∙ ap (λ n. length x + n) (length-joined xs)
+
+pub length-flat : (g : Geometry) (m : Mem) → Fits g m → length (flat m) ≡ total g
+unfolding flat
+length-flat g m f = length-joined (regions m) ∙ ap (λ (ks : List ℕ). start ks regionCount) (f .same)
+
 or-false : (b : Bool) {x : Bool} → pick b true x ≡ false → (b ≡ false) × (x ≡ false)
 or-false true e = absurd (true≢false e)
 or-false false e = (refl, e)
@@ -75,6 +83,10 @@ sized g x e =
     let a = or-false (ltb (g .segments) 1) e in
     let b = or-false (ltb maxSegments (g .segments)) (a .1) in
     record { some = ltb-false (g .segments) 1 (a .0); few = ltb-false maxSegments (g .segments) (b .0); is = eqb-true x (total g) (not-false _ (b .1)) }
+
+pub right-size : (g : Geometry) (x : ℕ) → Sized g x → wrongSize g x ≡ false
+unfolding wrongSize
+right-size g x s = rw (le-ltb (g .segments) 1 (s .some), le-ltb maxSegments (g .segments) (s .few), eq-eqb x (total g) (s .is)) refl
 
 -- a slice of the same length
 pub resized : (g : Geometry) (x y : ℕ) → Sized g x → y ≡ x → Sized g y

@@ -14,3 +14,4 @@ pub mod Consistent
 pub mod Answers
 pub mod Promise
 pub mod Lists
+pub mod Run

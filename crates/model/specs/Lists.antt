@@ -1,13 +1,13 @@
 -- Lists of calls from one opening to the next, as document 01's section on the endless rack takes them. An element is a call with what it was
--- lent, its answer, and what it left; all that is known of it is its promise.
+-- lent, its answer, and what it left; all that is known of it is its promise, and that its slice keeps its length.
 use mathlib.Core.Path.{_≡_}
 use mathlib.Core.Logic.{_⊎_}
 use mathlib.Core.Bool.{Bool, true, false, not}
 use mathlib.Core.Option.{Option, some}
 use mathlib.Core.List.{List, [], _∷_}
-use Prim.Native.Nat.{ℕ, _-_, _<_, _^_}
+use Prim.Native.Nat.{ℕ, _-_}
 use lib.Dec.{eqb}
-use lib.ListN.{length, getD}
+use lib.ListN.{length}
 use Rattle.rules.specs.Pick.{pick}
 use Rattle.layout.specs.declared.Geometry.{Geometry}
 use Rattle.layout.specs.Geometry.{len, scratchWords, wrongSize}
@@ -109,10 +109,9 @@ pub record Gets (g : Geometry) (words : List ℕ) (e : Element) : Type 0 where
   pub memory : lent e ≡ words
   pub opening : IsOpening e → ⊥
 
--- a slice keeps its length, and its elements are words of 32 bits
-pub record Slices (e : Element) : Type 0 where
-  pub long : length (left e) ≡ length (lent e)
-  pub words : (i : ℕ) → getD (left e) i 0 < 2 ^ 32
+-- a slice keeps its length
+abbrev pub KeepsLength : Element → Type 0
+KeepsLength e = length (left e) ≡ length (lent e)
 
 -- the memory after an element
 abbrev pub onward : List ℕ → Element → List ℕ
@@ -120,46 +119,10 @@ onward words e = pick (wrongSized e) words (left e)
 
 abbrev pub Chain : Geometry → List ℕ → List Element → Type 0
 Chain g words [] = Unit
-Chain g words (e ∷ es) = Meets e × Slices e × ((wrongSized e ≡ true) ⊎ Gets g words e) × Chain g (onward words e) es
+Chain g words (e ∷ es) = Meets e × KeepsLength e × ((wrongSized e ≡ true) ⊎ Gets g words e) × Chain g (onward words e) es
 
--- ---- "Strike out the collector's calls, the looks, and every call refused "size", "no room" or "not now""
-
-abbrev pub struckNumber : ℕ → Bool
-struckNumber n = pick (eqb n 1) true (pick (eqb n 10) true (eqb n 11))
-
-abbrev pub struck : Answer → Bool
-struck Ok = false
-struck (Number v) = false
-struck (Same b) = false
-struck (Shape p n) = false
-struck (Refused n) = struckNumber n
-
-abbrev pub keepUnless : {A : Type 0} → Bool → A → List A → List A
-keepUnless true a l = l
-keepUnless false a l = a ∷ l
-
--- the mutators' calls that remain, and their answers
-abbrev pub remainingCalls : List Element → List Call
-remainingCalls [] = []
-remainingCalls (called c g before r after ∷ es) = keepUnless (struck r) c (remainingCalls es)
-remainingCalls (started g before r after ∷ es) = remainingCalls es
-remainingCalls (stepped g before r after ∷ es) = remainingCalls es
-remainingCalls (openedBy g before r after ∷ es) = remainingCalls es
-remainingCalls (sawPhase g mem r ∷ es) = remainingCalls es
-remainingCalls (sawStates g mem output r after ∷ es) = remainingCalls es
-remainingCalls (examinedBy g mem scratch r after ∷ es) = remainingCalls es
-
-abbrev pub remainingAnswers : List Element → List theory.Answer
-remainingAnswers [] = []
-remainingAnswers (called c g before r after ∷ es) = keepUnless (struck r) (answerOf r) (remainingAnswers es)
-remainingAnswers (started g before r after ∷ es) = remainingAnswers es
-remainingAnswers (stepped g before r after ∷ es) = remainingAnswers es
-remainingAnswers (openedBy g before r after ∷ es) = remainingAnswers es
-remainingAnswers (sawPhase g mem r ∷ es) = remainingAnswers es
-remainingAnswers (sawStates g mem output r after ∷ es) = remainingAnswers es
-remainingAnswers (examinedBy g mem scratch r after ∷ es) = remainingAnswers es
-
--- ---- the unbounded heap beside the list, and the record last put into each block, by the word of its header
+-- ---- the unbounded heap beside the list, and the record last put into each block, by the word of its header: a word that is no header now may
+-- keep a record of an earlier class, which no root or pointer leads to any more
 
 pub record Beside : Type 0 where
   pub heap : Unbounded
@@ -190,22 +153,58 @@ putIf (Same b) c g after r put = put
 putIf (Shape p n) c g after r put = put
 putIf (Refused n) c g after r put = put
 
-abbrev pub besideOne : Beside → Element → Beside
-besideOne w (called c g before r after) =
-    pick (struck r) w (record { heap = uexec (w .heap) c .1; put = putIf r c g after (w .heap .count) (w .put) })
-besideOne w (started g before r after) = w
-besideOne w (stepped g before r after) = w
-besideOne w (openedBy g before r after) = w
-besideOne w (sawPhase g mem r) = w
-besideOne w (sawStates g mem output r after) = w
-besideOne w (examinedBy g mem scratch r after) = w
-
-abbrev pub beside : Beside → List Element → Beside
-beside w [] = w
-beside w (e ∷ es) = beside (besideOne w e) es
-
 -- "A block is reached when the record last put there is; one without a record is not."
 pub record BlockReached (w : Beside) (at : ℕ) : Type 0 where
   pub number : ℕ
   pub last : w .put at ≡ some number
   pub reached : UReached (w .heap) number
+
+-- ---- "Strike out the collector's calls, the looks, and every call refused ..": the numbers are the guarantee's
+
+abbrev pub keepUnless : {A : Type 0} → Bool → A → List A → List A
+keepUnless true a l = l
+keepUnless false a l = a ∷ l
+
+module _ (out : ℕ → Bool) where
+  abbrev pub struck : Answer → Bool
+  struck Ok = false
+  struck (Number v) = false
+  struck (Same b) = false
+  struck (Shape p n) = false
+  struck (Refused n) = out n
+
+  -- the mutators' calls that remain, and their answers
+  abbrev pub remainingCalls : List Element → List Call
+  remainingCalls [] = []
+  remainingCalls (called c g before r after ∷ es) = keepUnless (struck r) c (remainingCalls es)
+  remainingCalls (started g before r after ∷ es) = remainingCalls es
+  remainingCalls (stepped g before r after ∷ es) = remainingCalls es
+  remainingCalls (openedBy g before r after ∷ es) = remainingCalls es
+  remainingCalls (sawPhase g mem r ∷ es) = remainingCalls es
+  remainingCalls (sawStates g mem output r after ∷ es) = remainingCalls es
+  remainingCalls (examinedBy g mem scratch r after ∷ es) = remainingCalls es
+
+  abbrev pub remainingAnswers : List Element → List theory.Answer
+  remainingAnswers [] = []
+  remainingAnswers (called c g before r after ∷ es) = keepUnless (struck r) (answerOf r) (remainingAnswers es)
+  remainingAnswers (started g before r after ∷ es) = remainingAnswers es
+  remainingAnswers (stepped g before r after ∷ es) = remainingAnswers es
+  remainingAnswers (openedBy g before r after ∷ es) = remainingAnswers es
+  remainingAnswers (sawPhase g mem r ∷ es) = remainingAnswers es
+  remainingAnswers (sawStates g mem output r after ∷ es) = remainingAnswers es
+  remainingAnswers (examinedBy g mem scratch r after ∷ es) = remainingAnswers es
+
+  -- the unbounded heap "is fed the arguments of the script calls that remain"
+  abbrev pub besideOne : Beside → Element → Beside
+  besideOne w (called c g before r after) =
+      pick (struck r) w (record { heap = uexec (w .heap) c .1; put = putIf r c g after (w .heap .count) (w .put) })
+  besideOne w (started g before r after) = w
+  besideOne w (stepped g before r after) = w
+  besideOne w (openedBy g before r after) = w
+  besideOne w (sawPhase g mem r) = w
+  besideOne w (sawStates g mem output r after) = w
+  besideOne w (examinedBy g mem scratch r after) = w
+
+  abbrev pub beside : Beside → List Element → Beside
+  beside w [] = w
+  beside w (e ∷ es) = beside (besideOne w e) es

@@ -8,7 +8,7 @@ use Rattle.theory.proofs.Agree.{Agree, agree-inv, agree-comp, agree-sim
 use Rattle.theory.proofs.CallKeeps.{Good, Alloc, Dropped, Agrees, nextPut, exec-ok}
 use Rattle.theory.specs.Machine.{State}
 use Rattle.theory.specs.MachineCalls.{exec, stepBy}
-use Rattle.theory.proofs.Runs.{Pick, step-ok}
+use Rattle.theory.proofs.CollectorKeeps.{Pick, step-ok}
 use Rattle.theory.specs.Calls.{Call, Answer}
 use Rattle.theory.specs.Unbounded.{Unbounded, uexec}
 

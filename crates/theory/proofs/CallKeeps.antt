@@ -28,12 +28,12 @@ use Rattle.layout.specs.Geometry.{rootCount, mutatorCount}
 
 -- ---- facts out of a refusal that is 0
 
-require-ok : (b : Bool) (n k : ℕ) → 0 < n → require b n k ≡ 0 → (b ≡ true) × (k ≡ 0)
+pub require-ok : (b : Bool) (n k : ℕ) → 0 < n → require b n k ≡ 0 → (b ≡ true) × (k ≡ 0)
 unfolding require
 require-ok true n k h e = (refl, e)
 require-ok false n k h e = absurd (omega arith)
 
-lt-of : (m n : ℕ) → ltb m n ≡ true → m < n
+pub lt-of : (m n : ℕ) → ltb m n ≡ true → m < n
 lt-of m n e = ltb→lt m n (subst T (sym e) tt)
 
 -- ---- both sides show the same face
@@ -114,21 +114,21 @@ pub record Alloc (segmentOf : ℕ → ℕ) (alloc : State → ℕ → ℕ → �
   pub free : (i p n b : ℕ) → alloc st i p n ≡ some b → st .used b ≡ false
   pub sound : (i p n b : ℕ) → alloc st i p n ≡ some b → st .collect (segmentOf b) ≡ false
 
-by-ok : (F : Face) (i k : ℕ) → ifInside F i k ≡ 0 → (i < mutatorCount) × (F .attached i ≡ true) × (F .inside i ≡ true) × (k ≡ 0)
+pub by-ok : (F : Face) (i k : ℕ) → ifInside F i k ≡ 0 → (i < mutatorCount) × (F .attached i ≡ true) × (F .inside i ≡ true) × (k ≡ 0)
 by-ok F i k e =
     let a = require-ok (ltb i mutatorCount) 2 _ (omega arith) e in
     let b = require-ok (F .attached i) 4 _ (omega arith) (a .1) in
     let c = require-ok (F .inside i) 5 _ (omega arith) (b .1) in
     (lt-of i 32 (a .0), b .0, c .0, c .1)
 
-root-ok : (d k : ℕ) → require (ltb d rootCount) 6 k ≡ 0 → (d < rootCount) × (k ≡ 0)
+pub root-ok : (d k : ℕ) → require (ltb d rootCount) 6 k ≡ 0 → (d < rootCount) × (k ≡ 0)
 root-ok d k e = let a = require-ok (ltb d rootCount) 6 k (omega arith) e in (lt-of d 16 (a .0), a .1)
 
-shape-ok : (b c : Bool) (v : Option ℕ) (g : ℕ → ℕ × ℕ) (k : ℕ × ℕ → ℕ) (a : ℕ) → b ≡ true → c ≡ true → v ≡ some a → ifRecord (shapeIf b c (Option·map g v)) k ≡ 0 → k (g a) ≡ 0
+pub shape-ok : (b c : Bool) (v : Option ℕ) (g : ℕ → ℕ × ℕ) (k : ℕ × ℕ → ℕ) (a : ℕ) → b ≡ true → c ≡ true → v ≡ some a → ifRecord (shapeIf b c (Option·map g v)) k ≡ 0 → k (g a) ≡ 0
 unfolding ifRecord
 shape-ok b c v g k a p q e h = rw (p, q, e) at h
 
-lt-true : (m n : ℕ) → m < n → ltb m n ≡ true
+pub lt-true : (m n : ℕ) → m < n → ltb m n ≡ true
 lt-true m n h = go (ltb m n) (lt→ltb m n h)
   where
     go : (b : Bool) → T b → b ≡ true

@@ -8,7 +8,7 @@ use Prim.Native.Nat.{ℕ, zero, suc, _≤_}
 use native.Mathlib.Omega.{arith}
 use native.Mathlib.Decide.{ℕ-discrete}
 use Rattle.theory.proofs.Graph.{reach-ind, reach-map, reach-empty, clash, safe-map}
-use Rattle.theory.proofs.Invariant.{Tracing, Quiet, Core, Inv, reached-live, in-safe, none-some}
+use Rattle.theory.proofs.Invariant.{Acked, Tracing, Quiet, Core, Inv, reached-live, in-safe, none-some}
 use Rattle.theory.specs.Machine.{setValues, State, Holds, Root, Points, Grey, Live, Reached, Covered, attach, detach, setInside, setAcks, acknowledge, check, start, setPhase, trace, sweepSegment}
 use Rattle.theory.proofs.Updates.{upd-cases, upd-same, upd-other, tab-mem, tab-inv, pushes-keep, pushes-inv, pushes-did, pushes-stack, StackOk, Nodup, In}
 use Rattle.theory.specs.TraceStack.{tab, pushes}
@@ -31,7 +31,7 @@ module _ (segmentOf : ℕ → ℕ) (st : State) (inv : Inv segmentOf st) (i n : 
     (keep : (x : ℕ) → List·Memᴰ x (st .stack) → List·Memᴰ x l)
     (back : (x : ℕ) → List·Memᴰ x l → List·Memᴰ x (st .stack) ⊎ Holds st i x)
     (still : Quiet (st .phase) → l ≡ []) (low : st .phase ≡ sync1 → n ≤ 1)
-    (did : (b : ℕ) → 2 ≤ n → Holds st i b → In (st .marked) l b) where
+    (did : (b : ℕ) → Acked n → Holds st i b → In (st .marked) l b) where
   acks-up : (j : ℕ) → st .acks j ≤ setAcks st i n l .acks j
   acks-up j = go (upd-cases (st .acks) i n j)
     where
@@ -45,7 +45,7 @@ module _ (segmentOf : ℕ → ℕ) (st : State) (inv : Inv segmentOf st) (i n : 
   acks-safe : (x : ℕ) → Covered st x → Covered (setAcks st i n l) x
   acks-safe x h = safe-map (λ x m. m) (λ x g. inr (root (keep x g))) (λ x y p w e. inl (w, e)) h
 
-  acks-m1 : Core st → (j b : ℕ) → 2 ≤ upd (st .acks) i n j → Holds st j b → Covered (setAcks st i n l) b
+  acks-m1 : Core st → (j b : ℕ) → Acked (upd (st .acks) i n j) → Holds st j b → Covered (setAcks st i n l) b
   acks-m1 c j b q h = go (upd-cases (st .acks) i n j)
     where
       go : ((j ≡ i) × (upd (st .acks) i n j ≡ n)) ⊎ ((j ≢ i) × (upd (st .acks) i n j ≡ st .acks j)) → Covered (setAcks st i n l) b
@@ -85,7 +85,7 @@ module _ (segmentOf : ℕ → ℕ) (st : State) (inv : Inv segmentOf st) (i : �
       l : List ℕ
       l = pushes (st .marked) (tab rootCount (st .root i)) (st .stack)
 
-      did : (b : ℕ) → 2 ≤ 2 → Holds st i b → In (st .marked) l b
+      did : (b : ℕ) → Acked 2 → Holds st i b → In (st .marked) l b
       did b _ h = pushes-did (st .marked) (tab rootCount (st .root i)) (st .stack) b (Memᴰ·cast (sym (h .3)) (tab-mem 16 (st .root i) (h .0) (h .2)))
 
   first-acknowledge : st .phase ≡ sync1 → st .acks i ≤ 1 → Inv segmentOf (setAcks st i 1 (st .stack))
@@ -306,7 +306,7 @@ module _ (segmentOf : ℕ → ℕ) (st : State) (inv : Inv segmentOf st) (i : �
     first = detach-low;
     second = λ e j o. subst (λ a. 1 ≤ a) (sym (detach-acks j o)) (inv .second e j (detach-on j o));
     all = λ e j o. subst (λ a. 2 ≤ a) (sym (detach-acks j o)) (inv .all e j (detach-on j o));
-    core = λ t. record { m1 = λ j b q h. inv .core t .m1 j b (subst (λ a. 2 ≤ a) (detach-acks j (h .1)) q) (detach-holds j b h); m2 = λ x y p. inv .core t .m2 x y (detach-live p) };
+    core = λ t. record { m1 = λ j b q h. inv .core t .m1 j b (subst Acked (detach-acks j (h .1)) q) (detach-holds j b h); m2 = λ x y p. inv .core t .m2 x y (detach-live p) };
     kept = λ e b p. inv .kept e b (detach-reached p);
   }
 

@@ -1,47 +1,16 @@
 -- The invariant of the machine, and that the calls that set a root keep it. Assumes nothing.
 use mathlib.Core.Path.{_≡_, sym, _∙_, subst}
 use mathlib.Core.Logic.{_⊎_, inl, inr, ⊎-elim}
-use mathlib.Core.Bool.{true, false}
+use mathlib.Core.Bool.{true}
 use mathlib.Core.Option.{Option, none, some, Option·none-ne-some}
-use mathlib.Core.List.{[]}
-use Prim.Native.Nat.{ℕ, _≤_, _<_}
+use Prim.Native.Nat.{ℕ, _<_}
 use Rattle.theory.proofs.Graph.{reach-map, safe-edge}
 use Rattle.theory.specs.Reach.{Protected, root, next}
 use Rattle.theory.specs.Machine.{State, Holds, Root, Points, Grey, LiveRoot, Live, Reached, Covered, setRoot}
-use Rattle.theory.proofs.Updates.{upd2-cases, StackOk, In}
-use Rattle.theory.specs.Phases.{Phase, idle, sync1, sync2, mark, sweep}
+use Rattle.theory.proofs.Updates.{upd2-cases, In}
 use Rattle.theory.specs.Update.{upd2}
 use Rattle.layout.specs.Geometry.{rootCount}
-
-abbrev pub Tracing : Phase → Type 0
-Tracing idle = ⊥
-Tracing sync1 = Unit {0}
-Tracing sync2 = Unit {0}
-Tracing mark = Unit {0}
-Tracing sweep = ⊥
-
-abbrev pub Quiet : Phase → Type 0
-Quiet idle = Unit {0}
-Quiet sync1 = ⊥
-Quiet sync2 = ⊥
-Quiet mark = ⊥
-Quiet sweep = Unit {0}
-
--- the tricolour invariant
-pub record Core (st : State) : Type 0 where
-  pub m1 : (i b : ℕ) → 2 ≤ st .acks i → Holds st i b → Covered st b
-  pub m2 : (x y : ℕ) → Live st x → st .marked x ≡ true → Points st x y → Covered st y
-
-pub record Inv (segmentOf : ℕ → ℕ) (st : State) : Type 0 where
-  pub valid : (b : ℕ) → Live st b → st .used b ≡ true
-  pub stack : StackOk (st .marked) (st .stack)
-  pub quiet : Quiet (st .phase) → st .stack ≡ []
-  pub blank : st .phase ≡ sync1 → (b : ℕ) → Live st b → st .marked b ≡ false
-  pub first : st .phase ≡ sync1 → (i : ℕ) → st .acks i ≤ 1
-  pub second : st .phase ≡ sync2 → (i : ℕ) → st .attached i ≡ true → 1 ≤ st .acks i
-  pub all : st .phase ≡ mark → (i : ℕ) → st .attached i ≡ true → 2 ≤ st .acks i
-  pub core : Tracing (st .phase) → Core st
-  pub kept : st .phase ≡ sweep → (b : ℕ) → Reached st b → st .collect (segmentOf b) ≡ true → st .marked b ≡ true
+pub use Rattle.theory.specs.Invariant.{Tracing, Quiet, Acked, Core, Inv}
 
 -- ---- small facts
 
@@ -75,7 +44,7 @@ module _ (segmentOf : ℕ → ℕ) (st : State) (inv : Inv segmentOf st) (i k : 
     pub root-live : {b : ℕ} → Live (setRoot st i k v) b → Live st b
     root-live p = reach-map (λ x h. ⊎-elim (λ (h′ : Root (setRoot st i k v) x). reached-live st (root-reached (root h′))) (λ g. root (inr g)) h) (λ x y q e. inl e) p
 
-    pub root-inv : ((b : ℕ) → v ≡ some b → Tracing (st .phase) → 2 ≤ st .acks i → Covered st b) → Inv segmentOf (setRoot st i k v)
+    pub root-inv : ((b : ℕ) → v ≡ some b → Tracing (st .phase) → Acked (st .acks i) → Covered st b) → Inv segmentOf (setRoot st i k v)
     root-inv s = record {
       valid = λ b p. inv .valid b (root-live p);
       stack = inv .stack;
@@ -85,7 +54,7 @@ module _ (segmentOf : ℕ → ℕ) (st : State) (inv : Inv segmentOf st) (i k : 
       second = inv .second;
       all = inv .all;
       core = λ t. record {
-        m1 = λ j b a h. ⊎-elim (inv .core t .m1 j b a) (λ q. s b (q .1) t (subst (λ z. 2 ≤ st .acks z) (q .0) a)) (root-holds j b h);
+        m1 = λ j b a h. ⊎-elim (inv .core t .m1 j b a) (λ q. s b (q .1) t (subst (λ z. Acked (st .acks z)) (q .0) a)) (root-holds j b h);
         m2 = λ x y p. inv .core t .m2 x y (root-live p);
       };
       kept = λ e b p. inv .kept e b (root-reached p);

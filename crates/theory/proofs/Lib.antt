@@ -9,5 +9,5 @@ pub mod Simulation
 pub mod Completeness
 pub mod Agree
 pub mod CallKeeps
-pub mod Runs
+pub mod CollectorKeeps
 pub mod Bridge

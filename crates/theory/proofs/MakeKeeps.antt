@@ -7,7 +7,7 @@ use mathlib.Core.List.{List}
 use Prim.Native.Nat.{ℕ, zero, suc, _≤_, _<_}
 use native.Mathlib.Omega.{arith}
 use Rattle.theory.proofs.Graph.{reach-ind, clash, prot-map}
-use Rattle.theory.proofs.Invariant.{Tracing, Core, Inv, reached-live, prot-live, none-some}
+use Rattle.theory.proofs.Invariant.{Acked, Tracing, Core, Inv, reached-live, prot-live, none-some}
 use Rattle.theory.specs.Machine.{State, Holds, Points, LiveRoot, Live, Reached, Covered, make}
 use Rattle.theory.proofs.Updates.{upd-cases, upd-same, upd-other, upd-hit, upd2-cases}
 use Rattle.theory.specs.Phases.{Phase, idle, sync1, sync2, mark, sweep, black}
@@ -66,7 +66,7 @@ module _ (segmentOf : ℕ → ℕ) (st : State) (inv : Inv segmentOf st) (i d b 
   sm x l (inr p) = prot-map (λ x g. inr (root g))
       (λ x y p w e. inl (mark-other x (live-other x (prot-live st p)) ∙ w, edge-on x y (live-other x (prot-live st p)) e)) p
 
-  new-safe : (p : Phase) → st .phase ≡ p → Tracing p → 2 ≤ st .acks i → Covered after b
+  new-safe : (p : Phase) → st .phase ≡ p → Tracing p → Acked (st .acks i) → Covered after b
   new-safe sync1 e t q = absurd (omega (arith, inv .first e i))
   new-safe sync2 e t q = inl (upd-same (st .marked) b _ ∙ black-two _ _ q (inl e))
   new-safe mark e t q = inl (upd-same (st .marked) b _ ∙ black-two _ _ q (inr e))

@@ -9,6 +9,7 @@ use Prim.Native.Nat.{ℕ, zero, suc, _<_}
 use native.Mathlib.Omega.{arith}
 use native.Mathlib.Decide.{ℕ-discrete}
 use Rattle.theory.specs.Update.{pick, upd, upd2}
+pub use Rattle.theory.specs.Invariant.{Nodup, StackOk}
 
 -- ---- point updates
 
@@ -80,14 +81,6 @@ tab-inv {A} (suc n) f {a} m = go (λ q. tab-inv n f q) (List·Memᴰ·append-cas
     go r (inr q) = (n, omega arith, sym (List·Memᴰ·eq-of-singleton q))
 
 -- ---- the stack
-
-abbrev pub Nodup : List ℕ → Type 0
-Nodup [] = Unit {0}
-Nodup (x ∷ l) = (¬ List·Memᴰ x l) × Nodup l
-
-pub record StackOk (m : ℕ → Bool) (l : List ℕ) : Type 0 where
-  pub white : (x : ℕ) → List·Memᴰ x l → m x ≡ false
-  pub nodup : Nodup l
 
 pub push-keep : (m : ℕ → Bool) (r : Option ℕ) (l : List ℕ) {x : ℕ} → List·Memᴰ x l → List·Memᴰ x (push m r l)
 unfolding push

@@ -8,3 +8,4 @@ pub mod Unbounded
 pub mod TraceStack
 pub mod Machine
 pub mod MachineCalls
+pub mod Invariant

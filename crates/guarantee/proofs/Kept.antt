@@ -1,0 +1,135 @@
+-- Every call of the model keeps what it must: the calls, start and step of the crates below, together. Assumes nothing.
+use mathlib.Core.Path.{_≡_, refl, sym, _∙_, subst}
+use mathlib.Core.Bool.{Bool, true, false}
+use mathlib.Core.Option.{Option, some}
+use Prim.Native.Nat.{ℕ, _-_, zero, suc, _+_, _≤_, _<_}
+use native.Mathlib.Omega.{arith}
+use lib.Dec.{eqb, leb}
+use borrow.Author.Tests.{eqb-true, eqb-false, leb-true}
+use Rattle.rules.specs.Pick.{pick}
+use Rattle.classes.specs.Class.{classOf, maxFields, firstClass, classCount, recordBytes}
+use Rattle.classes.specs.declared.SizeClass.{SizeClass}
+use Rattle.classes.specs.declared.SizeClass.the-variants.{Class, TooBig}
+use Rattle.classes.proofs.Smallest.{class-limit, is-smallest}
+use Rattle.layout.specs.declared.Geometry.{Geometry}
+use Rattle.layout.specs.Geometry.{mutatorCount, rootCount}
+use Rattle.layout.specs.Mem.{Mem}
+use Rattle.theory.specs.Phases.{Phase, idle, sync1, sync2, mark, sweep}
+use Rattle.theory.specs.Calls.{Call, c-attach, c-detach, c-check, c-leave, c-enter, c-spawn, c-make, c-load, c-store, c-copy, c-clear, c-put, c-get, c-same, c-shape, Answer, refusal}
+use Rattle.theory.proofs.CallKeeps.{by-ok, root-ok, require-ok}
+use Rattle.theory.proofs.Agree.{agree-inv}
+use Rattle.model.specs.Fields.{phase, holding}
+use Rattle.model.specs.Segments.{count, top, partStack, freeStack, free}
+use Rattle.model.specs.Records.{segmentOf, headerOf}
+use Rattle.model.specs.Making.{held, part, unused, noRoom, sourceOf, inBlock, inSegment, fromSource, made}
+use Rattle.model.specs.Calls.{isAttached, face, act, ofClass}
+use Rattle.model.specs.Collector.{lowest, stepOf, stepIn}
+use Rattle.model.specs.Consistent.{Consistent, IsClass}
+use Rattle.refine_view.specs.View.{view}
+use Rattle.refine_view.specs.Kept.{Sizes, Moves, Matches, ActKept, StepKept, AllKept}
+use Rattle.refine_view.proofs.Invariants.{to-inv, consistent-of}
+use Rattle.refine_view.proofs.Keeping.{agree-self, matches-by, moves-self, call-kept}
+use Rattle.refine_roots.proofs.Calls.{load-kept, copy-kept, clear-kept, get-kept, same-kept, shape-kept}
+use Rattle.refine_roots.proofs.Sides.{enter-kept}
+use Rattle.refine_roots.proofs.Coming.{attach-kept, spawn-kept}
+use Rattle.refine_roots.proofs.Puts.{put-kept}
+use Rattle.refine_trace.proofs.Calls.{check-kept, leave-kept, store-kept}
+use Rattle.refine_trace.proofs.Steps.{handshake1-moves, handshake2-moves, trace-moves}
+use Rattle.refine_taking.proofs.Taken.{Taken}
+use Rattle.refine_taking.proofs.TakePart.{taken-part}
+use Rattle.refine_taking.proofs.TakeFree.{taken-free}
+use Rattle.refine_taking.proofs.DetachKept.{detach-kept}
+use Rattle.refine_making.proofs.Handed.{handed}
+use Rattle.refine_sweep.proofs.Sweeping.{picked, sweep-moves}
+use Rattle.refine_start.proofs.Started.{start-kept}
+use Rattle.theory.specs.Machine as machine
+use Rattle.theory.specs.MachineCalls as calls
+
+-- ---- make: from a held segment, or from one that is taken first
+
+module _ (g : Geometry) (m : Mem) (s : Sizes g m) (c : Consistent g m) (k d cl p n : ℕ) (l : k < mutatorCount) (a : isAttached m k ≡ true) (h : d < rootCount) (e : classOf (p + n) ≡ Class cl) where
+  abbrev By : (machine.State → ℕ → ℕ → ℕ → Option ℕ) → machine.State → Answer × machine.State
+  By alloc st = calls.act alloc st (c-make k d p n)
+
+  is-class : IsClass cl
+  is-class = let q = is-smallest classCount firstClass (recordBytes (p + n)) cl e in (q .1 .from, q .0)
+
+  -- out of a memory in which the mutator holds segment r
+  module _ (m₁ : Mem) (r : ℕ) (t : Taken g m m₁ k cl r) where
+    in-order : Consistent g m₁
+    in-order = consistent-of g m₁ (t .sizes) (t .structure) (agree-inv segmentOf (view m) (view m₁) (t .prepared) (to-inv g m s c))
+
+    from-held : Matches g m (inSegment m m₁ k d cl r p n) By
+    from-held =
+        let x = handed g m₁ (t .sizes) in-order k d cl r p n l (t .known) h e (t .holds) in
+        subst (λ f. Matches g m (inBlock m m₁ f k d cl r p n) By) (sym (x .1)) (record {
+          ready = m₁;
+          prepared = t .prepared;
+          shows = t .shows;
+          block = some (headerOf r cl (x .0));
+          alloc = x .2;
+          answer = refl;
+          moves = record { structure = x .3 .structure; agree = x .3 .agree; steady = λ i q y. let z = x .3 .steady i q y in let w = t .steady i q (z .0) in (w .0, z .1 ∙ w .1) };
+        })
+
+  by-source : Matches g m (fromSource g m k d cl p n (sourceOf g m k cl)) By
+  by-source = go (eqb (holding m k cl) 0) (eqb (count g m (partStack cl)) 0) (eqb (count g m freeStack) 0) refl refl refl
+    where
+      some-of : (x : ℕ) → eqb x 0 ≡ false → 1 ≤ x
+      some-of zero q = absurd (eqb-false 0 0 q refl)
+      some-of (suc x) q = omega arith
+
+      own : holding m k cl ≡ suc (holding m k cl - 1) → Taken g m m k cl (holding m k cl - 1)
+      own q = record { sizes = s; structure = moves-self g m c .structure; prepared = agree-self m; shows = refl; steady = λ i q y. (y, refl); holds = q; known = a }
+
+      go : (x y z : Bool) → eqb (holding m k cl) 0 ≡ x → eqb (count g m (partStack cl)) 0 ≡ y → eqb (count g m freeStack) 0 ≡ z
+          → Matches g m (fromSource g m k d cl p n (pick x (pick y (pick z noRoom (unused (top g m freeStack))) (part (top g m (partStack cl)))) (held (holding m k cl - 1)))) By
+      go false y z q i j = let w = some-of (holding m k cl) q in from-held m (holding m k cl - 1) (own (omega arith))
+      go true false z q i j = from-held _ _ (taken-part g m s c k cl l a is-class (eqb-true _ _ q) (some-of _ i))
+      go true true false q i j = from-held _ _ (taken-free g m s c k cl l a is-class (eqb-true _ _ q) (some-of _ j))
+      go true true true q i j = matches-by g m _ _ refl (moves-self g m c)
+
+make-kept : (g : Geometry) (m : Mem) → Sizes g m → Consistent g m → (k d p n : ℕ) → refusal (face m) (c-make k d p n) ≡ 0 → ActKept g m (c-make k d p n)
+unfolding act made
+make-kept g m s c k d p n e =
+    let x = by-ok (face m) k _ e in
+    let y = root-ok d _ (x .3) in
+    let z = require-ok (leb (p + n) maxFields) 9 0 (omega arith) (y .1) in
+    go (classOf (p + n)) refl (x .0) (x .1) (y .0) (leb-true _ _ (z .0))
+  where
+    go : (o : SizeClass) → classOf (p + n) ≡ o → k < mutatorCount → isAttached m k ≡ true → d < rootCount → p + n ≤ maxFields → Matches g m (ofClass m o (λ cl. made g m k d cl p n)) (λ alloc st. calls.act alloc st (c-make k d p n))
+    go (Class cl) q l a h f = by-source g m s c k d cl p n l a h q
+    go TooBig q l a h f = absurd (let w = class-limit (p + n) q in omega arith)
+
+-- ---- all calls
+
+calls-kept : (g : Geometry) (m : Mem) → Sizes g m → Consistent g m → (c : Call) → refusal (face m) c ≡ 0 → ActKept g m c
+calls-kept g m s c (c-attach k) = attach-kept g m s c k
+calls-kept g m s c (c-spawn k p i) = spawn-kept g m s c k p i
+calls-kept g m s c (c-detach k) = detach-kept g m s c k
+calls-kept g m s c (c-check k) = check-kept g m s c k
+calls-kept g m s c (c-leave k) = leave-kept g m s c k
+calls-kept g m s c (c-enter k) = enter-kept g m s c k
+calls-kept g m s c (c-make k d p n) = make-kept g m s c k d p n
+calls-kept g m s c (c-load k d i f) = load-kept g m s c k d i f
+calls-kept g m s c (c-store k i f j) = store-kept g m s c k i f j
+calls-kept g m s c (c-copy k d i) = copy-kept g m s c k d i
+calls-kept g m s c (c-clear k d) = clear-kept g m s c k d
+calls-kept g m s c (c-put k i f v) = put-kept g m s c k i f v
+calls-kept g m s c (c-get k i f) = get-kept g m s c k i f
+calls-kept g m s c (c-same k i j) = same-kept g m s c k i j
+calls-kept g m s c (c-shape k i) = shape-kept g m s c k i
+
+step-kept : (g : Geometry) (m : Mem) → Sizes g m → Consistent g m → StepKept g m
+unfolding stepOf
+step-kept g m s c = record { picked = picked g m s c; moves = go (phase m) refl }
+  where
+    go : (p : Phase) → phase m ≡ p → Moves g m (stepIn p g m .1) (calls.stepBy segmentOf (λ _. lowest m (g .segments)) p (view m) .1)
+    go idle e = moves-self g m c
+    go sync1 e = handshake1-moves g m s c (lowest m (g .segments)) e
+    go sync2 e = handshake2-moves g m s c (lowest m (g .segments)) e
+    go mark e = trace-moves g m s c (lowest m (g .segments)) e
+    go sweep e = sweep-moves g m s c e
+
+pub all-kept : AllKept
+all-kept = record { calls = λ g m s c k. call-kept g m k c (calls-kept g m s c k); starts = start-kept; steps = step-kept }

@@ -1,0 +1,47 @@
+-- That the guarantee is not empty: a list with a put, a cycle whose start finds an unreached block in use in a full segment, the sweep of that
+-- segment, and a get afterwards that answers the number put before.
+use mathlib.Core.Path.{_≡_}
+use mathlib.Core.Bool.{true}
+use mathlib.Core.List.{List, [], _∷_, _++_}
+use Prim.Native.Nat.{ℕ}
+use Rattle.layout.specs.declared.Geometry.{Geometry}
+use Rattle.layout.specs.Mem.{memOf}
+use Rattle.theory.specs.Calls.{c-load, c-put, c-get}
+use Rattle.model.specs.declared.Answer.the-variants.{Ok, Number}
+use Rattle.model.specs.Segments.{usedBit}
+use Rattle.model.specs.Collector.{isFull}
+use Rattle.model.specs.Lists.{Element, called, Chain, remainingCalls, beside}
+use Rattle.guarantee.specs.Demand3.{struckOut, begun, Unreached, SweptIn, Opened}
+
+pub record Instance : Type 0 where
+  pub geometry : Geometry
+  pub content : List ℕ
+  pub words : List ℕ
+  pub calls : List Element
+  pub opened : Opened geometry content words
+  pub chain : Chain geometry words calls
+  pub cycle : SweptIn geometry calls
+  -- a block of the segment that was swept, which was full when the cycle began: in use then, and not reached
+  pub full : isFull (memOf geometry (cycle .startBefore)) (cycle .segment) ≡ true
+  pub block : ℕ
+  pub unreached : Unreached (memOf geometry (cycle .startBefore)) (beside struckOut begun (cycle .before)) (cycle .segment) block
+  pub used : usedBit (memOf geometry (cycle .startBefore)) (cycle .segment) block ≡ 1
+  -- a number, not the 0 that a record begins with, put before the cycle and got after the sweep
+  pub mutator : ℕ
+  pub root : ℕ
+  pub field : ℕ
+  pub value : ℕ
+  pub notZero : value ≡ 0 → ⊥
+  pub early : List Element
+  pub late : List Element
+  pub putBefore : List ℕ
+  pub putAfter : List ℕ
+  pub puts : cycle .before ≡ early ++ (called (c-put mutator root field value) geometry putBefore Ok putAfter ∷ late)
+  -- between the sweep and the get the record is loaded again, through a pointer of another one, and nothing else is done
+  pub between : List Element
+  pub other : ℕ
+  pub link : ℕ
+  pub reloads : remainingCalls struckOut between ≡ c-load mutator root other link ∷ []
+  pub getBefore : List ℕ
+  pub getAfter : List ℕ
+  pub gets : cycle .rest ≡ between ++ (called (c-get mutator root field) geometry getBefore (Number value) getAfter ∷ [])

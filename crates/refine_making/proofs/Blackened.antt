@@ -1,0 +1,132 @@
+-- The record is marked where it is born black; with that, all the words that a make leaves. Assumes nothing.
+use mathlib.Core.Path.{_≡_, refl, sym, _∙_, ap}
+use mathlib.Core.Bool.{Bool, true, false, true≢false}
+use mathlib.Core.Logic.{_⊎_, inl, inr}
+use mathlib.Core.List.{List}
+use Prim.Native.Nat.{ℕ, suc, _+_, _-_, _*_, _/_, _<_}
+use native.Mathlib.Omega.{arith}
+use lib.ListN.{length, getD}
+use Rattle.rules.specs.Pick.{pick}
+use Rattle.words.specs.Bits.{bitAt, setBit}
+use Rattle.words.proofs.Lists.{set-there, set-elsewhere}
+use Rattle.classes.specs.Class.{firstClass}
+use Rattle.layout.specs.declared.Geometry.{Geometry}
+use Rattle.layout.specs.Geometry.{mutatorWords}
+use Rattle.layout.specs.Mem.{Mem, setMutator, setHeap, setRun}
+use Rattle.theory.specs.Phases.{black}
+use Rattle.model.specs.Fields.{phase, acks, setRoot, tag, class, place, owner}
+use Rattle.model.specs.Records.{headerOf, written, setMarked, bitIn, bitOf}
+use Rattle.model.specs.Making.{blackened, handedOut}
+use Rattle.refine_view.specs.Kept.{Sizes}
+use Rattle.refine_view.proofs.Words.{Recorded, recorded-as}
+use Rattle.refine_view.proofs.Blocks.{header-bit, blocks-most}
+use Rattle.refine_view.proofs.Frames.{beside}
+use Rattle.refine_view.proofs.Lengths.{sizes-mutator, sizes-heap, sizes-heap-run, sizes-marked}
+use Rattle.refine_making.proofs.Request.{Request}
+use Rattle.refine_making.proofs.Result.{Moved, StillHeld, NowFull, Result}
+use Rattle.refine_making.proofs.Advanced.{moved}
+use Rattle.refine_making.proofs.Written as words
+
+module _ (g : Geometry) (m : Mem) (k d cl r b p n : ℕ) (q : Request g m k d cl r b p n) (m₁ : Mem) (v : Moved g m m₁ k cl r b) where
+  abbrev h : ℕ
+  h = headerOf r cl b
+
+  abbrev m₂ : Mem
+  m₂ = written m₁ h p n
+
+  sizes₂ : Sizes g m₂
+  sizes₂ = sizes-heap-run g _ (sizes-heap g m₁ (v .sizes) _ _) _ _
+
+  class₁ : class m₁ r ≡ cl
+  class₁ = go (v .segment)
+    where
+      go : StillHeld m m₁ k cl r b ⊎ NowFull m₁ k cl r → class m₁ r ≡ cl
+      go (inl x) = x .recorded .class
+      go (inr x) = x .recorded .class
+
+  class₂ : class m₂ r ≡ cl
+  unfolding setHeap setRun
+  class₂ = class₁
+
+  bit₂ : bitOf m₂ h ≡ bitIn r b
+  bit₂ = header-bit cl (q .isClass) r b (q .below) m₂ class₂
+
+  -- ---- the marks, born black
+
+  room : bitOf m₂ h / 32 < length (m₁ .marks)
+  room = let z = v .sizes .marks in let a = q .inside in let c = q .below in let e = blocks-most cl (q .isClass) in let f = bit₂ in omega arith
+
+  marks₁ : (i : ℕ) → bitAt (m₁ .marks) i ≡ bitAt (m .marks) i
+  marks₁ i = ap (λ (ws : List ℕ). bitAt ws i) (v .marks)
+
+  mark-there : bitAt (setBit (m₁ .marks) (bitOf m₂ h)) (bitIn r b) ≡ 1
+  mark-there = ap (λ i. bitAt (setBit (m₁ .marks) (bitOf m₂ h)) i) (sym bit₂) ∙ set-there (m₁ .marks) (bitOf m₂ h) room
+
+  mark-other : (i : ℕ) → (i ≡ bitIn r b → ⊥) → bitAt (setBit (m₁ .marks) (bitOf m₂ h)) i ≡ bitAt (m .marks) i
+  mark-other i f = set-elsewhere (m₁ .marks) (bitOf m₂ h) room i (λ e. f (e ∙ bit₂)) ∙ marks₁ i
+
+  -- ---- the segment's record
+
+  module _ (m₄ : Mem) (same : m₄ .segments ≡ m₁ .segments) (table : m₄ .mutators ≡ words.rooted g m k d cl r b p n q m₁ v) where
+    record-on : {x t c a o : ℕ} → Recorded m₁ x t c a o → Recorded m₄ x t c a o
+    record-on z = recorded-as m₁ m₄ _ _ _ _ _ same z
+
+    others-on : (x : ℕ) → (x ≡ r → ⊥) → Recorded m₄ x (tag m x) (class m x) (place m x) (owner m x)
+    others-on x f = record-on (v .others x f)
+
+    segment-on : StillHeld m m₄ k cl r b ⊎ NowFull m₄ k cl r
+    segment-on = go (v .segment)
+      where
+        go : StillHeld m m₁ k cl r b ⊎ NowFull m₁ k cl r → StillHeld m m₄ k cl r b ⊎ NowFull m₄ k cl r
+        go (inl x) = inl (record {
+          recorded = record-on (x .recorded);
+          held = ap (λ (ws : List ℕ). getD ws (k * mutatorWords + 18 + (cl - firstClass)) 0) table ∙ words.still-held g m k d cl r b p n q m₁ v ∙ x .held;
+          next = x .next;
+          after = x .after;
+          below = x .below;
+          unused = x .unused;
+        })
+        go (inr x) = inr (record {
+          recorded = record-on (x .recorded);
+          held = ap (λ (ws : List ℕ). getD ws (k * mutatorWords + 18 + (cl - firstClass)) 0) table ∙ words.still-held g m k d cl r b p n q m₁ v ∙ x .held;
+        })
+
+  -- ---- all of it
+
+  -- with the marks that are left
+  ended : (ma : List ℕ) → Sizes g (beside m₂ (m₂ .control) (m₂ .mutators) ma (m₂ .queued) (m₂ .trace) (m₂ .heap)) → ((i : ℕ) → (i ≡ bitIn r b → ⊥) → bitAt ma i ≡ bitAt (m .marks) i) → (black (phase m) (acks m k) ≡ true → bitAt ma (bitIn r b) ≡ 1)
+      → (black (phase m) (acks m k) ≡ false → bitAt ma (bitIn r b) ≡ bitAt (m .marks) (bitIn r b)) → Result g m (setRoot (beside m₂ (m₂ .control) (m₂ .mutators) ma (m₂ .queued) (m₂ .trace) (m₂ .heap)) k d (suc h)) k d cl r b p n
+  unfolding setHeap setRun setMutator
+  ended ma z o x y = record {
+    sizes = sizes-mutator g _ z _ _;
+    control = v .control;
+    stacks = v .stacks;
+    bitmaps = v .bitmaps;
+    queued = v .queued;
+    trace = v .trace;
+    words = words.words-on g m k d cl r b p n q m₁ v;
+    named = words.at-root g m k d cl r b p n q m₁ v;
+    others = others-on _ refl refl;
+    segment = segment-on _ refl refl;
+    header = words.at-header g m k d cl r b p n q m₁ v;
+    fields = words.at-field g m k d cl r b p n q m₁ v;
+    before = words.at-before g m k d cl r b p n q m₁ v;
+    behind = words.at-behind g m k d cl r b p n q m₁ v;
+    marks = o;
+    born = x;
+    unborn = y;
+  }
+
+  finished : (t : Bool) → black (phase m₁) (acks m₁ k) ≡ t → Result g m (setRoot (pick t (setMarked m₂ h) m₂) k d (suc h)) k d cl r b p n
+  unfolding setHeap setRun setMarked setMutator
+  finished true e = ended _ (sizes-marked g m₂ sizes₂ h) mark-other (λ x. mark-there) (λ x. absurd (true≢false (sym e ∙ words.black-same g m k d cl r b p n q m₁ v ∙ x)))
+  finished false e = ended _ sizes₂ (λ i f. marks₁ i) (λ x. absurd (true≢false (sym x ∙ sym (words.black-same g m k d cl r b p n q m₁ v) ∙ e))) (λ x. marks₁ (bitIn r b))
+
+  filled : Result g m (setRoot (blackened m₂ k h) k d (suc h)) k d cl r b p n
+  unfolding setHeap setRun
+  filled = finished (black (phase m₁) (acks m₁ k)) refl
+
+-- the memory that is handed out
+pub result : (g : Geometry) (m : Mem) → Sizes g m → (k d cl r b p n : ℕ) → Request g m k d cl r b p n → Result g m (handedOut m k d cl r b p n) k d cl r b p n
+unfolding handedOut
+result g m s k d cl r b p n q = filled g m k d cl r b p n q _ (moved g m s k d cl r b p n q)

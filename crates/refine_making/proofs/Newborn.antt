@@ -1,0 +1,84 @@
+-- The record that a make has made: its fields, its block, its mark. Assumes nothing.
+use mathlib.Core.Path.{_≡_, refl, _∙_, ap}
+use mathlib.Core.Bool.{Bool, true, false, _&&_}
+use Prim.Native.Nat.{ℕ, _+_, _-_, _%_, _<_}
+use native.Mathlib.Omega.{arith}
+use lib.ListN.{replicate}
+use borrow.Author.Tests.{eq-eqb, ne-eqb}
+use Rattle.words.specs.Bits.{bitAt}
+use Rattle.layout.specs.declared.Geometry.{Geometry}
+use Rattle.layout.specs.Geometry.{segmentWords}
+use Rattle.layout.specs.Mem.{Mem, heapWord}
+use Rattle.theory.specs.Phases.{black}
+use Rattle.theory.specs.TraceStack.{tab}
+use Rattle.theory.proofs.Invariant.{Tracing}
+use Rattle.model.specs.Fields.{phase, acks, tag, class}
+use Rattle.model.specs.Segments.{usedBit}
+use Rattle.model.specs.Records.{pointers, values, pointer, value, marked, segmentOf, blockOf, bitIn, bitOf, headerOf, blockWords}
+use Rattle.model.specs.Reaching.{isMarked}
+use Rattle.model.specs.Consistent.{Consistent}
+use Rattle.refine_view.specs.View.{valuesOf, isHead, isUsed}
+use Rattle.refine_view.proofs.Bools.{and-both, ne-not}
+use Rattle.refine_view.proofs.Blocks.{header-segment, header-block, header-bit, header-class, header-head, block-within}
+use Rattle.refine_view.proofs.Tables.{tab-zeros}
+use Rattle.refine_making.proofs.Request.{Request}
+use Rattle.refine_making.proofs.Result.{Result}
+use Rattle.refine_making.proofs.Standing as standing
+use Rattle.refine_making.proofs.Unused as unused
+
+module _ (g : Geometry) (m : Mem) (c : Consistent g m) (m′ : Mem) (k d cl r b p n : ℕ) (q : Request g m k d cl r b p n) (a : Result g m m′ k d cl r b p n) where
+  abbrev h : ℕ
+  h = headerOf r cl b
+
+  -- ---- the new record
+
+  small : n < 65536
+  small = let z = block-within cl (q .isClass) b (q .below) in let w = q .fits in omega arith
+
+  pub pointers-there : pointers m′ h ≡ p
+  pointers-there = let e = a .header in let l = small in omega arith
+
+  pub values-there : values m′ h ≡ n
+  values-there = let e = a .header in let l = small in omega arith
+
+  pub pointer-there : (f : ℕ) → f < p → pointer m′ h f ≡ 0
+  pointer-there f l = a .fields f (omega arith)
+
+  value-there : (f : ℕ) → f < n → value m′ h f ≡ 0
+  value-there f l = ap (λ z. heapWord m′ (h + 1 + z + f)) pointers-there ∙ (let e : h + 1 + p + f ≡ h + 1 + (p + f) = omega arith in ap (heapWord m′) e) ∙ a .fields (p + f) (omega arith)
+
+  pub fields-there : valuesOf m′ h ≡ replicate n 0
+  fields-there = ap (λ z. tab z (value m′ h)) values-there ∙ tab-zeros n (value m′ h) value-there
+
+  pub class-at : class m′ (segmentOf h) ≡ cl
+  class-at = header-class cl (q .isClass) r b (q .below) m′ (standing.class-there g m m′ k d cl r b p n q a)
+
+  pub aligned-there : h % segmentWords % blockWords (class m′ (segmentOf h)) ≡ 0
+  aligned-there = header-head cl (q .isClass) r b (q .below) m′ (standing.class-there g m m′ k d cl r b p n q a)
+
+  bit-there : bitOf m′ h ≡ bitIn r b
+  bit-there = header-bit cl (q .isClass) r b (q .below) m′ (standing.class-there g m m′ k d cl r b p n q a)
+
+  pub used-there : usedBit m′ (segmentOf h) (blockOf m′ h) ≡ 1
+  used-there =
+      ap (λ z. usedBit m′ z (blockOf m′ h)) (header-segment cl (q .isClass) r b (q .below))
+      ∙ ap (usedBit m′ r) (header-block cl (q .isClass) r b (q .below) m′ (standing.class-there g m m′ k d cl r b p n q a))
+      ∙ standing.used-there g m m′ k d cl r b p n q a
+
+  pub tag-at : tag m′ (segmentOf h) ≡ 0 → ⊥
+  tag-at e =
+      let z : tag m′ (segmentOf h) ≡ tag m′ r = ap (tag m′) (header-segment cl (q .isClass) r b (q .below)) in
+      let l = standing.tag-there g m m′ k d cl r b p n q a .0 in
+      omega arith
+
+  pub is-used-there : isUsed m′ h ≡ true
+  is-used-there = and-both _ _ (ne-not _ _ tag-at) (eq-eqb _ _ used-there)
+
+  pub mark-there : Tracing (phase m) → (isHead m′ h && isMarked m′ h) ≡ black (phase m) (acks m k)
+  mark-there t = rw (eq-eqb (h % segmentWords % blockWords (class m′ (segmentOf h))) 0 aligned-there) (go (black (phase m) (acks m k)) refl)
+    where
+      go : (x : Bool) → black (phase m) (acks m k) ≡ x → isMarked m′ h ≡ x
+      go true e = eq-eqb (marked m′ h) 1 (ap (bitAt (m′ .marks)) bit-there ∙ a .born e)
+      go false e =
+          let z : marked m′ h ≡ 0 = ap (bitAt (m′ .marks)) bit-there ∙ a .unborn e ∙ unused.not-marked g m c k d cl r b p n q t in
+          ne-eqb (marked m′ h) 1 (λ y. omega arith)

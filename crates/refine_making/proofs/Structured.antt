@@ -1,0 +1,131 @@
+-- The words that a make leaves are in order: mutators, stacks, records, trace stack and marks. Assumes nothing.
+use mathlib.Core.Path.{_≡_, sym, _∙_, ap, subst}
+use mathlib.Core.Logic.{_⊎_, inl, inr, _≢_}
+use Prim.Native.Nat.{ℕ, suc, _+_, _-_, _≤_, _<_}
+use native.Mathlib.Omega.{arith}
+use Rattle.rules.proofs.Order.{same-or-not}
+use Rattle.words.specs.Bits.{bitAt}
+use Rattle.classes.specs.Class.{classOf}
+use Rattle.classes.specs.Shape.{blocksIn}
+use Rattle.classes.specs.declared.SizeClass.the-variants.{Class}
+use Rattle.layout.specs.declared.Geometry.{Geometry}
+use Rattle.layout.specs.Geometry.{mutatorCount}
+use Rattle.layout.specs.Mem.{Mem}
+use Rattle.theory.specs.Phases.{sync1, black}
+use Rattle.theory.proofs.Agree.{live-back}
+use Rattle.model.specs.Fields.{phase, state, acks, holding, tag, class, owner}
+use Rattle.model.specs.Segments.{freeStack, partStack}
+use Rattle.model.specs.Records.{values, segmentOf, blockOf, bitIn, headerOf}
+use Rattle.model.specs.Reaching.{Live}
+use Rattle.model.specs.Consistent.{Consistent, IsClass, MutatorOk, StackOk, isFree, isPart, RecordOk, BlockInUse, MarksOf}
+use Rattle.refine_view.specs.View.{view}
+use Rattle.refine_view.specs.Kept.{Sizes, QueuedOk, MarksIn, Structure}
+use Rattle.refine_view.proofs.Blocks.{header-inside}
+use Rattle.refine_view.proofs.Entries.{mutators-table}
+use Rattle.refine_view.proofs.OtherStacks.{stack-by}
+use Rattle.refine_view.proofs.Segments.{part-same}
+use Rattle.refine_view.proofs.Carried.{record-by, use-by, queued-by, marks-by}
+use Rattle.refine_view.proofs.Seeing.{live-on}
+use Rattle.refine_view.proofs.Invariants.{structure-of}
+use Rattle.refine_making.proofs.Request.{Request}
+use Rattle.refine_making.proofs.Result.{StillHeld, NowFull, Result}
+use Rattle.refine_making.proofs.Agreeing.{after, agree, old-or-new, header-on}
+use Rattle.refine_making.proofs.Segments.{segments-ok}
+use Rattle.refine_making.proofs.Standing as standing
+use Rattle.refine_making.proofs.Newborn as newborn
+
+module _ (g : Geometry) (m : Mem) (s : Sizes g m) (c : Consistent g m) (m′ : Mem) (k d cl r b p n : ℕ) (q : Request g m k d cl r b p n) (a : Result g m m′ k d cl r b p n) where
+  abbrev h : ℕ
+  h = headerOf r cl b
+
+  -- ---- mutators
+
+  new : (y : ℕ) → holding m′ k cl ≡ suc y → StillHeld m m′ k cl r b ⊎ NowFull m′ k cl r → (y < g .segments) × (tag m′ y ≡ 2) × (class m′ y ≡ cl) × (owner m′ y ≡ k)
+  new y e (inl w) =
+      let t = w .held in
+      let y-is : y ≡ r = omega arith in
+      let o = w .recorded in
+      (subst (λ t. t < g .segments) (sym y-is) (q .inside), ap (tag m′) y-is ∙ o .tag, ap (class m′) y-is ∙ o .class, ap (owner m′) y-is ∙ o .owner)
+  new y e (inr w) = let t = w .held in absurd (omega arith)
+
+  mutators-ok : (j : ℕ) → j < mutatorCount → MutatorOk g m′ j
+  mutators-ok = mutators-table g m m′ (c .mutators) k cl (standing.state-same g m m′ k d cl r b p n q a) (standing.acks-same g m m′ k d cl r b p n q a)
+      (λ j z i w. let away : j ≡ k → ⊥ = λ u. q .attached (ap (state m) (sym u) ∙ z) in a .words j i w (λ u v. away u) (λ u v. away u))
+      (standing.holding-same g m m′ k d cl r b p n q a)
+      (λ j x y f t u v. a .others y (λ w. f (sym v ∙ ap (owner m) w ∙ q .ofMutator) (sym u ∙ ap (class m) w ∙ q .ofClass)))
+      (λ y e. new y e (a .segment))
+
+  -- ---- stacks of segments
+
+  free-ok : StackOk g m′ freeStack (isFree m′)
+  free-ok = stack-by g m m′ freeStack (isFree m) (isFree m′) (a .stacks) (c .freeSegments) (λ x l. standing.tag-test g m m′ k d cl r b p n q a 0 x (λ z. omega arith) (λ z. omega arith))
+
+  part-ok : (x : ℕ) → IsClass x → StackOk g m′ (partStack x) (isPart m′ x)
+  part-ok x i = stack-by g m m′ (partStack x) (isPart m x) (isPart m′ x) (a .stacks) (c .partSegments x i) (λ y l. part-same m m′ x y (standing.tag-test g m m′ k d cl r b p n q a 1 y (λ z. omega arith) (λ z. omega arith)) (standing.class-same g m m′ k d cl r b p n q a y))
+
+  -- ---- records
+
+  old-record : (x : ℕ) → Live m x → x ≢ h → RecordOk g m′ x
+  old-record x l f = let o = c .records x l in record-by m m′ x (standing.class-same g m m′ k d cl r b p n q a (segmentOf x)) g o (standing.tag-used g m m′ k d cl r b p n q a (segmentOf x) (o .used)) (standing.used-on g m m′ k d cl r b p n q a (segmentOf x) (blockOf m x) (o .block)) (header-on g m s c m′ k d cl r b p n q a x l f)
+
+  new-record : RecordOk g m′ h
+  new-record = record {
+    inside = let z = header-inside cl (q .isClass) r b (q .below) g (q .inside) in let w = q .fits in omega arith;
+    used = newborn.tag-at g m c m′ k d cl r b p n q a;
+    aligned = newborn.aligned-there g m c m′ k d cl r b p n q a;
+    block = newborn.used-there g m c m′ k d cl r b p n q a;
+    sized = ap (λ z. classOf (z + values m′ h)) (newborn.pointers-there g m c m′ k d cl r b p n q a) ∙ ap (λ z. classOf (p + z)) (newborn.values-there g m c m′ k d cl r b p n q a) ∙ q .sized ∙ ap Class (sym (newborn.class-at g m c m′ k d cl r b p n q a));
+  }
+
+  records-ok : (x : ℕ) → Live m′ x → RecordOk g m′ x
+  records-ok x l = go (old-or-new g m s c m′ k d cl r b p n q a x (live-back segmentOf (after g m s c m′ k d cl r b p n q a) (view m′) (agree g m s c m′ k d cl r b p n q a) (live-on m′ l)))
+    where
+      go : (Live m x × (x ≢ h)) ⊎ (x ≡ h) → RecordOk g m′ x
+      go (inl y) = old-record x (y .0) (y .1)
+      go (inr e) = subst (RecordOk g m′) (sym e) new-record
+
+  -- ---- the trace stack
+
+  trace-ok : QueuedOk g m′
+  trace-ok = queued-by g m m′ (structure-of g m c .trace) (standing.count-same g m m′ k d cl r b p n q a) (standing.trace-same g m m′ k d cl r b p n q a) (a .queued) (λ x e. standing.bit-same g m m′ k d cl r b p n q a x)
+
+  -- ---- marks
+
+  use-on : (x i : ℕ) → BlockInUse m x i → BlockInUse m′ x i
+  use-on x i u = use-by m m′ x i u (standing.class-same g m m′ k d cl r b p n q a x) (standing.tag-used g m m′ k d cl r b p n q a x (u .used)) (standing.used-on g m m′ k d cl r b p n q a x i (u .block))
+
+  use-new : BlockInUse m′ r b
+  use-new = record {
+    used = λ e. let z = standing.tag-there g m m′ k d cl r b p n q a .0 in omega arith;
+    within = subst (λ z. b < blocksIn z) (sym (standing.class-there g m m′ k d cl r b p n q a)) (q .below);
+    block = standing.used-there g m m′ k d cl r b p n q a;
+  }
+
+  marks-of : (test : ℕ → Type 0) → MarksOf g m test → MarksOf g m′ test
+  marks-of test o x i l t y e = go (same-or-not (bitIn x i) (bitIn r b))
+    where
+      go : (bitIn x i ≡ bitIn r b) ⊎ (bitIn x i ≡ bitIn r b → ⊥) → BlockInUse m′ x i
+      go (inl z) =
+          let w = standing.bit-there g m m′ k d cl r b p n q a x i y z in
+          subst (λ u. BlockInUse m′ u i) (sym (w .0)) (subst (BlockInUse m′ r) (sym (w .1)) use-new)
+      go (inr z) = use-on x i (o x i l t y (sym (a .marks (bitIn x i) z) ∙ e))
+
+  -- nothing is born black before the second handshake
+  blank : phase m ≡ sync1 → MarksIn sync1 g m → MarksIn sync1 g m′
+  blank e o i l = go (same-or-not i (bitIn r b))
+    where
+      go : (i ≡ bitIn r b) ⊎ (i ≡ bitIn r b → ⊥) → bitAt (m′ .marks) i ≡ 0
+      go (inl z) = ap (bitAt (m′ .marks)) z ∙ a .unborn (ap (λ w. black w (acks m k)) e) ∙ ap (bitAt (m .marks)) (sym z) ∙ o i l
+      go (inr z) = a .marks i z ∙ o i l
+
+  pub structure : Structure g m′
+  structure = record {
+    phases = subst (λ z. z ≤ 4) (sym (standing.phase-word g m m′ k d cl r b p n q a)) (c .phases);
+    segments = segments-ok g m c m′ k d cl r b p n q a;
+    mutators = mutators-ok;
+    freeSegments = free-ok;
+    partSegments = part-ok;
+    records = records-ok;
+    trace = trace-ok;
+    marks = subst (λ ph. MarksIn ph g m′) (sym (standing.phase-same g m m′ k d cl r b p n q a)) (marks-by g m m′ (λ x t. standing.tag-back g m m′ k d cl r b p n q a x t .0) marks-of (phase m) blank (structure-of g m c .marks));
+  }

@@ -1,0 +1,78 @@
+-- The record is written into its block and named by the root: the words of the heap and of the mutators. Assumes nothing.
+use mathlib.Core.Path.{_≡_, _∙_, ap}
+use mathlib.Core.Logic.{inl, inr}
+use mathlib.Core.List.{List}
+use Prim.Native.Nat.{ℕ, suc, _+_, _-_, _*_, _≤_, _<_}
+use native.Mathlib.Omega.{arith}
+use lib.ListN.{length, set, getD, replicate, length-set, length-replicate, getD-replicate}
+use lib.Seq.{sets, getD-set-same, getD-set-other}
+use Rattle.classes.specs.Class.{firstClass}
+use Rattle.layout.specs.declared.Geometry.{Geometry}
+use Rattle.layout.specs.Geometry.{mutatorWords}
+use Rattle.layout.specs.Mem.{Mem, mutatorWord, heapWord}
+use Rattle.theory.specs.Phases.{black}
+use Rattle.model.specs.Fields.{phase, rootsFrom, heldFrom, acks, holding}
+use Rattle.model.specs.Records.{headerOf, written}
+use Rattle.model.specs.Rules.{phaseOf}
+use Rattle.refine_view.proofs.Windows.{sets-in, sets-out}
+use Rattle.refine_view.proofs.Blocks.{header-inside}
+use Rattle.refine_making.proofs.Request.{Request}
+use Rattle.refine_making.proofs.Result.{Moved}
+
+module _ (g : Geometry) (m : Mem) (k d cl r b p n : ℕ) (q : Request g m k d cl r b p n) (m₁ : Mem) (v : Moved g m m₁ k cl r b) where
+  abbrev pub h : ℕ
+  h = headerOf r cl b
+
+  abbrev pub m₂ : Mem
+  m₂ = written m₁ h p n
+
+  -- ---- the words of the heap
+
+  inside : h + (1 + (p + n)) ≤ length (m₁ .heap)
+  inside = let z = v .sizes .heap in let a = header-inside cl (q .isClass) r b (q .below) g (q .inside) in let f = q .fits in omega arith
+
+  zeros : length {A = ℕ} (replicate (p + n) 0) ≡ p + n
+  zeros = length-replicate {A = ℕ} (p + n) 0
+
+  abbrev pub written-heap : List ℕ
+  written-heap = sets (set (m₁ .heap) h (p * 65536 + n)) (h + 1) (replicate (p + n) 0)
+
+  pub at-header : getD written-heap h 0 ≡ p * 65536 + n
+  at-header = sets-out (replicate (p + n) 0) _ (h + 1) h (inl (omega arith)) ∙ getD-set-same (m₁ .heap) h (p * 65536 + n) 0 (let z = inside in omega arith)
+
+  pub at-field : (i : ℕ) → i < p + n → getD written-heap (h + 1 + i) 0 ≡ 0
+  at-field i l = let z = inside in let y = length-set (m₁ .heap) h (p * 65536 + n) in let w = zeros in sets-in (replicate (p + n) 0) (set (m₁ .heap) h (p * 65536 + n)) (h + 1) i (omega arith) (omega arith) ∙ getD-replicate (p + n) i 0 0 l
+
+  old-word : (i : ℕ) → getD (m₁ .heap) i 0 ≡ heapWord m i
+  old-word i = ap (λ (ws : List ℕ). getD ws i 0) (v .heap)
+
+  pub at-before : (i : ℕ) → i < h → getD written-heap i 0 ≡ heapWord m i
+  at-before i l = sets-out (replicate (p + n) 0) _ (h + 1) i (inl (omega arith)) ∙ getD-set-other (m₁ .heap) h i (p * 65536 + n) 0 (λ e. omega arith) ∙ old-word i
+
+  pub at-behind : (i : ℕ) → h + (p + n) < i → getD written-heap i 0 ≡ heapWord m i
+  at-behind i l = sets-out (replicate (p + n) 0) _ (h + 1) i (inr (let z = zeros in omega arith)) ∙ getD-set-other (m₁ .heap) h i (p * 65536 + n) 0 (λ e. omega arith) ∙ old-word i
+
+  -- ---- the words of the mutators
+
+  abbrev pub rooted : List ℕ
+  rooted = set (m₁ .mutators) (k * mutatorWords + rootsFrom + d) (suc h)
+
+  pub at-root : getD rooted (k * mutatorWords + rootsFrom + d) 0 ≡ suc h
+  at-root = let z = v .sizes .mutators in let a = q .few in let e = q .within in getD-set-same (m₁ .mutators) (k * mutatorWords + rootsFrom + d) (suc h) 0 (omega arith)
+
+  not-root : (j o : ℕ) → o < mutatorWords → (j ≡ k → o ≡ rootsFrom + d → ⊥) → getD rooted (j * mutatorWords + o) 0 ≡ mutatorWord m₁ (j * mutatorWords + o)
+  not-root j o l f = let e = q .within in getD-set-other (m₁ .mutators) (k * mutatorWords + rootsFrom + d) (j * mutatorWords + o) (suc h) 0 (λ e. f (omega arith) (omega arith))
+
+  pub still-held : getD rooted (k * mutatorWords + heldFrom + (cl - firstClass)) 0 ≡ holding m₁ k cl
+  still-held =
+      let a = q .within in
+      let b = q .isClass .0 in
+      getD-set-other (m₁ .mutators) (k * mutatorWords + rootsFrom + d) (k * mutatorWords + heldFrom + (cl - firstClass)) (suc h) 0 (λ e. omega arith)
+
+  pub words-on : (j o : ℕ) → o < mutatorWords → (j ≡ k → o ≡ heldFrom + (cl - firstClass) → ⊥) → (j ≡ k → o ≡ rootsFrom + d → ⊥) → getD rooted (j * mutatorWords + o) 0 ≡ mutatorWord m (j * mutatorWords + o)
+  words-on j o l f e = not-root j o l e ∙ v .words j o l f
+
+  pub black-same : black (phase m₁) (acks m₁ k) ≡ black (phase m) (acks m k)
+  black-same =
+      let a : acks m₁ k ≡ acks m k = v .words k 1 (omega arith) (λ x y. omega arith) in
+      ap (λ (ws : List ℕ). black (phaseOf (getD ws 0 0)) (acks m₁ k)) (v .control) ∙ ap (black (phase m)) a

@@ -1,0 +1,25 @@
+-- The call enter: a mutator's side set. Assumes nothing.
+use mathlib.Core.Path.{_≡_, refl}
+use Prim.Native.Nat.{ℕ}
+use native.Mathlib.Omega.{arith}
+use lib.Dec.{ltb}
+use Rattle.layout.specs.declared.Geometry.{Geometry}
+use Rattle.layout.specs.Geometry.{mutatorCount}
+use Rattle.layout.specs.Mem.{Mem}
+use Rattle.theory.specs.Calls.{c-enter, refusal}
+use Rattle.theory.proofs.CallKeeps.{require-ok, lt-of}
+use Rattle.model.specs.Fields.{inside}
+use Rattle.model.specs.Calls.{isAttached, face, act}
+use Rattle.model.specs.Consistent.{Consistent}
+use Rattle.refine_view.specs.Kept.{Sizes, ActKept}
+use Rattle.refine_view.proofs.Bools.{not-eq}
+use Rattle.refine_view.proofs.Invariants.{structure-of}
+use Rattle.refine_view.proofs.Keeping.{matches-by}
+use Rattle.refine_view.proofs.Sides.{side-moves}
+
+pub enter-kept : (g : Geometry) (m : Mem) → Sizes g m → Consistent g m → (k : ℕ) → refusal (face m) (c-enter k) ≡ 0 → ActKept g m (c-enter k)
+unfolding act
+enter-kept g m s c k e =
+    let p = require-ok (ltb k mutatorCount) 2 _ (omega arith) e in
+    let q = require-ok (isAttached m k) 4 _ (omega arith) (p .1) in
+    matches-by g m _ _ refl (side-moves g m s (structure-of g m c) k inside (lt-of k 32 (p .0)) (not-eq _ _ (q .0)) (omega arith) (omega arith))

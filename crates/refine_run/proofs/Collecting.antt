@@ -1,0 +1,90 @@
+-- Start and step keep the lengths of the regions, over memory of any content. Assumes nothing.
+use mathlib.Core.Bool.{Bool, true, false}
+use mathlib.Core.Option.{Option, none, some}
+use Prim.Native.Nat.{ℕ, zero, suc, _-_, _*_}
+use lib.Dec.{eqb}
+use Rattle.rules.specs.Pick.{pick}
+use Rattle.classes.specs.Shape.{blocksIn, bitmapWords}
+use Rattle.layout.specs.declared.Geometry.{Geometry}
+use Rattle.layout.specs.Geometry.{mutatorCount}
+use Rattle.layout.specs.Mem.{Mem, traceWord}
+use Rattle.bitmap_write.specs.Ready.{adopted}
+use Rattle.theory.specs.Phases.{Phase, idle, sync1, sync2, mark, sweep}
+use Rattle.theory.specs.Calls.{Answer, a-ok, a-no}
+use Rattle.model.specs.Rules.{phaseNumber}
+use Rattle.model.specs.Fields.{phase, traceCount, outside, state, class}
+use Rattle.model.specs.Segments.{setState, freeStack, partStack, stacked, above, bitmap, marksOf}
+use Rattle.model.specs.Mutators.{acknowledged}
+use Rattle.model.specs.Collector.{anyFull, started, startIn, startOf, outsideAnswered, waiting, moves, traces, lowest, keptBy, rebuiltBy, swept, sweeps, stepIn, stepOf}
+use Rattle.refine_view.specs.Kept.{Sizes}
+use Rattle.refine_view.proofs.Lengths.{sizes-control, sizes-bitmap, sizes-state}
+use Rattle.refine_view.proofs.Operations.{sizes-pick, sizes-traced, sizes-acknowledged, sizes-stacked, sizes-started}
+use Rattle.model.specs.declared.SegmentState.the-variants as segment
+
+module _ (g : Geometry) where
+  -- ---- start
+
+  either-start : (t : Bool) (m : Mem) → Sizes g m → Sizes g (pick {A = Answer × Mem} t (a-ok, started g m) (a-no 12, m) .1)
+  either-start true m z = sizes-started g m z
+  either-start false m z = z
+
+  sizes-startIn : (p : Phase) (m : Mem) → Sizes g m → Sizes g (startIn p g m .1)
+  sizes-startIn idle m z = either-start (anyFull m (g .segments)) m z
+  sizes-startIn sync1 m z = z
+  sizes-startIn sync2 m z = z
+  sizes-startIn mark m z = z
+  sizes-startIn sweep m z = z
+
+  pub sizes-start : (m : Mem) → Sizes g m → Sizes g (startOf g m .1)
+  unfolding startOf
+  sizes-start m z = sizes-startIn (phase m) m z
+
+  -- ---- step
+
+  sizes-answered : (m : Mem) → Sizes g m → (n : ℕ) → Sizes g (outsideAnswered m n)
+  unfolding outsideAnswered
+  sizes-answered m z zero = z
+  sizes-answered m z (suc k) =
+      let y : Sizes g (outsideAnswered m k) = sizes-answered m z k in
+      sizes-pick g (eqb (state m k) outside) (acknowledged (outsideAnswered m k) k) (outsideAnswered m k) (sizes-acknowledged g (outsideAnswered m k) y k) y
+
+  sizes-moves : (n : ℕ) (m : Mem) → Sizes g m → (p : Phase) → Sizes g (moves n m p .1)
+  sizes-moves zero m z p = sizes-control g m z 0 (phaseNumber p)
+  sizes-moves (suc n) m z p = z
+
+  sizes-traces : (n : ℕ) (m : Mem) → Sizes g m → Sizes g (traces n m .1)
+  sizes-traces zero m z = sizes-control g m z 0 (phaseNumber sweep)
+  sizes-traces (suc n) m z = sizes-traced g m z (traceWord m n - 1)
+
+  sizes-swept : (m : Mem) → Sizes g m → (s : ℕ) → Sizes g (swept g m s)
+  unfolding swept
+  sizes-swept m z s =
+      let c : ℕ = class m s in
+      let m₁ : Mem = rebuiltBy m s in
+      let z₁ : Sizes g m₁ = sizes-bitmap g m z (s * bitmapWords) (adopted (above c) (blocksIn c) (marksOf m s) (bitmap m s)) in
+      let unused : Mem = stacked g (setState m₁ s segment.Free) freeStack s in
+      let full : Mem = setState m₁ s (segment.Full c) in
+      let part : Mem = stacked g (setState m₁ s (segment.Part c 0)) (partStack c) s in
+      sizes-pick g (eqb (keptBy m s) 0) unused (pick (eqb (keptBy m s) (blocksIn c)) full part)
+      (sizes-stacked g (setState m₁ s segment.Free) (sizes-state g m₁ z₁ s segment.Free) freeStack s)
+      (sizes-pick g (eqb (keptBy m s) (blocksIn c)) full part (sizes-state g m₁ z₁ s (segment.Full c))
+      (sizes-stacked g (setState m₁ s (segment.Part c 0)) (sizes-state g m₁ z₁ s (segment.Part c 0)) (partStack c) s))
+
+  sizes-sweeps : (o : Option ℕ) (m : Mem) → Sizes g m → Sizes g (sweeps g o m .1)
+  sizes-sweeps none m z = sizes-control g m z 0 (phaseNumber idle)
+  sizes-sweeps (some s) m z = sizes-swept m z s
+
+  sizes-stepIn : (p : Phase) (m : Mem) → Sizes g m → Sizes g (stepIn p g m .1)
+  sizes-stepIn idle m z = z
+  sizes-stepIn sync1 m z =
+      let m′ : Mem = outsideAnswered m mutatorCount in
+      sizes-moves (waiting m′ mutatorCount) m′ (sizes-answered m z mutatorCount) sync2
+  sizes-stepIn sync2 m z =
+      let m′ : Mem = outsideAnswered m mutatorCount in
+      sizes-moves (waiting m′ mutatorCount) m′ (sizes-answered m z mutatorCount) mark
+  sizes-stepIn mark m z = sizes-traces (traceCount m) m z
+  sizes-stepIn sweep m z = sizes-sweeps (lowest m (g .segments)) m z
+
+  pub sizes-step : (m : Mem) → Sizes g m → Sizes g (stepOf g m .1)
+  unfolding stepOf
+  sizes-step m z = sizes-stepIn (phase m) m z

@@ -1,0 +1,144 @@
+-- Every mutator's call keeps the lengths of the regions, over memory of any content. Assumes nothing.
+use mathlib.Core.Bool.{Bool, true, false}
+use mathlib.Core.Option.{Option, none, some}
+use mathlib.Core.List.{_∷_}
+use Prim.Native.Nat.{ℕ, zero, suc, _+_, _-_, _*_}
+use lib.Dec.{eqb}
+use lib.ListN.{replicate}
+use Rattle.classes.specs.Class.{firstClass, classCount, classOf}
+use Rattle.classes.specs.Shape.{blocksIn, bitmapWords}
+use Rattle.classes.specs.declared.SizeClass.{SizeClass}
+use Rattle.classes.specs.declared.SizeClass.the-variants.{Class, TooBig}
+use Rattle.layout.specs.declared.Geometry.{Geometry}
+use Rattle.layout.specs.Geometry.{mutatorWords}
+use Rattle.layout.specs.Mem.{Mem, setHeap}
+use Rattle.bitmap_search.specs.declared.Found.{Found}
+use Rattle.bitmap_search.specs.declared.Found.the-variants.{Block, Nothing, Torn}
+use Rattle.bitmap_write.specs.Ready.{fresh}
+use Rattle.theory.specs.Phases.{newcomer, duty, black, inHandshake}
+use Rattle.theory.specs.Calls.{Call, c-attach, c-detach, c-check, c-leave, c-enter, c-spawn, c-make, c-load, c-store, c-copy, c-clear, c-put, c-get, c-same, c-shape, Answer, unless, refuse, refusal, onRecord}
+use Rattle.model.specs.declared.SegmentState.the-variants.{Part, Held, Full}
+use Rattle.model.specs.Fields.{phase, acks, inside, outside, holding, place, root, rootsFrom, heldFrom}
+use Rattle.model.specs.Segments.{partStack, freeStack, stacked, count, pop, bitmap, above, free}
+use Rattle.model.specs.Records.{record?, pointers, pointer, headerOf, written}
+use Rattle.model.specs.Mutators.{acknowledged, attached, detached, released, releasedOne}
+use Rattle.model.specs.Making.{Source, held, part, unused, noRoom, sourceOf, takes, freshened, advanced, blackened, handedOut, inBlock, fromSource, made}
+use Rattle.model.specs.Calls.{face, ofClass, act, exec}
+use Rattle.refine_view.specs.Kept.{Sizes}
+use Rattle.refine_view.proofs.Lengths.{sizes-mutator, sizes-entry, sizes-stack, sizes-bitmap, sizes-marked, sizes-heap, sizes-heap-run, sizes-state}
+use Rattle.refine_view.proofs.Operations.{sizes-pick, sizes-barrier, sizes-acknowledged, sizes-stacked}
+use Rattle.model.specs.Segments as segments
+
+module _ (g : Geometry) where
+  -- ---- mutators
+
+  sizes-attached : (m : Mem) → Sizes g m → (k v : ℕ) → Sizes g (attached m k v)
+  unfolding attached
+  sizes-attached m s k v = sizes-entry g m s (k * mutatorWords) (inside ∷ newcomer (phase m) ∷ v ∷ replicate (mutatorWords - 3) 0)
+
+  released-one : (m : Mem) → Sizes g m → (k c : ℕ) → Sizes g (releasedOne g m k c)
+  released-one m z k c =
+      let s : ℕ = holding m k c - 1 in
+      let m′ : Mem = segments.setState m s (Part c (place m s)) in
+      sizes-pick g (eqb (holding m k c) 0) m (stacked g m′ (partStack c) s) z (sizes-stacked g m′ (sizes-state g m z s (Part c (place m s))) (partStack c) s)
+
+  sizes-released : (m : Mem) → Sizes g m → (k n : ℕ) → Sizes g (released g m k n)
+  unfolding released
+  sizes-released m s k zero = s
+  sizes-released m s k (suc n) = released-one (released g m k n) (sizes-released m s k n) k (firstClass + n)
+
+  sizes-detached : (m : Mem) → Sizes g m → (k : ℕ) → Sizes g (detached g m k)
+  unfolding detached
+  sizes-detached m s k = sizes-entry g (released g m k classCount) (sizes-released m s k classCount) (k * mutatorWords) (replicate mutatorWords 0)
+
+  -- ---- make
+
+  sizes-takes : (m : Mem) → Sizes g m → (k c s p : ℕ) → Sizes g (takes m k c s p)
+  sizes-takes m z k c s p = sizes-mutator g (segments.setState m s (Held c p k)) (sizes-state g m z s (Held c p k)) (k * mutatorWords + heldFrom + (c - firstClass)) (suc s)
+
+  sizes-advanced : (m : Mem) → Sizes g m → (k c s p : ℕ) (f : Found) → Sizes g (advanced m k c s p f)
+  sizes-advanced m z k c s p (Block b) = sizes-state g m z s (Held c p k)
+  sizes-advanced m z k c s p Nothing = sizes-mutator g (segments.setState m s (Full c)) (sizes-state g m z s (Full c)) (k * mutatorWords + heldFrom + (c - firstClass)) 0
+  sizes-advanced m z k c s p Torn = sizes-mutator g (segments.setState m s (Full c)) (sizes-state g m z s (Full c)) (k * mutatorWords + heldFrom + (c - firstClass)) 0
+
+  sizes-written : (m : Mem) → Sizes g m → (at p n : ℕ) → Sizes g (written m at p n)
+  sizes-written m z at p n = sizes-heap-run g (setHeap m at (p * 65536 + n)) (sizes-heap g m z at (p * 65536 + n)) (at + 1) (replicate (p + n) 0)
+
+  sizes-blackened : (m : Mem) → Sizes g m → (k at : ℕ) → Sizes g (blackened m k at)
+  sizes-blackened m z k at = sizes-pick g (black (phase m) (acks m k)) _ m (sizes-marked g m z at) z
+
+  sizes-handed : (m : Mem) → Sizes g m → (k d c s b p n : ℕ) → Sizes g (handedOut m k d c s b p n)
+  unfolding handedOut
+  sizes-handed m z k d c s b p n =
+      let at : ℕ = headerOf s c b in
+      let m₁ : Mem = advanced m k c s (b + 1) (free m s c (b + 1)) in
+      let z₁ : Sizes g m₁ = sizes-advanced m z k c s (b + 1) (free m s c (b + 1)) in
+      let m₂ : Mem = written m₁ at p n in
+      let z₂ : Sizes g m₂ = sizes-written m₁ z₁ at p n in
+      sizes-mutator g (blackened m₂ k at) (sizes-blackened m₂ z₂ k at) (k * mutatorWords + rootsFrom + d) (suc at)
+
+  sizes-block : (m taken : Mem) → Sizes g m → Sizes g taken → (f : Found) (k d c s p n : ℕ) → Sizes g (inBlock m taken f k d c s p n .1)
+  sizes-block m taken z y (Block b) k d c s p n = sizes-handed taken y k d c s b p n
+  sizes-block m taken z y Nothing k d c s p n = z
+  sizes-block m taken z y Torn k d c s p n = z
+
+  sizes-source : (m : Mem) → Sizes g m → (k d c p n : ℕ) (x : Source) → Sizes g (fromSource g m k d c p n x .1)
+  sizes-source m z k d c p n (held s) = sizes-block m m z z (free m s c (place m s)) k d c s p n
+  sizes-source m z k d c p n (part s) =
+      let popped : Mem = pop g m (partStack c) in
+      let y : Sizes g popped = sizes-stack g m z (partStack c * (1 + g .segments)) (count g m (partStack c) - 1) in
+      let taken : Mem = takes popped k c s (place m s) in
+      sizes-block m taken z (sizes-takes popped y k c s (place m s)) (free taken s c (place taken s)) k d c s p n
+  sizes-source m z k d c p n (unused s) =
+      let popped : Mem = pop g m freeStack in
+      let y : Sizes g popped = sizes-stack g m z (freeStack * (1 + g .segments)) (count g m freeStack - 1) in
+      let owned : Mem = takes popped k c s 0 in
+      let taken : Mem = freshened owned s c in
+      sizes-block m taken z (sizes-bitmap g owned (sizes-takes popped y k c s 0) (s * bitmapWords) (fresh (above c) (blocksIn c) (bitmap owned s))) (free taken s c (place taken s)) k d c s p n
+  sizes-source m z k d c p n noRoom = z
+
+  sizes-made : (m : Mem) → Sizes g m → (k d c p n : ℕ) → Sizes g (made g m k d c p n .1)
+  unfolding made
+  sizes-made m z k d c p n = sizes-source m z k d c p n (sourceOf g m k c)
+
+  -- ---- calls
+
+  sizes-class : (m : Mem) → Sizes g m → (x : SizeClass) (rest : ℕ → Answer × Mem) → ((c : ℕ) → Sizes g (rest c .1)) → Sizes g (ofClass m x rest .1)
+  sizes-class m z (Class c) rest f = f c
+  sizes-class m z TooBig rest f = z
+
+  sizes-unless : (t : Bool) (n : ℕ) (m m′ : Mem) → Sizes g m → Sizes g m′ → Sizes g (unless t n m m′ .1)
+  sizes-unless true n m m′ z y = z
+  sizes-unless false n m m′ z y = y
+
+  sizes-record : (o : Option ℕ) (m : Mem) (rest : ℕ → Answer × Mem) → Sizes g m → ((at : ℕ) → Sizes g (rest at .1)) → Sizes g (onRecord o m rest .1)
+  sizes-record none m rest z f = z
+  sizes-record (some at) m rest z f = f at
+
+  sizes-refuse : (n : ℕ) (m : Mem) (r : Answer × Mem) → Sizes g m → Sizes g (r .1) → Sizes g (refuse n m r .1)
+  sizes-refuse zero m r z y = y
+  sizes-refuse (suc n) m r z y = z
+
+  sizes-act : (m : Mem) → Sizes g m → (c : Call) → Sizes g (act g m c .1)
+  unfolding act
+  sizes-act m z (c-attach k) = sizes-unless (inHandshake (phase m)) 11 m (attached m k 0) z (sizes-attached m z k 0)
+  sizes-act m z (c-spawn k p i) = sizes-unless (inHandshake (phase m)) 11 m (attached m k (root m p i)) z (sizes-attached m z k (root m p i))
+  sizes-act m z (c-detach k) = sizes-unless (inHandshake (phase m)) 11 m (detached g m k) z (sizes-detached m z k)
+  sizes-act m z (c-check k) = sizes-acknowledged g m z k
+  sizes-act m z (c-leave k) = sizes-mutator g (acknowledged m k) (sizes-acknowledged g m z k) (k * mutatorWords) outside
+  sizes-act m z (c-enter k) = sizes-mutator g m z (k * mutatorWords) inside
+  sizes-act m z (c-make k d p n) = sizes-class m z (classOf (p + n)) (λ c. made g m k d c p n) (λ c. sizes-made m z k d c p n)
+  sizes-act m z (c-load k d i f) = sizes-record (record? (root m k i)) m _ z (λ at. sizes-mutator g m z (k * mutatorWords + rootsFrom + d) (pointer m at f))
+  sizes-act m z (c-store k i f j) =
+      sizes-record (record? (root m k i)) m _ z
+      (λ at. sizes-heap g _ (sizes-barrier g (duty (phase m) (acks m k)) m z (record? (root m k j)) (record? (pointer m at f))) (at + 1 + f) (root m k j))
+  sizes-act m z (c-copy k d i) = sizes-mutator g m z (k * mutatorWords + rootsFrom + d) (root m k i)
+  sizes-act m z (c-clear k d) = sizes-mutator g m z (k * mutatorWords + rootsFrom + d) 0
+  sizes-act m z (c-put k i f v) = sizes-record (record? (root m k i)) m _ z (λ at. sizes-heap g m z (at + 1 + pointers m at + f) v)
+  sizes-act m z (c-get k i f) = sizes-record (record? (root m k i)) m _ z (λ at. z)
+  sizes-act m z (c-same k i j) = z
+  sizes-act m z (c-shape k i) = sizes-record (record? (root m k i)) m _ z (λ at. z)
+
+  pub sizes-exec : (m : Mem) → Sizes g m → (c : Call) → Sizes g (exec g m c .1)
+  unfolding exec
+  sizes-exec m z c = sizes-refuse (refusal (face m) c) m (act g m c) z (sizes-act m z c)

@@ -1,0 +1,68 @@
+-- The words of the memory after a start, beside those before it. Assumes nothing.
+use mathlib.Core.Path.{_≡_, _∙_, ap}
+use Prim.Native.Nat.{ℕ, _+_, _*_, _<_}
+use native.Mathlib.Omega.{arith}
+use lib.ListN.{length, getD}
+use lib.Seq.{getD-set-same, getD-set-other}
+use Rattle.words.specs.Bits.{bitAt}
+use Rattle.layout.specs.declared.Geometry.{Geometry}
+use Rattle.layout.specs.Geometry.{mutatorCount, mutatorWords}
+use Rattle.layout.specs.Mem.{Mem, controlWord, mutatorWord, setControl}
+use Rattle.model.specs.Fields.{traceCount, acks}
+use Rattle.model.specs.Collector.{condemned, acksReset, started}
+use Rattle.model.specs.Consistent.{SegmentOk}
+use Rattle.refine_view.specs.Kept.{Sizes}
+use Rattle.refine_view.proofs.Words.{recorded-as, OtherRegions}
+use Rattle.refine_view.proofs.Operations.{sizes-condemned, sizes-reset}
+use Rattle.refine_start.proofs.Zeros.{zeros-bit}
+use Rattle.refine_start.proofs.Condemned.{After, others-condemned, segments-condemned}
+use Rattle.refine_start.proofs.Acknowledgements.{BesideMutators, beside-reset, reset-kept, reset-acks}
+
+pub record Begun (m m′ : Mem) : Type 0 where
+  pub phase : controlWord m′ 0 ≡ 1
+  pub traced : traceCount m′ ≡ traceCount m
+  pub acks : (k : ℕ) → acks m′ k ≡ 0
+  pub mutators : (k o : ℕ) → o < mutatorWords → (o ≡ 1 → ⊥) → mutatorWord m′ (k * mutatorWords + o) ≡ mutatorWord m (k * mutatorWords + o)
+  pub segments : (s : ℕ) → After m m′ s
+  pub stacks : m′ .stacks ≡ m .stacks
+  pub bitmaps : m′ .bitmaps ≡ m .bitmaps
+  pub marks : (k : ℕ) → bitAt (m′ .marks) k ≡ 0
+  pub queued : m′ .queued ≡ m .queued
+  pub trace : m′ .trace ≡ m .trace
+  pub heap : m′ .heap ≡ m .heap
+
+module _ (g : Geometry) (m : Mem) (z : Sizes g m) where
+  -- condemned, and then the acknowledgements anew
+  abbrev m₁ : Mem
+  m₁ = condemned m (g .segments)
+
+  abbrev m₂ : Mem
+  m₂ = acksReset m₁ mutatorCount
+
+  condemned-sizes : Sizes g m₁
+  condemned-sizes = sizes-condemned g m z (g .segments)
+
+  reset-sizes : Sizes g m₂
+  reset-sizes = sizes-reset g m₁ condemned-sizes mutatorCount
+
+  condemned-others : OtherRegions m m₁
+  condemned-others = others-condemned m (g .segments)
+
+  reset-others : BesideMutators m₁ m₂
+  reset-others = beside-reset m₁ mutatorCount
+
+  pub begun : ((s : ℕ) → s < g .segments → SegmentOk m s) → Begun m (started g m)
+  unfolding started setControl
+  begun ok = record {
+    phase = let y = reset-sizes .control in getD-set-same (m₂ .control) 0 1 0 (omega arith);
+    traced = getD-set-other (m₂ .control) 0 1 1 0 (λ e. omega arith) ∙ ap (λ l. getD l 1 0) (reset-others .control ∙ condemned-others .control);
+    acks = reset-acks g m₁ condemned-sizes;
+    mutators = λ k o l f. reset-kept g m₁ condemned-sizes k o l f ∙ ap (λ x. getD x (k * mutatorWords + o) 0) (condemned-others .mutators);
+    segments = λ s. recorded-as m₁ (started g m) s _ _ _ _ (reset-others .segments) (segments-condemned g m z ok s);
+    stacks = reset-others .stacks ∙ condemned-others .stacks;
+    bitmaps = reset-others .bitmaps ∙ condemned-others .bitmaps;
+    marks = zeros-bit (length (m₂ .marks));
+    queued = reset-others .queued ∙ condemned-others .queued;
+    trace = reset-others .trace ∙ condemned-others .trace;
+    heap = reset-others .heap ∙ condemned-others .heap;
+  }

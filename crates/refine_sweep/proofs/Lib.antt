@@ -1,0 +1,15 @@
+-- The step in sweep: one segment swept, or the cycle done.
+pub mod Marks
+pub mod Lowest
+pub mod Rebuilding
+pub mod Outcome
+pub mod Frames
+pub mod Survivors
+pub mod Structured
+pub mod Agreeing
+pub mod Settled
+pub mod Ends
+pub mod SweptStacks
+pub mod SweepStep
+pub mod LastStep
+pub mod Sweeping

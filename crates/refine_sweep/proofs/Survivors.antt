@@ -1,0 +1,82 @@
+-- The live records of a segment that is swept: they are marked, so the segment is not freed and their blocks stay in use. Assumes nothing.
+use mathlib.Core.Path.{_≡_, sym, _∙_, ap, subst}
+use mathlib.Core.Logic.{_⊎_, inl, inr}
+use mathlib.Core.List.{List}
+use Prim.Native.Nat.{ℕ, _<_}
+use native.Mathlib.Omega.{arith}
+use lib.ListN.{getD}
+use Rattle.rules.proofs.Order.{same-or-not}
+use Rattle.words.specs.Bits.{bitAt}
+use Rattle.classes.specs.Shape.{blocksIn}
+use Rattle.layout.specs.declared.Geometry.{Geometry}
+use Rattle.layout.specs.Mem.{Mem, controlWord}
+use Rattle.theory.specs.Phases.{sweep}
+use Rattle.model.specs.Rules.{phaseOf}
+use Rattle.model.specs.Fields.{phase, traceCount, tag, class}
+use Rattle.model.specs.Segments.{usedBit}
+use Rattle.model.specs.Records.{segmentOf, blockOf, bitIn, marked}
+use Rattle.model.specs.Reaching.{Live}
+use Rattle.model.specs.Consistent.{Consistent, InPhase, IsClass}
+use Rattle.refine_view.specs.Kept.{Sizes}
+use Rattle.refine_view.proofs.Blocks.{of-block}
+use Rattle.refine_view.proofs.Segments.{used-same}
+use Rattle.refine_sweep.proofs.Frames.{live-reached, live-before}
+use Rattle.refine_sweep.proofs.Outcome.{Outcome}
+
+module _ (g : Geometry) (m : Mem) (s : Sizes g m) (c : Consistent g m) (ph : phase m ≡ sweep) (m′ : Mem) (r : ℕ) (l : r < g .segments) (t : tag m r ≡ 4) (o : Outcome g m m′ r) where
+  in-sweep : InPhase sweep g m
+  in-sweep = subst (λ p. InPhase p g m) ph (c .cycle)
+
+  pub control-same : (i : ℕ) → controlWord m′ i ≡ controlWord m i
+  control-same i = ap (λ (z : List ℕ). getD z i 0) (o .left .control)
+
+  pub empty : traceCount m ≡ 0
+  empty = in-sweep .0
+
+  pub empty-after : traceCount m′ ≡ 0
+  empty-after = control-same 1 ∙ empty
+
+  pub phase-after : phase m′ ≡ sweep
+  phase-after = ap phaseOf (control-same 0) ∙ ph
+
+  pub live-was : {x : ℕ} → Live m′ x → Live m x
+  live-was p = live-before m m′ empty empty-after (o .left .mutators) (o .left .heap) p
+
+  -- a live record of the segment is marked
+  pub live-marked : (x : ℕ) → Live m x → segmentOf x ≡ r → marked m x ≡ 1
+  live-marked x p e = in-sweep .2 x (live-reached m m′ empty empty-after p) (ap (tag m) e ∙ t)
+
+  pub class-swept : IsClass (class m r)
+  class-swept = c .segments r l .classes (λ z. let y = t in omega arith)
+
+  -- so its segment is not freed, and its block stays in use
+  pub segment-kept : (x : ℕ) → Live m x → segmentOf x ≡ r → tag m′ r ≡ 0 → ⊥
+  segment-kept x p e = o .kept (blockOf m x) (subst (λ z. blockOf m x < blocksIn (class m z)) e (of-block m x (subst (λ z. IsClass (class m z)) (sym e) class-swept))) (sym (ap (λ z. bitAt (m .marks) (bitIn z (blockOf m x))) e) ∙ live-marked x p e)
+
+  pub class-same : (x : ℕ) → Live m x → class m′ (segmentOf x) ≡ class m (segmentOf x)
+  class-same x p = go (same-or-not (segmentOf x) r)
+    where
+      go : (segmentOf x ≡ r) ⊎ (segmentOf x ≡ r → ⊥) → class m′ (segmentOf x) ≡ class m (segmentOf x)
+      go (inl e) = ap (class m′) e ∙ o .classed (segment-kept x p e) ∙ sym (ap (class m) e)
+      go (inr d) = o .left .other (segmentOf x) d .class
+
+  pub used-other : (x b : ℕ) → (x ≡ r → ⊥) → usedBit m′ x b ≡ usedBit m x b
+  used-other x b d = used-same m m′ x b (o .left .other x d .place) (o .left .bitmaps x d)
+
+  pub tag-after : (x : ℕ) → Live m x → tag m′ (segmentOf x) ≡ 0 → ⊥
+  tag-after x p z = go (same-or-not (segmentOf x) r)
+    where
+      go : (segmentOf x ≡ r) ⊎ (segmentOf x ≡ r → ⊥) → ⊥
+      go (inl e) = segment-kept x p e (sym (ap (tag m′) e) ∙ z)
+      go (inr d) = c .records x p .used (sym (o .left .other (segmentOf x) d .tag) ∙ z)
+
+  pub block-after : (x : ℕ) → Live m x → usedBit m′ (segmentOf x) (blockOf m x) ≡ 1
+  block-after x p = go (same-or-not (segmentOf x) r)
+    where
+      go : (segmentOf x ≡ r) ⊎ (segmentOf x ≡ r → ⊥) → usedBit m′ (segmentOf x) (blockOf m x) ≡ 1
+      go (inl e) =
+          ap (λ z. usedBit m′ z (blockOf m x)) e
+          ∙ o .used (segment-kept x p e) (blockOf m x) (subst (λ z. blockOf m x < blocksIn (class m z)) e (of-block m x (subst (λ z. IsClass (class m z)) (sym e) class-swept)))
+          ∙ sym (ap (λ z. bitAt (m .marks) (bitIn z (blockOf m x))) e)
+          ∙ live-marked x p e
+      go (inr d) = used-other (segmentOf x) (blockOf m x) d ∙ c .records x p .block

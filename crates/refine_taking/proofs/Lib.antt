@@ -1,0 +1,13 @@
+-- Segments taken by a make and given back by a detach, and when a make finds no room.
+pub mod Standing
+pub mod Taken
+pub mod Taking
+pub mod Takes
+pub mod TakePart
+pub mod TakeFree
+pub mod Rooms
+pub mod Releasing
+pub mod ReleaseOne
+pub mod Released
+pub mod Detached
+pub mod DetachKept

@@ -1,0 +1,110 @@
+-- One held segment of a mutator goes to part. Assumes nothing.
+use mathlib.Core.Path.{_≡_, refl, sym, _∙_, ap, subst}
+use mathlib.Core.Logic.{_⊎_, inl, inr}
+use Prim.Native.Nat.{ℕ, suc, _+_, _-_, _<_}
+use native.Mathlib.Omega.{arith}
+use borrow.Author.Tests.{ne-eqb}
+use Rattle.rules.specs.Pick.{pick}
+use Rattle.rules.proofs.Order.{same-or-not}
+use Rattle.classes.specs.Class.{firstClass, classCount}
+use Rattle.layout.specs.declared.Geometry.{Geometry}
+use Rattle.layout.specs.Geometry.{mutatorCount}
+use Rattle.layout.specs.Mem.{Mem, setSegment, setStack}
+use Rattle.model.specs.declared.SegmentState.the-variants.{Part}
+use Rattle.model.specs.Fields.{holding, tag, class, place, owner}
+use Rattle.model.specs.Segments.{setState, partStack, stacked}
+use Rattle.model.specs.Mutators.{releasedOne}
+use Rattle.model.specs.Consistent.{Consistent, IsClass}
+use Rattle.refine_view.specs.Kept.{Sizes}
+use Rattle.refine_view.proofs.Words.{Recorded, recorded-as, recorded-by, state-there, state-other}
+use Rattle.refine_view.proofs.Parted.{Stacks, parted}
+use Rattle.refine_view.proofs.Lengths.{sizes-stack, sizes-state}
+use Rattle.refine_taking.proofs.Standing.{over}
+use Rattle.refine_taking.proofs.Releasing.{Gone, Releasing, gone-less, gone-other}
+
+module _ (g : Geometry) (m : Mem) (s : Sizes g m) (c : Consistent g m) (k : ℕ) (few : k < mutatorCount) (n : ℕ) (ln : n < classCount) (m′ : Mem) (h : Releasing g m m′ k n) (r : ℕ) (e : holding m k (firstClass + n) ≡ suc r) where
+  abbrev d : ℕ
+  d = firstClass + n
+
+  is-class : IsClass d
+  is-class = (omega arith, omega arith)
+
+  was : (r < g .segments) × (tag m r ≡ 2) × (class m r ≡ d) × (owner m r ≡ k)
+  was = c .mutators k few .holds d r is-class e
+
+  still : Recorded m′ r (tag m r) (class m r) (place m r) (owner m r)
+  still = h .stay r (λ z. let l : class m r < 3 + n = z .2 in let y = was .2 in omega arith)
+
+  abbrev m₁ : Mem
+  m₁ = setState m′ r (Part d (place m′ r))
+
+  abbrev m₂ : Mem
+  m₂ = stacked g m₁ (partStack d) r
+
+  sizes₁ : Sizes g m₁
+  sizes₁ = sizes-state g m′ (h .sizes) r (Part d (place m′ r))
+
+  sizes₂ : Sizes g m₂
+  sizes₂ = sizes-stack g _ (sizes-stack g m₁ sizes₁ _ _) _ _
+
+  segments-as : m₂ .segments ≡ m₁ .segments
+  unfolding setStack
+  segments-as = refl
+
+  stacks-as : m₁ .stacks ≡ m′ .stacks
+  unfolding setState setSegment
+  stacks-as = refl
+
+  frame-one : m₂ ≡ over m′ (m′ .mutators) (m₂ .segments) (m₂ .stacks) (m′ .bitmaps)
+  unfolding setState setSegment setStack
+  frame-one = refl
+
+  frame₂ : m₂ ≡ over m (m .mutators) (m₂ .segments) (m₂ .stacks) (m .bitmaps)
+  frame₂ = frame-one ∙ ap (λ z. over z (z .mutators) (m₂ .segments) (m₂ .stacks) (z .bitmaps)) (h .frame)
+
+  -- ---- the records
+
+  there : Recorded m₂ r 1 d (place m′ r) 0
+  there = let z = h .sizes .segments in let l = was .0 in recorded-as m₁ m₂ r 1 d (place m′ r) 0 segments-as (state-there m′ r (Part d (place m′ r)) (omega arith))
+
+  other : (q : ℕ) → (q ≡ r → ⊥) → Recorded m₂ q (tag m′ q) (class m′ q) (place m′ q) (owner m′ q)
+  other q f = recorded-as m₁ m₂ q (tag m′ q) (class m′ q) (place m′ q) (owner m′ q) segments-as (state-other m′ r (Part d (place m′ r)) q f)
+
+  through : (q t x p o : ℕ) → (q ≡ r → ⊥) → Recorded m′ q t x p o → Recorded m₂ q t x p o
+  through q t x p o f z = recorded-by m′ m₂ q t x p o z (other q f)
+
+  gone₂ : (q : ℕ) → Gone m k (suc n) q → Recorded m₂ q 1 (class m q) (place m q) 0
+  gone₂ q z = go (same-or-not q r)
+    where
+      go : (q ≡ r) ⊎ (q ≡ r → ⊥) → Recorded m₂ q 1 (class m q) (place m q) 0
+      go (inl x) = subst (λ w. Recorded m₂ w 1 (class m w) (place m w) 0) (sym x) (record { tag = there .tag; class = there .class ∙ sym (was .2); place = there .place ∙ still .place; owner = there .owner })
+      go (inr f) = through q 1 (class m q) (place m q) 0 f (h .gone q (gone-other g m s c k n q z (λ y. f (let w : suc q ≡ suc r = sym y ∙ e in omega arith))))
+
+  stay₂ : (q : ℕ) → (Gone m k (suc n) q → ⊥) → Recorded m₂ q (tag m q) (class m q) (place m q) (owner m q)
+  stay₂ q f = through q (tag m q) (class m q) (place m q) (owner m q) (λ x. f (subst (Gone m k (suc n)) (sym x) (was .1, was .3, let y = was .2 in omega arith))) (h .stay q (λ z. f (gone-less g m s c k n q z)))
+
+  -- ---- the stacks
+
+  stacks₂ : Stacks g m₂
+  stacks₂ = parted g m′ m₁ sizes₁ stacks-as d r is-class (was .0) (let y = still .tag ∙ was .1 in omega arith) other (there .tag) (there .class) (h .free, h .part)
+
+  releasing-more : Releasing g m m₂ k (suc n)
+  releasing-more = record {
+    sizes = sizes₂;
+    frame = frame₂;
+    gone = gone₂;
+    stay = stay₂;
+    free = stacks₂ .0;
+    part = stacks₂ .1;
+  }
+
+  -- as the call writes it
+  is-one : releasedOne g m′ k d ≡ m₂
+  is-one =
+      let z : holding m′ k d ≡ suc r = ap (λ w. holding w k d) (h .frame) ∙ e in
+      let y : holding m′ k d - 1 ≡ r = omega arith in
+      ap (λ b. pick b m′ (stacked g (setState m′ (holding m′ k d - 1) (Part d (place m′ (holding m′ k d - 1)))) (partStack d) (holding m′ k d - 1))) (ne-eqb (holding m′ k d) 0 (λ q. omega arith))
+      ∙ ap (λ w. stacked g (setState m′ w (Part d (place m′ w))) (partStack d) w) y
+
+  pub releasing-one : Releasing g m (releasedOne g m′ k d) k (suc n)
+  releasing-one = subst (λ z. Releasing g m z k (suc n)) (sym is-one) releasing-more

@@ -1,0 +1,114 @@
+-- A free segment taken by a mutator that holds none of its class, with a bitmap of free blocks. Assumes nothing.
+use mathlib.Core.Path.{_≡_, refl, sym, _∙_, ap, subst}
+use mathlib.Core.Bool.{true}
+use mathlib.Core.List.{List}
+use Prim.Native.Nat.{ℕ, _+_, _-_, _*_, _≤_, _<_}
+use native.Mathlib.Omega.{arith}
+use lib.ListN.{length}
+use lib.Seq.{sets}
+use borrow.Author.Tests.{eqb-true}
+use Rattle.words.specs.Bits.{bitAt}
+use Rattle.words.specs.Levels.{treeWords}
+use Rattle.words.specs.Tree.{Tree}
+use Rattle.classes.specs.Shape.{blocksIn, bitmapWords}
+use Rattle.layout.specs.declared.Geometry.{Geometry}
+use Rattle.layout.specs.Geometry.{mutatorCount}
+use Rattle.layout.specs.Mem.{Mem, setStack, setSegment, setMutator, setRun}
+use Rattle.bitmap_write.specs.Ready.{fresh}
+use Rattle.bitmap_write.proofs.Copied.{fresh-tree, fresh-bit, length-fresh}
+use Rattle.model.specs.Fields.{holding, tag, class, place, owner}
+use Rattle.model.specs.Segments.{setState, freeStack, partStack, count, top, pop, above, bitmap}
+use Rattle.model.specs.Making.{takes, freshened}
+use Rattle.model.specs.Calls.{isAttached}
+use Rattle.model.specs.Consistent.{Consistent, IsClass, StackOk, isFree, isPart}
+use Rattle.refine_view.specs.Kept.{Sizes}
+use Rattle.refine_view.proofs.Words.{Recorded, recorded-as}
+use Rattle.refine_view.proofs.Segments.{not-free, free-other, part-left}
+use Rattle.refine_view.proofs.Windows.{window-there, window-other}
+use Rattle.refine_view.proofs.Bitmaps.{class-height, bitmap-ends, length-bitmap, tree-room}
+use Rattle.refine_view.proofs.Blocks.{blocks-some}
+use Rattle.refine_view.proofs.Lengths.{sizes-bitmap}
+use Rattle.refine_view.proofs.Stacks.{stack-same, pop-ok}
+use Rattle.refine_view.proofs.OtherStacks.{stack-apart}
+use Rattle.refine_taking.proofs.Standing.{over}
+use Rattle.refine_taking.proofs.Takes.{popped, after, takes-sizes, takes-there, takes-other, takes-holds, takes-entries}
+use Rattle.refine_taking.proofs.Taken.{Taken}
+use Rattle.refine_taking.proofs.Taking.{Took, taken-by}
+
+module _ (g : Geometry) (m : Mem) (s : Sizes g m) (c : Consistent g m) (k cl : ℕ) (few : k < mutatorCount) (here : isAttached m k ≡ true) (ic : IsClass cl) (none : holding m k cl ≡ 0) (some : 1 ≤ count g m freeStack) where
+  abbrev r : ℕ
+  r = top g m freeStack
+
+  top-free : (r < g .segments) × (isFree m r ≡ true)
+  top-free = c .freeSegments .members (count g m freeStack - 1) (omega arith)
+
+  top-tag : tag m r ≡ 0
+  top-tag = eqb-true (tag m r) 0 (top-free .1)
+
+  abbrev n : ℕ
+  n = freeStack * (1 + g .segments)
+
+  abbrev v : ℕ
+  v = count g m freeStack - 1
+
+  abbrev taken : Mem
+  taken = after g m s n v k cl r 0
+
+  abbrev clean : List ℕ
+  clean = fresh (above cl) (blocksIn cl) (bitmap m r)
+
+  abbrev m₁ : Mem
+  m₁ = over m (taken .mutators) (taken .segments) (popped g m s n v k cl r 0 .stacks) (sets (m .bitmaps) (r * bitmapWords) clean)
+
+  same : freshened taken r cl ≡ m₁
+  unfolding setStack setState setSegment setMutator setRun
+  same = refl
+
+  -- ---- the bitmap
+
+  room : treeWords (above cl) (blocksIn cl) ≤ length (bitmap m r)
+  room = tree-room g m s r (top-free .0) cl ic
+
+  long-clean : length clean ≡ bitmapWords
+  long-clean = length-fresh (above cl) (blocksIn cl) (bitmap m r) room ∙ length-bitmap g m s r (top-free .0)
+
+  reads : bitmap m₁ r ≡ clean
+  reads = window-there clean (m .bitmaps) (r * bitmapWords) bitmapWords long-clean (bitmap-ends g m s r (top-free .0))
+
+  -- ---- the records
+
+  there : Recorded m₁ r 2 cl 0 k
+  there = recorded-as taken m₁ r 2 cl 0 k refl (takes-there g m s n v k cl r 0 (top-free .0))
+
+  other : (q : ℕ) → (q ≡ r → ⊥) → Recorded m₁ q (tag m q) (class m q) (place m q) (owner m q)
+  other q f = recorded-as taken m₁ q (tag m q) (class m q) (place m q) (owner m q) refl (takes-other g m s n v k cl r 0 q f)
+
+  took : Took g m m₁ k cl r 0
+  took = record {
+    sizes = subst (Sizes g) same (sizes-bitmap g taken (takes-sizes g m s n v k cl r 0) _ _);
+    below = top-free .0;
+    there = there;
+    other = other;
+    bitmaps = λ q f. window-other bitmapWords r q clean (m .bitmaps) long-clean f;
+    tree = subst (Tree (above cl) (blocksIn cl)) (sym reads) (fresh-tree (above cl) (blocksIn cl) (bitmap m r) room (class-height cl));
+    remains = (0, omega arith, blocks-some cl ic, ap (λ z. bitAt z 0) reads ∙ fresh-bit (above cl) (blocksIn cl) (bitmap m r) room 0 (blocks-some cl ic));
+    holds = takes-holds g m s n v k cl r 0 few ic;
+    entries = takes-entries g m s n v k cl r 0 few ic;
+    before = let z = top-tag in omega arith;
+    stood = λ u. absurd (u top-tag);
+  }
+
+  -- ---- the stacks
+
+  free-stack : StackOk g m₁ freeStack (isFree m₁)
+  free-stack = stack-same g (pop g m freeStack) m₁ freeStack (isFree m₁) (isFree m₁)
+      (pop-ok g m s freeStack (omega arith) (isFree m) (c .freeSegments) (isFree m₁) some (not-free m₁ r (λ e. let z = there .tag in omega arith)) (λ q l f. free-other m m₁ r other q f)) refl (λ i l. refl) (λ q l. refl)
+
+  part-stacks : (d : ℕ) → IsClass d → StackOk g m₁ (partStack d) (isPart m₁ d)
+  part-stacks d i = stack-apart g m s m₁ freeStack v (omega arith) refl (partStack d) (λ e. omega arith) (isPart m d) (isPart m₁ d) (c .partSegments d i) (λ q l. part-left m m₁ r other d (λ e z. let y = top-tag in omega arith) (λ e z. let y = there .tag in omega arith) q)
+
+  taken-over : Taken g m m₁ k cl r
+  taken-over = taken-by g m s c (taken .mutators) (taken .segments) (popped g m s n v k cl r 0 .stacks) (sets (m .bitmaps) (r * bitmapWords) clean) k cl r 0 few here ic none took free-stack part-stacks
+
+  pub taken-free : Taken g m (freshened (takes (pop g m freeStack) k cl r 0) r cl) k cl r
+  taken-free = subst (λ z. Taken g m z k cl r) (sym same) taken-over

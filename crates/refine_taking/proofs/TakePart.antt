@@ -1,0 +1,106 @@
+-- A part segment taken by a mutator that holds none of its class. Assumes nothing.
+use mathlib.Core.Path.{_≡_, refl, sym, _∙_, subst}
+use mathlib.Core.Logic.{_⊎_, inl, inr}
+use mathlib.Core.Bool.{true}
+use Prim.Native.Nat.{ℕ, suc, _+_, _-_, _*_, _≤_, _<_}
+use native.Mathlib.Omega.{arith}
+use lib.Dec.{eqb}
+use borrow.Author.Tests.{eqb-true}
+use Rattle.rules.proofs.Order.{same-or-not}
+use Rattle.words.specs.Tree.{Tree}
+use Rattle.classes.specs.Shape.{blocksIn}
+use Rattle.layout.specs.declared.Geometry.{Geometry}
+use Rattle.layout.specs.Geometry.{mutatorCount}
+use Rattle.layout.specs.Mem.{Mem}
+use Rattle.model.specs.Fields.{holding, tag, class, place, owner}
+use Rattle.model.specs.Segments.{freeStack, partStack, count, top, pop, above, bitmap}
+use Rattle.model.specs.Making.{takes}
+use Rattle.model.specs.Calls.{isAttached}
+use Rattle.model.specs.Consistent.{Consistent, IsClass, SegmentOk, StackOk, isFree, isPart}
+use Rattle.refine_view.specs.Kept.{Sizes}
+use Rattle.refine_view.proofs.Bools.{and-left, and-right}
+use Rattle.refine_view.proofs.Words.{Recorded}
+use Rattle.refine_view.proofs.Segments.{not-part, part-other, free-left, part-left}
+use Rattle.refine_view.proofs.Stacks.{stack-same, pop-ok}
+use Rattle.refine_view.proofs.OtherStacks.{part-few, part-apart, stack-apart}
+use Rattle.refine_taking.proofs.Standing.{over}
+use Rattle.refine_taking.proofs.Takes.{popped, after, takes-over, takes-sizes, takes-there, takes-other, takes-holds, takes-entries}
+use Rattle.refine_taking.proofs.Taken.{Taken}
+use Rattle.refine_taking.proofs.Taking.{Took, taken-by}
+
+module _ (g : Geometry) (m : Mem) (s : Sizes g m) (c : Consistent g m) (k cl : ℕ) (few : k < mutatorCount) (here : isAttached m k ≡ true) (ic : IsClass cl) (none : holding m k cl ≡ 0) (some : 1 ≤ count g m (partStack cl)) where
+  abbrev r : ℕ
+  r = top g m (partStack cl)
+
+  top-part : (r < g .segments) × (isPart m cl r ≡ true)
+  top-part = c .partSegments cl ic .members (count g m (partStack cl) - 1) (omega arith)
+
+  top-tag : tag m r ≡ 1
+  top-tag = eqb-true (tag m r) 1 (and-left (eqb (tag m r) 1) (eqb (class m r) cl) (top-part .1))
+
+  top-class : class m r ≡ cl
+  top-class = eqb-true (class m r) cl (and-right (eqb (tag m r) 1) (eqb (class m r) cl) (top-part .1))
+
+  abbrev n : ℕ
+  n = partStack cl * (1 + g .segments)
+
+  abbrev v : ℕ
+  v = count g m (partStack cl) - 1
+
+  abbrev taken : Mem
+  taken = after g m s n v k cl r (place m r)
+
+  abbrev m₁ : Mem
+  m₁ = over m (taken .mutators) (taken .segments) (popped g m s n v k cl r (place m r) .stacks) (m .bitmaps)
+
+  same : taken ≡ m₁
+  same = takes-over g m s n v k cl r (place m r)
+
+  there : Recorded m₁ r 2 cl (place m r) k
+  there = subst (λ z. Recorded z r 2 cl (place m r) k) same (takes-there g m s n v k cl r (place m r) (top-part .0))
+
+  other : (q : ℕ) → (q ≡ r → ⊥) → Recorded m₁ q (tag m q) (class m q) (place m q) (owner m q)
+  other q f = subst (λ z. Recorded z q (tag m q) (class m q) (place m q) (owner m q)) same (takes-other g m s n v k cl r (place m r) q f)
+
+  segment-r : SegmentOk m r
+  segment-r = c .segments r (top-part .0)
+
+  took : Took g m m₁ k cl r (place m r)
+  took = record {
+    sizes = subst (Sizes g) same (takes-sizes g m s n v k cl r (place m r));
+    below = top-part .0;
+    there = there;
+    other = other;
+    bitmaps = λ q f. refl;
+    tree = subst (λ z. Tree (above z) (blocksIn z) (bitmap m r)) top-class (segment-r .tree (λ e. let z = top-tag in omega arith));
+    remains = let z = top-tag in let y = segment-r .remains (omega arith) (omega arith) in (y .0, y .1, subst (λ w. y .0 < blocksIn w) top-class (y .2), y .3);
+    holds = subst (λ z. holding z k cl ≡ suc r) same (takes-holds g m s n v k cl r (place m r) few ic);
+    entries = takes-entries g m s n v k cl r (place m r) few ic;
+    before = let z = top-tag in omega arith;
+    stood = λ u. record { used = λ e. let z = there .tag in omega arith; class = there .class ∙ sym top-class; place = there .place; bitmap = refl };
+  }
+
+  -- ---- the stacks
+
+  held-now : tag m₁ r ≡ 1 → ⊥
+  held-now e = let z = there .tag in omega arith
+
+  part-stack : StackOk g m₁ (partStack cl) (isPart m₁ cl)
+  part-stack = stack-same g (pop g m (partStack cl)) m₁ (partStack cl) (isPart m₁ cl) (isPart m₁ cl)
+      (pop-ok g m s (partStack cl) (part-few cl ic) (isPart m cl) (c .partSegments cl ic) (isPart m₁ cl) some (not-part m₁ cl r (λ e. absurd (held-now e))) (λ q l f. part-other m m₁ r other cl q f)) refl (λ i l. refl) (λ q l. refl)
+
+  part-stacks : (d : ℕ) → IsClass d → StackOk g m₁ (partStack d) (isPart m₁ d)
+  part-stacks d i = go (same-or-not d cl)
+    where
+      go : (d ≡ cl) ⊎ (d ≡ cl → ⊥) → StackOk g m₁ (partStack d) (isPart m₁ d)
+      go (inl e) = subst (λ z. StackOk g m₁ (partStack z) (isPart m₁ z)) (sym e) part-stack
+      go (inr f) = stack-apart g m s m₁ (partStack cl) v (part-few cl ic) refl (partStack d) (part-apart d cl i ic f) (isPart m d) (isPart m₁ d) (c .partSegments d i) (λ q l. part-left m m₁ r other d (λ e z. f (sym z ∙ top-class)) (λ e. absurd (held-now e)) q)
+
+  free-stack : StackOk g m₁ freeStack (isFree m₁)
+  free-stack = stack-apart g m s m₁ (partStack cl) v (part-few cl ic) refl freeStack (λ e. omega arith) (isFree m) (isFree m₁) (c .freeSegments) (λ q l. free-left m m₁ r other (λ e. let z = top-tag in omega arith) (λ e. let z = there .tag in omega arith) q)
+
+  taken-over : Taken g m m₁ k cl r
+  taken-over = taken-by g m s c (taken .mutators) (taken .segments) (popped g m s n v k cl r (place m r) .stacks) (m .bitmaps) k cl r (place m r) few here ic none took free-stack part-stacks
+
+  pub taken-part : Taken g m (takes (pop g m (partStack cl)) k cl r (place m r)) k cl r
+  taken-part = subst (λ z. Taken g m z k cl r) (sym same) taken-over

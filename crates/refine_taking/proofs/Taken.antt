@@ -1,0 +1,23 @@
+-- What a memory with a segment taken is to the memory before: in order, and to the machine the same. Assumes nothing.
+use mathlib.Core.Path.{_≡_}
+use mathlib.Core.Bool.{true}
+use Prim.Native.Nat.{ℕ, suc}
+use Rattle.layout.specs.declared.Geometry.{Geometry}
+use Rattle.layout.specs.Mem.{Mem}
+use Rattle.theory.proofs.Agree.{Agree}
+use Rattle.model.specs.Fields.{holding}
+use Rattle.model.specs.Records.{segmentOf}
+use Rattle.model.specs.Calls.{isAttached}
+use Rattle.refine_view.specs.View.{view}
+use Rattle.refine_view.specs.Kept.{Sizes, Structure, Steady}
+use Rattle.theory.specs.MachineCalls as machine
+
+-- mutator k holds segment r of class cl
+pub record Taken (g : Geometry) (m m₁ : Mem) (k cl r : ℕ) : Type 0 where
+  pub sizes : Sizes g m₁
+  pub structure : Structure g m₁
+  pub prepared : Agree segmentOf (view m) (view m₁)
+  pub shows : machine.face (view m₁) ≡ machine.face (view m)
+  pub steady : Steady g m m₁
+  pub holds : holding m₁ k cl ≡ suc r
+  pub known : isAttached m₁ k ≡ true

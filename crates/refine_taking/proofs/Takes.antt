@@ -1,0 +1,62 @@
+-- The words of `takes`: a word of a stack set, then a segment held and entered in its mutator's table. Assumes nothing.
+use mathlib.Core.Path.{_≡_, refl, _∙_, ap}
+use mathlib.Core.List.{List}
+use Prim.Native.Nat.{ℕ, suc, _+_, _-_, _*_, _<_}
+use native.Mathlib.Omega.{arith}
+use lib.ListN.{getD}
+use Rattle.classes.specs.Class.{firstClass}
+use Rattle.layout.specs.declared.Geometry.{Geometry}
+use Rattle.layout.specs.Geometry.{mutatorCount, mutatorWords}
+use Rattle.layout.specs.Mem.{Mem, mutatorWord, setMutator, setSegment, setStack}
+use Rattle.model.specs.declared.SegmentState.the-variants.{Held}
+use Rattle.model.specs.Fields.{holding, heldFrom, tag, class, place, owner}
+use Rattle.model.specs.Segments.{setState}
+use Rattle.model.specs.Making.{takes}
+use Rattle.model.specs.Consistent.{IsClass}
+use Rattle.refine_view.specs.Kept.{Sizes}
+use Rattle.refine_view.proofs.Words.{Recorded, recorded-as, state-there, state-other}
+use Rattle.refine_view.proofs.Entries.{table-there, table-other}
+use Rattle.refine_view.proofs.Lengths.{sizes-stack, sizes-state, sizes-mutator}
+use Rattle.refine_taking.proofs.Standing.{over}
+
+module _ (g : Geometry) (m : Mem) (s : Sizes g m) (n v k cl r p : ℕ) where
+  abbrev pub popped : Mem
+  popped = setStack m n v
+
+  abbrev pub noted : Mem
+  noted = setState popped r (Held cl p k)
+
+  abbrev pub after : Mem
+  after = takes popped k cl r p
+
+  pub takes-over : after ≡ over m (after .mutators) (after .segments) (popped .stacks) (m .bitmaps)
+  unfolding setStack setState setSegment setMutator
+  takes-over = refl
+
+  noted-sizes : Sizes g noted
+  noted-sizes = sizes-state g popped (sizes-stack g m s n v) r (Held cl p k)
+
+  pub takes-sizes : Sizes g after
+  takes-sizes = sizes-mutator g noted noted-sizes _ _
+
+  segments-as : after .segments ≡ noted .segments
+  unfolding setMutator
+  segments-as = refl
+
+  pub takes-there : r < g .segments → Recorded after r 2 cl p k
+  takes-there l = let z = sizes-stack g m s n v .segments in recorded-as noted after r 2 cl p k segments-as (state-there popped r (Held cl p k) (omega arith))
+
+  pub takes-other : (q : ℕ) → (q ≡ r → ⊥) → Recorded after q (tag m q) (class m q) (place m q) (owner m q)
+  unfolding setStack
+  takes-other q f = recorded-as noted after q (tag m q) (class m q) (place m q) (owner m q) segments-as (state-other popped r (Held cl p k) q f)
+
+  mutators-as : noted .mutators ≡ m .mutators
+  unfolding setStack setState setSegment
+  mutators-as = refl
+
+  module _ (few : k < mutatorCount) (ic : IsClass cl) where
+    pub takes-holds : holding after k cl ≡ suc r
+    takes-holds = table-there g noted noted-sizes k cl (suc r) few ic
+
+    pub takes-entries : (k′ o : ℕ) → o < mutatorWords → (k′ ≡ k → o ≡ heldFrom + (cl - firstClass) → ⊥) → mutatorWord after (k′ * mutatorWords + o) ≡ mutatorWord m (k′ * mutatorWords + o)
+    takes-entries k′ o h f = table-other g noted noted-sizes k cl (suc r) few ic k′ o h f ∙ ap (λ (l : List ℕ). getD l (k′ * mutatorWords + o) 0) mutators-as

@@ -1,0 +1,58 @@
+-- The calls check, leave and store are kept. Assumes nothing.
+use mathlib.Core.Path.{_≡_, refl, _∙_}
+use mathlib.Core.Bool.{true}
+use Prim.Native.Nat.{ℕ}
+use native.Mathlib.Omega.{arith}
+use lib.Dec.{ltb}
+use Rattle.layout.specs.declared.Geometry.{Geometry}
+use Rattle.layout.specs.Mem.{Mem}
+use Rattle.theory.specs.Phases.{duty}
+use Rattle.theory.specs.Calls.{Answer, a-ok, c-check, c-leave, c-store, refusal, pointer?}
+use Rattle.theory.specs.Machine.{check, store}
+use Rattle.theory.proofs.CallKeeps.{by-ok, root-ok, require-ok, lt-of}
+use Rattle.model.specs.Fields.{phase, acks}
+use Rattle.model.specs.Records.{record?, pointers, pointer, setPointer}
+use Rattle.model.specs.Calls.{face, act, isAttached}
+use Rattle.model.specs.Mutators.{acknowledged}
+use Rattle.model.specs.Consistent.{Consistent}
+use Rattle.refine_view.specs.View.{view}
+use Rattle.refine_view.specs.Kept.{Sizes, ActKept}
+use Rattle.refine_view.proofs.Bools.{not-eq}
+use Rattle.refine_view.proofs.Keeping.{matches-by, wanted-in, on-record}
+use Rattle.refine_view.proofs.Operations.{sizes-acknowledged}
+use Rattle.refine_trace.proofs.Acknowledging.{acknowledged-moves}
+use Rattle.refine_trace.proofs.Leaving.{check-attached, left-moves}
+use Rattle.refine_trace.proofs.Storing.{store-moves}
+use Rattle.theory.specs.MachineCalls as machine
+use Rattle.model.specs.Fields as fields
+use Rattle.model.specs.Tracing as tracing
+
+module _ (g : Geometry) (m : Mem) (s : Sizes g m) (c : Consistent g m) where
+  pub check-kept : (k : ℕ) → refusal (face m) (c-check k) ≡ 0 → ActKept g m (c-check k)
+  unfolding act
+  check-kept k e =
+      let a = by-ok (face m) k 0 e in
+      matches-by g m (act g m (c-check k)) (λ alloc st. machine.act alloc st (c-check k)) refl (acknowledged-moves g m s c k (a .0) (not-eq _ _ (a .1)))
+
+  pub leave-kept : (k : ℕ) → refusal (face m) (c-leave k) ≡ 0 → ActKept g m (c-leave k)
+  unfolding act
+  leave-kept k e =
+      let a = by-ok (face m) k 0 e in
+      let v = acknowledged-moves g m s c k (a .0) (not-eq _ _ (a .1)) in
+      let h : isAttached (acknowledged m k) k ≡ true = v .agree .attached k ∙ check-attached (phase m) (acks m k) (view m) k k ∙ a .1 in
+      matches-by g m (act g m (c-leave k)) (λ alloc st. machine.act alloc st (c-leave k)) refl (left-moves g m (acknowledged m k) (check (view m) k) v (sizes-acknowledged g m s k) k (a .0) (not-eq _ _ h))
+
+  abbrev stored : ℕ → ℕ → ℕ → ℕ → Answer × Mem
+  stored k f w at = (a-ok, setPointer (tracing.barrier (duty (phase m) (acks m k)) m (record? w) (record? (pointer m at f))) at f w)
+
+  pub store-kept : (k i f j : ℕ) → refusal (face m) (c-store k i f j) ≡ 0 → ActKept g m (c-store k i f j)
+  unfolding act
+  store-kept k i f j e =
+      let a = by-ok (face m) k _ e in
+      let b = root-ok i _ (a .3) in
+      let d = root-ok j _ (b .1) in
+      let w = wanted-in g m k i (pointer? f) (a .1) (b .0) (d .1) in
+      let l = lt-of _ _ (require-ok (ltb f (pointers m (w .at))) 8 0 (omega arith) (w .asked) .0) in
+      let h = on-record g m (record? (fields.root m k i)) (w .at) (w .is) (stored k f (fields.root m k j)) (λ at. (a-ok, store (view m) k at f (record? (fields.root m k j)))) refl
+      (store-moves g m s c k (w .at) f (fields.root m k j) (i, a .1, b .0, w .is) l (λ x z. (j, a .1, d .0, z))) in
+      matches-by g m _ _ (h .0) (h .1)

@@ -1,0 +1,66 @@
+-- Pushes of a mutator's roots and of a record's pointers, and pushes that see marks alike. Assumes nothing.
+use mathlib.Core.Path.{_≡_, refl, sym, _∙_, ap, subst}
+use mathlib.Core.Bool.{Bool}
+use mathlib.Core.Option.{Option, none, some}
+use mathlib.Core.List.{List, [], _∷_, _++_, List·Memᴰ, List·Memᴰ·head, List·Memᴰ·tail}
+use Prim.Native.Nat.{ℕ, zero, suc, _<_}
+use native.Mathlib.Omega.{arith}
+use Rattle.layout.specs.declared.Geometry.{Geometry}
+use Rattle.layout.specs.Mem.{Mem}
+use Rattle.theory.specs.TraceStack.{tab, mem?, pushIf, push, pushes}
+use Rattle.model.specs.Fields.{root}
+use Rattle.model.specs.Records.{record?, pointer}
+use Rattle.model.specs.Tracing.{pushRoots, pushPointers}
+use Rattle.model.specs.Consistent.{RecordOk}
+use Rattle.refine_view.specs.View.{view}
+use Rattle.refine_trace.proofs.Over.{Segments}
+use Rattle.refine_trace.proofs.Push.{Pushed, push-pushed}
+use Rattle.model.specs.Tracing as tracing
+
+-- ---- in order, the last by itself
+
+pub pushes-append : (f : ℕ → Bool) (rs : List (Option ℕ)) (r : Option ℕ) (l : List ℕ) → pushes f (rs ++ (r ∷ [])) l ≡ push f r (pushes f rs l)
+pushes-append f [] r l = refl
+pushes-append f (x ∷ rs) r l = pushes-append f rs r (push f x l)
+
+pub push-alike : (f h : ℕ → Bool) (r : Option ℕ) (l : List ℕ) → ((b : ℕ) → r ≡ some b → f b ≡ h b) → push f r l ≡ push h r l
+unfolding push
+push-alike f h none l e = refl
+push-alike f h (some b) l e = ap (λ z. pushIf z (mem? b l) b l) (e b refl)
+
+pub pushes-alike : (f h : ℕ → Bool) (rs : List (Option ℕ)) (l : List ℕ) → ((b : ℕ) → List·Memᴰ (some b) rs → f b ≡ h b) → pushes f rs l ≡ pushes h rs l
+pushes-alike f h [] l e = refl
+pushes-alike f h (r ∷ rs) l e = ap (pushes f rs) (push-alike f h r l (λ b z. e b (List·Memᴰ·head (sym z)))) ∙ pushes-alike f h rs (push h r l) (λ b z. e b (List·Memᴰ·tail z))
+
+-- ---- the folds of the model, step by step
+
+roots-none : (m : Mem) (k : ℕ) → pushRoots m k 0 ≡ m
+unfolding pushRoots
+roots-none m k = refl
+
+roots-next : (m : Mem) (k n : ℕ) → pushRoots m k (suc n) ≡ tracing.push (pushRoots m k n) (record? (root m k n))
+unfolding pushRoots
+roots-next m k n = refl
+
+pointers-none : (m : Mem) (x : ℕ) → pushPointers m x 0 ≡ m
+unfolding pushPointers
+pointers-none m x = refl
+
+pointers-next : (m : Mem) (x n : ℕ) → pushPointers m x (suc n) ≡ tracing.push (pushPointers m x n) (record? (pointer m x n))
+unfolding pushPointers
+pointers-next m x n = refl
+
+-- pushes of a table of references by any such fold
+fold-pushed : (g : Geometry) (m : Mem) → Segments g m → (h : ℕ → Mem) (r : ℕ → Option ℕ) (l : List ℕ) → ((n : ℕ) → h (suc n) ≡ tracing.push (h n) (r n)) → Pushed g m (h 0) l → (n : ℕ) → ((i at : ℕ) → i < n → r i ≡ some at → RecordOk g m at) → Pushed g m (h n) (pushes (view m .marked) (tab n r) l)
+fold-pushed g m f h r l e p zero k = p
+fold-pushed g m f h r l e p (suc n) k =
+    subst (λ z. Pushed g m z (pushes (view m .marked) (tab n r ++ (r n ∷ [])) l)) (sym (e n))
+    (subst (λ z. Pushed g m (tracing.push (h n) (r n)) z) (sym (pushes-append (view m .marked) (tab n r) (r n) l))
+    (push-pushed g m f (h n) (pushes (view m .marked) (tab n r) l) (fold-pushed g m f h r l e p n (λ i at q. k i at (omega arith))) (r n) (λ at. k n at (omega arith))))
+
+module _ (g : Geometry) (m : Mem) (f : Segments g m) (m′ : Mem) (l : List ℕ) (p : Pushed g m m′ l) where
+  pub roots-pushed : (k n : ℕ) → ((i at : ℕ) → i < n → record? (root m′ k i) ≡ some at → RecordOk g m at) → Pushed g m (pushRoots m′ k n) (pushes (view m .marked) (tab n (λ i. record? (root m′ k i))) l)
+  roots-pushed k n r = fold-pushed g m f (pushRoots m′ k) (λ i. record? (root m′ k i)) l (roots-next m′ k) (subst (λ z. Pushed g m z l) (sym (roots-none m′ k)) p) n r
+
+  pub pointers-pushed : (x n : ℕ) → ((i at : ℕ) → i < n → record? (pointer m′ x i) ≡ some at → RecordOk g m at) → Pushed g m (pushPointers m′ x n) (pushes (view m .marked) (tab n (λ i. record? (pointer m′ x i))) l)
+  pointers-pushed x n r = fold-pushed g m f (pushPointers m′ x) (λ i. record? (pointer m′ x i)) l (pointers-next m′ x) (subst (λ z. Pushed g m z l) (sym (pointers-none m′ x)) p) n r

@@ -1,0 +1,38 @@
+-- A memory with other words for the trace stack, which are what pushes change. Assumes nothing.
+use mathlib.Core.Path.{_≡_, refl}
+use mathlib.Core.List.{List}
+use mathlib.Core.Option.{some}
+use Prim.Native.Nat.{ℕ, suc, _+_, _<_}
+use lib.Dec.{eqb}
+use lib.ListN.{getD, set}
+use Rattle.rules.specs.Pick.{pick}
+use Rattle.words.specs.Bits.{bitAt, setBit}
+use Rattle.layout.specs.declared.Geometry.{Geometry}
+use Rattle.layout.specs.Mem.{Mem, setControl, setTrace, setMutator, setHeap}
+use Rattle.model.specs.Records.{bitOf, marked, setQueued}
+use Rattle.model.specs.Tracing.{push}
+use Rattle.model.specs.Consistent.{SegmentOk}
+use Rattle.refine_view.proofs.Frames.{beside}
+
+-- with the control words c, the queued bits q and the entries t
+abbrev pub over : Mem → List ℕ → List ℕ → List ℕ → Mem
+over m c q t = beside m c (m .mutators) (m .marks) q t (m .heap)
+
+pub over-self : (m : Mem) → m ≡ over m (m .control) (m .queued) (m .trace)
+over-self m = refl
+
+pub push-over : (m : Mem) (c q t : List ℕ) (at : ℕ) → push (over m c q t) (some at) ≡ pick (eqb (marked m at) 1) (over m c q t) (pick (eqb (bitAt q (bitOf m at)) 1) (over m c q t) (over m (set c 1 (getD c 1 0 + 1)) (setBit q (bitOf m at)) (set t (getD c 1 0) (suc at))))
+unfolding push setTrace setControl setQueued
+push-over m c q t at = refl
+
+pub mutator-over : (m : Mem) (c q t : List ℕ) (i v : ℕ) → setMutator (over m c q t) i v ≡ over (setMutator m i v) c q t
+unfolding setMutator
+mutator-over m c q t i v = refl
+
+pub heap-over : (m : Mem) (c q t : List ℕ) (i v : ℕ) → setHeap (over m c q t) i v ≡ over (setHeap m i v) c q t
+unfolding setHeap
+heap-over m c q t i v = refl
+
+-- every segment is in order
+abbrev pub Segments : Geometry → Mem → Type 0
+Segments g m = (s : ℕ) → s < g .segments → SegmentOk m s

@@ -1,0 +1,36 @@
+-- A consistent memory's own trace stack is in order. Assumes nothing.
+use mathlib.Core.Path.{refl}
+use mathlib.Core.Logic.{inr}
+use Prim.Native.Nat.{ℕ, _-_, _<_}
+use native.Mathlib.Omega.{arith}
+use Rattle.layout.specs.declared.Geometry.{Geometry}
+use Rattle.layout.specs.Mem.{Mem, traceWord}
+use Rattle.theory.specs.Reach.{root}
+use Rattle.model.specs.Fields.{traceCount}
+use Rattle.model.specs.Reaching.{IsEntry}
+use Rattle.model.specs.Consistent.{Consistent}
+use Rattle.refine_view.specs.View.{stackOf}
+use Rattle.refine_view.specs.Kept.{Sizes}
+use Rattle.refine_trace.proofs.Over.{over-self}
+use Rattle.refine_trace.proofs.Entered.{Entered}
+use Rattle.refine_trace.proofs.Push.{Pushed}
+
+module _ (g : Geometry) (m : Mem) (s : Sizes g m) (c : Consistent g m) where
+  pub entry-at : (i : ℕ) → i < traceCount m → IsEntry m (traceWord m i - 1)
+  entry-at i l = record { index = i; within = l; names = let n = c .trace .named i l in omega arith }
+
+  pub entered-self : Entered g m (m .control) (m .queued) (m .trace)
+  entered-self = record {
+    lengthControl = s .control;
+    lengthQueued = s .queued;
+    lengthTrace = s .trace;
+    phase = refl;
+    named = c .trace .named;
+    records = λ i l. c .records _ (root (inr (entry-at i l)));
+    bits = λ i l. c .trace .bits _ (entry-at i l);
+    once = c .trace .once;
+    number = c .trace .number;
+  }
+
+  pub pushed-self : Pushed g m m (stackOf m (traceCount m))
+  pushed-self = record { control = m .control; queued = m .queued; trace = m .trace; is = over-self m; entered = entered-self; stack = refl }

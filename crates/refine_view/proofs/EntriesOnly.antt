@@ -1,0 +1,68 @@
+-- A call that changes mutators' entries only: the words stay in order, and it moves as the machine does. Assumes nothing.
+use mathlib.Core.Path.{_≡_, refl}
+use mathlib.Core.Bool.{Bool, true}
+use mathlib.Core.Option.{Option}
+use mathlib.Core.List.{List}
+use Prim.Native.Nat.{ℕ, _<_}
+use Rattle.layout.specs.declared.Geometry.{Geometry}
+use Rattle.layout.specs.Geometry.{mutatorCount, rootCount}
+use Rattle.layout.specs.Mem.{Mem}
+use Rattle.theory.proofs.Agree.{Agree}
+use Rattle.model.specs.Fields.{phase, traceCount, acks, root}
+use Rattle.model.specs.Records.{record?, segmentOf}
+use Rattle.model.specs.Calls.{isAttached, isInside}
+use Rattle.model.specs.Reaching.{Live}
+use Rattle.model.specs.Consistent.{MutatorOk}
+use Rattle.refine_view.specs.View.{view}
+use Rattle.refine_view.specs.Kept.{Sizes, Structure, Moves}
+use Rattle.refine_view.proofs.Seeing.{entries-same, live-on, live-back}
+use Rattle.refine_view.proofs.Carried.{queued-by}
+use Rattle.refine_view.proofs.Frames.{beside, Held, structure-beside, marks-beside}
+use Rattle.theory.specs.Machine as machine
+use Rattle.theory.proofs.Agree as agreeing
+
+-- the entries l show A attached, I inside, the acknowledgements K and the roots R
+module _ (g : Geometry) (m : Mem) (l : List ℕ) (A I : ℕ → Bool) (K : ℕ → ℕ) (R : ℕ → ℕ → Option ℕ) where
+  abbrev now : Mem
+  now = beside m (m .control) l (m .marks) (m .queued) (m .trace) (m .heap)
+
+  abbrev after : machine.State
+  after = record { pointers = view m .pointers; values = view m .values; pointer = view m .pointer; used = view m .used; collect = view m .collect; marked = view m .marked; stack = view m .stack; attached = A; inside = I; acks = K; root = R; phase = view m .phase }
+
+  pub record Shows : Type 0 where
+    pub mutators : (k : ℕ) → k < mutatorCount → MutatorOk g now k
+    pub held : Held g m (m .control) l (m .marks) (m .queued) (m .trace) (m .heap)
+    pub attached : (j : ℕ) → isAttached now j ≡ A j
+    pub inside : (j : ℕ) → isInside now j ≡ I j
+    pub acks : (j : ℕ) → acks now j ≡ K j
+    pub root : (j i : ℕ) → A j ≡ true → i < rootCount → record? (root now j i) ≡ R j i
+    pub live : (x : ℕ) → machine.Live after x → machine.Live (view m) x
+
+  module _ (s : Sizes g m) (o : Structure g m) (e : Shows) where
+    agree : Agree segmentOf after (view now)
+    agree = record {
+      phase = refl;
+      stack = entries-same m now (traceCount m) (λ i q. refl);
+      attached = e .attached;
+      inside = e .inside;
+      acks = e .acks;
+      root = e .root;
+      marked = λ t b q. refl;
+      fated = λ b q. refl;
+      collect = λ x. refl;
+      pointers = λ b q. refl;
+      values = λ b q. refl;
+      pointer = λ b f q i. refl;
+      used = λ b q. refl;
+    }
+
+    was-live : (x : ℕ) → Live now x → Live m x
+    was-live x p = live-back m g s (o .trace .named) (e .live x (agreeing.live-back segmentOf after (view now) agree (live-on now p)))
+
+    pub entries-moves : Moves g m now after
+    entries-moves = record {
+      structure = structure-beside g m (m .control) l (m .marks) (m .queued) (m .trace) (m .heap) o (o .phases) (e .held) (e .mutators) (λ x p. (o .records x (was-live x p), refl))
+          (queued-by g m now (o .trace) refl (λ i. refl) refl (λ x q. refl)) (marks-beside g m (m .control) l (m .queued) (m .trace) (m .heap) (phase m) (o .marks));
+      agree = agree;
+      steady = λ x q h. (h, refl);
+    }

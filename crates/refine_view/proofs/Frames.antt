@@ -1,0 +1,84 @@
+-- A memory that keeps the segments' records, stacks and bitmaps of another, with other words elsewhere: what stays in order. Assumes nothing.
+use mathlib.Core.Path.{_≡_, refl, sym, _∙_, ap}
+use mathlib.Core.Bool.{Bool}
+use mathlib.Core.List.{List}
+use Prim.Native.Nat.{ℕ, _+_, _/_, _%_, _≤_, _<_}
+use native.Mathlib.Omega.{arith}
+use lib.ListN.{getD}
+use Rattle.classes.specs.Class.{classOf}
+use Rattle.layout.specs.declared.Geometry.{Geometry}
+use Rattle.layout.specs.Geometry.{mutatorCount}
+use Rattle.layout.specs.Mem.{Mem, heapWord}
+use Rattle.theory.specs.Phases.{Phase}
+use Rattle.model.specs.Rules.{phaseOf}
+use Rattle.model.specs.Fields.{absent, state, holding}
+use Rattle.model.specs.Reaching.{Live}
+use Rattle.model.specs.Consistent.{IsClass, SegmentOk, MutatorOk, StackOk, RecordOk, BlockInUse}
+use Rattle.refine_view.specs.Kept.{Structure, QueuedOk, MarksIn}
+use Rattle.refine_view.proofs.Carried.{marks-by}
+
+abbrev pub beside : Mem → List ℕ → List ℕ → List ℕ → List ℕ → List ℕ → List ℕ → Mem
+beside m control mutators marks queued trace heap = record {
+  control = control;
+  mutators = mutators;
+  segments = m .segments;
+  stacks = m .stacks;
+  bitmaps = m .bitmaps;
+  marks = marks;
+  queued = queued;
+  trace = trace;
+  heap = heap;
+}
+
+module _ (g : Geometry) (m : Mem) (co mu ma qu tr he : List ℕ) where
+  abbrev now : Mem
+  now = beside m co mu ma qu tr he
+
+  -- attached mutators stay so, and hold what they held
+  abbrev pub Held : Type 0
+  Held = (k c : ℕ) → k < mutatorCount → IsClass c → (state m k ≡ absent → ⊥) → (state now k ≡ absent → ⊥) × (holding now k c ≡ holding m k c)
+
+  pub segment-beside : Held → (s : ℕ) → SegmentOk m s → SegmentOk now s
+  segment-beside h s o = record {
+    tags = o .tags;
+    free = o .free;
+    unowned = o .unowned;
+    classes = o .classes;
+    tree = o .tree;
+    remains = o .remains;
+    whole = o .whole;
+    held = λ e. let q = o .held e in let z = h _ _ (q .0) (o .classes (λ y. let w = sym y ∙ e in omega arith)) (q .1) in (q .0, z .0, z .1 ∙ q .2);
+  }
+
+  pub stack-beside : (t : ℕ) (test : ℕ → Bool) → StackOk g m t test → StackOk g now t test
+  stack-beside t test o = record { number = o .number; members = o .members; once = o .once; all = o .all }
+
+  pub record-beside : (at : ℕ) → heapWord now at ≡ heapWord m at → RecordOk g m at → RecordOk g now at
+  record-beside at e r = record { inside = r .inside; used = r .used; aligned = r .aligned; block = r .block; sized = ap (λ (w : ℕ). classOf (w / 65536 + w % 65536)) e ∙ r .sized }
+
+  pub use-beside : (s b : ℕ) → BlockInUse m s b → BlockInUse now s b
+  use-beside s b u = record { used = u .used; within = u .within; block = u .block }
+
+  pub structure-beside : Structure g m → getD co 0 0 ≤ 4 → Held → ((k : ℕ) → k < mutatorCount → MutatorOk g now k) → ((at : ℕ) → Live now at → RecordOk g m at × (heapWord now at ≡ heapWord m at)) → QueuedOk g now → MarksIn (phaseOf (getD co 0 0)) g now → Structure g now
+  structure-beside o p h u r q k = record {
+    phases = p;
+    segments = λ s l. segment-beside h s (o .segments s l);
+    mutators = u;
+    freeSegments = stack-beside _ _ (o .freeSegments);
+    partSegments = λ c i. stack-beside _ _ (o .partSegments c i);
+    records = λ at l. let z = r at l in record-beside at (z .1) (z .0);
+    trace = q;
+    marks = k;
+  }
+
+-- where the mutators' entries stay too
+module _ (g : Geometry) (m : Mem) (co ma qu tr he : List ℕ) where
+  pub held-self : Held g m co (m .mutators) ma qu tr he
+  held-self k c l i a = (a, refl)
+
+  pub mutator-beside : (k : ℕ) → MutatorOk g m k → MutatorOk g (beside m co (m .mutators) ma qu tr he) k
+  mutator-beside k o = record { states = o .states; acknowledged = o .acknowledged; gone = o .gone; holds = o .holds }
+
+-- where the marks stay
+pub marks-beside : (g : Geometry) (m : Mem) (co mu qu tr he : List ℕ) (p : Phase) → MarksIn p g m → MarksIn p g (beside m co mu (m .marks) qu tr he)
+marks-beside g m co mu qu tr he p h = marks-by g m (beside m co mu (m .marks) qu tr he) (λ s e. e) (λ test o s b l t k e. use-beside g m co mu (m .marks) qu tr he s b (o s b l t k e)) p (λ e z. z) h

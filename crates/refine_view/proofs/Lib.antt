@@ -1,0 +1,27 @@
+-- The correspondence of memory and machine.
+pub mod Bools
+pub mod Tables
+pub mod Words
+pub mod Counts
+pub mod Windows
+pub mod Lengths
+pub mod Operations
+pub mod Entries
+pub mod Stacks
+pub mod OtherStacks
+pub mod Segments
+pub mod Parted
+pub mod Blocks
+pub mod Bitmaps
+pub mod Apart
+pub mod Contents
+pub mod Seeing
+pub mod Carried
+pub mod Frames
+pub mod Updates
+pub mod Following
+pub mod EntriesOnly
+pub mod Sides
+pub mod Phasing
+pub mod Invariants
+pub mod Keeping

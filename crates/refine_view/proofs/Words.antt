@@ -1,0 +1,168 @@
+-- One word of a mutator's entry, of a segment's record or of a stack, set and read. Assumes nothing.
+use mathlib.Core.Path.{_≡_, refl, sym, _∙_, ap}
+use Prim.Native.Nat.{ℕ, suc, _+_, _-_, _*_, _/_, _%_, _≤_, _<_}
+use native.Mathlib.Nat.{mul-add-div-right, mul-add-mod-self-right, div-eq-of-lt, mod-eq-of-lt, mul-le-mul-right, suc-mul}
+use native.Mathlib.Omega.{arith}
+use lib.ListN.{length, getD, length-set}
+use lib.Seq.{getD-set-same, getD-set-other}
+use Rattle.classes.specs.Shape.{blocksIn}
+use Rattle.layout.specs.declared.Geometry.{Geometry}
+use Rattle.layout.specs.Geometry.{mutatorCount, mutatorWords, recordWords, stackCount}
+use Rattle.layout.specs.Mem.{Mem, mutatorWord, segmentWord, stackWord, setMutator, setSegment, setStack}
+use Rattle.model.specs.declared.SegmentState.{SegmentState}
+use Rattle.model.specs.Fields.{tag, class, place, owner}
+use Rattle.model.specs.Segments.{setState, setRecord}
+use Rattle.refine_view.specs.Kept.{Sizes}
+use Rattle.model.specs.declared.SegmentState.the-variants as state
+
+-- ---- a number is a quotient and a rest in one way
+
+pub one-way : (w a i b j : ℕ) → i < w → j < w → a * w + i ≡ b * w + j → (a ≡ b) × (i ≡ j)
+one-way w a i b j l h e =
+    let p : 0 < w = omega arith in
+    let q : (x r : ℕ) → r < w → (x * w + r) / w ≡ x = λ x r k. mul-add-div-right p x r ∙ ap (λ z. x + z) (div-eq-of-lt k) ∙ omega arith in
+    let u : (x r : ℕ) → r < w → (x * w + r) % w ≡ r = λ x r k. mul-add-mod-self-right x w r ∙ mod-eq-of-lt k in
+    (sym (q a i l) ∙ ap (λ z. z / w) e ∙ q b j h, sym (u a i l) ∙ ap (λ z. z % w) e ∙ u b j h)
+
+pub within : (w a n i : ℕ) → a < n → i < w → a * w + i < n * w
+within w a n i l h = let e : suc a * w ≤ n * w = mul-le-mul-right w l in let f = suc-mul a w in omega arith
+
+-- ---- mutators' entries: word o of entry k
+
+module _ (g : Geometry) (m : Mem) (s : Sizes g m) (k o v : ℕ) (l : k < mutatorCount) (h : o < mutatorWords) where
+  pub mutator-there : mutatorWord (setMutator m (k * mutatorWords + o) v) (k * mutatorWords + o) ≡ v
+  unfolding setMutator
+  mutator-there = let z = s .mutators in getD-set-same (m .mutators) (k * mutatorWords + o) v 0 (omega arith)
+
+  pub mutator-other : (k′ o′ : ℕ) → o′ < mutatorWords → (k′ ≡ k → o′ ≡ o → ⊥) → mutatorWord (setMutator m (k * mutatorWords + o) v) (k′ * mutatorWords + o′) ≡ mutatorWord m (k′ * mutatorWords + o′)
+  unfolding setMutator
+  mutator-other k′ o′ i f = getD-set-other (m .mutators) (k * mutatorWords + o) (k′ * mutatorWords + o′) v 0 (λ e. let q = one-way mutatorWords k′ o′ k o i h e in f (q .0) (q .1))
+
+-- ---- segments' records
+
+pub record Recorded (m : Mem) (s t c p k : ℕ) : Type 0 where
+  pub tag : tag m s ≡ t
+  pub class : class m s ≡ c
+  pub place : place m s ≡ p
+  pub owner : owner m s ≡ k
+
+-- it is read from the segments' records only
+pub recorded-as : (m m′ : Mem) (q t c p k : ℕ) → m′ .segments ≡ m .segments → Recorded m q t c p k → Recorded m′ q t c p k
+recorded-as m m′ q t c p k e x = let w : (i : ℕ) → segmentWord m′ i ≡ segmentWord m i = λ i. ap (λ l. getD l i 0) e in record { tag = w (q * 4) ∙ x .tag; class = w (q * 4 + 1) ∙ x .class; place = w (q * 4 + 2) ∙ x .place; owner = w (q * 4 + 3) ∙ x .owner }
+
+-- a record with the words of another's
+pub recorded-by : (m m′ : Mem) (x t c p k : ℕ) → Recorded m x t c p k → Recorded m′ x (tag m x) (class m x) (place m x) (owner m x) → Recorded m′ x t c p k
+recorded-by m m′ x t c p k r q = record { tag = q .tag ∙ r .tag; class = q .class ∙ r .class; place = q .place ∙ r .place; owner = q .owner ∙ r .owner }
+
+word-there : (m : Mem) (i v : ℕ) → i < length (m .segments) → segmentWord (setSegment m i v) i ≡ v
+unfolding setSegment
+word-there m i v h = getD-set-same (m .segments) i v 0 h
+
+word-other : (m : Mem) (i v j : ℕ) → (j ≡ i → ⊥) → segmentWord (setSegment m i v) j ≡ segmentWord m j
+unfolding setSegment
+word-other m i v j f = getD-set-other (m .segments) i j v 0 f
+
+word-length : (m : Mem) (i v : ℕ) → length (setSegment m i v .segments) ≡ length (m .segments)
+unfolding setSegment
+word-length m i v = length-set (m .segments) i v
+
+module _ (m : Mem) (s t c p k : ℕ) where
+  abbrev m₁ : Mem
+  m₁ = setSegment m (s * recordWords) t
+
+  abbrev m₂ : Mem
+  m₂ = setSegment m₁ (s * recordWords + 1) c
+
+  abbrev m₃ : Mem
+  m₃ = setSegment m₂ (s * recordWords + 2) p
+
+  pub record-there : s * recordWords + 3 < length (m .segments) → Recorded (setRecord m s t c p k) s t c p k
+  record-there h =
+      let a = word-length m (s * 4) t in
+      let b = word-length m₁ (s * 4 + 1) c in
+      let d = word-length m₂ (s * 4 + 2) p in
+      record {
+        tag = word-other m₃ (s * 4 + 3) k (s * 4) (λ e. omega arith) ∙ word-other m₂ (s * 4 + 2) p (s * 4) (λ e. omega arith) ∙ word-other m₁ (s * 4 + 1) c (s * 4) (λ e. omega arith) ∙ word-there m (s * 4) t (omega arith);
+        class = word-other m₃ (s * 4 + 3) k (s * 4 + 1) (λ e. omega arith) ∙ word-other m₂ (s * 4 + 2) p (s * 4 + 1) (λ e. omega arith) ∙ word-there m₁ (s * 4 + 1) c (omega arith);
+        place = word-other m₃ (s * 4 + 3) k (s * 4 + 2) (λ e. omega arith) ∙ word-there m₂ (s * 4 + 2) p (omega arith);
+        owner = word-there m₃ (s * 4 + 3) k (omega arith);
+      }
+
+  word-far : (j : ℕ) → (j / 4 ≡ s → ⊥) → segmentWord (setRecord m s t c p k) j ≡ segmentWord m j
+  word-far j f = word-other m₃ (s * 4 + 3) k j (λ e. f (omega arith)) ∙ word-other m₂ (s * 4 + 2) p j (λ e. f (omega arith)) ∙ word-other m₁ (s * 4 + 1) c j (λ e. f (omega arith)) ∙ word-other m (s * 4) t j (λ e. f (omega arith))
+
+  pub record-other : (r : ℕ) → (r ≡ s → ⊥) → Recorded (setRecord m s t c p k) r (tag m r) (class m r) (place m r) (owner m r)
+  record-other r f = record { tag = word-far (r * 4) (λ e. f (omega arith)); class = word-far (r * 4 + 1) (λ e. f (omega arith)); place = word-far (r * 4 + 2) (λ e. f (omega arith)); owner = word-far (r * 4 + 3) (λ e. f (omega arith)) }
+
+-- the words of a state
+abbrev pub tagOf : SegmentState → ℕ
+tagOf state.Free = 0
+tagOf (state.Part c p) = 1
+tagOf (state.Held c p k) = 2
+tagOf (state.Full c) = 3
+tagOf (state.Condemned c) = 4
+
+abbrev pub classIn : SegmentState → ℕ
+classIn state.Free = 0
+classIn (state.Part c p) = c
+classIn (state.Held c p k) = c
+classIn (state.Full c) = c
+classIn (state.Condemned c) = c
+
+abbrev pub placeIn : SegmentState → ℕ
+placeIn state.Free = 0
+placeIn (state.Part c p) = p
+placeIn (state.Held c p k) = p
+placeIn (state.Full c) = blocksIn c
+placeIn (state.Condemned c) = blocksIn c
+
+abbrev pub ownerIn : SegmentState → ℕ
+ownerIn state.Free = 0
+ownerIn (state.Part c p) = 0
+ownerIn (state.Held c p k) = k
+ownerIn (state.Full c) = 0
+ownerIn (state.Condemned c) = 0
+
+pub state-is : (m : Mem) (s : ℕ) (x : SegmentState) → setState m s x ≡ setRecord m s (tagOf x) (classIn x) (placeIn x) (ownerIn x)
+unfolding setState
+state-is m s state.Free = refl
+state-is m s (state.Part c p) = refl
+state-is m s (state.Held c p k) = refl
+state-is m s (state.Full c) = refl
+state-is m s (state.Condemned c) = refl
+
+-- the record of a segment whose state is set, and of another
+pub state-there : (m : Mem) (s : ℕ) (x : SegmentState) → s * recordWords + 3 < length (m .segments) → Recorded (setState m s x) s (tagOf x) (classIn x) (placeIn x) (ownerIn x)
+state-there m s x h = rw (state-is m s x) (record-there m s (tagOf x) (classIn x) (placeIn x) (ownerIn x) h)
+
+pub state-other : (m : Mem) (s : ℕ) (x : SegmentState) (r : ℕ) → (r ≡ s → ⊥) → Recorded (setState m s x) r (tag m r) (class m r) (place m r) (owner m r)
+state-other m s x r f = rw (state-is m s x) (record-other m s (tagOf x) (classIn x) (placeIn x) (ownerIn x) r f)
+
+-- the other regions stay
+pub record OtherRegions (m m′ : Mem) : Type 0 where
+  pub control : m′ .control ≡ m .control
+  pub mutators : m′ .mutators ≡ m .mutators
+  pub stacks : m′ .stacks ≡ m .stacks
+  pub bitmaps : m′ .bitmaps ≡ m .bitmaps
+  pub marks : m′ .marks ≡ m .marks
+  pub queued : m′ .queued ≡ m .queued
+  pub trace : m′ .trace ≡ m .trace
+  pub heap : m′ .heap ≡ m .heap
+
+record-others : (m : Mem) (s t c p k : ℕ) → OtherRegions m (setRecord m s t c p k)
+unfolding setSegment
+record-others m s t c p k = record { control = refl; mutators = refl; stacks = refl; bitmaps = refl; marks = refl; queued = refl; trace = refl; heap = refl }
+
+pub state-others : (m : Mem) (s : ℕ) (x : SegmentState) → OtherRegions m (setState m s x)
+state-others m s x = rw (state-is m s x) (record-others m s (tagOf x) (classIn x) (placeIn x) (ownerIn x))
+
+-- ---- stacks: word j of stack t
+
+module _ (g : Geometry) (m : Mem) (s : Sizes g m) (t j v : ℕ) (l : t < stackCount) (h : j < 1 + g .segments) where
+  pub stack-there : stackWord (setStack m (t * (1 + g .segments) + j) v) (t * (1 + g .segments) + j) ≡ v
+  unfolding setStack
+  stack-there = let z = s .stacks in let q = within (1 + g .segments) t stackCount j l h in getD-set-same (m .stacks) (t * (1 + g .segments) + j) v 0 (omega arith)
+
+  pub stack-other : (t′ j′ : ℕ) → j′ < 1 + g .segments → (t′ ≡ t → j′ ≡ j → ⊥) → stackWord (setStack m (t * (1 + g .segments) + j) v) (t′ * (1 + g .segments) + j′) ≡ stackWord m (t′ * (1 + g .segments) + j′)
+  unfolding setStack
+  stack-other t′ j′ i f = getD-set-other (m .stacks) (t * (1 + g .segments) + j) (t′ * (1 + g .segments) + j′) v 0 (λ e. let q = one-way (1 + g .segments) t′ j′ t j i h e in f (q .0) (q .1))
