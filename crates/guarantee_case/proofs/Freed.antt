@@ -23,7 +23,7 @@ use Rattle.refine_view.specs.View.{isUsed}
 use Rattle.refine_view.specs.Kept.{Sizes}
 use Rattle.refine_view.proofs.Bools.{and-right, and-left, not-eq}
 use Rattle.refine_view.proofs.Blocks.{header-segment, header-block}
-use Rattle.refine_sweep.proofs.Marks.{one-missing}
+use Rattle.words.proofs.Counts.{one-missing}
 use Rattle.refine_sweep.proofs.Outcome.{Outcome}
 use Rattle.refine_sweep.proofs.SweepStep.{swept-outcome}
 use Rattle.guarantee.specs.Demand3.{BlockFree}

@@ -25,7 +25,7 @@ use Rattle.refine_view.specs.Kept.{Sizes}
 use Rattle.refine_view.proofs.Bools.{and-both, ne-not}
 use Rattle.refine_view.proofs.Blocks.{header-segment, header-bit, header-is-class, header-head, of-block, same-bit, blocks-most}
 use Rattle.refine_view.proofs.Segments.{in-range}
-use Rattle.refine_view.proofs.Updates.{upd2-by}
+use Rattle.theory.proofs.Updates.{upd2-by}
 use Rattle.refine_view.proofs.Invariants.{to-live, to-inv, used-of}
 use Rattle.refine_making.proofs.Request.{Request}
 use Rattle.refine_making.proofs.Result.{Result}

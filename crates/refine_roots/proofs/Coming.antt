@@ -31,7 +31,7 @@ use Rattle.refine_view.specs.Kept.{Sizes, Moves, ActKept}
 use Rattle.refine_view.proofs.Seeing.{root-on, named}
 use Rattle.refine_view.proofs.Invariants.{to-inv, structure-of}
 use Rattle.refine_view.proofs.Keeping.{matches-by, moves-self, is-root}
-use Rattle.refine_view.proofs.Updates.{upd-by}
+use Rattle.theory.proofs.Updates.{upd-by}
 use Rattle.refine_view.proofs.Entries.{state-word, root-word, holding-word, state-by, root-by, holding-by, table-below, entry-in, entry-out}
 use Rattle.refine_view.proofs.EntriesOnly.{entries-moves}
 use Rattle.theory.specs.Machine as machine

@@ -25,7 +25,7 @@ use Rattle.refine_view.proofs.Seeing.{entries-same, live-on, named}
 use Rattle.refine_view.proofs.Carried.{queued-by}
 use Rattle.refine_view.proofs.Frames.{held-self, mutator-beside, marks-beside, structure-beside}
 use Rattle.refine_view.proofs.Tables.{tab-set}
-use Rattle.refine_view.proofs.Updates.{upd-by}
+use Rattle.theory.proofs.Updates.{upd-by}
 use Rattle.refine_view.proofs.Contents.{pointers-by, values-by, pointer-by, value-by, fields-by}
 use Rattle.refine_view.proofs.Invariants.{to-live, to-record, structure-of}
 use Rattle.refine_view.proofs.Keeping.{matches-by, is-root, wanted-in, on-record}

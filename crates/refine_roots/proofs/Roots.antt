@@ -20,7 +20,7 @@ use Rattle.refine_view.proofs.Bools.{not-eq}
 use Rattle.refine_view.proofs.Seeing.{reached-on, named}
 use Rattle.refine_view.proofs.Invariants.{to-inv, structure-of}
 use Rattle.refine_view.proofs.Words.{mutator-there}
-use Rattle.refine_view.proofs.Updates.{upd2-by}
+use Rattle.theory.proofs.Updates.{upd2-by}
 use Rattle.refine_view.proofs.Entries.{root-word, state-set, acks-set, root-set, mutators-set, held-set}
 use Rattle.refine_view.proofs.EntriesOnly.{entries-moves}
 use Rattle.theory.specs.Machine as machine

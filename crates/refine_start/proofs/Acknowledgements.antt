@@ -12,7 +12,7 @@ use Rattle.model.specs.Fields.{acks, setAcks}
 use Rattle.model.specs.Collector.{acksReset}
 use Rattle.refine_view.specs.Kept.{Sizes}
 use Rattle.refine_view.proofs.Words.{mutator-there, mutator-other}
-use Rattle.refine_view.proofs.Counts.{lt-of}
+use Rattle.words.proofs.Counts.{lt-of}
 use Rattle.refine_view.proofs.Operations.{sizes-reset}
 
 -- ---- the other regions

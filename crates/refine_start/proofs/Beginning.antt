@@ -14,7 +14,7 @@ use Rattle.model.specs.Consistent.{SegmentOk}
 use Rattle.refine_view.specs.Kept.{Sizes}
 use Rattle.refine_view.proofs.Words.{recorded-as, OtherRegions}
 use Rattle.refine_view.proofs.Operations.{sizes-condemned, sizes-reset}
-use Rattle.refine_start.proofs.Zeros.{zeros-bit}
+use Rattle.words.proofs.Zeros.{zeros-bit}
 use Rattle.refine_start.proofs.Condemned.{After, others-condemned, segments-condemned}
 use Rattle.refine_start.proofs.Acknowledgements.{BesideMutators, beside-reset, reset-kept, reset-acks}
 

@@ -17,7 +17,7 @@ use Rattle.model.specs.Collector.{isFull, condemned}
 use Rattle.model.specs.Consistent.{SegmentOk}
 use Rattle.refine_view.specs.Kept.{Sizes}
 use Rattle.refine_view.proofs.Words.{Recorded, recorded-by, OtherRegions, state-others, state-there, state-other}
-use Rattle.refine_view.proofs.Counts.{lt-of}
+use Rattle.words.proofs.Counts.{lt-of}
 use Rattle.refine_view.proofs.Operations.{sizes-condemned}
 use Rattle.model.specs.declared.SegmentState.the-variants as segment
 

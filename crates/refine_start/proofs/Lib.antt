@@ -1,5 +1,4 @@
 -- The opening and the start of a cycle.
-pub mod Zeros
 pub mod OpenStacks
 pub mod Opened
 pub mod Condemned

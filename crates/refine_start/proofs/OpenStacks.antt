@@ -13,7 +13,8 @@ use Rattle.layout.specs.Mem.{Mem, stackWord}
 use Rattle.model.specs.Opening.{downTo0, openStacks}
 use Rattle.model.specs.Segments.{freeStack, count, entry}
 use Rattle.model.specs.Consistent.{StackOk}
-use Rattle.refine_start.proofs.Zeros.{zeros-at, no-ones, only-ones}
+use Rattle.words.proofs.Counts.{no-ones, only-ones}
+use Rattle.words.proofs.Zeros.{zeros-at}
 
 length-down : (n : ℕ) → length (downTo0 n) ≡ n
 unfolding downTo0

@@ -29,7 +29,8 @@ use Rattle.refine_view.specs.View.{view}
 use Rattle.refine_view.specs.Kept.{Sizes}
 use Rattle.refine_view.proofs.Seeing.{live-back}
 use Rattle.refine_view.proofs.Invariants.{to-inv}
-use Rattle.refine_start.proofs.Zeros.{zeros-at, zeros-bit, no-ones}
+use Rattle.words.proofs.Counts.{no-ones}
+use Rattle.words.proofs.Zeros.{zeros-at, zeros-bit}
 use Rattle.refine_start.proofs.OpenStacks.{length-open, free-open, part-open}
 
 -- ---- its words

@@ -21,7 +21,7 @@ use Rattle.refine_view.specs.Kept.{Sizes}
 use Rattle.refine_view.proofs.Words.{tagOf, classIn, placeIn, ownerIn}
 use Rattle.refine_view.proofs.Parted.{Stacks}
 use Rattle.refine_view.proofs.Blocks.{blocks-most}
-use Rattle.refine_sweep.proofs.Marks.{none-one, all-one, one-missing}
+use Rattle.words.proofs.Counts.{none-one, all-one, one-missing}
 use Rattle.refine_sweep.proofs.Rebuilding.{mark-bit}
 use Rattle.refine_sweep.proofs.Settled.{Settled}
 use Rattle.refine_sweep.proofs.Outcome.{Outcome}

@@ -1,5 +1,4 @@
 -- The step in sweep: one segment swept, or the cycle done.
-pub mod Marks
 pub mod Lowest
 pub mod Rebuilding
 pub mod Outcome

@@ -31,7 +31,7 @@ use Rattle.model.specs.Consistent.{Consistent, IsClass, SegmentOk, MutatorOk, i
 use Rattle.refine_view.specs.View.{view}
 use Rattle.refine_view.specs.Kept.{Sizes, Structure, Moves}
 use Rattle.refine_view.proofs.Words.{Recorded, recorded-as}
-use Rattle.refine_view.proofs.Updates.{upd-by}
+use Rattle.theory.proofs.Updates.{upd-by}
 use Rattle.refine_view.proofs.Entries.{state-word, holding-word, state-by, root-by, holding-by, table-below, entry-in, entry-out}
 use Rattle.refine_view.proofs.Stacks.{stack-same}
 use Rattle.refine_view.proofs.Segments.{segment-same}

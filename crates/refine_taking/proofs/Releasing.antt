@@ -13,7 +13,7 @@ use Rattle.model.specs.Segments.{freeStack, partStack}
 use Rattle.model.specs.Consistent.{Consistent, IsClass, StackOk, isFree, isPart}
 use Rattle.refine_view.specs.Kept.{Sizes}
 use Rattle.refine_view.proofs.Words.{Recorded}
-use Rattle.refine_view.proofs.Counts.{lt-of}
+use Rattle.words.proofs.Counts.{lt-of}
 use Rattle.refine_view.proofs.Segments.{in-range}
 use Rattle.refine_taking.proofs.Standing.{over}
 

@@ -22,7 +22,7 @@ use Rattle.model.specs.Consistent.{MutatorOk, RecordOk}
 use Rattle.refine_view.specs.View.{stackOf}
 use Rattle.refine_view.specs.Kept.{QueuedOk, MarksIn, Structure}
 use Rattle.refine_view.proofs.Blocks.{bit-below, same-bit}
-use Rattle.refine_view.proofs.Counts.{among-change, places-all}
+use Rattle.words.proofs.Counts.{among-change, places-all}
 use Rattle.refine_view.proofs.Seeing.{entry-in, entry-of, entries-same}
 use Rattle.refine_view.proofs.Apart.{class-of}
 use Rattle.refine_view.proofs.Frames.{beside, Held, structure-beside}

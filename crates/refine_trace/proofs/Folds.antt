@@ -1,13 +1,13 @@
--- Pushes of a mutator's roots and of a record's pointers, and pushes that see marks alike. Assumes nothing.
-use mathlib.Core.Path.{_≡_, refl, sym, _∙_, ap, subst}
-use mathlib.Core.Bool.{Bool}
+-- Pushes of a mutator's roots and of a record's pointers. Assumes nothing.
+use mathlib.Core.Path.{_≡_, refl, sym, subst}
 use mathlib.Core.Option.{Option, none, some}
-use mathlib.Core.List.{List, [], _∷_, _++_, List·Memᴰ, List·Memᴰ·head, List·Memᴰ·tail}
+use mathlib.Core.List.{List, [], _∷_, _++_}
 use Prim.Native.Nat.{ℕ, zero, suc, _<_}
 use native.Mathlib.Omega.{arith}
 use Rattle.layout.specs.declared.Geometry.{Geometry}
 use Rattle.layout.specs.Mem.{Mem}
-use Rattle.theory.specs.TraceStack.{tab, mem?, pushIf, push, pushes}
+use Rattle.theory.specs.TraceStack.{tab, push, pushes}
+use Rattle.theory.proofs.Updates.{pushes-append}
 use Rattle.model.specs.Fields.{root}
 use Rattle.model.specs.Records.{record?, pointer}
 use Rattle.model.specs.Tracing.{pushRoots, pushPointers}
@@ -16,21 +16,6 @@ use Rattle.refine_view.specs.View.{view}
 use Rattle.refine_trace.proofs.Over.{Segments}
 use Rattle.refine_trace.proofs.Push.{Pushed, push-pushed}
 use Rattle.model.specs.Tracing as tracing
-
--- ---- in order, the last by itself
-
-pub pushes-append : (f : ℕ → Bool) (rs : List (Option ℕ)) (r : Option ℕ) (l : List ℕ) → pushes f (rs ++ (r ∷ [])) l ≡ push f r (pushes f rs l)
-pushes-append f [] r l = refl
-pushes-append f (x ∷ rs) r l = pushes-append f rs r (push f x l)
-
-pub push-alike : (f h : ℕ → Bool) (r : Option ℕ) (l : List ℕ) → ((b : ℕ) → r ≡ some b → f b ≡ h b) → push f r l ≡ push h r l
-unfolding push
-push-alike f h none l e = refl
-push-alike f h (some b) l e = ap (λ z. pushIf z (mem? b l) b l) (e b refl)
-
-pub pushes-alike : (f h : ℕ → Bool) (rs : List (Option ℕ)) (l : List ℕ) → ((b : ℕ) → List·Memᴰ (some b) rs → f b ≡ h b) → pushes f rs l ≡ pushes h rs l
-pushes-alike f h [] l e = refl
-pushes-alike f h (r ∷ rs) l e = ap (pushes f rs) (push-alike f h r l (λ b z. e b (List·Memᴰ·head (sym z)))) ∙ pushes-alike f h rs (push h r l) (λ b z. e b (List·Memᴰ·tail z))
 
 -- ---- the folds of the model, step by step
 

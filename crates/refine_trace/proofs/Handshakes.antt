@@ -29,11 +29,12 @@ use Rattle.refine_view.proofs.Bools.{not-eq, and-false}
 use Rattle.refine_view.proofs.Words.{within}
 use Rattle.refine_view.proofs.Invariants.{to-inv, consistent-of, structure-of}
 use Rattle.refine_view.proofs.Keeping.{agree-self}
-use Rattle.refine_view.proofs.Following.{agree-trans}
 use Rattle.refine_view.proofs.Operations.{sizes-acknowledged}
 use Rattle.refine_view.proofs.Phasing.{phase-moves}
 use Rattle.refine_trace.proofs.Acknowledging.{acknowledged-moves}
-use Rattle.refine_trace.proofs.Agreeing.{check-agree, answers-unchanged}
+use Rattle.theory.proofs.Agree.{agree-trans}
+use Rattle.theory.proofs.AgreeKeeps.{check-agree}
+use Rattle.theory.proofs.CollectorKeeps.{outside-later}
 use Rattle.theory.specs.MachineCalls as machine
 
 -- a memory after answers, beside the machine's state after them
@@ -77,7 +78,7 @@ module _ (g : Geometry) (m : Mem) where
     all-answered zero h = subst (λ z. Answered g m z (view m)) (sym answered-none) (record { sizes = s; consistent = c; agree = agree-self m; steady = λ x l e. (e, refl) })
     all-answered (suc n) h =
         let w = all-answered n (omega arith) in
-        let u = answers-unchanged n (view m) in
+        let u = outside-later n (view m) in
         subst (λ z. Answered g m z (outside (answerOutside n (view m) .attached n) (answerOutside n (view m) .inside n) (answerOutside n (view m)) (check (answerOutside n (view m)) n))) (sym (answered-next n))
         (subst (λ z. Answered g m (pick (eqb (state m n) 2) (acknowledged (outsideAnswered m n) n) (outsideAnswered m n)) (outside z (answerOutside n (view m) .inside n) (answerOutside n (view m)) (check (answerOutside n (view m)) n))) (sym (u .attached n))
         (subst (λ z. Answered g m (pick (eqb (state m n) 2) (acknowledged (outsideAnswered m n) n) (outsideAnswered m n)) (outside (isAttached m n) z (answerOutside n (view m)) (check (answerOutside n (view m)) n))) (sym (u .inside n))
@@ -117,13 +118,13 @@ module _ (g : Geometry) (m m′ : Mem) (st : State) (w : Answered g m m′ st) (
 module _ (g : Geometry) (m : Mem) (s : Sizes g m) (c : Consistent g m) where
   -- the phase after the answers
   phase-kept : (n : ℕ) → n ≤ mutatorCount → phase (outsideAnswered m n) ≡ phase m
-  phase-kept n h = all-answered g m s c n h .agree .phase ∙ answers-unchanged n (view m) .phase
+  phase-kept n h = all-answered g m s c n h .agree .phase ∙ outside-later n (view m) .phase
 
   marks-kept : (n : ℕ) → n ≤ mutatorCount → (p : Phase) → phase m ≡ p → MarksIn p g (outsideAnswered m n)
   marks-kept n h p e = subst (λ z. MarksIn z g (outsideAnswered m n)) (phase-kept n h ∙ e) (structure-of g (outsideAnswered m n) (all-answered g m s c n h .consistent) .marks)
 
   tracing-kept : (n : ℕ) (p : Phase) → phase m ≡ p → Tracing p → Tracing (answerOutside n (view m) .phase)
-  tracing-kept n p e t = subst Tracing (sym (answers-unchanged n (view m) .phase ∙ e)) t
+  tracing-kept n p e t = subst Tracing (sym (outside-later n (view m) .phase ∙ e)) t
 
   blank : (m′ : Mem) → MarksIn sync1 g m′ → MarksIn sync2 g m′
   blank m′ h = λ x b l u k e. absurd (let z = h (bitIn x b) (within mostBlocks x (g .segments) b l k) in omega arith)

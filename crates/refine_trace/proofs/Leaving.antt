@@ -14,7 +14,7 @@ use Rattle.refine_view.specs.View.{view}
 use Rattle.refine_view.specs.Kept.{Sizes, Moves}
 use Rattle.refine_view.proofs.Following.{moves-then}
 use Rattle.refine_view.proofs.Sides.{side-moves}
-use Rattle.refine_trace.proofs.Agreeing.{inside-agree}
+use Rattle.theory.proofs.AgreeKeeps.{inside-agree}
 
 -- an acknowledgement attaches and detaches nobody, and changes nobody's side
 pub check-attached : (p : Phase) (a : ℕ) (st : State) (k i : ℕ) → acknowledge p a st k .attached i ≡ st .attached i

@@ -10,7 +10,6 @@ pub mod Storing
 pub mod Marking
 pub mod Popping
 pub mod TraceStep
-pub mod Agreeing
 pub mod Leaving
 pub mod Handshakes
 pub mod Calls

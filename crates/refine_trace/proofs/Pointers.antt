@@ -10,7 +10,7 @@ use Rattle.model.specs.Records.{record?, pointers, pointer}
 use Rattle.model.specs.Consistent.{RecordOk}
 use Rattle.refine_view.specs.View.{valuesOf}
 use Rattle.refine_view.specs.Kept.{Sizes}
-use Rattle.refine_view.proofs.Updates.{upd2-by}
+use Rattle.theory.proofs.Updates.{upd2-by}
 use Rattle.refine_view.proofs.Contents.{pointers-by, fields-by}
 use Rattle.refine_view.proofs.Apart.{fields-apart, field-inside}
 use Rattle.refine_trace.proofs.Over.{Segments}

@@ -14,7 +14,7 @@ use Rattle.model.specs.Records.{bitOf, setMarked, clearQueued}
 use Rattle.model.specs.Tracing.{popped}
 use Rattle.model.specs.Fields.{traceCount}
 use Rattle.refine_view.proofs.Blocks.{bit-below, same-bit}
-use Rattle.refine_view.proofs.Counts.{among-change}
+use Rattle.words.proofs.Counts.{among-change}
 use Rattle.refine_view.proofs.Apart.{class-of}
 use Rattle.refine_trace.proofs.Over.{over, Segments}
 use Rattle.refine_trace.proofs.Entered.{Entered}

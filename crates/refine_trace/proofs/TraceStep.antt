@@ -38,7 +38,8 @@ use Rattle.refine_view.proofs.Phasing.{phase-moves}
 use Rattle.refine_trace.proofs.Over.{over}
 use Rattle.refine_trace.proofs.Entered.{Entered, queued-over}
 use Rattle.refine_trace.proofs.Push.{Pushed}
-use Rattle.refine_trace.proofs.Folds.{pushes-alike, pointers-pushed}
+use Rattle.theory.proofs.Updates.{pushes-alike}
+use Rattle.refine_trace.proofs.Folds.{pointers-pushed}
 use Rattle.refine_trace.proofs.Self.{entry-at, entered-self}
 use Rattle.refine_trace.proofs.Marking.{marked-view, segments-marked, record-marked, entered-marked, marks-marked}
 use Rattle.refine_trace.proofs.Popping.{popped-over, count-after, entered-less}

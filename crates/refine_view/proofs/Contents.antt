@@ -6,7 +6,7 @@ use Rattle.layout.specs.Mem.{Mem, heapWord}
 use Rattle.theory.specs.TraceStack.{tab}
 use Rattle.model.specs.Records.{pointers, values, pointer, value}
 use Rattle.refine_view.specs.View.{valuesOf}
-use Rattle.refine_view.proofs.Tables.{tab-same}
+use Rattle.theory.proofs.Updates.{tab-same}
 
 -- where the header at x stays, and that word stays
 module _ (m m′ : Mem) (x : ℕ) (e : heapWord m′ x ≡ heapWord m x) where

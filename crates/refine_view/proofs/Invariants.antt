@@ -24,7 +24,7 @@ use Rattle.model.specs.Reaching.{IsRoot, IsEntry, Live, Reached, Covered, isMar
 use Rattle.model.specs.Consistent.{Consistent, InPhase, AcksIn, Tricolour, RecordOk}
 use Rattle.refine_view.specs.View.{view, stackOf, isHead, isUsed}
 use Rattle.refine_view.specs.Kept.{Sizes, Structure, MarksIn}
-use Rattle.refine_view.proofs.Counts.{lt-of}
+use Rattle.words.proofs.Counts.{lt-of}
 use Rattle.refine_view.proofs.Bools.{not-eq, ne-not, and-both, and-right, and-not, and-false}
 use Rattle.refine_view.proofs.Blocks.{bit-below}
 use Rattle.refine_view.proofs.Seeing.{entry-of, entry-in, live-on, live-back, reached-on, reached-back, entry-on, entry-back, edge-on, edge-back, named, naming, covered-on, covered-back, head-of, few-mutators}

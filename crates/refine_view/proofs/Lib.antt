@@ -2,7 +2,6 @@
 pub mod Bools
 pub mod Tables
 pub mod Words
-pub mod Counts
 pub mod Windows
 pub mod Lengths
 pub mod Operations
@@ -18,7 +17,6 @@ pub mod Contents
 pub mod Seeing
 pub mod Carried
 pub mod Frames
-pub mod Updates
 pub mod Following
 pub mod EntriesOnly
 pub mod Sides

@@ -23,7 +23,7 @@ use Rattle.model.specs.Reaching.{IsRoot, IsEntry, PointsTo, Live, Reached, Cove
 use Rattle.model.specs.Consistent.{RecordOk}
 use Rattle.refine_view.specs.View.{view, stackOf, isHead}
 use Rattle.refine_view.specs.Kept.{Sizes}
-use Rattle.refine_view.proofs.Counts.{lt-of}
+use Rattle.words.proofs.Counts.{lt-of}
 use Rattle.refine_view.proofs.Bools.{not-eq, ne-not}
 use Rattle.theory.specs.Machine as machine
 use Rattle.model.specs.Fields as fields

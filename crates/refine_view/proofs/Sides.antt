@@ -16,7 +16,7 @@ use Rattle.refine_view.specs.View.{view}
 use Rattle.refine_view.specs.Kept.{Sizes, Structure, Moves}
 use Rattle.refine_view.proofs.Bools.{ne-not}
 use Rattle.refine_view.proofs.Words.{mutator-there}
-use Rattle.refine_view.proofs.Updates.{upd-by}
+use Rattle.theory.proofs.Updates.{upd-by}
 use Rattle.refine_view.proofs.Entries.{state-word, state-set, acks-set, root-set, mutators-set, held-set}
 use Rattle.refine_view.proofs.EntriesOnly.{entries-moves}
 use Rattle.theory.specs.Machine as machine

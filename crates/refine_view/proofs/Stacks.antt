@@ -15,7 +15,7 @@ use Rattle.model.specs.Segments.{count, entry, top, pop, stacked}
 use Rattle.model.specs.Consistent.{StackOk}
 use Rattle.refine_view.specs.Kept.{Sizes}
 use Rattle.refine_view.proofs.Words.{stack-there, stack-other}
-use Rattle.refine_view.proofs.Counts.{among-change}
+use Rattle.words.proofs.Counts.{among-change}
 use Rattle.refine_view.proofs.Lengths.{sizes-stack}
 
 one-less : (b : Bool) → oneIf b < 2

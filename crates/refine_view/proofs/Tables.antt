@@ -25,10 +25,6 @@ getD-tab (suc n) f i h = go (same-or-not i n) (λ l. getD-tab n f i l)
 pub tab-of : (l : List ℕ) (n : ℕ) (f : ℕ → ℕ) → length l ≡ n → ((i : ℕ) → i < n → getD l i 0 ≡ f i) → l ≡ tab n f
 tab-of l n f e h = ext-getD 0 l (tab n f) (e ∙ sym (length-tab n f)) (λ i k. h i (omega arith) ∙ sym (getD-tab n f i (omega arith)))
 
-pub tab-same : {A : Type 0} (n : ℕ) (f h : ℕ → A) → ((i : ℕ) → i < n → f i ≡ h i) → tab n f ≡ tab n h
-tab-same zero f h e = refl
-tab-same (suc n) f h e = let a = tab-same n f h (λ i l. e i (omega arith)) in let b = e n (omega arith) in rw (a, b) refl
-
 pub tab-zeros : (n : ℕ) (f : ℕ → ℕ) → ((i : ℕ) → i < n → f i ≡ 0) → tab n f ≡ replicate n 0
 tab-zeros n f h = sym (tab-of (replicate n 0) n f (length-replicate n 0) (λ i l. getD-replicate n i 0 0 l ∙ sym (h i l)))
 

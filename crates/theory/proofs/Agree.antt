@@ -36,6 +36,9 @@ module _ (segmentOf : ℕ → ℕ) (st st′ : State) (a : Agree segmentOf st st
   holds-back : (i b : ℕ) → Holds st′ i b → Holds st i b
   holds-back i b h = let o = sym (a .attached i) ∙ h .1 in (h .0, o, h .2, sym (a .root i (h .0) o (h .2)) ∙ h .3)
 
+  holds-on : (i b : ℕ) → Holds st i b → Holds st′ i b
+  holds-on i b h = (h .0, a .attached i ∙ h .1, h .2, a .root i (h .0) (h .1) (h .2) ∙ h .3)
+
   edge-back : (x y : ℕ) → Live st x → Points st′ x y → Points st x y
   edge-back x y p e = let l : e .0 < st .pointers x = subst (λ z. e .0 < z) (a .pointers x p) (e .1) in (e .0, l, sym (a .pointer x (e .0) p l) ∙ e .2)
 
@@ -100,4 +103,30 @@ module _ (segmentOf : ℕ → ℕ) (st st′ : State) (a : Agree segmentOf st st
     };
     inj = s .inj;
     old = s .old;
+  }
+
+  -- ---- and on: what agrees with what agrees
+
+  live-on : {b : ℕ} → Live st b → Live st′ b
+  live-on p = reach-ind (Live st′) r (λ x y q h e. next h (edge-on x y q e)) p
+    where
+      r : (x : ℕ) → LiveRoot st x → Live st′ x
+      r x (inl h) = root (inl (h .0, holds-on (h .0) x (h .1)))
+      r x (inr q) = root (inr (subst (List·Memᴰ x) (sym (a .stack)) q))
+
+  pub agree-trans : (st″ : State) → Agree segmentOf st′ st″ → Agree segmentOf st st″
+  agree-trans st″ b = record {
+    phase = b .phase ∙ a .phase;
+    stack = b .stack ∙ a .stack;
+    attached = λ i. b .attached i ∙ a .attached i;
+    inside = λ i. b .inside i ∙ a .inside i;
+    acks = λ i. b .acks i ∙ a .acks i;
+    root = λ i k h l. b .root i k (a .attached i ∙ h) l ∙ a .root i k h l;
+    marked = λ t x h. b .marked (subst Tracing (sym (a .phase)) t) x (live-on h) ∙ a .marked t x h;
+    fated = λ x d. b .fated x (a .collect (segmentOf x) ∙ d) ∙ a .fated x d;
+    collect = λ x. b .collect x ∙ a .collect x;
+    pointers = λ x h. b .pointers x (live-on h) ∙ a .pointers x h;
+    values = λ x h. b .values x (live-on h) ∙ a .values x h;
+    pointer = λ x f h l. b .pointer x f (live-on h) (subst (λ z. f < z) (sym (a .pointers x h)) l) ∙ a .pointer x f h l;
+    used = λ x h. b .used x (live-on h) ∙ a .used x h;
   }

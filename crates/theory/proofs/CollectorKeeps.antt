@@ -62,7 +62,7 @@ acknowledge-later st i mark n e a = (later-refl st, refl)
 acknowledge-later st i sweep n e a = (later-refl st, refl)
 
 -- after `answerOutside n` each outside mutator below n has acknowledged
-outside-later : (n : ℕ) (st : State) → Later st (answerOutside n st)
+pub outside-later : (n : ℕ) (st : State) → Later st (answerOutside n st)
 outside-later zero st = later-refl st
 outside-later (suc n) st = go (answerOutside n st .attached n) (answerOutside n st .inside n) (outside-later n st)
   where

@@ -8,6 +8,7 @@ pub mod CycleKeeps
 pub mod Simulation
 pub mod Completeness
 pub mod Agree
+pub mod AgreeKeeps
 pub mod CallKeeps
 pub mod CollectorKeeps
 pub mod Bridge

@@ -8,6 +8,7 @@ use mathlib.Core.List.{List, [], _∷_, _++_, List·Memᴰ, List·Memᴰ·head, 
 use Prim.Native.Nat.{ℕ, zero, suc, _<_}
 use native.Mathlib.Omega.{arith}
 use native.Mathlib.Decide.{ℕ-discrete}
+use Rattle.rules.proofs.Order.{same-or-not}
 use Rattle.theory.specs.Update.{pick, upd, upd2}
 pub use Rattle.theory.specs.Invariant.{Nodup, StackOk}
 
@@ -59,6 +60,25 @@ upd2-cases {A} f a b v x y = go (upd-cases f a (upd (f a) b v) x) (upd-cases (f 
 pub upd2-same : {A : Type 0} (f : ℕ → ℕ → A) (a b : ℕ) (v : A) → upd2 f a b v a b ≡ v
 upd2-same {A} f a b v = ap (λ (g : ℕ → A). g b) (upd-same f a (upd (f a) b v)) ∙ upd-same (f a) b v
 
+-- a value is that of a function changed at one place
+pub upd-by : {A : Type 0} (f : ℕ → A) (k : ℕ) (v : A) (j : ℕ) (z : A) → (j ≡ k → z ≡ v) → ((j ≡ k → ⊥) → z ≡ f j) → z ≡ upd f k v j
+upd-by f k v j z h e = ⊎-elim (λ c. h (c .0) ∙ sym (c .1)) (λ c. e (c .0) ∙ sym (c .1)) (upd-cases f k v j)
+
+pub upd2-by : {A : Type 0} (f : ℕ → ℕ → A) (a b : ℕ) (v : A) (x y : ℕ) (z : A) → (x ≡ a → y ≡ b → z ≡ v) → ((x ≡ a → y ≡ b → ⊥) → z ≡ f x y) → z ≡ upd2 f a b v x y
+upd2-by {A} f a b v x y z h e = go (same-or-not x a) (same-or-not y b)
+  where
+    other : (x ≡ a → y ≡ b → ⊥) → z ≡ upd2 f a b v x y
+    other d = e d ∙ sym (⊎-elim (λ q. absurd (d (q .0) (q .1))) (λ q. q) (upd2-cases f a b v x y))
+
+    go : (x ≡ a) ⊎ (x ≡ a → ⊥) → (y ≡ b) ⊎ (y ≡ b → ⊥) → z ≡ upd2 f a b v x y
+    go (inl p) (inl q) = h p q ∙ sym (ap (λ w. upd2 f a b v w y) p ∙ ap (upd2 f a b v a) q ∙ upd2-same f a b v)
+    go (inl p) (inr q) = other (λ i j. q j)
+    go (inr p) q = other (λ i j. p i)
+
+pub upd-alike : {A : Type 0} (f h : ℕ → A) (k : ℕ) (v : A) → ((x : ℕ) → f x ≡ h x) → (x : ℕ) → upd f k v x ≡ upd h k v x
+unfolding upd
+upd-alike f h k v e x = ap (λ z. pick (ℕ-discrete x k) v z) (e x)
+
 -- ---- tables: f 0, .., f (n - 1)
 
 pub tab-mem : {A : Type 0} (n : ℕ) (f : ℕ → A) (k : ℕ) → k < n → List·Memᴰ (f k) (tab n f)
@@ -79,6 +99,10 @@ tab-inv {A} (suc n) f {a} m = go (λ q. tab-inv n f q) (List·Memᴰ·append-cas
     go : (List·Memᴰ a (tab n f) → (k : ℕ) × (k < n) × (f k ≡ a)) → List·Memᴰ a (tab n f) ⊎ List·Memᴰ a (f n ∷ []) → (k : ℕ) × (k < suc n) × (f k ≡ a)
     go r (inl q) = up (r q)
     go r (inr q) = (n, omega arith, sym (List·Memᴰ·eq-of-singleton q))
+
+pub tab-same : {A : Type 0} (n : ℕ) (f h : ℕ → A) → ((i : ℕ) → i < n → f i ≡ h i) → tab n f ≡ tab n h
+tab-same zero f h e = refl
+tab-same (suc n) f h e = let a = tab-same n f h (λ i l. e i (omega arith)) in let b = e n (omega arith) in rw (a, b) refl
 
 -- ---- the stack
 
@@ -151,3 +175,17 @@ pushes-did m (r ∷ rs) l b h = go (λ q. pushes-did m rs (push m r l) b q) (Lis
 pub pushes-stack : (m : ℕ → Bool) (rs : List (Option ℕ)) (l : List ℕ) → StackOk m l → StackOk m (pushes m rs l)
 pushes-stack m [] l s = s
 pushes-stack m (r ∷ rs) l s = pushes-stack m rs (push m r l) (push-stack m r l s)
+
+-- in order, the last by itself
+pub pushes-append : (f : ℕ → Bool) (rs : List (Option ℕ)) (r : Option ℕ) (l : List ℕ) → pushes f (rs ++ (r ∷ [])) l ≡ push f r (pushes f rs l)
+pushes-append f [] r l = refl
+pushes-append f (x ∷ rs) r l = pushes-append f rs r (push f x l)
+
+push-alike : (f h : ℕ → Bool) (r : Option ℕ) (l : List ℕ) → ((b : ℕ) → r ≡ some b → f b ≡ h b) → push f r l ≡ push h r l
+unfolding push
+push-alike f h none l e = refl
+push-alike f h (some b) l e = ap (λ z. pushIf z (mem? b l) b l) (e b refl)
+
+pub pushes-alike : (f h : ℕ → Bool) (rs : List (Option ℕ)) (l : List ℕ) → ((b : ℕ) → List·Memᴰ (some b) rs → f b ≡ h b) → pushes f rs l ≡ pushes h rs l
+pushes-alike f h [] l e = refl
+pushes-alike f h (r ∷ rs) l e = ap (pushes f rs) (push-alike f h r l (λ b z. e b (List·Memᴰ·head (sym z)))) ∙ pushes-alike f h rs (push h r l) (λ b z. e b (List·Memᴰ·tail z))

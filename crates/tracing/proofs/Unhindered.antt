@@ -9,10 +9,11 @@ use lib.ListN.{length}
 use lib.Seq.{getD-set-same}
 use borrow.Author.Tests.{lt-ltb, le-ltb, eqb-false}
 use Rattle.rules.specs.Pick.{pick}
-use Rattle.rules.proofs.Order.{le-or-lt, same-or-not}
+use Rattle.rules.proofs.Order.{same-or-not}
 use Rattle.words.specs.Bits.{bitAt, setBit, onesAmong}
 use Rattle.words.proofs.Word.{one-of-not-zero}
 use Rattle.words.proofs.Ones.{among-le}
+use Rattle.words.proofs.Counts.{lt-of}
 use Rattle.words.proofs.Lists.{at-lt, set-there, set-elsewhere}
 use Rattle.layout.specs.declared.Geometry.{Geometry}
 use Rattle.layout.specs.Geometry.{len}
@@ -30,13 +31,6 @@ use Rattle.tracing.proofs.Bits.{within, isAt}
 same-at : {a b : ℕ} → suc a ≡ suc b → a ≡ b
 same-at e = omega arith
 
-lt-of-le-of-ne : {k n : ℕ} → k < suc n → (k ≡ n → ⊥) → k < n
-lt-of-le-of-ne {k} {n} l f = go (le-or-lt n k)
-  where
-    go : (n ≤ k) ⊎ (k < n) → k < n
-    go (inl h) = absurd (f (omega arith))
-    go (inr h) = h
-
 module _ (f : ℕ → ℕ) (two : (i : ℕ) → f i < 2) where
   zero-less : (n k : ℕ) → k < n → f k ≡ 0 → onesAmong f n < n
   unfolding onesAmong
@@ -45,7 +39,7 @@ module _ (f : ℕ → ℕ) (two : (i : ℕ) → f i < 2) where
     where
       go : (k ≡ n) ⊎ (k ≡ n → ⊥) → (k < n → onesAmong f n < n) → onesAmong f n + f n < suc n
       go (inl q) ih = let z : f n ≡ 0 = ap f (sym q) ∙ e in let b = among-le f two n in omega arith
-      go (inr q) ih = let h = ih (lt-of-le-of-ne l q) in let t = two n in omega arith
+      go (inr q) ih = let h = ih (lt-of l q) in let t = two n in omega arith
 
   two-less : (n k j : ℕ) → k < n → j < n → (j ≡ k → ⊥) → f k ≡ 0 → f j ≡ 0 → onesAmong f n + 1 < n
   unfolding onesAmong
@@ -54,9 +48,9 @@ module _ (f : ℕ → ℕ) (two : (i : ℕ) → f i < 2) where
     where
       go : (k ≡ n) ⊎ (k ≡ n → ⊥) → (j ≡ n) ⊎ (j ≡ n → ⊥) → (k < n → j < n → onesAmong f n + 1 < n) → onesAmong f n + f n + 1 < suc n
       go (inl q) (inl r) ih = absurd (d (r ∙ sym q))
-      go (inl q) (inr r) ih = let z : f n ≡ 0 = ap f (sym q) ∙ e in let b = zero-less n j (lt-of-le-of-ne h r) u in omega arith
-      go (inr q) (inl r) ih = let z : f n ≡ 0 = ap f (sym r) ∙ u in let b = zero-less n k (lt-of-le-of-ne l q) e in omega arith
-      go (inr q) (inr r) ih = let b = ih (lt-of-le-of-ne l q) (lt-of-le-of-ne h r) in let t = two n in omega arith
+      go (inl q) (inr r) ih = let z : f n ≡ 0 = ap f (sym q) ∙ e in let b = zero-less n j (lt-of h r) u in omega arith
+      go (inr q) (inl r) ih = let z : f n ≡ 0 = ap f (sym r) ∙ u in let b = zero-less n k (lt-of l q) e in omega arith
+      go (inr q) (inr r) ih = let b = ih (lt-of l q) (lt-of h r) in let t = two n in omega arith
 
 -- ---- one push
 

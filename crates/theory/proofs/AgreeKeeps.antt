@@ -1,27 +1,18 @@
--- Agreement of the machine's states after the same acknowledgements, and after the same side. Assumes nothing.
+-- States that agree still do after the same acknowledgement, and after the same side. Assumes nothing.
 use mathlib.Core.Path.{_≡_, refl, sym, _∙_, ap, subst}
 use mathlib.Core.Logic.{inl}
-use mathlib.Core.Bool.{Bool, true, false}
+use mathlib.Core.Bool.{Bool, true}
 use mathlib.Core.List.{List}
 use Prim.Native.Nat.{ℕ, zero, suc}
-use native.Mathlib.Decide.{ℕ-discrete}
 use Rattle.layout.specs.Geometry.{rootCount}
 use Rattle.theory.specs.Phases.{Phase, idle, sync1, sync2, mark, sweep}
 use Rattle.theory.specs.Reach.{root}
 use Rattle.theory.specs.TraceStack.{tab, pushes}
-use Rattle.theory.specs.Update.{pick, upd}
 use Rattle.theory.specs.Machine.{State, Live, setAcks, setInside, acknowledge, check}
-use Rattle.theory.specs.MachineCalls.{outside, answerOutside}
 use Rattle.theory.proofs.Agree.{Agree}
 use Rattle.theory.proofs.Invariant.{Tracing}
-use Rattle.theory.proofs.Updates.{tab-inv}
+use Rattle.theory.proofs.Updates.{upd-alike, tab-inv, tab-same, pushes-alike}
 use Rattle.theory.proofs.CycleKeeps.{acknowledge-live}
-use Rattle.refine_view.proofs.Tables.{tab-same}
-use Rattle.refine_trace.proofs.Folds.{pushes-alike}
-
-upd-alike : {A : Type 0} (f h : ℕ → A) (k : ℕ) (v : A) → ((x : ℕ) → f x ≡ h x) → (x : ℕ) → upd f k v x ≡ upd h k v x
-unfolding upd
-upd-alike f h k v e x = ap (λ z. pick (ℕ-discrete x k) v z) (e x)
 
 module _ (segmentOf : ℕ → ℕ) (st st′ : State) (a : Agree segmentOf st st′) where
   acks-agree : (i v : ℕ) (l l′ : List ℕ) → l′ ≡ l → ((b : ℕ) → Live (setAcks st i v l) b → Live st b) → Agree segmentOf (setAcks st i v l) (setAcks st′ i v l′)
@@ -86,29 +77,3 @@ module _ (segmentOf : ℕ → ℕ) (st st′ : State) (a : Agree segmentOf st st
 
     pub check-agree : Agree segmentOf (check st i) (check st′ i)
     check-agree = subst (λ z. Agree segmentOf (check st i) (acknowledge z (st′ .acks i) st′ i)) (sym (a .phase)) (subst (λ z. Agree segmentOf (check st i) (acknowledge (st .phase) z st′ i)) (sym (a .acks i)) (by-phase (st .phase) (st .acks i) refl))
-
--- ---- what the answers of outside mutators leave
-
-pub record Unchanged (st st′ : State) : Type 0 where
-  pub phase : st′ .phase ≡ st .phase
-  pub attached : (i : ℕ) → st′ .attached i ≡ st .attached i
-  pub inside : (i : ℕ) → st′ .inside i ≡ st .inside i
-
-check-unchanged : (p : Phase) (n : ℕ) (st : State) (i : ℕ) → Unchanged st (acknowledge p n st i)
-check-unchanged idle n st i = record { phase = refl; attached = λ k. refl; inside = λ k. refl }
-check-unchanged sync1 zero st i = record { phase = refl; attached = λ k. refl; inside = λ k. refl }
-check-unchanged sync1 (suc n) st i = record { phase = refl; attached = λ k. refl; inside = λ k. refl }
-check-unchanged sync2 zero st i = record { phase = refl; attached = λ k. refl; inside = λ k. refl }
-check-unchanged sync2 (suc zero) st i = record { phase = refl; attached = λ k. refl; inside = λ k. refl }
-check-unchanged sync2 (suc (suc n)) st i = record { phase = refl; attached = λ k. refl; inside = λ k. refl }
-check-unchanged mark n st i = record { phase = refl; attached = λ k. refl; inside = λ k. refl }
-check-unchanged sweep n st i = record { phase = refl; attached = λ k. refl; inside = λ k. refl }
-
-one-unchanged : (b d : Bool) (st st₁ : State) (i : ℕ) → Unchanged st st₁ → Unchanged st (outside b d st₁ (check st₁ i))
-one-unchanged true true st st₁ i u = u
-one-unchanged false d st st₁ i u = u
-one-unchanged true false st st₁ i u = let c = check-unchanged (st₁ .phase) (st₁ .acks i) st₁ i in record { phase = c .phase ∙ u .phase; attached = λ k. c .attached k ∙ u .attached k; inside = λ k. c .inside k ∙ u .inside k }
-
-pub answers-unchanged : (n : ℕ) (st : State) → Unchanged st (answerOutside n st)
-answers-unchanged zero st = record { phase = refl; attached = λ k. refl; inside = λ k. refl }
-answers-unchanged (suc n) st = one-unchanged (answerOutside n st .attached n) (answerOutside n st .inside n) st (answerOutside n st) n (answers-unchanged n st)
