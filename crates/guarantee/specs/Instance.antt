@@ -6,11 +6,11 @@ use mathlib.Core.List.{List, [], _∷_, _++_}
 use Prim.Native.Nat.{ℕ}
 use Rattle.layout.specs.declared.Geometry.{Geometry}
 use Rattle.layout.specs.Mem.{memOf}
-use Rattle.theory.specs.Calls.{c-load, c-put, c-get}
+use Rattle.theory.specs.Calls.{c-check, c-clear, c-load, c-put, c-get, a-ok}
 use Rattle.model.specs.declared.Answer.the-variants.{Ok, Number}
 use Rattle.model.specs.Segments.{usedBit}
 use Rattle.model.specs.Collector.{isFull}
-use Rattle.model.specs.Lists.{Element, called, Chain, remainingCalls, beside}
+use Rattle.model.specs.Lists.{Element, called, Chain, remainingCalls, remainingAnswers, beside}
 use Rattle.guarantee.specs.Demand3.{struckOut, begun, Unreached, SweptIn, Opened}
 
 pub record Instance : Type 0 where
@@ -37,11 +37,17 @@ pub record Instance : Type 0 where
   pub putBefore : List ℕ
   pub putAfter : List ℕ
   pub puts : cycle .before ≡ early ++ (called (c-put mutator root field value) geometry putBefore Ok putAfter ∷ late)
-  -- between the sweep and the get the record is loaded again, through a pointer of another one, and nothing else is done
+  -- no other call of a mutator puts it: after the put the root is cleared, so that only a pointer of another record leads to the number; in the
+  -- cycle there are checks; and after the sweep the record is loaded again, from another root, and that is answered ok
+  pub gone : ℕ
+  pub clears : remainingCalls struckOut late ≡ c-clear mutator root ∷ c-clear mutator gone ∷ []
+  pub checks : remainingCalls struckOut (cycle .during) ≡ c-check mutator ∷ c-check mutator ∷ []
   pub between : List Element
   pub other : ℕ
   pub link : ℕ
+  pub elsewhere : other ≡ root → ⊥
   pub reloads : remainingCalls struckOut between ≡ c-load mutator root other link ∷ []
+  pub reloaded : remainingAnswers struckOut between ≡ a-ok ∷ []
   pub getBefore : List ℕ
   pub getAfter : List ℕ
   pub gets : cycle .rest ≡ between ++ (called (c-get mutator root field) geometry getBefore (Number value) getAfter ∷ [])

@@ -9,14 +9,15 @@ use Rattle.layout.specs.declared.Geometry.{Geometry}
 use Rattle.layout.specs.Geometry.{wrongSize, Sized}
 use Rattle.layout.specs.Mem.{memOf, flat}
 use Rattle.layout.proofs.Regions.{sized}
-use Rattle.theory.specs.Calls.{c-load, c-put, c-get, a-ok, a-num}
+use Rattle.theory.specs.Calls.{c-check, c-clear, c-load, c-put, c-get, a-ok, a-num}
 use Rattle.model.specs.declared.Answer.the-variants.{Ok, Number}
 use Rattle.model.specs.declared.Step.{Step}
 use Rattle.model.specs.declared.Step.the-variants.{Swept, Idle}
+use Rattle.model.specs.Answers.{answerOf}
 use Rattle.model.specs.Calls.{exec}
 use Rattle.model.specs.Collector.{startOf, stepOf}
 use Rattle.model.specs.Opening.{opened}
-use Rattle.model.specs.Lists.{called, started, stepped, left, keepUnless, struck, remainingCalls}
+use Rattle.model.specs.Lists.{called, started, stepped, left, keepUnless, struck, remainingCalls, remainingAnswers}
 use Rattle.model.specs.Run.{Request, call, start, step, declared, answered, run}
 use Rattle.refine_view.proofs.Lengths.{sizes-of}
 use Rattle.refine_start.proofs.Opened.{sizes-opened}
@@ -111,6 +112,27 @@ module _ (g : Geometry) (content : List ℕ) where
 
       pub reloads : remainingCalls struckOut (run g stepEnd loading) ≡ c-load 0 1 0 0 ∷ []
       reloads = ap (λ (a : theory.Answer). keepUnless (struck struckOut (declared a)) (c-load 0 1 0 0) []) load-answer
+
+      pub reloaded : remainingAnswers struckOut (run g stepEnd loading) ≡ a-ok ∷ []
+      reloaded = ap (λ (a : theory.Answer). keepUnless (struck struckOut (declared a)) (answerOf (declared a)) []) load-answer
+
+      clear-answer : exec g (memOf g (afterRun g words (filling ++ (putting ∷ [])))) (c-clear 0 1) .0 ≡ a-ok
+      clear-answer = ap answerIn (reply (filling ++ (putting ∷ [])) (call (c-clear 0 1)) (events (call (c-clear 0 2) ∷ (start ∷ (requests tracing ++ (step ∷ afterSweep))))) refl)
+
+      clear-answer-2 : exec g (memOf g (afterRun g words (filling ++ (putting ∷ call (c-clear 0 1) ∷ [])))) (c-clear 0 2) .0 ≡ a-ok
+      clear-answer-2 = ap answerIn (reply (filling ++ (putting ∷ call (c-clear 0 1) ∷ [])) (call (c-clear 0 2)) (events (start ∷ (requests tracing ++ (step ∷ afterSweep)))) refl)
+
+      pub clears : remainingCalls struckOut (run g putEnd clearing) ≡ c-clear 0 1 ∷ c-clear 0 2 ∷ []
+      clears = λ i. keepUnless (struck struckOut (declared (clear-answer i))) (c-clear 0 1) (keepUnless (struck struckOut (declared (clear-answer-2 i))) (c-clear 0 2) [])
+
+      check-answer : exec g (memOf g (afterRun g words (beforeStart ++ (start ∷ step ∷ [])))) (c-check 0) .0 ≡ a-ok
+      check-answer = ap answerIn (reply (beforeStart ++ (start ∷ step ∷ [])) (call (c-check 0)) (events (step ∷ call (c-check 0) ∷ step ∷ step ∷ step ∷ step ∷ step ∷ step ∷ afterSweep)) refl)
+
+      check-answer-2 : exec g (memOf g (afterRun g words (beforeStart ++ (start ∷ step ∷ call (c-check 0) ∷ step ∷ [])))) (c-check 0) .0 ≡ a-ok
+      check-answer-2 = ap answerIn (reply (beforeStart ++ (start ∷ step ∷ call (c-check 0) ∷ step ∷ [])) (call (c-check 0)) (events (step ∷ step ∷ step ∷ step ∷ step ∷ step ∷ afterSweep)) refl)
+
+      pub checks : remainingCalls struckOut (run g startEnd (requests tracing)) ≡ c-check 0 ∷ c-check 0 ∷ []
+      checks = λ i. keepUnless (struck struckOut (declared (check-answer i))) (c-check 0) (keepUnless (struck struckOut (declared (check-answer-2 i))) (c-check 0) [])
 
       pub puts : run g words beforeStart ≡ run g words filling ++ (called (c-put 0 1 0 77) g putWords Ok putEnd ∷ run g putEnd clearing)
       puts = run-append g words filling (putting ∷ clearing) ∙ λ i. run g words filling ++ (called (c-put 0 1 0 77) g putWords (declared (put-answer i)) putEnd ∷ run g putEnd clearing)

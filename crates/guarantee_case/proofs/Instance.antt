@@ -21,7 +21,7 @@ use Rattle.model_cases.proofs.Whole.{whole-holds}
 use Rattle.guarantee_case.proofs.Silent.{silent-beside}
 use Rattle.guarantee_case.proofs.GarbageFound.{Found, found}
 use Rattle.guarantee_case.proofs.Asked.{filling, clearing, tracing, loading, beforeStart, asked}
-use Rattle.guarantee_case.proofs.Case.{reloads, words, own, putWords, putEnd, startWords, startEnd, stepEnd, getWords, getEnd, puts, gets, swept-in}
+use Rattle.guarantee_case.proofs.Case.{reloads, reloaded, clears, checks, words, own, putWords, putEnd, startWords, startEnd, stepEnd, getWords, getEnd, puts, gets, swept-in}
 
 -- ---- memory of any content from which the case goes as document 01 has it
 
@@ -53,10 +53,15 @@ module _ (g : Geometry) (content : List ℕ) (right : wrongSize g (length conten
     putBefore = putWords g content;
     putAfter = putEnd g content;
     puts = puts g content right told;
+    gone = 2;
+    clears = clears g content right told;
+    checks = checks g content right told;
     between = run g (stepEnd g content) loading;
     other = 0;
     link = 0;
+    elsewhere = λ e. omega arith;
     reloads = reloads g content right told;
+    reloaded = reloaded g content right told;
     getBefore = getWords g content;
     getAfter = getEnd g content;
     gets = gets g content right told;
