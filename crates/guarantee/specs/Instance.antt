@@ -37,8 +37,8 @@ pub record Instance : Type 0 where
   pub putBefore : List ℕ
   pub putAfter : List ℕ
   pub puts : cycle .before ≡ early ++ (called (c-put mutator root field value) geometry putBefore Ok putAfter ∷ late)
-  -- no other call of a mutator puts it: after the put the root is cleared, so that only a pointer of another record leads to the number; in the
-  -- cycle there are checks; and after the sweep the record is loaded again, from another root, and that is answered ok
+  -- between that put and the get no other mutators' calls remain than these: the root is cleared and one more, two checks in the cycle, and after
+  -- the sweep a load from another root, which is answered ok
   pub gone : ℕ
   pub clears : remainingCalls struckOut late ≡ c-clear mutator root ∷ c-clear mutator gone ∷ []
   pub checks : remainingCalls struckOut (cycle .during) ≡ c-check mutator ∷ c-check mutator ∷ []
