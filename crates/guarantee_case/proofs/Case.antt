@@ -39,11 +39,13 @@ abbrev answerIn : Reply → theory.Answer
 answerIn (answer a) = a
 answerIn (event.stepped s) = a-ok
 answerIn (seen p s t) = a-ok
+answerIn (event.words ws) = a-ok
 
 abbrev stepIn : Reply → Step
 stepIn (answer a) = Idle
 stepIn (event.stepped s) = s
 stepIn (seen p s t) = Idle
+stepIn (event.words ws) = Idle
 
 module _ (g : Geometry) (content : List ℕ) where
   -- the words that the opening leaves

@@ -2,7 +2,7 @@
 use mathlib.Core.Path.{_≡_}
 use mathlib.Core.List.{List, [], _∷_, _++_}
 use Prim.Native.Nat.{ℕ, zero, suc}
-use lib.ListN.{take, replicate}
+use lib.ListN.{take, drop, replicate}
 use Rattle.words.specs.Bits.{bitOf, bitAt, withBit, withoutBit, setBit, clearBit, onesAmong}
 use Rattle.layout.specs.declared.Geometry.{Geometry}
 use Rattle.layout.specs.Geometry.{len}
@@ -14,8 +14,8 @@ use Rattle.theory.specs.Phases.{Phase}
 use Rattle.theory.specs.Calls.{Call, Answer, a-ok, a-no, require, ifRecord}
 use Rattle.model.specs.declared.Step.{Step}
 use Rattle.model.specs.declared.SegmentState.{SegmentState}
-use Rattle.model.specs.Fields.{phase, traceCount}
-use Rattle.model.specs.Segments.{setState, segment}
+use Rattle.model.specs.Fields.{phase, traceCount, acks}
+use Rattle.model.specs.Segments.{setState, segment, marksOf}
 use Rattle.model.specs.Records.{setMarked, setQueued, clearQueued}
 use Rattle.model.specs.Tracing.{push, pushRoots, pushPointers}
 use Rattle.model.specs.Mutators.{acknowledged, attached, released, detached}
@@ -24,16 +24,21 @@ use Rattle.model.specs.Calls.{act, exec}
 use Rattle.model.specs.Collector.{condemned, anyFull, acksReset, started, startOf, outsideAnswered, waiting, lowest, swept, stepOf}
 use Rattle.model.specs.Opening.{downTo0, opened}
 
--- an opening, one of the collector's calls, a look, or a mutator's call
+-- an opening, one of the collector's calls, a look, or a mutator's call; and words to be shown: the acknowledgements of the first mutators, a
+-- segment's first mark word, and words of the heap
 pub data Event : Type 0 where
   opening start step look : Event
   call : Call → Event
+  acknowledgements : (mutators : ℕ) → Event
+  marks : (segment : ℕ) → Event
+  heap : (from words : ℕ) → Event
 
--- an answer; an answer of step; what a look shows: the phase, the segments' states, and the trace stack, its last entry last
+-- an answer; an answer of step; what a look shows: the phase, the segments' states, and the trace stack, its last entry last; and words
 pub data Reply : Type 0 where
   answer : Answer → Reply
   stepped : Step → Reply
   seen : Phase → List SegmentState → List ℕ → Reply
+  words : List ℕ → Reply
 
 -- the states of the first n segments
 abbrev pub states : Mem → ℕ → List SegmentState
@@ -42,6 +47,11 @@ states m (suc n) = states m n ++ segment m n ∷ []
 
 abbrev pub shown : Geometry → Mem → Reply
 shown g m = seen (phase m) (states m (g .segments)) (take (traceCount m) (m .trace))
+
+-- the acknowledgements of the first n mutators
+abbrev pub acksOf : Mem → ℕ → List ℕ
+acksOf m zero = []
+acksOf m (suc n) = acksOf m n ++ acks m n ∷ []
 
 abbrev pub answered : Answer × Mem → Reply × Mem
 answered r = (answer (r .0), r .1)
@@ -56,6 +66,9 @@ does g m start = answered (startOf g m)
 does g m step = hasStepped (stepOf g m)
 does g m look = (shown g m, m)
 does g m (call c) = answered (exec g m c)
+does g m (acknowledgements n) = (words (acksOf m n), m)
+does g m (marks s) = (words (take 1 (marksOf m s)), m)
+does g m (heap i n) = (words (take n (drop i (m .heap))), m)
 
 -- the replies to a list of events, in order; to unfold it is to unfold every definition that it stands on
 unfoldable pub replies : Geometry → Mem → List Event → List Reply

@@ -1,0 +1,6 @@
+-- The cases hold.
+pub mod Handshakes
+pub mod Parts
+pub mod Sides
+pub mod Words
+pub mod Sizes

@@ -1,0 +1,8 @@
+-- The case holds, by computing the definitions. Assumes nothing.
+use mathlib.Core.Path.{refl}
+use Rattle.model_cases.specs.Events.{replies, Holds}
+use Rattle.model_pinned.specs.Sides.{sides}
+
+pub sides-hold : Holds 1 sides
+unfolding replies
+sides-hold = refl

@@ -1,0 +1,6 @@
+-- Cases that pin what the other evaluated cases leave open.
+pub mod Handshakes
+pub mod Parts
+pub mod Sides
+pub mod Words
+pub mod Sizes

@@ -1,0 +1,24 @@
+-- Document 01, "1, size": "segment count not 1 to 256, or a slice not of its length".
+use mathlib.Core.Path.{_≡_}
+use mathlib.Core.Bool.{Bool, true, false}
+use mathlib.Core.List.{List, [], _∷_}
+use Prim.Native.Nat.{ℕ}
+use Rattle.layout.specs.Geometry.{wrongSize}
+use Rattle.model_cases.specs.Events.{geometry}
+
+-- a segment count, a slice's length, and whether they are refused
+pub record Row : Type 0 where
+  pub segments : ℕ
+  pub length : ℕ
+  pub refused : Bool
+
+abbrev row : ℕ → ℕ → Bool → Row
+row n x b = record { segments = n; length = x; refused = b }
+
+abbrev pub rows : List Row
+rows =
+    row 0 909 true ∷ row 1 7263 false ∷ row 1 7262 true ∷ row 1 7264 true ∷ row 2 7263 true ∷ row 256 1627533 false ∷ row 257 1633887 true ∷ []
+
+abbrev pub All : List Row → Type 0
+All [] = Unit
+All (r ∷ rs) = (wrongSize (geometry (r .segments)) (r .length) ≡ r .refused) × All rs
