@@ -2,11 +2,12 @@
 use mathlib.Core.Path.{_≡_, refl}
 use mathlib.Core.List.{List}
 use Prim.Native.Nat.{ℕ}
+use native.Mathlib.Omega.{arith}
 use lib.Dec.{T, leb, leb→le}
 use lib.ListN.{length}
 use Rattle.words.specs.Bits.{bitOf, bitAt, clearFrom}
 use Rattle.words.specs.Levels.{treeWords}
-use Rattle.classes.specs.Shape.{blocksIn, shapeFor, shapeOf}
+use Rattle.classes.specs.Shape.{segmentSize, blocksOf, shapeFor, shapeOf}
 use Rattle.classes.specs.declared.ClassShape.the-variants.{Of}
 use Rattle.bitmap_search.specs.declared.Found.{Found}
 use Rattle.classes.proofs.Shapes.{blocks-most, shape-height}
@@ -18,12 +19,12 @@ use Rattle.bitmap_write.proofs.Ready.{completed-tree}
 use Rattle.cases.specs.Rows.{rows, above, treeOf, BlockHolds, All}
 
 -- a block row from what is computed
-row : {class : ℕ} {bits : List ℕ} {place : ℕ} {found : Found} → T (leb (treeWords (above class) (blocksIn class)) (length bits))
-    → shapeOf class ≡ Of (shapeFor (blocksIn class)) → searched (above class) (treeOf class bits) (blocksIn class) place ≡ found
-    → nextFree (bitAt (treeOf class bits)) (blocksIn class) place ≡ found → BlockHolds class bits place found
+row : {class : ℕ} {bits : List ℕ} {place : ℕ} {found : Found} → T (leb (treeWords (above class) (blocksOf segmentSize class)) (length bits))
+    → shapeOf segmentSize class ≡ Of (shapeFor (blocksOf segmentSize class)) → searched (above class) (treeOf class bits) (blocksOf segmentSize class) place ≡ found
+    → nextFree (bitAt (treeOf class bits)) (blocksOf segmentSize class) place ≡ found → BlockHolds class bits place found
 row {class} {bits} room is search scan = record {
   class-is = is;
-  consistent = completed-tree (above class) (blocksIn class) bits (leb→le _ _ room) (shape-height (blocksIn class) (blocks-most class));
+  consistent = completed-tree (above class) (blocksOf segmentSize class) bits (leb→le _ _ room) (shape-height (blocksOf segmentSize class) (blocks-most segmentSize class (omega arith)));
   search = search;
   scan = scan;
 }

@@ -8,7 +8,7 @@ ghost use Prim.Native.Nat.{_+_, _≤_, _<_};
 ghost use lib.ListN.{length};
 ghost use Rattle.words.specs.Levels.{wordsFor, treeWords};
 ghost use Rattle.classes.specs.Class.{firstClass};
-ghost use Rattle.classes.specs.Shape.{blocksIn, bitmapWords};
+ghost use Rattle.classes.specs.Shape.{segmentSize, blocksOf, longestOf};
 
 // The word at which the mark words begin, behind the longest bitmap, and at which level 1 of that bitmap begins.
 const MARKS: u32 = 67;
@@ -61,7 +61,7 @@ struct Space {
 }
 
 fn space_of(class: u32) -> Space
-    ensures { λ r. ⌜ (treeWords (r .above) (r .blocks) ≤ bitmapWords) × (wordsFor (r .blocks) ≤ bitmapWords) ⌝ }
+    ensures { λ r. ⌜ (treeWords (r .above) (r .blocks) ≤ longestOf segmentSize) × (wordsFor (r .blocks) ≤ longestOf segmentSize) ⌝ }
 {
     let shaped = classes::shape_of(class);
     match shaped {
@@ -78,7 +78,7 @@ fn space_of(class: u32) -> Space
 
 // The first free block of a class at or after a place.
 fn search_line(s: &[u32], class: u32, place: u32)
-    requires { ⌜ bitmapWords ≤ length (now s) ⌝ }
+    requires { ⌜ longestOf segmentSize ≤ length (now s) ⌝ }
 {
     word(b"search");
     number(class);
@@ -95,7 +95,7 @@ fn search_line(s: &[u32], class: u32, place: u32)
 
 // Whether the words are a tree of the class, and how many of its blocks' bits are 1.
 fn check_line(s: &[u32], class: u32)
-    requires { ⌜ bitmapWords ≤ length (now s) ⌝ }
+    requires { ⌜ longestOf segmentSize ≤ length (now s) ⌝ }
 {
     word(b"check");
     number(class);
@@ -112,7 +112,7 @@ fn check_line(s: &[u32], class: u32)
 
 // A fresh tree of the class.
 fn freshen(s: &mut [u32], class: u32)
-    requires { ⌜ bitmapWords ≤ length (now s) ⌝ }
+    requires { ⌜ longestOf segmentSize ≤ length (now s) ⌝ }
 {
     let space = space_of(class);
     bitmap_write::make_fresh(s, space.blocks, space.above);
@@ -120,7 +120,7 @@ fn freshen(s: &mut [u32], class: u32)
 
 // A tree of the class whose blocks' bits are the mark words that stand behind the longest bitmap.
 fn adopt(s: &mut [u32], class: u32)
-    requires { ⌜ bitmapWords + bitmapWords ≤ length (now s) ⌝ }
+    requires { ⌜ longestOf segmentSize + longestOf segmentSize ≤ length (now s) ⌝ }
 {
     let space = space_of(class);
     bitmap_write::adopt(s, MARKS as usize, space.blocks, space.above);
@@ -174,7 +174,7 @@ fn shape_cases() {
 
 // A fresh tree of the first class: the first and the last block, the ends of a word, and places past the end.
 fn fresh_cases(s: &mut [u32])
-    requires { ⌜ bitmapWords ≤ length (now s) ⌝ }
+    requires { ⌜ longestOf segmentSize ≤ length (now s) ⌝ }
 {
     freshen(s, 3);
     check_line(s, 3);
@@ -197,7 +197,7 @@ fn fill(s: &mut [u32]) {
 
 // A tree of the first class with every block marked but one.
 fn all_but(s: &mut [u32], block: u32)
-    requires { ⌜ (bitmapWords + bitmapWords ≤ length (now s)) × (block < blocksIn firstClass) ⌝ }
+    requires { ⌜ (longestOf segmentSize + longestOf segmentSize ≤ length (now s)) × (block < blocksOf segmentSize firstClass) ⌝ }
 {
     fill(s);
     words::clear_bit(s, MARKS * 32 + block);
@@ -206,7 +206,7 @@ fn all_but(s: &mut [u32], block: u32)
 
 // The free block is found in its own word and by way of one level.
 fn near_cases(s: &mut [u32])
-    requires { ⌜ bitmapWords + bitmapWords ≤ length (now s) ⌝ }
+    requires { ⌜ longestOf segmentSize + longestOf segmentSize ≤ length (now s) ⌝ }
 {
     all_but(s, 1000);
     check_line(s, 3);
@@ -219,7 +219,7 @@ fn near_cases(s: &mut [u32])
 
 // The free block is found by way of two levels.
 fn far_cases(s: &mut [u32])
-    requires { ⌜ bitmapWords + bitmapWords ≤ length (now s) ⌝ }
+    requires { ⌜ longestOf segmentSize + longestOf segmentSize ≤ length (now s) ⌝ }
 {
     all_but(s, 1500);
     check_line(s, 3);
@@ -231,7 +231,7 @@ fn far_cases(s: &mut [u32])
 // A summary bit that lies: word 5 of level 0 is full, and its bit at level 1 says that it is not. From word 46 on the search does
 // not meet it.
 fn torn_cases(s: &mut [u32])
-    requires { ⌜ bitmapWords ≤ length (now s) ⌝ }
+    requires { ⌜ longestOf segmentSize ≤ length (now s) ⌝ }
 {
     words::clear_bit(s, LEVEL1 * 32 + 5);
     check_line(s, 3);
@@ -241,7 +241,7 @@ fn torn_cases(s: &mut [u32])
 
 // A level of half a word: its bits past the end are 1, and are no blocks.
 fn short_cases(s: &mut [u32])
-    requires { ⌜ bitmapWords ≤ length (now s) ⌝ }
+    requires { ⌜ longestOf segmentSize ≤ length (now s) ⌝ }
 {
     freshen(s, 10);
     check_line(s, 10);

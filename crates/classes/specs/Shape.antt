@@ -10,12 +10,13 @@ use Rattle.classes.specs.declared.Shape.{Shape}
 use Rattle.classes.specs.declared.ClassShape.{ClassShape}
 use Rattle.classes.specs.declared.ClassShape.the-variants.{Of, NoClass}
 
-abbrev pub segmentBytes : ℕ
-segmentBytes = 16384
+-- the bytes of a segment
+abbrev pub segmentSize : ℕ
+segmentSize = 16384
 
--- how many blocks of class c a segment has
-abbrev pub blocksIn : ℕ → ℕ
-blocksIn c = segmentBytes / 2 ^ c
+-- how many blocks of class c a segment of z bytes has
+abbrev pub blocksOf : ℕ → ℕ → ℕ
+blocksOf z c = z / 2 ^ c
 
 -- a bitmap has three levels at most
 abbrev pub mostLevels : ℕ
@@ -31,10 +32,10 @@ shapeFor n = record {
   words2 = getD (levelWords mostLevels n) 2 0;
 }
 
--- the words of the largest bitmap, which is that of the first class
-abbrev pub bitmapWords : ℕ
-bitmapWords = treeWords (levelCount mostLevels (blocksIn firstClass) - 1) (blocksIn firstClass)
+-- the words of the largest bitmap of a segment of z bytes, which is that of the first class
+abbrev pub longestOf : ℕ → ℕ
+longestOf z = treeWords (levelCount mostLevels (blocksOf z firstClass) - 1) (blocksOf z firstClass)
 
--- the shape of a segment of class c, where there is such a class
-abbrev pub shapeOf : ℕ → ClassShape
-shapeOf c = pick (ltb c firstClass) NoClass (pick (ltb c (firstClass + classCount)) (Of (shapeFor (blocksIn c))) NoClass)
+-- the shape of a segment of z bytes of class c, where there is such a class
+abbrev pub shapeOf : ℕ → ℕ → ClassShape
+shapeOf z c = pick (ltb c firstClass) NoClass (pick (ltb c (firstClass + classCount)) (Of (shapeFor (blocksOf z c))) NoClass)

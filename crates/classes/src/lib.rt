@@ -2,7 +2,7 @@
 // levels of its bitmap and the words in each level. Both are read from constant tables, and proved by their rule.
 ghost use mathlib.Core.Path.{_≡_};
 ghost use Rattle.classes.specs.Class.{classOf};
-ghost use Rattle.classes.specs.Shape.{shapeOf};
+ghost use Rattle.classes.specs.Shape.{segmentSize, shapeOf};
 
 // The class of a record, or none: the record has too many fields.
 pub enum SizeClass {
@@ -1142,7 +1142,7 @@ pub fn class_of(fields: u32) -> SizeClass
 
 // The shape of a segment of a class; any number may be asked for.
 pub fn shape_of(class: u32) -> ClassShape
-    ensures { λ r. ⌜ r ≡ shapeOf class ⌝ }
+    ensures { λ r. ⌜ r ≡ shapeOf segmentSize class ⌝ }
 {
     if class < 3 {
         return ClassShape::NoClass;

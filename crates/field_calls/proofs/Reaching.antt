@@ -26,6 +26,7 @@ use Rattle.records.specs.declared.Place.the-variants as place
 use Rattle.records.specs.Places.{heldOf, pointerPlace, valuePlace}
 use Rattle.records.proofs.Found.{Lacks, missing, off, beyond, pointer-stands, pointer-lacks, value-stands, value-lacks}
 use Rattle.records.proofs.Within.{rooted, fields-inside}
+use Rattle.layout.specs.Region as Region
 
 -- ---- what a root's word names
 
@@ -82,14 +83,14 @@ module _ (c : Call) (g : Geometry) (xs : List ℕ) (k i : ℕ) (test : ℕ × �
     unfolding ifRecord
     by-test x t = t ∙ ap (λ o. ifRecord o test) (sym shape-at) ∙ q .rest
 
-    inside : Consistent g m → (y : ℕ) → y ≤ pointers m at + values m at → at + y < len g 8
+    inside : Consistent g m → (y : ℕ) → y ≤ pointers m at + values m at → at + y < len g Region.heap
     inside s = fields-inside g m at (rooted g m k i at s (q .known) (q .within) (q .attached) (p .word))
 
     -- "13, torn": a word of the record off the heap
-    off-13 : (y : ℕ) → y ≤ pointers m at + values m at → len g 8 ≤ at + y → Promise c g xs (Refused 13) xs
+    off-13 : (y : ℕ) → y ≤ pointers m at + values m at → len g Region.heap ≤ at + y → Promise c g xs (Refused 13) xs
     off-13 y l o = torn-13 c g xs (q .size) (λ s. let t = inside s y l in omega arith)
 
-    pub header-13 : len g 8 ≤ at → Promise c g xs (Refused 13) xs
+    pub header-13 : len g Region.heap ≤ at → Promise c g xs (Refused 13) xs
     header-13 l = off-13 0 (omega arith) (omega arith)
 
     -- field f of n at word u, y words behind the header, where the test asks for it

@@ -95,7 +95,7 @@ pub fn shape(g: Geometry, mem: &[u32], k: u32, i: u32) -> Answer
     let Held::Record(at) = slot else {
         return Answer::Refused(7);
     };
-    let end = g.segments * layout::SEGMENT_WORDS;
+    let end = layout::heap_words(g);
     if end <= at {
         return Answer::Refused(13);
     }

@@ -12,9 +12,8 @@ use Rattle.rules.proofs.Order.{same-or-not}
 use Rattle.words.specs.Bits.{bitAt}
 use Rattle.words.proofs.Word.{one-of-not-zero}
 use Rattle.words.proofs.Lists.{at-lt}
-use Rattle.classes.specs.Shape.{blocksIn}
 use Rattle.layout.specs.declared.Geometry.{Geometry}
-use Rattle.layout.specs.Geometry.{mutatorCount, segmentWords}
+use Rattle.layout.specs.Geometry.{mutatorCount, segmentWords, blocksIn, segmentOf, bitIn}
 use Rattle.layout.specs.Mem.{Mem, memOf}
 use Rattle.theory.specs.Phases.{Phase, idle, sync1, sync2, mark, sweep}
 use Rattle.theory.proofs.CycleKeeps.{quiet-reached}
@@ -24,7 +23,7 @@ use Rattle.model.specs.declared.Answer.the-variants.{Ok, Refused}
 use Rattle.model.specs.declared.Step.{Step}
 use Rattle.model.specs.Fields.{phase, traceCount, tag, class}
 use Rattle.model.specs.Segments.{usedBit}
-use Rattle.model.specs.Records.{headerOf, segmentOf, blockWords, bitIn}
+use Rattle.model.specs.Records.{headerOf, blockWords}
 use Rattle.model.specs.Reaching.{isMarked}
 use Rattle.model.specs.Collector.{stepOf, stepIn, moves, traces, sweeps, swept, lowest, waiting, outsideAnswered}
 use Rattle.model.specs.Consistent.{IsClass}
@@ -32,7 +31,7 @@ use Rattle.model.specs.Lists.{Element, started, Meets, KeepsLength, Gets, wrong
 use Rattle.refine_view.specs.View.{view, isHead}
 use Rattle.refine_view.specs.Kept.{AllKept}
 use Rattle.refine_view.proofs.Bools.{and-both}
-use Rattle.refine_view.proofs.Blocks.{header-segment, header-aligned, header-bit}
+use Rattle.model.proofs.Blocks.{header-segment, header-aligned, header-bit}
 use Rattle.refine_view.proofs.Lengths.{sizes-of}
 use Rattle.refine_sweep.proofs.Sweeping.{swept-free, lowest-condemned}
 use Rattle.guarantee.specs.Demand3.{struckOut, wordsAfter, BlockFree, Unreached}
@@ -40,6 +39,7 @@ use Rattle.guarantee.proofs.Points.{Point, Any}
 use Rattle.guarantee.proofs.Elements.{Onward, goes, begins, element-on}
 use Rattle.model.specs.declared.Step.the-variants as stepAnswer
 use Rattle.theory.specs.Machine as machine
+use Rattle.model.specs.Tag as Tag
 
 -- ---- which step answers swept
 
@@ -65,7 +65,7 @@ swept-by g m s f e = go (phase m) refl (ap sweptOf e)
     moved zero m₁ p = refl
     moved (suc n) m₁ p = refl
 
-    traced : (n : ℕ) → sweptOf (traces n m .0) ≡ none
+    traced : (n : ℕ) → sweptOf (traces g n m .0) ≡ none
     traced zero = refl
     traced (suc n) = refl
 
@@ -78,8 +78,8 @@ swept-by g m s f e = go (phase m) refl (ap sweptOf e)
 
     go : (p : Phase) → phase m ≡ p → some s ≡ sweptOf (stepIn p g m .0) → SweptBy g m s
     go idle p h = none-some (sym h)
-    go sync1 p h = none-some (sym (h ∙ moved (waiting (outsideAnswered m mutatorCount) mutatorCount) (outsideAnswered m mutatorCount) sync2))
-    go sync2 p h = none-some (sym (h ∙ moved (waiting (outsideAnswered m mutatorCount) mutatorCount) (outsideAnswered m mutatorCount) mark))
+    go sync1 p h = none-some (sym (h ∙ moved (waiting (outsideAnswered g m mutatorCount) mutatorCount) (outsideAnswered g m mutatorCount) sync2))
+    go sync2 p h = none-some (sym (h ∙ moved (waiting (outsideAnswered g m mutatorCount) mutatorCount) (outsideAnswered g m mutatorCount) mark))
     go mark p h = none-some (sym (h ∙ traced (traceCount m)))
     go sweep p h = at-sweep p (swept-at p (lowest m (g .segments)) refl h)
 
@@ -89,7 +89,7 @@ module _ (all : AllKept) (g : Geometry) (m₀ : Mem) where
   -- the collect set are segments that were full at the start, and they keep their classes in it
   pub record During (words : List ℕ) (w : Beside) (P : ℕ → Type 0) : Type 0 where
     pub point : Point g words w P
-    pub full : (s : ℕ) → s < g .segments → tag (memOf g words) s ≡ 4 → (tag m₀ s ≡ 3) × (class (memOf g words) s ≡ class m₀ s)
+    pub full : (s : ℕ) → s < g .segments → tag (memOf g words) s ≡ Tag.condemned → (tag m₀ s ≡ Tag.full) × (class (memOf g words) s ≡ class m₀ s)
 
   -- no start that is not refused
   abbrev pub NoStart : List Element → Type 0
@@ -114,41 +114,41 @@ module _ (all : AllKept) (g : Geometry) (words₀ : List ℕ) (w : Beside) (p : 
   m₀ = memOf g words₀
 
   -- what was live when the cycle began was reached then
-  was-reached : (t : ℕ) → machine.Live (view m₀) t → BlockReached w t
+  was-reached : (t : ℕ) → machine.Live (view g m₀) t → BlockReached w t
   was-reached t l =
-      let h = reach-up (w .put) (view m₀) (w .heap) (p .good .sim) (quiet-reached segmentOf (view m₀) (p .good .inv) (subst Quiet (sym quiet) tt) l) in
+      let h = reach-up (w .put) (view g m₀) (w .heap) (p .good .sim) (quiet-reached (segmentOf g) (view g m₀) (p .good .inv) (subst Quiet (sym quiet) tt) l) in
       record { number = h .0; last = h .1; reached = h .2 }
 
-  module _ (words : List ℕ) (w′ : Beside) (q : Point g words w′ (machine.Live (view m₀))) (s b : ℕ) where
+  module _ (words : List ℕ) (w′ : Beside) (q : Point g words w′ (machine.Live (view g m₀))) (s b : ℕ) where
     abbrev m : Mem
     m = memOf g words
 
-    unmarked : IsClass (class m s) → b < blocksIn (class m s) → tag m s ≡ 4 → (BlockReached w (headerOf s (class m s) b) → ⊥) → bitAt (m .marks) (bitIn s b) ≡ 0
-    unmarked k l e f = go (same-or-not (bitAt (m .marks) (bitIn s b)) 0)
+    unmarked : IsClass (class m s) → b < blocksIn g (class m s) → tag m s ≡ Tag.condemned → (BlockReached w (headerOf g s (class m s) b) → ⊥) → bitAt (m .marks) (bitIn g s b) ≡ 0
+    unmarked k l e f = go (same-or-not (bitAt (m .marks) (bitIn g s b)) 0)
       where
-        there : segmentOf (headerOf s (class m s) b) ≡ s
-        there = header-segment (class m s) k s b l
+        there : segmentOf g (headerOf g s (class m s) b) ≡ s
+        there = header-segment g (class m s) k s b l
 
-        head : isHead m (headerOf s (class m s) b) ≡ true
-        head = eq-eqb _ _ (ap (λ z. headerOf s (class m s) b % segmentWords % blockWords (class m z)) there ∙ header-aligned (class m s) k s b l)
+        head : isHead g m (headerOf g s (class m s) b) ≡ true
+        head = eq-eqb _ _ (ap (λ z. headerOf g s (class m s) b % segmentWords g % blockWords (class m z)) there ∙ header-aligned g (class m s) k s b l)
 
-        go : (bitAt (m .marks) (bitIn s b) ≡ 0) ⊎ (bitAt (m .marks) (bitIn s b) ≡ 0 → ⊥) → bitAt (m .marks) (bitIn s b) ≡ 0
+        go : (bitAt (m .marks) (bitIn g s b) ≡ 0) ⊎ (bitAt (m .marks) (bitIn g s b) ≡ 0 → ⊥) → bitAt (m .marks) (bitIn g s b) ≡ 0
         go (inl z) = z
         go (inr n) =
-            let one : bitAt (m .marks) (bitIn s b) ≡ 1 = one-of-not-zero _ (at-lt (m .marks) (bitIn s b)) n in
-            let bit : isMarked m (headerOf s (class m s) b) ≡ true = eq-eqb _ _ (ap (bitAt (m .marks)) (header-bit (class m s) k s b l m refl) ∙ one) in
-            absurd (f (was-reached (headerOf s (class m s) b) (q .good .comp .black (headerOf s (class m s) b) (and-both _ _ head bit) (eq-eqb _ _ (ap (tag m) there ∙ e)))))
+            let one : bitAt (m .marks) (bitIn g s b) ≡ 1 = one-of-not-zero _ (at-lt (m .marks) (bitIn g s b)) n in
+            let bit : isMarked g m (headerOf g s (class m s) b) ≡ true = eq-eqb _ _ (ap (bitAt (m .marks)) (header-bit g (class m s) k s b l m refl) ∙ one) in
+            absurd (f (was-reached (headerOf g s (class m s) b) (q .good .comp .black (headerOf g s (class m s) b) (and-both _ _ head bit) (eq-eqb _ _ (ap (tag m) there ∙ e)))))
 
-    free-of : (m′ : Mem) → (usedBit m′ s b ≡ 0) ⊎ (tag m′ s ≡ 0) → BlockFree m′ s b
+    free-of : (m′ : Mem) → (usedBit g m′ s b ≡ 0) ⊎ (tag m′ s ≡ Tag.free) → BlockFree g m′ s b
     free-of m′ (inl e) = inl e
     free-of m′ (inr e) = inr (eq-eqb (tag m′ s) 0 e)
 
-    pub block-free : (d : During all g m₀ words w′ (machine.Live (view m₀))) → SweptBy g m s → Unreached m₀ w s b → BlockFree (swept g m s) s b
+    pub block-free : (d : During all g m₀ words w′ (machine.Live (view g m₀))) → SweptBy g m s → Unreached g m₀ w s b → BlockFree g (swept g m s) s b
     block-free d y z =
         let c = q .consistent in
         let h = sizes-of g words (q .long) in
         let o = lowest-condemned g m h c s (y .is-lowest) in
         let n = d .full s (o .0) (o .1) .1 in
         let k : IsClass (class m s) = c .segments s (o .0) .classes (λ i. absurd (let j : _≡_ {A = ℕ} 0 4 = sym i ∙ o .1 in omega arith)) in
-        let l : b < blocksIn (class m s) = subst (λ x. b < blocksIn x) (sym n) (z .block) in
-        free-of (swept g m s) (swept-free g m h c (y .in-sweep) s b (y .is-lowest) l (unmarked k l (o .1) (λ r. z .unreached (subst (λ x. BlockReached w (headerOf s x b)) n r))))
+        let l : b < blocksIn g (class m s) = subst (λ x. b < blocksIn g x) (sym n) (z .block) in
+        free-of (swept g m s) (swept-free g m h c (y .in-sweep) s b (y .is-lowest) l (unmarked k l (o .1) (λ r. z .unreached (subst (λ x. BlockReached w (headerOf g s x b)) n r))))

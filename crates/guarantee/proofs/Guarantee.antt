@@ -8,7 +8,7 @@ use Prim.Native.Nat.{ℕ}
 use lib.ListN.{length}
 use Rattle.rules.specs.Pick.{pick}
 use Rattle.layout.specs.declared.Geometry.{Geometry}
-use Rattle.layout.specs.Geometry.{wrongSize}
+use Rattle.layout.specs.Geometry.{wrongSize, segmentOf}
 use Rattle.layout.specs.Mem.{memOf}
 use Rattle.layout.proofs.Regions.{sized, resized, right-size}
 use Rattle.theory.specs.Phases.{idle}
@@ -17,7 +17,6 @@ use Rattle.theory.proofs.Invariant.{none-some}
 use Rattle.model.specs.declared.Answer.the-variants.{Ok, Refused}
 use Rattle.model.specs.Answers.{refusalOf, stepRefusalOf}
 use Rattle.model.specs.Fields.{phase}
-use Rattle.model.specs.Records.{segmentOf}
 use Rattle.model.specs.Collector.{swept}
 use Rattle.model.specs.Consistent.{Consistent}
 use Rattle.model.specs.Lists.{started, stepped, Meets, KeepsLength, Gets, wrongSized, onward, Chain, Beside, beside}
@@ -44,7 +43,7 @@ first-point g content words o =
     record {
       long = resized g (length content) (length words) s (o .long);
       consistent = subst (Consistent g) (sym e) (opened-consistent g m (sizes-of g content s));
-      good = subst (λ x. Good segmentOf Any (λ at. none) (view x) (begun .heap)) (sym e) (record { inv = z .inv; sim = z .sim; few = z .few; comp = record { live = λ b q k. tt; black = λ b q k. tt } });
+      good = subst (λ x. Good (segmentOf g) Any (λ at. none) (view g x) (begun .heap)) (sym e) (record { inv = z .inv; sim = z .sim; few = z .few; comp = record { live = λ b q k. tt; black = λ b q k. tt } });
     }
 
 -- what is done is not refused
@@ -84,21 +83,21 @@ module _ (g : Geometry) (words : List ℕ) (w : Beside) (P : ℕ → Type 0) (p 
 freed-in : GarbageFreed
 freed-in g content words es o ch c s b f z e =
     let a = walk all-kept g (c .before) _ words begun (first-point g content words o) (subst (Chain g words) (c .whole) ch) in
-    subst (λ x. BlockFree (memOf g (c .stepAfter)) x b) (sym e) (at-start (wordsAfter words (c .before)) (beside struckOut begun (c .before)) (a .0) (a .1) (subst (λ x. Unreached (memOf g (c .startBefore)) (beside struckOut begun (c .before)) x b) e z))
+    subst (λ x. BlockFree g (memOf g (c .stepAfter)) x b) (sym e) (at-start (wordsAfter words (c .before)) (beside struckOut begun (c .before)) (a .0) (a .1) (subst (λ x. Unreached g (memOf g (c .startBefore)) (beside struckOut begun (c .before)) x b) e z))
   where
-    at-sweep : (w₀ : List ℕ) (v : Beside) (p : Point g w₀ v Any) → phase (memOf g w₀) ≡ idle → (w₁ : List ℕ) (v₁ : Beside) → During all-kept g (memOf g w₀) w₁ v₁ (machine.Live (view (memOf g w₀)))
-        → Chain g w₁ (stepped g (c .stepBefore) (stepAnswer.Swept (c .segment) (c .freed)) (c .stepAfter) ∷ c .rest) → Unreached (memOf g w₀) v (c .segment) b → BlockFree (memOf g (c .stepAfter)) (c .segment) b
+    at-sweep : (w₀ : List ℕ) (v : Beside) (p : Point g w₀ v Any) → phase (memOf g w₀) ≡ idle → (w₁ : List ℕ) (v₁ : Beside) → During all-kept g (memOf g w₀) w₁ v₁ (machine.Live (view g (memOf g w₀)))
+        → Chain g w₁ (stepped g (c .stepBefore) (stepAnswer.Swept (c .segment) (c .freed)) (c .stepAfter) ∷ c .rest) → Unreached g (memOf g w₀) v (c .segment) b → BlockFree g (memOf g (c .stepAfter)) (c .segment) b
     at-sweep w₀ v p i w₁ v₁ d ch z =
         let y = sweeping g w₁ v₁ _ (d .point) (c .segment) (c .freed) (c .stepBefore) (c .stepAfter) (ch .0) (ch .1) (ch .2) in
-        subst (λ m. BlockFree m (c .segment) b) (sym (y .1)) (block-free all-kept g w₀ v p i w₁ v₁ (d .point) (c .segment) b d (y .0) z)
+        subst (λ m. BlockFree g m (c .segment) b) (sym (y .1)) (block-free all-kept g w₀ v p i w₁ v₁ (d .point) (c .segment) b d (y .0) z)
 
     at-start : (w₀ : List ℕ) (v : Beside) → Point g w₀ v Any → Chain g w₀ (started g (c .startBefore) Ok (c .startAfter) ∷ (c .during ++ (stepped g (c .stepBefore) (stepAnswer.Swept (c .segment) (c .freed)) (c .stepAfter) ∷ c .rest)))
-        → Unreached (memOf g (c .startBefore)) v (c .segment) b → BlockFree (memOf g (c .stepAfter)) (c .segment) b
+        → Unreached g (memOf g (c .startBefore)) v (c .segment) b → BlockFree g (memOf g (c .stepAfter)) (c .segment) b
     at-start w₀ v p ch z =
         let s = accepted g w₀ v p (c .startBefore) (c .startAfter) (ch .0) (ch .1) (ch .2) in
         let n : onward w₀ (started g (c .startBefore) Ok (c .startAfter)) ≡ c .startAfter = ap (λ (x : List ℕ). pick (wrongSize g (length x)) w₀ (c .startAfter)) (s .0) ∙ ap (λ (x : Bool). pick x w₀ (c .startAfter)) (right-size g (length w₀) (p .long)) in
-        let y = walk-during all-kept g (memOf g w₀) (c .during) _ (c .startAfter) v (machine.Live (view (memOf g w₀))) (record { point = s .1 .point; full = s .1 .full }) (c .oneStart) (subst (λ x. Chain g x (c .during ++ (stepped g (c .stepBefore) (stepAnswer.Swept (c .segment) (c .freed)) (c .stepAfter) ∷ c .rest))) n (ch .3)) in
-        at-sweep w₀ v p (s .1 .quiet) _ _ (y .0) (y .1) (subst (λ x. Unreached (memOf g x) v (c .segment) b) (s .0) z)
+        let y = walk-during all-kept g (memOf g w₀) (c .during) _ (c .startAfter) v (machine.Live (view g (memOf g w₀))) (record { point = s .1 .point; full = s .1 .full }) (c .oneStart) (subst (λ x. Chain g x (c .during ++ (stepped g (c .stepBefore) (stepAnswer.Swept (c .segment) (c .freed)) (c .stepAfter) ∷ c .rest))) n (ch .3)) in
+        at-sweep w₀ v p (s .1 .quiet) _ _ (y .0) (y .1) (subst (λ x. Unreached g (memOf g x) v (c .segment) b) (s .0) z)
 
 pub guarantee : Demand3
 guarantee = record {

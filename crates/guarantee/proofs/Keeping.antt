@@ -43,6 +43,7 @@ use Rattle.guarantee.proofs.Walks.{walk}
 use Rattle.guarantee.proofs.Guarantee.{first-point}
 use Rattle.model.specs.Lists as lists
 use Rattle.guarantee.proofs.Points as points
+use Rattle.layout.specs.Region as Region
 
 pub opening-establishes : OpeningEstablishes
 opening-establishes g content words o = first-point g content words o .consistent
@@ -141,12 +142,12 @@ never-torn g words (sawPhase g′ mem r) a e =
     let h = a .gets in
     let path : sawPhase g′ mem r ≡ sawPhase g words r = λ i. sawPhase (h .geometry i) (h .memory i) r in
     none-some (sym (ap phaseRefusalOf (subst Meets path (a .meets) .exact (a .sized) (a .consistent))) ∙ e)
-never-torn g words (sawStates g′ mem output r after) a e = go (same-or-not (length output) (len g 2))
+never-torn g words (sawStates g′ mem output r after) a e = go (same-or-not (length output) (len g Region.segments))
   where
     q : Meets (sawStates g words output r after)
     q = subst Meets (λ i. sawStates (a .gets .geometry i) (a .gets .memory i) output r after) (a .meets)
 
-    go : (length output ≡ len g 2) ⊎ (length output ≡ len g 2 → ⊥) → ⊥
+    go : (length output ≡ len g Region.segments) ⊎ (length output ≡ len g Region.segments → ⊥) → ⊥
     go (inl l) = none-some (sym (ap refusalOf (q .exact (a .sized) l (a .consistent) .0)) ∙ e)
     go (inr l) = some-other g words (a .sized) (a .consistent) 1 13 (λ z. omega arith) (sym (ap refusalOf (q .sizes .1 l)) ∙ e)
 never-torn g words (examinedBy g′ mem scratch r after) a e = go (same-or-not (length scratch) (scratchWords g))

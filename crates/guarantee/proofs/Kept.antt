@@ -12,7 +12,7 @@ use Rattle.classes.specs.declared.SizeClass.{SizeClass}
 use Rattle.classes.specs.declared.SizeClass.the-variants.{Class, TooBig}
 use Rattle.classes.proofs.Smallest.{class-limit, is-smallest}
 use Rattle.layout.specs.declared.Geometry.{Geometry}
-use Rattle.layout.specs.Geometry.{mutatorCount, rootCount}
+use Rattle.layout.specs.Geometry.{mutatorCount, rootCount, segmentOf}
 use Rattle.layout.specs.Mem.{Mem}
 use Rattle.theory.specs.Phases.{Phase, idle, sync1, sync2, mark, sweep}
 use Rattle.theory.specs.Calls.{Call, c-attach, c-detach, c-check, c-leave, c-enter, c-spawn, c-make, c-load, c-store, c-copy, c-clear, c-put, c-get, c-same, c-shape, Answer, refusal}
@@ -20,7 +20,7 @@ use Rattle.theory.proofs.CallKeeps.{by-ok, root-ok, require-ok}
 use Rattle.theory.proofs.Agree.{agree-inv}
 use Rattle.model.specs.Fields.{phase, holding}
 use Rattle.model.specs.Segments.{count, top, partStack, freeStack, free}
-use Rattle.model.specs.Records.{segmentOf, headerOf}
+use Rattle.model.specs.Records.{headerOf}
 use Rattle.model.specs.Making.{held, part, unused, noRoom, sourceOf, inBlock, inSegment, fromSource, made}
 use Rattle.model.specs.Calls.{isAttached, face, act, ofClass}
 use Rattle.model.specs.Collector.{lowest, stepOf, stepIn}
@@ -57,16 +57,16 @@ module _ (g : Geometry) (m : Mem) (s : Sizes g m) (c : Consistent g m) (k d cl p
   -- out of a memory in which the mutator holds segment r
   module _ (m₁ : Mem) (r : ℕ) (t : Taken g m m₁ k cl r) where
     in-order : Consistent g m₁
-    in-order = consistent-of g m₁ (t .sizes) (t .structure) (agree-inv segmentOf (view m) (view m₁) (t .prepared) (to-inv g m s c))
+    in-order = consistent-of g m₁ (t .sizes) (t .structure) (agree-inv (segmentOf g) (view g m) (view g m₁) (t .prepared) (to-inv g m s c))
 
-    from-held : Matches g m (inSegment m m₁ k d cl r p n) By
+    from-held : Matches g m (inSegment g m m₁ k d cl r p n) By
     from-held =
         let x = handed g m₁ (t .sizes) in-order k d cl r p n l (t .known) h e (t .holds) in
-        subst (λ f. Matches g m (inBlock m m₁ f k d cl r p n) By) (sym (x .1)) (record {
+        subst (λ f. Matches g m (inBlock g m m₁ f k d cl r p n) By) (sym (x .1)) (record {
           ready = m₁;
           prepared = t .prepared;
           shows = t .shows;
-          block = some (headerOf r cl (x .0));
+          block = some (headerOf g r cl (x .0));
           alloc = x .2;
           answer = refl;
           moves = record { structure = x .3 .structure; agree = x .3 .agree; steady = λ i q y. let z = x .3 .steady i q y in let w = t .steady i q (z .0) in (w .0, z .1 ∙ w .1) };
@@ -80,7 +80,7 @@ module _ (g : Geometry) (m : Mem) (s : Sizes g m) (c : Consistent g m) (k d cl p
       some-of (suc x) q = omega arith
 
       own : holding m k cl ≡ suc (holding m k cl - 1) → Taken g m m k cl (holding m k cl - 1)
-      own q = record { sizes = s; structure = moves-self g m c .structure; prepared = agree-self m; shows = refl; steady = λ i q y. (y, refl); holds = q; known = a }
+      own q = record { sizes = s; structure = moves-self g m c .structure; prepared = agree-self g m; shows = refl; steady = λ i q y. (y, refl); holds = q; known = a }
 
       go : (x y z : Bool) → eqb (holding m k cl) 0 ≡ x → eqb (count g m (partStack cl)) 0 ≡ y → eqb (count g m freeStack) 0 ≡ z
           → Matches g m (fromSource g m k d cl p n (pick x (pick y (pick z noRoom (unused (top g m freeStack))) (part (top g m (partStack cl)))) (held (holding m k cl - 1)))) By
@@ -124,7 +124,7 @@ step-kept : (g : Geometry) (m : Mem) → Sizes g m → Consistent g m → StepKe
 unfolding stepOf
 step-kept g m s c = record { picked = picked g m s c; moves = go (phase m) refl }
   where
-    go : (p : Phase) → phase m ≡ p → Moves g m (stepIn p g m .1) (calls.stepBy segmentOf (λ _. lowest m (g .segments)) p (view m) .1)
+    go : (p : Phase) → phase m ≡ p → Moves g m (stepIn p g m .1) (calls.stepBy (segmentOf g) (λ _. lowest m (g .segments)) p (view g m) .1)
     go idle e = moves-self g m c
     go sync1 e = handshake1-moves g m s c (lowest m (g .segments)) e
     go sync2 e = handshake2-moves g m s c (lowest m (g .segments)) e

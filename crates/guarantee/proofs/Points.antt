@@ -9,7 +9,7 @@ use Prim.Native.Nat.{ℕ, _<_}
 use lib.ListN.{length}
 use Rattle.rules.specs.Pick.{pick}
 use Rattle.layout.specs.declared.Geometry.{Geometry}
-use Rattle.layout.specs.Geometry.{Sized, wrongSize}
+use Rattle.layout.specs.Geometry.{Sized, wrongSize, segmentOf}
 use Rattle.layout.specs.Mem.{Mem, memOf}
 use Rattle.layout.proofs.Regions.{resized, right-size}
 use Rattle.theory.specs.Phases.{Phase, idle, sync1, sync2, mark, sweep}
@@ -23,7 +23,6 @@ use Rattle.model.specs.declared.Answer.{Answer}
 use Rattle.model.specs.declared.Answer.the-variants.{Ok}
 use Rattle.model.specs.Answers.{answerOf}
 use Rattle.model.specs.Fields.{phase, tag, class}
-use Rattle.model.specs.Records.{segmentOf}
 use Rattle.model.specs.Calls.{exec}
 use Rattle.model.specs.declared.Step.{Step}
 use Rattle.model.specs.Collector.{started, startOf, startIn, stepOf, lowest, isFull, anyFull}
@@ -39,12 +38,13 @@ use Rattle.theory.specs.Calls as theory
 use Rattle.guarantee.proofs.Striking.{struck-no, stays, put-same, is-ok, ok-not}
 use Rattle.guarantee.specs.Demand3.{struckOut}
 use Rattle.theory.specs.MachineCalls as calls
+use Rattle.model.specs.Tag as Tag
 
 -- P: what may be marked in the collect set (theory: `Complete`)
 pub record Point (g : Geometry) (words : List ℕ) (w : Beside) (P : ℕ → Type 0) : Type 0 where
   pub long : Sized g (length words)
   pub consistent : Consistent g (memOf g words)
-  pub good : Good segmentOf P (w .put) (view (memOf g words)) (w .heap)
+  pub good : Good (segmentOf g) P (w .put) (view g (memOf g words)) (w .heap)
 
 abbrev pub Any : ℕ → Type 0
 Any at = Unit {0}
@@ -72,14 +72,14 @@ module _ (all : AllKept) (g : Geometry) where
     right = right-size g (length words) (p .long)
 
     -- the memory that a definition says is the one that the words afterwards are
-    pub point-at : (m′ : Mem) (after : List ℕ) (w′ : Beside) (Q : ℕ → Type 0) → length after ≡ length words → memOf g after ≡ m′ → Consistent g m′ → Good segmentOf Q (w′ .put) (view m′) (w′ .heap) → Point g after w′ Q
-    point-at m′ after w′ Q e h c o = record { long = resized g (length words) (length after) (p .long) e; consistent = subst (Consistent g) (sym h) c; good = subst (λ z. Good segmentOf Q (w′ .put) (view z) (w′ .heap)) (sym h) o }
+    pub point-at : (m′ : Mem) (after : List ℕ) (w′ : Beside) (Q : ℕ → Type 0) → length after ≡ length words → memOf g after ≡ m′ → Consistent g m′ → Good (segmentOf g) Q (w′ .put) (view g m′) (w′ .heap) → Point g after w′ Q
+    point-at m′ after w′ Q e h c o = record { long = resized g (length words) (length after) (p .long) e; consistent = subst (Consistent g) (sym h) c; good = subst (λ z. Good (segmentOf g) Q (w′ .put) (view g z) (w′ .heap)) (sym h) o }
 
     sizes-at : (m′ : Mem) (after : List ℕ) → length after ≡ length words → memOf g after ≡ m′ → Sizes g m′
     sizes-at m′ after e h = subst (Sizes g) h (sizes-of g after (resized g (length words) (length after) (p .long) e))
 
     pub called-on : (c : Call) (r : Answer) (after : List ℕ) → Promise c g words r after → length after ≡ length words → Called c r words after w P
-    called-on c r after q e = go (model-call segmentOf P (w .put) (view (k .ready)) (view m′) (w .heap) c (k .block) (exec g m c .0) (k .alloc) (agree-ok segmentOf P (w .put) (view m) (view (k .ready)) (w .heap) (k .prepared) (p .good)) (k .answer) (k .moves .agree))
+    called-on c r after q e = go (model-call (segmentOf g) P (w .put) (view g (k .ready)) (view g m′) (w .heap) c (k .block) (exec g m c .0) (k .alloc) (agree-ok (segmentOf g) P (w .put) (view g m) (view g (k .ready)) (w .heap) (k .prepared) (p .good)) (k .answer) (k .moves .agree))
       where
         k : CallKept g m c
         k = all .calls g m here (p .consistent) c
@@ -93,23 +93,23 @@ module _ (all : AllKept) (g : Geometry) where
         steady : Steady g m (memOf g after)
         steady = subst (Steady g m) (sym (told .1)) (k .moves .steady)
 
-        in-order : {Q : ℕ → Type 0} {put : ℕ → Option ℕ} {un : Unbounded} → Good segmentOf Q put (view (exec g m c .1)) un → Consistent g (exec g m c .1)
+        in-order : {Q : ℕ → Type 0} {put : ℕ → Option ℕ} {un : Unbounded} → Good (segmentOf g) Q put (view g (exec g m c .1)) un → Consistent g (exec g m c .1)
         in-order o = consistent-of g (exec g m c .1) (sizes-at (exec g m c .1) after e (told .1)) (k .moves .structure) (o .inv)
 
-        go : (Dropped (view (k .ready)) (calls.exec (λ _ _ _ _. k .block) (view (k .ready)) c) × Good segmentOf P (w .put) (view (exec g m c .1)) (w .heap))
-            ⊎ ((exec g m c .0 ≡ uexec (w .heap) c .0) × Good segmentOf P (nextPut (λ _ _ _ _. k .block) (w .put) (view (k .ready)) (w .heap .count) c) (view (exec g m c .1)) (uexec (w .heap) c .1)) → Called c r words after w P
+        go : (Dropped (view g (k .ready)) (calls.exec (λ _ _ _ _. k .block) (view g (k .ready)) c) × Good (segmentOf g) P (w .put) (view g (exec g m c .1)) (w .heap))
+            ⊎ ((exec g m c .0 ≡ uexec (w .heap) c .0) × Good (segmentOf g) P (nextPut (λ _ _ _ _. k .block) (w .put) (view g (k .ready)) (w .heap .count) c) (view g (exec g m c .1)) (uexec (w .heap) c .1)) → Called c r words after w P
         go (inl d) = out steady (⊎-elim (λ z. struck-no r 10 (told .0 ∙ k .answer ∙ z) refl) (λ z. struck-no r 11 (told .0 ∙ k .answer ∙ z) refl) (d .0 .0)) (point-at (exec g m c .1) after w P e (told .1) (in-order (d .1)) (d .1))
         go (inr d) =
-            let same = put-same g after (w .heap .count) (w .put) c r (view (k .ready)) (k .block) (told .0 ∙ k .answer) (subst (λ z. Agree segmentOf (calls.exec (λ _ _ _ _. k .block) (view (k .ready)) c .1) (view z)) (sym (told .1)) (k .moves .agree)) in
+            let same = put-same g after (w .heap .count) (w .put) c r (view g (k .ready)) (k .block) (told .0 ∙ k .answer) (subst (λ z. Agree (segmentOf g) (calls.exec (λ _ _ _ _. k .block) (view g (k .ready)) c .1) (view g z)) (sym (told .1)) (k .moves .agree)) in
             kept steady (stays r (w .heap) c (told .0 ∙ d .0)) (told .0 ∙ d .0)
-            (point-at (exec g m c .1) after _ P e (told .1) (in-order (d .1)) (subst (λ (z : ℕ → Option ℕ). Good segmentOf P z (view (exec g m c .1)) (uexec (w .heap) c .1)) same (d .1)))
+            (point-at (exec g m c .1) after _ P e (told .1) (in-order (d .1)) (subst (λ (z : ℕ → Option ℕ). Good (segmentOf g) P z (view g (exec g m c .1)) (uexec (w .heap) c .1)) same (d .1)))
 
     -- ---- a start: refused, or a cycle begins
 
     pub record Begun (after : List ℕ) : Type 0 where
       pub quiet : phase m ≡ idle
-      pub point : Point g after w (machine.Live (view m))
-      pub full : (s : ℕ) → s < g .segments → tag (memOf g after) s ≡ 4 → (tag m s ≡ 3) × (class (memOf g after) s ≡ class m s)
+      pub point : Point g after w (machine.Live (view g m))
+      pub full : (s : ℕ) → s < g .segments → tag (memOf g after) s ≡ Tag.condemned → (tag m s ≡ Tag.full) × (class (memOf g after) s ≡ class m s)
 
     pub data Started (r : Answer) (after : List ℕ) : Type 0 where
       refused : (r ≡ Ok → ⊥) → memOf g after ≡ m → Point g after w P → Started r after
@@ -125,11 +125,11 @@ module _ (all : AllKept) (g : Geometry) where
         begins : phase m ≡ idle → answerOf r ≡ a-ok → memOf g after ≡ started g m → Started r after
         begins i x h =
             let k = all .starts g m here (p .consistent) i in
-            let o = agree-ok segmentOf (machine.Live (view m)) (w .put) _ (view (started g m)) (w .heap) (k .agree) (start-ok segmentOf (λ _. none) (isFull m) P (w .put) (view m) (w .heap) (p .good) idle) in
+            let o = agree-ok (segmentOf g) (machine.Live (view g m)) (w .put) _ (view g (started g m)) (w .heap) (k .agree) (start-ok (segmentOf g) (λ _. none) (isFull m) P (w .put) (view g m) (w .heap) (p .good) idle) in
             begun (is-ok r x) (record {
               quiet = i;
-              point = point-at (started g m) after w (machine.Live (view m)) e h (consistent-of g (started g m) (sizes-at (started g m) after e h) (k .structure) (o .inv)) o;
-              full = subst (λ z. (s : ℕ) → s < g .segments → tag z s ≡ 4 → (tag m s ≡ 3) × (class z s ≡ class m s)) (sym h) (k .full);
+              point = point-at (started g m) after w (machine.Live (view g m)) e h (consistent-of g (started g m) (sizes-at (started g m) after e h) (k .structure) (o .inv)) o;
+              full = subst (λ z. (s : ℕ) → s < g .segments → tag z s ≡ Tag.condemned → (tag m s ≡ Tag.full) × (class z s ≡ class m s)) (sym h) (k .full);
             })
 
         any : (b : Bool) → phase m ≡ idle → (answerOf r ≡ pick {A = theory.Answer × Mem} b (a-ok, started g m) (a-no 12, m) .0) × (memOf g after ≡ pick {A = theory.Answer × Mem} b (a-ok, started g m) (a-no 12, m) .1) → Started r after
@@ -155,7 +155,7 @@ module _ (all : AllKept) (g : Geometry) where
     stepped-on r after q e =
         let k = all .steps g m here (p .consistent) in
         let told = q .exact right (p .consistent) in
-        let o = model-step segmentOf P (w .put) (view m) (view (stepOf g m .1)) (w .heap) (lowest m (g .segments)) (k .picked) (p .good) (k .moves .agree) in
+        let o = model-step (segmentOf g) P (w .put) (view g m) (view g (stepOf g m .1)) (w .heap) (lowest m (g .segments)) (k .picked) (p .good) (k .moves .agree) in
         record {
           point = point-at (stepOf g m .1) after w P e (told .1) (consistent-of g (stepOf g m .1) (sizes-at (stepOf g m .1) after e (told .1)) (k .moves .structure) (o .inv)) o;
           steady = subst (Steady g m) (sym (told .1)) (k .moves .steady);

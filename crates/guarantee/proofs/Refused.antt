@@ -35,15 +35,15 @@ record-same : (o : Option ℕ) (m : Mem) (K : ℕ → Answer × Mem) (n : ℕ) �
 record-same none m K n h e = refl
 record-same (some at) m K n h e = result (K at .0) n (h at) e
 
-block-same : (m m₁ : Mem) (f : Found) (k d c s p q n : ℕ) → inBlock m m₁ f k d c s p q .0 ≡ a-no n → inBlock m m₁ f k d c s p q .1 ≡ m
-block-same m m₁ (Block b) k d c s p q n e = result a-ok n (omega arith) e
-block-same m m₁ Nothing k d c s p q n e = refl
-block-same m m₁ Torn k d c s p q n e = refl
+block-same : (g : Geometry) (m m₁ : Mem) (f : Found) (k d c s p q n : ℕ) → inBlock g m m₁ f k d c s p q .0 ≡ a-no n → inBlock g m m₁ f k d c s p q .1 ≡ m
+block-same g m m₁ (Block b) k d c s p q n e = result a-ok n (omega arith) e
+block-same g m m₁ Nothing k d c s p q n e = refl
+block-same g m m₁ Torn k d c s p q n e = refl
 
 source-same : (g : Geometry) (m : Mem) (k d c p q : ℕ) (o : Source) (n : ℕ) → fromSource g m k d c p q o .0 ≡ a-no n → fromSource g m k d c p q o .1 ≡ m
-source-same g m k d c p q (held s) n e = block-same m m (free m s c (place m s)) k d c s p q n e
-source-same g m k d c p q (part s) n e = block-same m (takes (pop g m (partStack c)) k c s (place m s)) (free (takes (pop g m (partStack c)) k c s (place m s)) s c (place (takes (pop g m (partStack c)) k c s (place m s)) s)) k d c s p q n e
-source-same g m k d c p q (unused s) n e = block-same m (freshened (takes (pop g m freeStack) k c s 0) s c) (free (freshened (takes (pop g m freeStack) k c s 0) s c) s c (place (freshened (takes (pop g m freeStack) k c s 0) s c) s)) k d c s p q n e
+source-same g m k d c p q (held s) n e = block-same g m m (free g m s c (place m s)) k d c s p q n e
+source-same g m k d c p q (part s) n e = block-same g m (takes g (pop g m (partStack c)) k c s (place m s)) (free g (takes g (pop g m (partStack c)) k c s (place m s)) s c (place (takes g (pop g m (partStack c)) k c s (place m s)) s)) k d c s p q n e
+source-same g m k d c p q (unused s) n e = block-same g m (freshened g (takes g (pop g m freeStack) k c s 0) s c) (free g (freshened g (takes g (pop g m freeStack) k c s 0) s c) s c (place (freshened g (takes g (pop g m freeStack) k c s 0) s c) s)) k d c s p q n e
 source-same g m k d c p q noRoom n e = refl
 
 made-same : (g : Geometry) (m : Mem) (k d p q : ℕ) (o : SizeClass) (n : ℕ) → ofClass m o (λ c. made g m k d c p q) .0 ≡ a-no n → ofClass m o (λ c. made g m k d c p q) .1 ≡ m
@@ -110,15 +110,15 @@ pub roomless-of : (g : Geometry) (m : Mem) (k d p q : ℕ) → exec g m (c-make 
 unfolding exec act made
 roomless-of g m k d p q e = go (refusal (face m) (c-make k d p q)) refl (refusal-stays (face m) (c-make k d p q) .either) e
   where
-    block : (m₁ : Mem) (f : Found) (c s : ℕ) → inBlock m m₁ f k d c s p q .0 ≡ a-no 10 → ⊥
+    block : (m₁ : Mem) (f : Found) (c s : ℕ) → inBlock g m m₁ f k d c s p q .0 ≡ a-no 10 → ⊥
     block m₁ (Block b) c s e = result a-ok 10 (omega arith) e
     block m₁ Nothing c s e = other 13 10 (λ z. omega arith) e
     block m₁ Torn c s e = other 13 10 (λ z. omega arith) e
 
     from : refusal (face m) (c-make k d p q) ≡ 0 → (c : ℕ) → classOf (p + q) ≡ Class c → (o : Source) → sourceOf g m k c ≡ o → fromSource g m k d c p q o .0 ≡ a-no 10 → Roomless g m k d p q
-    from z c h (held s) i e = absurd (block m (free m s c (place m s)) c s e)
-    from z c h (part s) i e = absurd (block (takes (pop g m (partStack c)) k c s (place m s)) (free (takes (pop g m (partStack c)) k c s (place m s)) s c (place (takes (pop g m (partStack c)) k c s (place m s)) s)) c s e)
-    from z c h (unused s) i e = absurd (block (freshened (takes (pop g m freeStack) k c s 0) s c) (free (freshened (takes (pop g m freeStack) k c s 0) s c) s c (place (freshened (takes (pop g m freeStack) k c s 0) s c) s)) c s e)
+    from z c h (held s) i e = absurd (block m (free g m s c (place m s)) c s e)
+    from z c h (part s) i e = absurd (block (takes g (pop g m (partStack c)) k c s (place m s)) (free g (takes g (pop g m (partStack c)) k c s (place m s)) s c (place (takes g (pop g m (partStack c)) k c s (place m s)) s)) c s e)
+    from z c h (unused s) i e = absurd (block (freshened g (takes g (pop g m freeStack) k c s 0) s c) (free g (freshened g (takes g (pop g m freeStack) k c s 0) s c) s c (place (freshened g (takes g (pop g m freeStack) k c s 0) s c) s)) c s e)
     from z c h noRoom i e = record { lower = z; class = c; sized = h; source = i }
 
     classed : refusal (face m) (c-make k d p q) ≡ 0 → (o : SizeClass) → classOf (p + q) ≡ o → ofClass m o (λ c. fromSource g m k d c p q (sourceOf g m k c)) .0 ≡ a-no 10 → Roomless g m k d p q

@@ -9,7 +9,7 @@ use native.Mathlib.Omega.{arith}
 use lib.Dec.{ltb}
 use lib.ListN.{replicate}
 use Rattle.layout.specs.declared.Geometry.{Geometry}
-use Rattle.layout.specs.Geometry.{rootCount}
+use Rattle.layout.specs.Geometry.{rootCount, segmentOf}
 use Rattle.layout.specs.Mem.{memOf}
 use Rattle.theory.specs.Update.{upd}
 use Rattle.theory.specs.Calls.{Call, c-attach, c-detach, c-check, c-leave, c-enter, c-spawn, c-make, c-load, c-store, c-copy, c-clear, c-put, c-get, c-same, c-shape, Face, require, ifRecord, a-ok, a-moved, a-traced, a-done, a-idle, a-num, a-flag, a-shape, a-no, a-waiting, a-swept, refusal, refuse, onRecord}
@@ -23,7 +23,6 @@ use Rattle.model.specs.declared.Answer.{Answer}
 use Rattle.model.specs.declared.Answer.the-variants.{Ok, Number, Same, Shape, Refused}
 use Rattle.model.specs.Answers.{answerOf}
 use Rattle.model.specs.Fields.{root}
-use Rattle.model.specs.Records.{segmentOf}
 use Rattle.model.specs.Lists.{struck, putBy, putIf}
 use Rattle.refine_view.specs.View.{view}
 use Rattle.refine_view.proofs.Seeing.{named}
@@ -216,11 +215,11 @@ module _ (g : Geometry) (after : List ℕ) (n : ℕ) (put : ℕ → Option ℕ) 
   same-put zero = refl
   same-put (suc x) = refl
 
-  put-make : (k d p q : ℕ) (r : Answer) (st : State) (block : Option ℕ) → answerOf r ≡ calls.exec (λ _ _ _ _. block) st (c-make k d p q) .0 → Agree segmentOf (calls.exec (λ _ _ _ _. block) st (c-make k d p q) .1) (view (memOf g after))
+  put-make : (k d p q : ℕ) (r : Answer) (st : State) (block : Option ℕ) → answerOf r ≡ calls.exec (λ _ _ _ _. block) st (c-make k d p q) .0 → Agree (segmentOf g) (calls.exec (λ _ _ _ _. block) st (c-make k d p q) .1) (view g (memOf g after))
       → nextPut (λ _ _ _ _. block) put st n (c-make k d p q) ≡ putIf r (c-make k d p q) g after n put
   put-make k d p q r st block e a = go (refusal (face st) (c-make k d p q)) refl block e a
     where
-      handed : (b : ℕ) → refusal (face st) (c-make k d p q) ≡ 0 → Agree segmentOf (make st k d b p (replicate q 0)) (view (memOf g after)) → upd put b (some n) ≡ putBy (c-make k d p q) g after n put
+      handed : (b : ℕ) → refusal (face st) (c-make k d p q) ≡ 0 → Agree (segmentOf g) (make st k d b p (replicate q 0)) (view g (memOf g after)) → upd put b (some n) ≡ putBy (c-make k d p q) g after n put
       handed b z a =
           let i = by-ok (face st) k _ z in
           let j = root-ok d _ (i .3) in
@@ -228,13 +227,13 @@ module _ (g : Geometry) (after : List ℕ) (n : ℕ) (put : ℕ → Option ℕ) 
           ap (λ x. upd put x (some n)) (let y : b ≡ root (memOf g after) k d - 1 = omega arith in y)
 
       go : (x : ℕ) → refusal (face st) (c-make k d p q) ≡ x → (o : Option ℕ) → answerOf r ≡ refuse x st (room o st (λ b. make st k d b p (replicate q 0))) .0
-          → Agree segmentOf (refuse x st (room o st (λ b. make st k d b p (replicate q 0))) .1) (view (memOf g after)) → refPut x put (madePut o put n) ≡ putIf r (c-make k d p q) g after n put
+          → Agree (segmentOf g) (refuse x st (room o st (λ b. make st k d b p (replicate q 0))) .1) (view g (memOf g after)) → refPut x put (madePut o put n) ≡ putIf r (c-make k d p q) g after n put
       go (suc x) z o e a = sym (put-refused r (c-make k d p q) (suc x) e)
       go zero z none e a = sym (put-refused r (c-make k d p q) 10 e)
       go zero z (some b) e a = handed b z a ∙ sym (put-ok r (c-make k d p q) e)
 
   -- on the memory's side and on the machine's
-  pub put-same : (c : Call) (r : Answer) (st : State) (block : Option ℕ) → answerOf r ≡ calls.exec (λ _ _ _ _. block) st c .0 → Agree segmentOf (calls.exec (λ _ _ _ _. block) st c .1) (view (memOf g after))
+  pub put-same : (c : Call) (r : Answer) (st : State) (block : Option ℕ) → answerOf r ≡ calls.exec (λ _ _ _ _. block) st c .0 → Agree (segmentOf g) (calls.exec (λ _ _ _ _. block) st c .1) (view g (memOf g after))
       → nextPut (λ _ _ _ _. block) put st n c ≡ putIf r c g after n put
   put-same (c-attach k) r st o e a = same-put (refusal (face st) (c-attach k)) ∙ sym (put-none r (c-attach k) refl)
   put-same (c-spawn k p i) r st o e a = same-put (refusal (face st) (c-spawn k p i)) ∙ sym (put-none r (c-spawn k p i) refl)

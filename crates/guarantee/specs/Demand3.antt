@@ -10,9 +10,8 @@ use Prim.Native.Nat.{ℕ, _<_}
 use lib.Dec.{eqb}
 use lib.ListN.{length}
 use Rattle.rules.specs.Pick.{pick}
-use Rattle.classes.specs.Shape.{blocksIn}
 use Rattle.layout.specs.declared.Geometry.{Geometry}
-use Rattle.layout.specs.Geometry.{wrongSize}
+use Rattle.layout.specs.Geometry.{wrongSize, blocksIn}
 use Rattle.layout.specs.Mem.{Mem, memOf}
 use Rattle.theory.specs.Unbounded.{empty, uanswers}
 use Rattle.model.specs.declared.Answer.the-variants.{Ok}
@@ -39,13 +38,13 @@ wordsAfter words [] = words
 wordsAfter words (e ∷ es) = wordsAfter (onward words e) es
 
 -- "Free .. : the block is not in use, or its segment is free."
-abbrev pub BlockFree : Mem → ℕ → ℕ → Type 0
-BlockFree m s b = (usedBit m s b ≡ 0) ⊎ (isFree m s ≡ true)
+abbrev pub BlockFree : Geometry → Mem → ℕ → ℕ → Type 0
+BlockFree g m s b = (usedBit g m s b ≡ 0) ⊎ (isFree m s ≡ true)
 
 -- a block of a segment, not reached when the cycle began: "one without a record is not"
-pub record Unreached (atStart : Mem) (w : Beside) (s b : ℕ) : Type 0 where
-  pub block : b < blocksIn (class atStart s)
-  pub unreached : BlockReached w (headerOf s (class atStart s) b) → ⊥
+pub record Unreached (g : Geometry) (atStart : Mem) (w : Beside) (s b : ℕ) : Type 0 where
+  pub block : b < blocksIn g (class atStart s)
+  pub unreached : BlockReached w (headerOf g s (class atStart s) b) → ⊥
 
 -- "A cycle begins with a start that is not refused": the list is one of calls, such a start, further calls with no such start among them, and a
 -- step that answers swept for a segment
@@ -78,8 +77,8 @@ SameAnswers =
 abbrev pub GarbageFreed : Type 0
 GarbageFreed =
     (g : Geometry) (content words : List ℕ) (es : List Element) → Opened g content words → Chain g words es → (c : SweptIn g es) (s b : ℕ)
-    → isFull (memOf g (c .startBefore)) s ≡ true → Unreached (memOf g (c .startBefore)) (beside struckOut begun (c .before)) s b → s ≡ c .segment
-    → BlockFree (memOf g (c .stepAfter)) s b
+    → isFull (memOf g (c .startBefore)) s ≡ true → Unreached g (memOf g (c .startBefore)) (beside struckOut begun (c .before)) s b → s ≡ c .segment
+    → BlockFree g (memOf g (c .stepAfter)) s b
 
 pub record Demand3 : Type 0 where
   pub answers : SameAnswers

@@ -24,8 +24,8 @@ pub record Instance : Type 0 where
   -- a block of the segment that was swept, which was full when the cycle began: in use then, and not reached
   pub full : isFull (memOf geometry (cycle .startBefore)) (cycle .segment) ≡ true
   pub block : ℕ
-  pub unreached : Unreached (memOf geometry (cycle .startBefore)) (beside struckOut begun (cycle .before)) (cycle .segment) block
-  pub used : usedBit (memOf geometry (cycle .startBefore)) (cycle .segment) block ≡ 1
+  pub unreached : Unreached geometry (memOf geometry (cycle .startBefore)) (beside struckOut begun (cycle .before)) (cycle .segment) block
+  pub used : usedBit geometry (memOf geometry (cycle .startBefore)) (cycle .segment) block ≡ 1
   -- a number, not the 0 that a record begins with, put before the cycle and got after the sweep
   pub mutator : ℕ
   pub root : ℕ

@@ -10,9 +10,8 @@ use lib.ListN.{length}
 use borrow.Author.Tests.{lt-ltb, eq-eqb}
 use Rattle.rules.specs.Pick.{pick}
 use Rattle.words.specs.Bits.{bitAt}
-use Rattle.classes.specs.Shape.{blocksIn}
 use Rattle.layout.specs.declared.Geometry.{Geometry}
-use Rattle.layout.specs.Geometry.{wrongSize}
+use Rattle.layout.specs.Geometry.{wrongSize, blocksIn}
 use Rattle.layout.specs.Mem.{Mem, memOf}
 use Rattle.layout.proofs.Regions.{right-size}
 use Rattle.theory.proofs.Invariant.{none-some, reached-live}
@@ -38,18 +37,19 @@ use Rattle.guarantee.proofs.Freeing.{SweptBy, swept-by, During, walk-during}
 use Rattle.guarantee.proofs.Guarantee.{first-point, accepted}
 use Rattle.guarantee_case.proofs.Freed.{some-free, free-unused}
 use Rattle.theory.specs.Machine as machine
+use Rattle.model.specs.Tag as Tag
 
 -- what is reached is in use
-reached-used : (g : Geometry) (u : List ℕ) (w : Beside) (P : ℕ → Type 0) (at : ℕ) → Point g u w P → BlockReached w at → isUsed (memOf g u) at ≡ true
+reached-used : (g : Geometry) (u : List ℕ) (w : Beside) (P : ℕ → Type 0) (at : ℕ) → Point g u w P → BlockReached w at → isUsed g (memOf g u) at ≡ true
 reached-used g u w P at p r =
-    let q = reach-down (w .put) (view (memOf g u)) (w .heap) (p .good .sim) (r .reached) in
-    subst (λ z. isUsed (memOf g u) z ≡ true) (p .good .sim .inj (q .0) at (r .number) (q .1) (r .last)) (p .good .inv .valid (q .0) (reached-live (view (memOf g u)) (q .2)))
+    let q = reach-down (w .put) (view g (memOf g u)) (w .heap) (p .good .sim) (r .reached) in
+    subst (λ z. isUsed g (memOf g u) z ≡ true) (p .good .sim .inj (q .0) at (r .number) (q .1) (r .last)) (p .good .inv .valid (q .0) (reached-live (view g (memOf g u)) (q .2)))
 
 -- every block of a full segment is in use
-full-used : (g : Geometry) (m : Mem) → Consistent g m → (s b : ℕ) → s < g .segments → tag m s ≡ 3 → b < blocksIn (class m s) → usedBit m s b ≡ 1
+full-used : (g : Geometry) (m : Mem) → Consistent g m → (s b : ℕ) → s < g .segments → tag m s ≡ Tag.full → b < blocksIn g (class m s) → usedBit g m s b ≡ 1
 full-used g m c s b l t h =
-    let e : place m s ≡ blocksIn (class m s) = c .segments s l .whole (let z : 3 ≤ tag m s = omega arith in z) in
-    ap (λ (x : Bool). pick x 1 (bitAt (bitmap m s) b)) (lt-ltb b (place m s) (omega arith))
+    let e : place m s ≡ blocksIn g (class m s) = c .segments s l .whole (let z : Tag.full ≤ tag m s = omega arith in z) in
+    ap (λ (x : Bool). pick x 1 (bitAt (bitmap g m s) b)) (lt-ltb b (place m s) (omega arith))
 
 -- the number of blocks that a step says it freed
 abbrev freedIn : Step → ℕ
@@ -61,21 +61,21 @@ freedIn Done = 0
 freedIn Idle = 0
 freedIn (Refused n) = 0
 
-freed-is : (g : Geometry) (m : Mem) (s f : ℕ) → Swept s f ≡ stepOf g m .0 → SweptBy g m s → f ≡ inUse m s - inUse (swept g m s) s
+freed-is : (g : Geometry) (m : Mem) (s f : ℕ) → Swept s f ≡ stepOf g m .0 → SweptBy g m s → f ≡ inUse g m s - inUse g (swept g m s) s
 unfolding stepOf
 freed-is g m s f e y = ap freedIn (e ∙ ap (λ p. stepIn p g m .0) (y .in-sweep) ∙ ap (λ o. sweeps g o m .0) (y .is-lowest))
 
-pub record Found (atStart : Mem) (w : Beside) (s : ℕ) : Type 0 where
+pub record Found (g : Geometry) (atStart : Mem) (w : Beside) (s : ℕ) : Type 0 where
   pub block : ℕ
   pub full : isFull atStart s ≡ true
-  pub unreached : Unreached atStart w s block
-  pub used : usedBit atStart s block ≡ 1
+  pub unreached : Unreached g atStart w s block
+  pub used : usedBit g atStart s block ≡ 1
 
 -- ---- at the sweep
 
-module _ (g : Geometry) (w₀ : List ℕ) (v : Beside) (p : Point g w₀ v Any) (w₁ : List ℕ) (v₁ : Beside) (d : During all-kept g (memOf g w₀) w₁ v₁ (machine.Live (view (memOf g w₀)))) where
+module _ (g : Geometry) (w₀ : List ℕ) (v : Beside) (p : Point g w₀ v Any) (w₁ : List ℕ) (v₁ : Beside) (d : During all-kept g (memOf g w₀) w₁ v₁ (machine.Live (view g (memOf g w₀)))) where
   abbrev Then : ℕ → Type 0
-  Then = machine.Live (view (memOf g w₀))
+  Then = machine.Live (view g (memOf g w₀))
 
   abbrev m : Mem
   m = memOf g w₁
@@ -86,7 +86,7 @@ module _ (g : Geometry) (w₀ : List ℕ) (v : Beside) (p : Point g w₀ v Any) 
       let path : stepped g before (Swept s f) after ≡ stepped g w₁ (Swept s f) after = λ i. stepped g (h .memory i) (Swept s f) after in
       stepped-on all-kept g w₁ v₁ Then (d .point) (Swept s f) after (subst Meets path q) (subst KeepsLength path l)
 
-  found-at : (s n : ℕ) (after : List ℕ) → Stepped all-kept g w₁ v₁ Then (d .point) (Swept s (suc n)) after → v₁ ≡ v → Found (memOf g w₀) v s
+  found-at : (s n : ℕ) (after : List ℕ) → Stepped all-kept g w₁ v₁ Then (d .point) (Swept s (suc n)) after → v₁ ≡ v → Found g (memOf g w₀) v s
   found-at s n after x still =
       let c = d .point .consistent in
       let z = sizes-of g w₁ (d .point .long) in
@@ -96,15 +96,15 @@ module _ (g : Geometry) (w₀ : List ℕ) (v : Beside) (p : Point g w₀ v Any) 
       let e = d .full s (o .0) (o .1) .1 in
       let k : IsClass (class m s) = c .segments s (o .0) .classes (λ i. absurd (let j : _≡_ {A = ℕ} 0 4 = sym i ∙ o .1 in omega arith)) in
       let b = some-free g m z c s (o .0) (o .1) n (sym (freed-is g m s (suc n) (x .answer) y)) in
-      let h : b .0 < blocksIn (class (memOf g w₀) s) = subst (λ x. b .0 < blocksIn x) e (b .1) in
+      let h : b .0 < blocksIn g (class (memOf g w₀) s) = subst (λ x. b .0 < blocksIn g x) e (b .1) in
       record {
         block = b .0;
         full = eq-eqb _ _ t;
         unreached = record {
           block = h;
           unreached = λ r. free-unused g m z c s (o .0) (o .1) k (b .0) (b .1) (b .2)
-              (subst (λ u. isUsed u (headerOf s (class m s) (b .0)) ≡ true) (x .memory ∙ y .leaves)
-              (reached-used g after v₁ Then (headerOf s (class m s) (b .0)) (x .point) (subst (λ u. BlockReached u (headerOf s (class m s) (b .0))) (sym still) (subst (λ u. BlockReached v (headerOf s u (b .0))) (sym e) r))));
+              (subst (λ u. isUsed g u (headerOf g s (class m s) (b .0)) ≡ true) (x .memory ∙ y .leaves)
+              (reached-used g after v₁ Then (headerOf g s (class m s) (b .0)) (x .point) (subst (λ u. BlockReached u (headerOf g s (class m s) (b .0))) (sym still) (subst (λ u. BlockReached v (headerOf g s u (b .0))) (sym e) r))));
         };
         used = full-used g (memOf g w₀) (p .consistent) s (b .0) (o .0) t h;
       }
@@ -113,19 +113,19 @@ module _ (g : Geometry) (w₀ : List ℕ) (v : Beside) (p : Point g w₀ v Any) 
 
 module _ (g : Geometry) (content words : List ℕ) (es : List Element) (o : Opened g content words) (ch : Chain g words es) (c : SweptIn g es) (n : ℕ) (f : c .freed ≡ suc n) where
   at-start : (w₀ : List ℕ) (v : Beside) → Point g w₀ v Any → Chain g w₀ (started g (c .startBefore) Ok (c .startAfter) ∷ (c .during ++ (stepped g (c .stepBefore) (Swept (c .segment) (c .freed)) (c .stepAfter) ∷ c .rest))) → beside struckOut v (c .during) ≡ v
-      → Found (memOf g (c .startBefore)) v (c .segment)
+      → Found g (memOf g (c .startBefore)) v (c .segment)
   at-start w₀ v p ch still =
       let s = accepted g w₀ v p (c .startBefore) (c .startAfter) (ch .0) (ch .1) (ch .2) in
       let k : onward w₀ (started g (c .startBefore) Ok (c .startAfter)) ≡ c .startAfter = ap (λ (x : List ℕ). pick (wrongSize g (length x)) w₀ (c .startAfter)) (s .0) ∙ ap (λ (x : Bool). pick x w₀ (c .startAfter)) (right-size g (length w₀) (p .long)) in
-      let y = walk-during all-kept g (memOf g w₀) (c .during) (stepped g (c .stepBefore) (Swept (c .segment) (c .freed)) (c .stepAfter) ∷ c .rest) (c .startAfter) v (machine.Live (view (memOf g w₀))) (record { point = s .1 .point; full = s .1 .full }) (c .oneStart)
+      let y = walk-during all-kept g (memOf g w₀) (c .during) (stepped g (c .stepBefore) (Swept (c .segment) (c .freed)) (c .stepAfter) ∷ c .rest) (c .startAfter) v (machine.Live (view g (memOf g w₀))) (record { point = s .1 .point; full = s .1 .full }) (c .oneStart)
       (subst (λ x. Chain g x (c .during ++ (stepped g (c .stepBefore) (Swept (c .segment) (c .freed)) (c .stepAfter) ∷ c .rest))) k (ch .3)) in
       let w₁ = wordsAfter (c .startAfter) (c .during) in
       let v₁ = beside struckOut v (c .during) in
       let x = sweeping g w₀ v p w₁ v₁ (y .0) (c .segment) (c .freed) (c .stepBefore) (c .stepAfter) (y .1 .0) (y .1 .1) (y .1 .2) in
-      let x′ = subst (λ i. Stepped all-kept g w₁ v₁ (machine.Live (view (memOf g w₀))) (y .0 .point) (Swept (c .segment) i) (c .stepAfter)) f x in
-      subst (λ u. Found (memOf g u) v (c .segment)) (sym (s .0)) (found-at g w₀ v p w₁ v₁ (y .0) (c .segment) n (c .stepAfter) x′ still)
+      let x′ = subst (λ i. Stepped all-kept g w₁ v₁ (machine.Live (view g (memOf g w₀))) (y .0 .point) (Swept (c .segment) i) (c .stepAfter)) f x in
+      subst (λ u. Found g (memOf g u) v (c .segment)) (sym (s .0)) (found-at g w₀ v p w₁ v₁ (y .0) (c .segment) n (c .stepAfter) x′ still)
 
-  pub found : beside struckOut (beside struckOut begun (c .before)) (c .during) ≡ beside struckOut begun (c .before) → Found (memOf g (c .startBefore)) (beside struckOut begun (c .before)) (c .segment)
+  pub found : beside struckOut (beside struckOut begun (c .before)) (c .during) ≡ beside struckOut begun (c .before) → Found g (memOf g (c .startBefore)) (beside struckOut begun (c .before)) (c .segment)
   found still =
       let later = started g (c .startBefore) Ok (c .startAfter) ∷ (c .during ++ (stepped g (c .stepBefore) (Swept (c .segment) (c .freed)) (c .stepAfter) ∷ c .rest)) in
       let a = walk all-kept g (c .before) later words begun (first-point g content words o) (subst (Chain g words) (c .whole) ch) in

@@ -22,12 +22,13 @@ use Rattle.guarantee_case.proofs.Silent.{silent-beside}
 use Rattle.guarantee_case.proofs.GarbageFound.{Found, found}
 use Rattle.guarantee_case.proofs.Asked.{filling, clearing, tracing, loading, beforeStart, asked}
 use Rattle.guarantee_case.proofs.Case.{reloads, reloaded, clears, checks, words, own, putWords, putEnd, startWords, startEnd, stepEnd, getWords, getEnd, puts, gets, swept-in}
+use Rattle.layout.specs.Region as Region
 
 -- ---- memory of any content from which the case goes as document 01 has it
 
 module _ (g : Geometry) (content : List ℕ) (right : wrongSize g (length content) ≡ false) (told : replies g (memOf g content) (inputs whole) ≡ outputs whole) where
   -- the sweep freed one block: it was garbage
-  garbage : Found (memOf g (startWords g content)) (beside struckOut begun (run g (words g content) beforeStart)) 0
+  garbage : Found g (memOf g (startWords g content)) (beside struckOut begun (run g (words g content) beforeStart)) 0
   garbage = found g content (words g content) (run g (words g content) asked) (own g content right .opening) (own g content right .chain) (swept-in g content right told) 0 refl (silent-beside (beside struckOut begun (run g (words g content) beforeStart)) g (startEnd g content) tracing)
 
   case-from : Instance
@@ -71,15 +72,15 @@ module _ (g : Geometry) (content : List ℕ) (right : wrongSize g (length conten
 
 sizes-sevens : (g : Geometry) → Sizes g (sevens g)
 sizes-sevens g = record {
-  control = length-replicate {A = ℕ} (len g 0) 7;
-  mutators = length-replicate {A = ℕ} (len g 1) 7;
-  segments = length-replicate {A = ℕ} (len g 2) 7;
-  stacks = length-replicate {A = ℕ} (len g 3) 7;
-  bitmaps = length-replicate {A = ℕ} (len g 4) 7;
-  marks = length-replicate {A = ℕ} (len g 5) 7;
-  queued = length-replicate {A = ℕ} (len g 6) 7;
-  trace = length-replicate {A = ℕ} (len g 7) 7;
-  heap = length-replicate {A = ℕ} (len g 8) 7;
+  control = length-replicate {A = ℕ} (len g Region.control) 7;
+  mutators = length-replicate {A = ℕ} (len g Region.mutators) 7;
+  segments = length-replicate {A = ℕ} (len g Region.segments) 7;
+  stacks = length-replicate {A = ℕ} (len g Region.stacks) 7;
+  bitmaps = length-replicate {A = ℕ} (len g Region.bitmaps) 7;
+  marks = length-replicate {A = ℕ} (len g Region.marks) 7;
+  queued = length-replicate {A = ℕ} (len g Region.queued) 7;
+  trace = length-replicate {A = ℕ} (len g Region.trace) 7;
+  heap = length-replicate {A = ℕ} (len g Region.heap) 7;
 }
 
 -- a memory whose regions have their lengths, joined

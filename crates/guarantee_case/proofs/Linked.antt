@@ -20,6 +20,7 @@ use Rattle.refine_run.proofs.Collecting.{sizes-start, sizes-step}
 use Rattle.refine_run.proofs.Own.{afterRun, sized-left}
 use Rattle.model_cases.specs.Events.{Event, does, replies, ok}
 use Rattle.model_cases.specs.Events as event
+use Rattle.layout.specs.Region as Region
 
 abbrev pub eventOf : Request → Event
 eventOf (call c) = event.call c
@@ -45,7 +46,7 @@ module _ (g : Geometry) where
   memory-left words z start = cut-again g (startOf g (memOf g words) .1) (sizes-start g (memOf g words) (sizes-of g words z))
   memory-left words z step = cut-again g (stepOf g (memOf g words) .1) (sizes-step g (memOf g words) (sizes-of g words z))
   memory-left words z look = refl
-  memory-left words z (lookInto output) = go (eqb (length output) (len g 2))
+  memory-left words z (lookInto output) = go (eqb (length output) (len g Region.segments))
     where
       go : (b : Bool) → memOf g (left (shown b g words output)) ≡ memOf g words
       go true = refl

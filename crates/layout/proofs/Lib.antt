@@ -1,4 +1,5 @@
 -- Laws of the layout.
 pub mod Cut
 pub mod Regions
+pub mod Sizes
 pub mod Filled

@@ -9,9 +9,10 @@ use lib.ListN.{getD}
 use Rattle.rules.specs.Pick.{pick}
 use Rattle.words.specs.Levels.{wordsFor}
 use Rattle.classes.specs.Class.{firstClass, classCount, wordBytes}
-use Rattle.classes.specs.Shape.{segmentBytes, blocksIn, bitmapWords}
+use Rattle.classes.specs.Shape.{segmentSize, blocksOf, longestOf}
 use Rattle.layout.specs.declared.Geometry.{Geometry}
 use Rattle.layout.specs.Parts.{start}
+use Rattle.layout.specs.Region as Region
 
 abbrev pub maxSegments : ℕ
 maxSegments = 256
@@ -23,23 +24,48 @@ mutatorCount = 32
 abbrev pub rootCount : ℕ
 rootCount = 16
 
-abbrev pub segmentWords : ℕ
-segmentWords = segmentBytes / wordBytes
+-- the bytes of a segment: one size, whatever the geometry. Above this crate proofs go by the laws of proofs/Sizes, and only the evaluated
+-- cases unfold it
+unfoldable pub segmentBytes : Geometry → ℕ
+segmentBytes g = segmentSize
+
+abbrev pub segmentWords : Geometry → ℕ
+segmentWords g = segmentBytes g / wordBytes
+
+-- how many blocks of class c a segment has
+abbrev pub blocksIn : Geometry → ℕ → ℕ
+blocksIn g c = blocksOf (segmentBytes g) c
 
 -- the most blocks that a segment can have: one bit for each, and one entry of the trace stack
-abbrev pub mostBlocks : ℕ
-mostBlocks = blocksIn firstClass
+abbrev pub mostBlocks : Geometry → ℕ
+mostBlocks g = blocksIn g firstClass
 
-abbrev pub markWords : ℕ
-markWords = wordsFor mostBlocks
+abbrev pub markWords : Geometry → ℕ
+markWords g = wordsFor (mostBlocks g)
+
+-- the words of the largest bitmap, which is that of the first class
+abbrev pub bitmapWords : Geometry → ℕ
+bitmapWords g = longestOf (segmentBytes g)
+
+-- the segment of a word of the heap
+abbrev pub segmentOf : Geometry → ℕ → ℕ
+segmentOf g at = at / segmentWords g
+
+-- the number of a block's bit among the marks and the queued bits: one for each block of each segment
+abbrev pub bitIn : Geometry → ℕ → ℕ → ℕ
+bitIn g s b = s * mostBlocks g + b
 
 -- the phase, and the count of the trace stack
 abbrev pub controlWords : ℕ
 controlWords = 2
 
--- a mutator's entry: its state, its acknowledgements, its roots, and for each class the segment that it holds
+-- a mutator's entry: its roots, its state, its acknowledgements, for each class the segment that it holds, and words to spare
 abbrev pub mutatorWords : ℕ
-mutatorWords = 2 + rootCount + classCount
+mutatorWords = 32
+
+-- of which it uses so many
+abbrev pub entryWords : ℕ
+entryWords = rootCount + 2 + classCount
 
 -- a segment's record: tag, class, allocation pointer, mutator
 abbrev pub recordWords : ℕ
@@ -52,8 +78,8 @@ stackCount = 1 + classCount
 -- the lengths of the nine regions, in order
 abbrev pub lens : Geometry → List ℕ
 lens g =
-    controlWords ∷ mutatorCount * mutatorWords ∷ g .segments * recordWords ∷ (1 + g .segments) * stackCount ∷ g .segments * bitmapWords
-    ∷ g .segments * markWords ∷ g .segments * markWords ∷ g .segments * mostBlocks ∷ g .segments * segmentWords ∷ []
+    controlWords ∷ mutatorCount * mutatorWords ∷ g .segments * segmentWords g ∷ g .segments * recordWords ∷ (1 + g .segments) * stackCount
+    ∷ g .segments * bitmapWords g ∷ g .segments * markWords g ∷ g .segments * markWords g ∷ g .segments * mostBlocks g ∷ []
 
 -- the length of region k, and where it begins
 abbrev pub len : Geometry → ℕ → ℕ
@@ -71,7 +97,7 @@ total g = from g regionCount
 
 -- the length of the examination's scratch: two bits for each block, and a stack with an entry for each
 abbrev pub scratchWords : Geometry → ℕ
-scratchWords g = len g 5 + len g 6 + len g 7
+scratchWords g = len g Region.marks + len g Region.queued + len g Region.trace
 
 -- "segment count not 1 to 256, or a slice not of its length"
 unfoldable pub wrongSize : Geometry → ℕ → Bool

@@ -7,33 +7,34 @@ use lib.Seq.{sets}
 use Rattle.layout.specs.declared.Geometry.{Geometry}
 use Rattle.layout.specs.Geometry.{lens, len}
 use Rattle.layout.specs.Parts.{parts, joined, lengths}
+use Rattle.layout.specs.Region as Region
 
 pub record Mem : Type 0 where
   pub control : List ℕ
   pub mutators : List ℕ
+  pub heap : List ℕ
   pub segments : List ℕ
   pub stacks : List ℕ
   pub bitmaps : List ℕ
   pub marks : List ℕ
   pub queued : List ℕ
   pub trace : List ℕ
-  pub heap : List ℕ
 
 abbrev pub ofParts : List (List ℕ) → Mem
 ofParts xs = record {
   control = getD xs 0 [];
   mutators = getD xs 1 [];
-  segments = getD xs 2 [];
-  stacks = getD xs 3 [];
-  bitmaps = getD xs 4 [];
-  marks = getD xs 5 [];
-  queued = getD xs 6 [];
-  trace = getD xs 7 [];
-  heap = getD xs 8 [];
+  heap = getD xs 2 [];
+  segments = getD xs 3 [];
+  stacks = getD xs 4 [];
+  bitmaps = getD xs 5 [];
+  marks = getD xs 6 [];
+  queued = getD xs 7 [];
+  trace = getD xs 8 [];
 }
 
 abbrev pub regions : Mem → List (List ℕ)
-regions m = m .control ∷ m .mutators ∷ m .segments ∷ m .stacks ∷ m .bitmaps ∷ m .marks ∷ m .queued ∷ m .trace ∷ m .heap ∷ []
+regions m = m .control ∷ m .mutators ∷ m .heap ∷ m .segments ∷ m .stacks ∷ m .bitmaps ∷ m .marks ∷ m .queued ∷ m .trace ∷ []
 
 unfoldable pub memOf : Geometry → List ℕ → Mem
 memOf g l = ofParts (parts (lens g) l)
@@ -63,6 +64,9 @@ controlWord m i = getD (m .control) i 0
 abbrev pub mutatorWord : Mem → ℕ → ℕ
 mutatorWord m i = getD (m .mutators) i 0
 
+abbrev pub heapWord : Mem → ℕ → ℕ
+heapWord m i = getD (m .heap) i 0
+
 abbrev pub segmentWord : Mem → ℕ → ℕ
 segmentWord m i = getD (m .segments) i 0
 
@@ -81,33 +85,30 @@ queuedWord m i = getD (m .queued) i 0
 abbrev pub traceWord : Mem → ℕ → ℕ
 traceWord m i = getD (m .trace) i 0
 
-abbrev pub heapWord : Mem → ℕ → ℕ
-heapWord m i = getD (m .heap) i 0
-
 -- one word of a region, set
 unfoldable pub setControl : Mem → ℕ → ℕ → Mem
-setControl m i v = withRegion m 0 (set (m .control) i v)
+setControl m i v = withRegion m Region.control (set (m .control) i v)
 
 unfoldable pub setMutator : Mem → ℕ → ℕ → Mem
-setMutator m i v = withRegion m 1 (set (m .mutators) i v)
-
-unfoldable pub setSegment : Mem → ℕ → ℕ → Mem
-setSegment m i v = withRegion m 2 (set (m .segments) i v)
-
-unfoldable pub setStack : Mem → ℕ → ℕ → Mem
-setStack m i v = withRegion m 3 (set (m .stacks) i v)
-
-unfoldable pub setMark : Mem → ℕ → ℕ → Mem
-setMark m i v = withRegion m 5 (set (m .marks) i v)
-
-unfoldable pub setQueued : Mem → ℕ → ℕ → Mem
-setQueued m i v = withRegion m 6 (set (m .queued) i v)
-
-unfoldable pub setTrace : Mem → ℕ → ℕ → Mem
-setTrace m i v = withRegion m 7 (set (m .trace) i v)
+setMutator m i v = withRegion m Region.mutators (set (m .mutators) i v)
 
 unfoldable pub setHeap : Mem → ℕ → ℕ → Mem
-setHeap m i v = withRegion m 8 (set (m .heap) i v)
+setHeap m i v = withRegion m Region.heap (set (m .heap) i v)
+
+unfoldable pub setSegment : Mem → ℕ → ℕ → Mem
+setSegment m i v = withRegion m Region.segments (set (m .segments) i v)
+
+unfoldable pub setStack : Mem → ℕ → ℕ → Mem
+setStack m i v = withRegion m Region.stacks (set (m .stacks) i v)
+
+unfoldable pub setMark : Mem → ℕ → ℕ → Mem
+setMark m i v = withRegion m Region.marks (set (m .marks) i v)
+
+unfoldable pub setQueued : Mem → ℕ → ℕ → Mem
+setQueued m i v = withRegion m Region.queued (set (m .queued) i v)
+
+unfoldable pub setTrace : Mem → ℕ → ℕ → Mem
+setTrace m i v = withRegion m Region.trace (set (m .trace) i v)
 
 -- w words of region k from word i on, read and set
 abbrev pub run : Mem → ℕ → ℕ → ℕ → List ℕ

@@ -1,10 +1,11 @@
-// The one lent slice and its regions: control, mutators, segment records, stacks, bitmaps, marks, queued bits, trace stack, heap.
+// The one lent slice and its regions: control, mutators, heap, segment records, stacks, bitmaps, marks, queued bits, trace stack.
 // Nothing above this crate mentions an offset: words are read and written through these functions, whose contracts speak of `Mem`.
 ghost use mathlib.Core.Path.{_≡_};
-ghost use Prim.Native.Nat.{_≤_, _<_};
+ghost use Prim.Native.Nat.{_%_, _≤_, _<_};
 ghost use lib.ListN.{length, replicate};
-ghost use Rattle.layout.specs.Geometry.{len, from, total, maxSegments, Sized, wrongSize};
+ghost use Rattle.layout.specs.Geometry.{len, from, total, segmentWords, mostBlocks, maxSegments, segmentOf, bitIn, Sized, wrongSize};
 ghost use Rattle.layout.specs.Mem.{memOf, controlWord, mutatorWord, segmentWord, stackWord, bitmapWord, markWord, queuedWord, traceWord, heapWord, setControl, setMutator, setSegment, setStack, setMark, setQueued, setTrace, setHeap, clearRegion};
+ghost use Rattle.layout.specs.Region as Region;
 
 // The size of the heap: today its number of segments.
 pub struct Geometry {
@@ -18,33 +19,37 @@ pub const ROOTS: u32 = 16;
 pub const CLASSES: u32 = 10;
 
 // The words of a segment, and of what goes with each.
-pub const SEGMENT_WORDS: usize = 4096;
+const SEGMENT_WORDS: usize = 4096;
 
-pub const MOST_BLOCKS: usize = 2048;
+const MOST_BLOCKS: usize = 2048;
 
-pub const MARK_WORDS: usize = 64;
+const MARK_WORDS: usize = 64;
 
-pub const BITMAP_WORDS: usize = 67;
+const BITMAP_WORDS: usize = 67;
 
 pub const RECORD_WORDS: usize = 4;
 
 pub const STACKS: usize = 11;
 
-// A mutator's entry: where its roots and its held segments begin in it, and its length.
-pub const ROOTS_FROM: usize = 2;
+// A mutator's entry: its roots, then its state, its acknowledgements and its held segments, and its length.
+pub const STATE_AT: usize = 16;
+
+pub const ACKS_AT: usize = 17;
 
 pub const HELD_FROM: usize = 18;
 
-pub const MUTATOR_WORDS: usize = 28;
+pub const MUTATOR_WORDS: usize = 32;
 
 // Where a region begins: so many words for each segment, and so many besides.
 const CONTROL_WORDS: usize = 2;
 
-const SEGMENTS_FROM: usize = CONTROL_WORDS + 32 * MUTATOR_WORDS;
+const HEAP_FROM: usize = CONTROL_WORDS + 32 * MUTATOR_WORDS;
 
-const FIXED: usize = SEGMENTS_FROM + STACKS;
+const FIXED: usize = HEAP_FROM + STACKS;
 
-const BITMAPS_PER: usize = RECORD_WORDS + STACKS;
+const STACKS_PER: usize = SEGMENT_WORDS + RECORD_WORDS;
+
+const BITMAPS_PER: usize = STACKS_PER + STACKS;
 
 const MARKS_PER: usize = BITMAPS_PER + BITMAP_WORDS;
 
@@ -52,9 +57,7 @@ const QUEUED_PER: usize = MARKS_PER + MARK_WORDS;
 
 const TRACE_PER: usize = QUEUED_PER + MARK_WORDS;
 
-const HEAP_PER: usize = TRACE_PER + MOST_BLOCKS;
-
-const TOTAL_PER: usize = HEAP_PER + SEGMENT_WORDS;
+const TOTAL_PER: usize = TRACE_PER + MOST_BLOCKS;
 
 // The length of the lent slice.
 pub fn total_words(g: Geometry) -> usize
@@ -78,16 +81,53 @@ pub fn wrong_size(g: Geometry, x: usize) -> bool
     x != total_words(g)
 }
 
+// The words of the heap.
+pub fn heap_words(g: Geometry) -> usize
+    requires { ⌜ g .segments ≤ maxSegments ⌝ }
+    ensures { λ r. ⌜ r ≡ len g Region.heap ⌝ }
+{
+    g.segments * SEGMENT_WORDS
+}
+
+// The entries that the trace stack has room for: one for each block.
+pub fn trace_words(g: Geometry) -> usize
+    requires { ⌜ g .segments ≤ maxSegments ⌝ }
+    ensures { λ r. ⌜ r ≡ len g Region.trace ⌝ }
+{
+    g.segments * MOST_BLOCKS
+}
+
+// The segment of a word of the heap, and the word's place in it.
+pub fn segment_of(g: Geometry, at: usize) -> usize
+    ensures { λ r. ⌜ r ≡ segmentOf g at ⌝ }
+{
+    at / SEGMENT_WORDS
+}
+
+pub fn offset_of(g: Geometry, at: usize) -> usize
+    ensures { λ r. ⌜ r ≡ at % segmentWords g ⌝ }
+{
+    at % SEGMENT_WORDS
+}
+
+// The number of the bit of block b of segment s.
+pub fn bit_in(g: Geometry, s: usize, b: usize) -> usize
+    requires { ⌜ (s < maxSegments) × (b < mostBlocks g) ⌝ }
+    ensures { λ r. ⌜ r ≡ bitIn g s b ⌝ }
+{
+    s * MOST_BLOCKS + b
+}
+
 // Word i of the control.
 pub fn control(g: Geometry, mem: &[u32], i: usize) -> u32
-    requires { ⌜ (Sized g (length (now mem))) × (i < len g 0) ⌝ }
+    requires { ⌜ (Sized g (length (now mem))) × (i < len g Region.control) ⌝ }
     ensures { λ r. ⌜ r ≡ controlWord (memOf g (now (mem .entry))) i ⌝ }
 {
     mem[i]
 }
 
 pub fn set_control(g: Geometry, mem: &mut [u32], i: usize, v: u32)
-    requires { ⌜ (Sized g (length (now mem))) × (i < len g 0) ⌝ }
+    requires { ⌜ (Sized g (length (now mem))) × (i < len g Region.control) ⌝ }
     ensures { λ _. ⌜ memOf g (now (mem .exit)) ≡ setControl (memOf g (now (mem .entry))) i v ⌝ }
 {
     mem[i] = v;
@@ -95,54 +135,71 @@ pub fn set_control(g: Geometry, mem: &mut [u32], i: usize, v: u32)
 
 // Word i of the mutators' entries.
 pub fn mutator(g: Geometry, mem: &[u32], i: usize) -> u32
-    requires { ⌜ (Sized g (length (now mem))) × (i < len g 1) ⌝ }
+    requires { ⌜ (Sized g (length (now mem))) × (i < len g Region.mutators) ⌝ }
     ensures { λ r. ⌜ r ≡ mutatorWord (memOf g (now (mem .entry))) i ⌝ }
 {
     mem[CONTROL_WORDS + i]
 }
 
 pub fn set_mutator(g: Geometry, mem: &mut [u32], i: usize, v: u32)
-    requires { ⌜ (Sized g (length (now mem))) × (i < len g 1) ⌝ }
+    requires { ⌜ (Sized g (length (now mem))) × (i < len g Region.mutators) ⌝ }
     ensures { λ _. ⌜ memOf g (now (mem .exit)) ≡ setMutator (memOf g (now (mem .entry))) i v ⌝ }
 {
     mem[CONTROL_WORDS + i] = v;
 }
 
+// Word i of the heap.
+pub fn word(g: Geometry, mem: &[u32], i: usize) -> u32
+    requires { ⌜ (Sized g (length (now mem))) × (i < len g Region.heap) ⌝ }
+    ensures { λ r. ⌜ r ≡ heapWord (memOf g (now (mem .entry))) i ⌝ }
+{
+    mem[HEAP_FROM + i]
+}
+
+pub fn set_word(g: Geometry, mem: &mut [u32], i: usize, v: u32)
+    requires { ⌜ (Sized g (length (now mem))) × (i < len g Region.heap) ⌝ }
+    ensures { λ _. ⌜ memOf g (now (mem .exit)) ≡ setHeap (memOf g (now (mem .entry))) i v ⌝ }
+{
+    mem[HEAP_FROM + i] = v;
+}
+
 // Word i of the segment records.
 pub fn segment(g: Geometry, mem: &[u32], i: usize) -> u32
-    requires { ⌜ (Sized g (length (now mem))) × (i < len g 2) ⌝ }
+    requires { ⌜ (Sized g (length (now mem))) × (i < len g Region.segments) ⌝ }
     ensures { λ r. ⌜ r ≡ segmentWord (memOf g (now (mem .entry))) i ⌝ }
 {
-    mem[SEGMENTS_FROM + i]
+    let n = g.segments;
+    mem[n * SEGMENT_WORDS + HEAP_FROM + i]
 }
 
 pub fn set_segment(g: Geometry, mem: &mut [u32], i: usize, v: u32)
-    requires { ⌜ (Sized g (length (now mem))) × (i < len g 2) ⌝ }
+    requires { ⌜ (Sized g (length (now mem))) × (i < len g Region.segments) ⌝ }
     ensures { λ _. ⌜ memOf g (now (mem .exit)) ≡ setSegment (memOf g (now (mem .entry))) i v ⌝ }
 {
-    mem[SEGMENTS_FROM + i] = v;
+    let n = g.segments;
+    mem[n * SEGMENT_WORDS + HEAP_FROM + i] = v;
 }
 
 // Word i of the stacks.
 pub fn stack(g: Geometry, mem: &[u32], i: usize) -> u32
-    requires { ⌜ (Sized g (length (now mem))) × (i < len g 3) ⌝ }
+    requires { ⌜ (Sized g (length (now mem))) × (i < len g Region.stacks) ⌝ }
     ensures { λ r. ⌜ r ≡ stackWord (memOf g (now (mem .entry))) i ⌝ }
 {
     let n = g.segments;
-    mem[n * RECORD_WORDS + SEGMENTS_FROM + i]
+    mem[n * STACKS_PER + HEAP_FROM + i]
 }
 
 pub fn set_stack(g: Geometry, mem: &mut [u32], i: usize, v: u32)
-    requires { ⌜ (Sized g (length (now mem))) × (i < len g 3) ⌝ }
+    requires { ⌜ (Sized g (length (now mem))) × (i < len g Region.stacks) ⌝ }
     ensures { λ _. ⌜ memOf g (now (mem .exit)) ≡ setStack (memOf g (now (mem .entry))) i v ⌝ }
 {
     let n = g.segments;
-    mem[n * RECORD_WORDS + SEGMENTS_FROM + i] = v;
+    mem[n * STACKS_PER + HEAP_FROM + i] = v;
 }
 
 // Word i of the bitmaps.
 pub fn bitmap(g: Geometry, mem: &[u32], i: usize) -> u32
-    requires { ⌜ (Sized g (length (now mem))) × (i < len g 4) ⌝ }
+    requires { ⌜ (Sized g (length (now mem))) × (i < len g Region.bitmaps) ⌝ }
     ensures { λ r. ⌜ r ≡ bitmapWord (memOf g (now (mem .entry))) i ⌝ }
 {
     let n = g.segments;
@@ -151,7 +208,7 @@ pub fn bitmap(g: Geometry, mem: &[u32], i: usize) -> u32
 
 // Word i of the marks.
 pub fn mark(g: Geometry, mem: &[u32], i: usize) -> u32
-    requires { ⌜ (Sized g (length (now mem))) × (i < len g 5) ⌝ }
+    requires { ⌜ (Sized g (length (now mem))) × (i < len g Region.marks) ⌝ }
     ensures { λ r. ⌜ r ≡ markWord (memOf g (now (mem .entry))) i ⌝ }
 {
     let n = g.segments;
@@ -159,7 +216,7 @@ pub fn mark(g: Geometry, mem: &[u32], i: usize) -> u32
 }
 
 pub fn set_mark(g: Geometry, mem: &mut [u32], i: usize, v: u32)
-    requires { ⌜ (Sized g (length (now mem))) × (i < len g 5) ⌝ }
+    requires { ⌜ (Sized g (length (now mem))) × (i < len g Region.marks) ⌝ }
     ensures { λ _. ⌜ memOf g (now (mem .exit)) ≡ setMark (memOf g (now (mem .entry))) i v ⌝ }
 {
     let n = g.segments;
@@ -168,7 +225,7 @@ pub fn set_mark(g: Geometry, mem: &mut [u32], i: usize, v: u32)
 
 // Word i of the queued bits.
 pub fn queued(g: Geometry, mem: &[u32], i: usize) -> u32
-    requires { ⌜ (Sized g (length (now mem))) × (i < len g 6) ⌝ }
+    requires { ⌜ (Sized g (length (now mem))) × (i < len g Region.queued) ⌝ }
     ensures { λ r. ⌜ r ≡ queuedWord (memOf g (now (mem .entry))) i ⌝ }
 {
     let n = g.segments;
@@ -176,7 +233,7 @@ pub fn queued(g: Geometry, mem: &[u32], i: usize) -> u32
 }
 
 pub fn set_queued(g: Geometry, mem: &mut [u32], i: usize, v: u32)
-    requires { ⌜ (Sized g (length (now mem))) × (i < len g 6) ⌝ }
+    requires { ⌜ (Sized g (length (now mem))) × (i < len g Region.queued) ⌝ }
     ensures { λ _. ⌜ memOf g (now (mem .exit)) ≡ setQueued (memOf g (now (mem .entry))) i v ⌝ }
 {
     let n = g.segments;
@@ -185,7 +242,7 @@ pub fn set_queued(g: Geometry, mem: &mut [u32], i: usize, v: u32)
 
 // Word i of the trace stack.
 pub fn trace(g: Geometry, mem: &[u32], i: usize) -> u32
-    requires { ⌜ (Sized g (length (now mem))) × (i < len g 7) ⌝ }
+    requires { ⌜ (Sized g (length (now mem))) × (i < len g Region.trace) ⌝ }
     ensures { λ r. ⌜ r ≡ traceWord (memOf g (now (mem .entry))) i ⌝ }
 {
     let n = g.segments;
@@ -193,28 +250,11 @@ pub fn trace(g: Geometry, mem: &[u32], i: usize) -> u32
 }
 
 pub fn set_trace(g: Geometry, mem: &mut [u32], i: usize, v: u32)
-    requires { ⌜ (Sized g (length (now mem))) × (i < len g 7) ⌝ }
+    requires { ⌜ (Sized g (length (now mem))) × (i < len g Region.trace) ⌝ }
     ensures { λ _. ⌜ memOf g (now (mem .exit)) ≡ setTrace (memOf g (now (mem .entry))) i v ⌝ }
 {
     let n = g.segments;
     mem[n * TRACE_PER + FIXED + i] = v;
-}
-
-// Word i of the heap.
-pub fn word(g: Geometry, mem: &[u32], i: usize) -> u32
-    requires { ⌜ (Sized g (length (now mem))) × (i < len g 8) ⌝ }
-    ensures { λ r. ⌜ r ≡ heapWord (memOf g (now (mem .entry))) i ⌝ }
-{
-    let n = g.segments;
-    mem[n * HEAP_PER + FIXED + i]
-}
-
-pub fn set_word(g: Geometry, mem: &mut [u32], i: usize, v: u32)
-    requires { ⌜ (Sized g (length (now mem))) × (i < len g 8) ⌝ }
-    ensures { λ _. ⌜ memOf g (now (mem .exit)) ≡ setHeap (memOf g (now (mem .entry))) i v ⌝ }
-{
-    let n = g.segments;
-    mem[n * HEAP_PER + FIXED + i] = v;
 }
 
 // All words 0.
@@ -231,40 +271,41 @@ fn zero(s: &mut [u32])
 // A region cleared, lent whole to a leaf.
 pub fn clear_control(g: Geometry, mem: &mut [u32])
     requires { ⌜ Sized g (length (now mem)) ⌝ }
-    ensures { λ _. ⌜ memOf g (now (mem .exit)) ≡ clearRegion g (memOf g (now (mem .entry))) 0 ⌝ }
+    ensures { λ _. ⌜ memOf g (now (mem .exit)) ≡ clearRegion g (memOf g (now (mem .entry))) Region.control ⌝ }
 {
     zero(&mut mem[0..CONTROL_WORDS]);
 }
 
 pub fn clear_mutators(g: Geometry, mem: &mut [u32])
     requires { ⌜ Sized g (length (now mem)) ⌝ }
-    ensures { λ _. ⌜ memOf g (now (mem .exit)) ≡ clearRegion g (memOf g (now (mem .entry))) 1 ⌝ }
+    ensures { λ _. ⌜ memOf g (now (mem .exit)) ≡ clearRegion g (memOf g (now (mem .entry))) Region.mutators ⌝ }
 {
-    zero(&mut mem[CONTROL_WORDS..SEGMENTS_FROM]);
+    zero(&mut mem[CONTROL_WORDS..HEAP_FROM]);
 }
 
 pub fn clear_segments(g: Geometry, mem: &mut [u32])
     requires { ⌜ Sized g (length (now mem)) ⌝ }
-    ensures { λ _. ⌜ memOf g (now (mem .exit)) ≡ clearRegion g (memOf g (now (mem .entry))) 2 ⌝ }
+    ensures { λ _. ⌜ memOf g (now (mem .exit)) ≡ clearRegion g (memOf g (now (mem .entry))) Region.segments ⌝ }
 {
     let n = g.segments;
-    let end = SEGMENTS_FROM + n * RECORD_WORDS;
-    zero(&mut mem[SEGMENTS_FROM..end]);
+    let a = n * SEGMENT_WORDS + HEAP_FROM;
+    let end = a + n * RECORD_WORDS;
+    zero(&mut mem[a..end]);
 }
 
 pub fn clear_stacks(g: Geometry, mem: &mut [u32])
     requires { ⌜ Sized g (length (now mem)) ⌝ }
-    ensures { λ _. ⌜ memOf g (now (mem .exit)) ≡ clearRegion g (memOf g (now (mem .entry))) 3 ⌝ }
+    ensures { λ _. ⌜ memOf g (now (mem .exit)) ≡ clearRegion g (memOf g (now (mem .entry))) Region.stacks ⌝ }
 {
     let n = g.segments;
-    let a = n * RECORD_WORDS + SEGMENTS_FROM;
+    let a = n * STACKS_PER + HEAP_FROM;
     let end = a + (1 + n) * STACKS;
     zero(&mut mem[a..end]);
 }
 
 pub fn clear_queued(g: Geometry, mem: &mut [u32])
     requires { ⌜ Sized g (length (now mem)) ⌝ }
-    ensures { λ _. ⌜ memOf g (now (mem .exit)) ≡ clearRegion g (memOf g (now (mem .entry))) 6 ⌝ }
+    ensures { λ _. ⌜ memOf g (now (mem .exit)) ≡ clearRegion g (memOf g (now (mem .entry))) Region.queued ⌝ }
 {
     let n = g.segments;
     let a = n * QUEUED_PER + FIXED;

@@ -6,9 +6,8 @@ use lib.Dec.{eqb}
 use lib.ListN.{length, replicate}
 use Rattle.rules.specs.Pick.{pick, oneIf}
 use Rattle.words.specs.Bits.{bitAt, onesAmong}
-use Rattle.classes.specs.Shape.{blocksIn}
 use Rattle.layout.specs.declared.Geometry.{Geometry}
-use Rattle.layout.specs.Geometry.{mutatorCount}
+use Rattle.layout.specs.Geometry.{mutatorCount, blocksIn}
 use Rattle.layout.specs.Mem.{Mem, traceWord, withRegion}
 use Rattle.bitmap_write.specs.Ready.{adopted}
 use Rattle.theory.specs.Phases.{Phase, idle, sync1, sync2, mark, sweep, owes}
@@ -20,16 +19,18 @@ use Rattle.model.specs.Segments.{setState, freeStack, partStack, stacked
 use Rattle.model.specs.Tracing.{traced}
 use Rattle.model.specs.Mutators.{acknowledged}
 use Rattle.model.specs.declared.SegmentState.the-variants as segment
+use Rattle.layout.specs.Region as Region
+use Rattle.model.specs.Tag as Tag
 
 -- ---- start: "every full segment becomes condemned, all marks are cleared, the phase is roll 1"
 
 abbrev pub isFull : Mem → ℕ → Bool
-isFull m s = eqb (tag m s) 3
+isFull m s = eqb (tag m s) Tag.full
 
 -- the full ones of the first n segments become condemned
-unfoldable pub condemned : Mem → ℕ → Mem
-condemned m zero = m
-condemned m (suc s) = pick (isFull m s) (setState (condemned m s) s (segment.Condemned (class m s))) (condemned m s)
+unfoldable pub condemned : Geometry → Mem → ℕ → Mem
+condemned g m zero = m
+condemned g m (suc s) = pick (isFull m s) (setState g (condemned g m s) s (segment.Condemned (class m s))) (condemned g m s)
 
 -- whether any of the first n segments is full
 unfoldable pub anyFull : Mem → ℕ → Bool
@@ -42,10 +43,10 @@ acksReset m zero = m
 acksReset m (suc k) = setAcks (acksReset m k) k 0
 
 abbrev pub marksCleared : Mem → Mem
-marksCleared m = withRegion m 5 (replicate (length (m .marks)) 0)
+marksCleared m = withRegion m Region.marks (replicate (length (m .marks)) 0)
 
 unfoldable pub started : Geometry → Mem → Mem
-started g m = setPhase (marksCleared (acksReset (condemned m (g .segments)) mutatorCount)) sync1
+started g m = setPhase (marksCleared (acksReset (condemned g m (g .segments)) mutatorCount)) sync1
 
 -- "11, not now: start outside idle"; "12, none full: start in idle with no full segment"
 abbrev pub startIn : Phase → Geometry → Mem → Answer × Mem
@@ -61,9 +62,9 @@ startOf g m = startIn (phase m) g m
 -- ---- step, in a handshake
 
 -- "answers for outside scripts, in number order, as check does": those of the first n mutators
-unfoldable pub outsideAnswered : Mem → ℕ → Mem
-outsideAnswered m zero = m
-outsideAnswered m (suc k) = pick (eqb (state m k) outside) (acknowledged (outsideAnswered m k) k) (outsideAnswered m k)
+unfoldable pub outsideAnswered : Geometry → Mem → ℕ → Mem
+outsideAnswered g m zero = m
+outsideAnswered g m (suc k) = pick (eqb (state m k) outside) (acknowledged g (outsideAnswered g m k) k) (outsideAnswered g m k)
 
 -- "If inside scripts still owe": how many of the first n mutators
 unfoldable pub waiting : Mem → ℕ → ℕ
@@ -77,9 +78,9 @@ moves (suc n) m p = (stepAnswer.Waiting (suc n), m)
 
 -- ---- step, in mark: "takes the last entered record .. With an empty stack: sweep, and moved."
 
-abbrev pub traces : ℕ → Mem → Step × Mem
-traces zero m = (stepAnswer.Moved, setPhase m sweep)
-traces (suc n) m = (stepAnswer.Traced, traced m (traceWord m n - 1))
+abbrev pub traces : Geometry → ℕ → Mem → Step × Mem
+traces g zero m = (stepAnswer.Moved, setPhase m sweep)
+traces g (suc n) m = (stepAnswer.Traced, traced g m (traceWord m n - 1))
 
 -- ---- step, in sweep: "the lowest condemned segment"
 
@@ -90,33 +91,33 @@ orThen (some s) o = some s
 -- the lowest of the first n segments that is condemned
 unfoldable pub lowest : Mem → ℕ → Option ℕ
 lowest m zero = none
-lowest m (suc s) = orThen (lowest m s) (pick (eqb (tag m s) 4) (some s) none)
+lowest m (suc s) = orThen (lowest m s) (pick (eqb (tag m s) Tag.condemned) (some s) none)
 
 -- how many blocks of a segment are marked
-abbrev pub keptBy : Mem → ℕ → ℕ
-keptBy m s = onesAmong (bitAt (marksOf m s)) (blocksIn (class m s))
+abbrev pub keptBy : Geometry → Mem → ℕ → ℕ
+keptBy g m s = onesAmong (bitAt (marksOf g m s)) (blocksIn g (class m s))
 
 -- "its level 0 becomes the marks, upper levels rebuilt"
-abbrev pub rebuiltBy : Mem → ℕ → Mem
-rebuiltBy m s = setBitmap m s (adopted (above (class m s)) (blocksIn (class m s)) (marksOf m s) (bitmap m s))
+abbrev pub rebuiltBy : Geometry → Mem → ℕ → Mem
+rebuiltBy g m s = setBitmap g m s (adopted (above g (class m s)) (blocksIn g (class m s)) (marksOf g m s) (bitmap g m s))
 
 -- "place 0 unless it becomes full. No mark: free. All blocks marked: full. Else part."
 unfoldable pub swept : Geometry → Mem → ℕ → Mem
 swept g m s =
-    pick (eqb (keptBy m s) 0) (stacked g (setState (rebuiltBy m s) s segment.Free) freeStack s)
-    (pick (eqb (keptBy m s) (blocksIn (class m s))) (setState (rebuiltBy m s) s (segment.Full (class m s)))
-    (stacked g (setState (rebuiltBy m s) s (segment.Part (class m s) 0)) (partStack (class m s)) s))
+    pick (eqb (keptBy g m s) 0) (stacked g (setState g (rebuiltBy g m s) s segment.Free) freeStack s)
+    (pick (eqb (keptBy g m s) (blocksIn g (class m s))) (setState g (rebuiltBy g m s) s (segment.Full (class m s)))
+    (stacked g (setState g (rebuiltBy g m s) s (segment.Part (class m s) 0)) (partStack (class m s)) s))
 
 -- "how many blocks in use became free": those in use before less those after. "With none left: idle, and done."
 abbrev pub sweeps : Geometry → Option ℕ → Mem → Step × Mem
 sweeps g none m = (stepAnswer.Done, setPhase m idle)
-sweeps g (some s) m = (stepAnswer.Swept s (inUse m s - inUse (swept g m s) s), swept g m s)
+sweeps g (some s) m = (stepAnswer.Swept s (inUse g m s - inUse g (swept g m s) s), swept g m s)
 
 abbrev pub stepIn : Phase → Geometry → Mem → Step × Mem
 stepIn idle g m = (stepAnswer.Idle, m)
-stepIn sync1 g m = moves (waiting (outsideAnswered m mutatorCount) mutatorCount) (outsideAnswered m mutatorCount) sync2
-stepIn sync2 g m = moves (waiting (outsideAnswered m mutatorCount) mutatorCount) (outsideAnswered m mutatorCount) mark
-stepIn mark g m = traces (traceCount m) m
+stepIn sync1 g m = moves (waiting (outsideAnswered g m mutatorCount) mutatorCount) (outsideAnswered g m mutatorCount) sync2
+stepIn sync2 g m = moves (waiting (outsideAnswered g m mutatorCount) mutatorCount) (outsideAnswered g m mutatorCount) mark
+stepIn mark g m = traces g (traceCount m) m
 stepIn sweep g m = sweeps g (lowest m (g .segments)) m
 
 unfoldable pub stepOf : Geometry → Mem → Step × Mem

@@ -7,17 +7,17 @@ use lib.Dec.{eqb}
 use Rattle.words.specs.Bits.{bitAt, onesAmong}
 use Rattle.words.specs.Tree.{Tree}
 use Rattle.classes.specs.Class.{firstClass, classCount, classOf}
-use Rattle.classes.specs.Shape.{blocksIn}
 use Rattle.classes.specs.declared.SizeClass.the-variants.{Class}
 use Rattle.layout.specs.declared.Geometry.{Geometry}
-use Rattle.layout.specs.Geometry.{mutatorCount, mutatorWords, segmentWords, mostBlocks}
+use Rattle.layout.specs.Geometry.{mutatorCount, mutatorWords, entryWords, segmentWords, mostBlocks, blocksIn, segmentOf, bitIn}
 use Rattle.layout.specs.Mem.{Mem, controlWord, mutatorWord, traceWord}
 use Rattle.theory.specs.Phases.{Phase, idle, sync1, sync2, mark, sweep}
 use Rattle.model.specs.Fields.{phase, traceCount, absent, outside, state, acks, holding, tag, class, place, owner}
 use Rattle.model.specs.Segments.{freeStack, partStack, count, entry, above, bitmap, usedBit}
-use Rattle.model.specs.Records.{pointers, values, segmentOf, blockWords, blockOf, bitIn, marked, queued}
+use Rattle.model.specs.Records.{pointers, values, blockWords, blockOf, marked, queued}
 use Rattle.rules.specs.Pick.{oneIf}
 use Rattle.model.specs.Reaching.{IsEntry, Live, Reached, Covered, IsRoot, PointsTo}
+use Rattle.model.specs.Tag as Tag
 
 -- a class number
 abbrev pub IsClass : ℕ → Type 0
@@ -25,28 +25,28 @@ IsClass c = (firstClass ≤ c) × (c < firstClass + classCount)
 
 -- ---- one segment: its words are in range, and those that its state does not use are 0
 
-pub record SegmentOk (m : Mem) (s : ℕ) : Type 0 where
-  pub tags : tag m s ≤ 4
-  pub free : tag m s ≡ 0 → (class m s ≡ 0) × (place m s ≡ 0) × (owner m s ≡ 0)
-  pub unowned : (tag m s ≡ 2 → ⊥) → owner m s ≡ 0
-  pub classes : (tag m s ≡ 0 → ⊥) → IsClass (class m s)
+pub record SegmentOk (g : Geometry) (m : Mem) (s : ℕ) : Type 0 where
+  pub tags : tag m s ≤ Tag.condemned
+  pub free : tag m s ≡ Tag.free → (class m s ≡ 0) × (place m s ≡ 0) × (owner m s ≡ 0)
+  pub unowned : (tag m s ≡ Tag.held → ⊥) → owner m s ≡ 0
+  pub classes : (tag m s ≡ Tag.free → ⊥) → IsClass (class m s)
   -- "A bit above level 0 is 1 exactly when its word below is all ones. Bits past a level's end are 1."
-  pub tree : (tag m s ≡ 0 → ⊥) → Tree (above (class m s)) (blocksIn (class m s)) (bitmap m s)
+  pub tree : (tag m s ≡ Tag.free → ⊥) → Tree (above g (class m s)) (blocksIn g (class m s)) (bitmap g m s)
   -- part and held: a free block remains at or after the place
-  pub remains : (1 ≤ tag m s) → (tag m s ≤ 2) → (b : ℕ) × (place m s ≤ b) × (b < blocksIn (class m s)) × (bitAt (bitmap m s) b ≡ 0)
+  pub remains : (Tag.part ≤ tag m s) → (tag m s ≤ Tag.held) → (b : ℕ) × (place m s ≤ b) × (b < blocksIn g (class m s)) × (bitAt (bitmap g m s) b ≡ 0)
   -- "A full segment's place is its number of blocks, kept when it is condemned."
-  pub whole : 3 ≤ tag m s → place m s ≡ blocksIn (class m s)
+  pub whole : Tag.full ≤ tag m s → place m s ≡ blocksIn g (class m s)
   -- held: the mutator is attached and holds it
-  pub held : tag m s ≡ 2 → (owner m s < mutatorCount) × (state m (owner m s) ≡ absent → ⊥) × (holding m (owner m s) (class m s) ≡ suc s)
+  pub held : tag m s ≡ Tag.held → (owner m s < mutatorCount) × (state m (owner m s) ≡ absent → ⊥) × (holding m (owner m s) (class m s) ≡ suc s)
 
 -- ---- one mutator
 
 pub record MutatorOk (g : Geometry) (m : Mem) (k : ℕ) : Type 0 where
   pub states : state m k ≤ outside
   pub acknowledged : acks m k ≤ 2
-  pub gone : state m k ≡ absent → (i : ℕ) → i < mutatorWords → mutatorWord m (k * mutatorWords + i) ≡ 0
+  pub gone : state m k ≡ absent → (i : ℕ) → i < entryWords → mutatorWord m (k * mutatorWords + i) ≡ 0
   -- what it holds is held by it, one of each class
-  pub holds : (c s : ℕ) → IsClass c → holding m k c ≡ suc s → (s < g .segments) × (tag m s ≡ 2) × (class m s ≡ c) × (owner m s ≡ k)
+  pub holds : (c s : ℕ) → IsClass c → holding m k c ≡ suc s → (s < g .segments) × (tag m s ≡ Tag.held) × (class m s ≡ c) × (owner m s ≡ k)
 
 -- the acknowledgements of an attached mutator, by the phase
 abbrev pub AcksIn : Phase → ℕ → Type 0
@@ -65,60 +65,60 @@ pub record StackOk (g : Geometry) (m : Mem) (t : ℕ) (test : ℕ → Bool) : Ty
   pub all : (s : ℕ) → s < g .segments → test s ≡ true → (i : ℕ) × (i < count g m t) × (entry g m t i ≡ s)
 
 abbrev pub isFree : Mem → ℕ → Bool
-isFree m s = eqb (tag m s) 0
+isFree m s = eqb (tag m s) Tag.free
 
 abbrev pub isPart : Mem → ℕ → ℕ → Bool
-isPart m c s = eqb (tag m s) 1 && eqb (class m s) c
+isPart m c s = eqb (tag m s) Tag.part && eqb (class m s) c
 
 -- ---- one live record: it lies at the head of a block in use, of the segment's class
 
 pub record RecordOk (g : Geometry) (m : Mem) (at : ℕ) : Type 0 where
-  pub inside : at < g .segments * segmentWords
-  pub used : tag m (segmentOf at) ≡ 0 → ⊥
-  pub aligned : at % segmentWords % blockWords (class m (segmentOf at)) ≡ 0
-  pub block : usedBit m (segmentOf at) (blockOf m at) ≡ 1
-  pub sized : classOf (pointers m at + values m at) ≡ Class (class m (segmentOf at))
+  pub inside : at < g .segments * segmentWords g
+  pub used : tag m (segmentOf g at) ≡ Tag.free → ⊥
+  pub aligned : at % segmentWords g % blockWords (class m (segmentOf g at)) ≡ 0
+  pub block : usedBit g m (segmentOf g at) (blockOf g m at) ≡ 1
+  pub sized : classOf (pointers m at + values m at) ≡ Class (class m (segmentOf g at))
 
 -- ---- the trace stack: entries are records, distinct and unmarked, and the queued bits are theirs
 
 pub record TraceOk (g : Geometry) (m : Mem) : Type 0 where
   pub named : (i : ℕ) → i < traceCount m → 1 ≤ traceWord m i
   pub once : (i j : ℕ) → i < j → j < traceCount m → traceWord m i ≡ traceWord m j → ⊥
-  pub unmarked : (at : ℕ) → IsEntry m at → marked m at ≡ 0
-  pub bits : (at : ℕ) → IsEntry m at → queued m at ≡ 1
-  pub number : traceCount m ≡ onesAmong (bitAt (m .queued)) (g .segments * mostBlocks)
+  pub unmarked : (at : ℕ) → IsEntry m at → marked g m at ≡ 0
+  pub bits : (at : ℕ) → IsEntry m at → queued g m at ≡ 1
+  pub number : traceCount m ≡ onesAmong (bitAt (m .queued)) (g .segments * mostBlocks g)
 
 -- ---- marks
 
 -- bit b of segment s is of a block in use
-pub record BlockInUse (m : Mem) (s b : ℕ) : Type 0 where
-  pub used : tag m s ≡ 0 → ⊥
-  pub within : b < blocksIn (class m s)
-  pub block : usedBit m s b ≡ 1
+pub record BlockInUse (g : Geometry) (m : Mem) (s b : ℕ) : Type 0 where
+  pub used : tag m s ≡ Tag.free → ⊥
+  pub within : b < blocksIn g (class m s)
+  pub block : usedBit g m s b ≡ 1
 
 -- only blocks in use of the segments of a test have marks
 abbrev pub MarksOf : Geometry → Mem → (ℕ → Type 0) → Type 0
-MarksOf g m test = (s b : ℕ) → s < g .segments → test s → b < mostBlocks → bitAt (m .marks) (bitIn s b) ≡ 1 → BlockInUse m s b
+MarksOf g m test = (s b : ℕ) → s < g .segments → test s → b < mostBlocks g → bitAt (m .marks) (bitIn g s b) ≡ 1 → BlockInUse g m s b
 
 -- the tricolour invariant: roots of mutators that have acknowledged twice, and pointers of live marked records, are covered
-pub record Tricolour (m : Mem) : Type 0 where
-  pub roots : (at : ℕ) → (r : IsRoot m at) → 2 ≤ acks m (r .mutator) → Covered m at
-  pub edges : (x y : ℕ) → Live m x → marked m x ≡ 1 → PointsTo m x y → Covered m y
+pub record Tricolour (g : Geometry) (m : Mem) : Type 0 where
+  pub roots : (at : ℕ) → (r : IsRoot m at) → 2 ≤ acks m (r .mutator) → Covered g m at
+  pub edges : (x y : ℕ) → Live m x → marked g m x ≡ 1 → PointsTo m x y → Covered g m y
 
 -- what the phase asks besides
 abbrev pub InPhase : Phase → Geometry → Mem → Type 0
-InPhase idle g m = (traceCount m ≡ 0) × ((s : ℕ) → s < g .segments → tag m s ≡ 4 → ⊥)
-InPhase sync1 g m = (k : ℕ) → k < g .segments * mostBlocks → bitAt (m .marks) k ≡ 0
-InPhase sync2 g m = MarksOf g m (λ s. Unit {0}) × Tricolour m
-InPhase mark g m = MarksOf g m (λ s. Unit {0}) × Tricolour m
+InPhase idle g m = (traceCount m ≡ 0) × ((s : ℕ) → s < g .segments → tag m s ≡ Tag.condemned → ⊥)
+InPhase sync1 g m = (k : ℕ) → k < g .segments * mostBlocks g → bitAt (m .marks) k ≡ 0
+InPhase sync2 g m = MarksOf g m (λ s. Unit {0}) × Tricolour g m
+InPhase mark g m = MarksOf g m (λ s. Unit {0}) × Tricolour g m
 InPhase sweep g m =
     (traceCount m ≡ 0)
-    × MarksOf g m (λ s. tag m s ≡ 4)
-    × ((at : ℕ) → Reached m at → tag m (segmentOf at) ≡ 4 → marked m at ≡ 1)
+    × MarksOf g m (λ s. tag m s ≡ Tag.condemned)
+    × ((at : ℕ) → Reached m at → tag m (segmentOf g at) ≡ Tag.condemned → marked g m at ≡ 1)
 
 pub record Consistent (g : Geometry) (m : Mem) : Type 0 where
   pub phases : controlWord m 0 ≤ 4
-  pub segments : (s : ℕ) → s < g .segments → SegmentOk m s
+  pub segments : (s : ℕ) → s < g .segments → SegmentOk g m s
   pub mutators : (k : ℕ) → k < mutatorCount → MutatorOk g m k
   pub acknowledgements : (k : ℕ) → k < mutatorCount → (state m k ≡ absent → ⊥) → AcksIn (phase m) (acks m k)
   pub freeSegments : StackOk g m freeStack (isFree m)

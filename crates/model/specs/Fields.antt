@@ -20,14 +20,17 @@ traceCount m = controlWord m 1
 abbrev pub setTraceCount : Mem → ℕ → Mem
 setTraceCount m n = setControl m 1 n
 
--- ---- mutator k: its state (0 absent, 1 inside, 2 outside), its acknowledgements, root i, and the segment that it holds of class c
+-- ---- mutator k: root i, its state (0 absent, 1 inside, 2 outside), its acknowledgements, and the segment that it holds of class c
 -- (0, or 1 + the segment)
 
-abbrev pub rootsFrom : ℕ
-rootsFrom = 2
+abbrev pub stateAt : ℕ
+stateAt = rootCount
+
+abbrev pub acksAt : ℕ
+acksAt = stateAt + 1
 
 abbrev pub heldFrom : ℕ
-heldFrom = rootsFrom + rootCount
+heldFrom = acksAt + 1
 
 abbrev pub absent : ℕ
 absent = 0
@@ -39,22 +42,22 @@ abbrev pub outside : ℕ
 outside = 2
 
 abbrev pub state : Mem → ℕ → ℕ
-state m k = mutatorWord m (k * mutatorWords)
+state m k = mutatorWord m (k * mutatorWords + stateAt)
 
 abbrev pub setState : Mem → ℕ → ℕ → Mem
-setState m k v = setMutator m (k * mutatorWords) v
+setState m k v = setMutator m (k * mutatorWords + stateAt) v
 
 abbrev pub acks : Mem → ℕ → ℕ
-acks m k = mutatorWord m (k * mutatorWords + 1)
+acks m k = mutatorWord m (k * mutatorWords + acksAt)
 
 abbrev pub setAcks : Mem → ℕ → ℕ → Mem
-setAcks m k v = setMutator m (k * mutatorWords + 1) v
+setAcks m k v = setMutator m (k * mutatorWords + acksAt) v
 
 abbrev pub root : Mem → ℕ → ℕ → ℕ
-root m k i = mutatorWord m (k * mutatorWords + rootsFrom + i)
+root m k i = mutatorWord m (k * mutatorWords + i)
 
 abbrev pub setRoot : Mem → ℕ → ℕ → ℕ → Mem
-setRoot m k i v = setMutator m (k * mutatorWords + rootsFrom + i) v
+setRoot m k i v = setMutator m (k * mutatorWords + i) v
 
 abbrev pub holding : Mem → ℕ → ℕ → ℕ
 holding m k c = mutatorWord m (k * mutatorWords + heldFrom + (c - firstClass))

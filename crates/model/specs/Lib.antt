@@ -1,5 +1,6 @@
 -- Document 01 as definitions over the memory.
 pub mod Rules
+pub mod Tag
 pub mod Fields
 pub mod Segments
 pub mod Records

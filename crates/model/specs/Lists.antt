@@ -24,6 +24,7 @@ use Rattle.model.specs.Answers.{answerOf, refusalOf, stepRefusalOf, phas
 use Rattle.model.specs.Promise.{Promise, StartPromise, StepPromise, OpenPromise, PhasePromise, StatesPromise, ExaminePromise}
 use Rattle.model.specs.Fields.{root}
 use Rattle.theory.specs.Calls as theory
+use Rattle.layout.specs.Region as Region
 
 -- mutators' calls, collector's calls, openings and looks
 pub data Element : Type 0 where
@@ -90,7 +91,7 @@ wrongSized (started g before r after) = wrongSize g (length before)
 wrongSized (stepped g before r after) = wrongSize g (length before)
 wrongSized (openedBy g before r after) = wrongSize g (length before)
 wrongSized (sawPhase g mem r) = wrongSize g (length mem)
-wrongSized (sawStates g mem output r after) = pick (wrongSize g (length mem)) true (not (eqb (length output) (len g 2)))
+wrongSized (sawStates g mem output r after) = pick (wrongSize g (length mem)) true (not (eqb (length output) (len g Region.segments)))
 wrongSized (examinedBy g mem scratch r after) = pick (wrongSize g (length mem)) true (not (eqb (length scratch) (scratchWords g)))
 
 -- the number of its refusal

@@ -24,6 +24,7 @@ use Rattle.model.specs.Consistent.{Consistent}
 use Rattle.model.specs.declared.Step.the-variants as stepAnswer
 use Rattle.model.specs.declared.PhaseLook.the-variants as look
 use Rattle.model.specs.declared.Examined.the-variants as examination
+use Rattle.layout.specs.Region as Region
 
 -- a call that answers and leaves the memory as a definition says, may refuse with some numbers only, and gives 1 exactly where a size is wrong
 module _ {A B : Type 0} (value : A → B) (result : A → Bool) (refusal : A → Option ℕ) (sizeAnswer : A) (mayRefuse : List ℕ) (does : Geometry → Mem → B × Mem) where
@@ -63,9 +64,9 @@ pub record PhasePromise (g : Geometry) (mem : List ℕ) (r : PhaseLook) : Type 0
 -- the look at the segments' states: the output, of as many words as the segment records, gets their words; "Refused, it leaves the output
 -- unchanged"
 pub record StatesPromise (g : Geometry) (mem output : List ℕ) (r : Answer) (after : List ℕ) : Type 0 where
-  pub sizes : (wrongSize g (length mem) ≡ true → r ≡ Refused 1) × ((length output ≡ len g 2 → ⊥) → r ≡ Refused 1)
-  pub exact : wrongSize g (length mem) ≡ false → length output ≡ len g 2 → Consistent g (memOf g mem) → (r ≡ Ok) × (after ≡ memOf g mem .segments)
-  pub torn : wrongSize g (length mem) ≡ false → length output ≡ len g 2 → (n : ℕ) → refusalOf r ≡ some n → n ≡ 13
+  pub sizes : (wrongSize g (length mem) ≡ true → r ≡ Refused 1) × ((length output ≡ len g Region.segments → ⊥) → r ≡ Refused 1)
+  pub exact : wrongSize g (length mem) ≡ false → length output ≡ len g Region.segments → Consistent g (memOf g mem) → (r ≡ Ok) × (after ≡ memOf g mem .segments)
+  pub torn : wrongSize g (length mem) ≡ false → length output ≡ len g Region.segments → (n : ℕ) → refusalOf r ≡ some n → n ≡ 13
   pub kind : refusalOf r ≡ none → r ≡ Ok
   pub unchanged : (n : ℕ) → refusalOf r ≡ some n → after ≡ output
 

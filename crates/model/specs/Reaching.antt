@@ -4,6 +4,7 @@ use mathlib.Core.Logic.{_⊎_}
 use mathlib.Core.Bool.{Bool}
 use Prim.Native.Nat.{ℕ, suc, _<_}
 use lib.Dec.{eqb}
+use Rattle.layout.specs.declared.Geometry.{Geometry}
 use Rattle.layout.specs.Geometry.{mutatorCount, rootCount}
 use Rattle.layout.specs.Mem.{Mem, traceWord}
 use Rattle.theory.specs.Reach.{Reach, Cover}
@@ -38,9 +39,9 @@ Live m = Reach (λ at. IsRoot m at ⊎ IsEntry m at) (PointsTo m)
 abbrev pub Reached : Mem → ℕ → Type 0
 Reached m = Reach (IsRoot m) (PointsTo m)
 
-abbrev pub isMarked : Mem → ℕ → Bool
-isMarked m at = eqb (marked m at) 1
+abbrev pub isMarked : Geometry → Mem → ℕ → Bool
+isMarked g m at = eqb (marked g m at) 1
 
 -- marked, or reachable from an entry of the trace stack through unmarked records only
-abbrev pub Covered : Mem → ℕ → Type 0
-Covered m = Cover (IsEntry m) (isMarked m) (PointsTo m)
+abbrev pub Covered : Geometry → Mem → ℕ → Type 0
+Covered g m = Cover (IsEntry m) (isMarked g m) (PointsTo m)

@@ -5,9 +5,11 @@ use Prim.Native.Nat.{ℕ, zero, suc, _+_, _*_, _/_, _%_, _^_}
 use lib.ListN.{replicate}
 use Rattle.words.specs.Bits.{bitAt, setBit, clearBit}
 use Rattle.classes.specs.Class.{wordBytes}
-use Rattle.layout.specs.Geometry.{segmentWords, mostBlocks}
+use Rattle.layout.specs.declared.Geometry.{Geometry}
+use Rattle.layout.specs.Geometry.{segmentWords, segmentOf, bitIn}
 use Rattle.layout.specs.Mem.{Mem, heapWord, setHeap, setRun, withRegion}
 use Rattle.model.specs.Fields.{class}
+use Rattle.layout.specs.Region as Region
 
 -- nil is 0, and a record is named by 1 + the index of its header word in the heap
 abbrev pub record? : ℕ → Option ℕ
@@ -37,41 +39,34 @@ setValue m at f v = setHeap m (at + 1 + pointers m at + f) v
 
 -- "Links start nil, numbers 0"
 abbrev pub written : Mem → ℕ → ℕ → ℕ → Mem
-written m at p n = setRun (setHeap m at (p * 65536 + n)) 8 (at + 1) (replicate (p + n) 0)
+written m at p n = setRun (setHeap m at (p * 65536 + n)) Region.heap (at + 1) (replicate (p + n) 0)
 
 -- ---- its block
-
-abbrev pub segmentOf : ℕ → ℕ
-segmentOf at = at / segmentWords
 
 -- the words of a block of class c
 abbrev pub blockWords : ℕ → ℕ
 blockWords c = 2 ^ c / wordBytes
 
-abbrev pub headerOf : ℕ → ℕ → ℕ → ℕ
-headerOf s c b = s * segmentWords + b * blockWords c
+abbrev pub headerOf : Geometry → ℕ → ℕ → ℕ → ℕ
+headerOf g s c b = s * segmentWords g + b * blockWords c
 
-abbrev pub blockOf : Mem → ℕ → ℕ
-blockOf m at = at % segmentWords / blockWords (class m (segmentOf at))
+abbrev pub blockOf : Geometry → Mem → ℕ → ℕ
+blockOf g m at = at % segmentWords g / blockWords (class m (segmentOf g at))
 
--- the number of a block's bit among the marks and the queued bits: one for each block of each segment
-abbrev pub bitIn : ℕ → ℕ → ℕ
-bitIn s b = s * mostBlocks + b
+abbrev pub bitOf : Geometry → Mem → ℕ → ℕ
+bitOf g m at = bitIn g (segmentOf g at) (blockOf g m at)
 
-abbrev pub bitOf : Mem → ℕ → ℕ
-bitOf m at = bitIn (segmentOf at) (blockOf m at)
+abbrev pub marked : Geometry → Mem → ℕ → ℕ
+marked g m at = bitAt (m .marks) (bitOf g m at)
 
-abbrev pub marked : Mem → ℕ → ℕ
-marked m at = bitAt (m .marks) (bitOf m at)
+abbrev pub queued : Geometry → Mem → ℕ → ℕ
+queued g m at = bitAt (m .queued) (bitOf g m at)
 
-abbrev pub queued : Mem → ℕ → ℕ
-queued m at = bitAt (m .queued) (bitOf m at)
+unfoldable pub setMarked : Geometry → Mem → ℕ → Mem
+setMarked g m at = withRegion m Region.marks (setBit (m .marks) (bitOf g m at))
 
-unfoldable pub setMarked : Mem → ℕ → Mem
-setMarked m at = withRegion m 5 (setBit (m .marks) (bitOf m at))
+unfoldable pub setQueued : Geometry → Mem → ℕ → Mem
+setQueued g m at = withRegion m Region.queued (setBit (m .queued) (bitOf g m at))
 
-unfoldable pub setQueued : Mem → ℕ → Mem
-setQueued m at = withRegion m 6 (setBit (m .queued) (bitOf m at))
-
-unfoldable pub clearQueued : Mem → ℕ → Mem
-clearQueued m at = withRegion m 6 (clearBit (m .queued) (bitOf m at))
+unfoldable pub clearQueued : Geometry → Mem → ℕ → Mem
+clearQueued g m at = withRegion m Region.queued (clearBit (m .queued) (bitOf g m at))

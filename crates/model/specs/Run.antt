@@ -17,6 +17,7 @@ use Rattle.model.specs.Collector.{startOf, stepOf}
 use Rattle.model.specs.Lists.{Element, called, started, stepped, sawPhase, sawStates, examinedBy, left}
 use Rattle.model.specs.declared.Examined.the-variants as examination
 use Rattle.theory.specs.Calls as theory
+use Rattle.layout.specs.Region as Region
 
 -- a mutator's call, the collector's calls, and the looks: at the phase, at the segments' states into an output, and the examination with a scratch
 pub data Request : Type 0 where
@@ -54,7 +55,7 @@ answered g words (call c) = called c g words (declared (exec g (memOf g words) c
 answered g words start = started g words (declared (startOf g (memOf g words) .0)) (flat (startOf g (memOf g words) .1))
 answered g words step = stepped g words (stepOf g (memOf g words) .0) (flat (stepOf g (memOf g words) .1))
 answered g words look = sawPhase g words (Phase (controlWord (memOf g words) 0))
-answered g words (lookInto output) = shown (eqb (length output) (len g 2)) g words output
+answered g words (lookInto output) = shown (eqb (length output) (len g Region.segments)) g words output
 answered g words (examine scratch) = examined (eqb (length scratch) (scratchWords g)) g words scratch
 
 abbrev pub run : Geometry → List ℕ → List Request → List Element

@@ -5,15 +5,17 @@ use lib.Dec.{eqb, ltb}
 use Rattle.rules.specs.Pick.{pick}
 use Rattle.words.specs.Bits.{bitAt, onesAmong}
 use Rattle.classes.specs.Class.{firstClass}
-use Rattle.classes.specs.Shape.{blocksIn, shapeFor, bitmapWords}
+use Rattle.classes.specs.Shape.{shapeFor}
 use Rattle.layout.specs.declared.Geometry.{Geometry}
-use Rattle.layout.specs.Geometry.{recordWords, markWords}
+use Rattle.layout.specs.Geometry.{recordWords, markWords, blocksIn, bitmapWords}
 use Rattle.layout.specs.Mem.{Mem, stackWord, setSegment, setStack, run, setRun}
 use Rattle.bitmap_search.specs.declared.Found.{Found}
 use Rattle.bitmap_search.specs.Scan.{nextFree}
 use Rattle.model.specs.declared.SegmentState.{SegmentState}
 use Rattle.model.specs.Fields.{tag, class, place, owner}
 use Rattle.model.specs.declared.SegmentState.the-variants as state
+use Rattle.layout.specs.Region as Region
+use Rattle.model.specs.Tag as Tag
 
 -- "A segment is free, part (class, place), held (class, place, script), full (class) or condemned (class)."
 abbrev pub stateOf : ℕ → ℕ → ℕ → ℕ → SegmentState
@@ -32,12 +34,12 @@ setRecord m s t c p k =
     setSegment (setSegment (setSegment (setSegment m (s * recordWords) t) (s * recordWords + 1) c) (s * recordWords + 2) p) (s * recordWords + 3) k
 
 -- "A full segment's place is its number of blocks, kept when it is condemned."
-unfoldable pub setState : Mem → ℕ → SegmentState → Mem
-setState m s state.Free = setRecord m s 0 0 0 0
-setState m s (state.Part c p) = setRecord m s 1 c p 0
-setState m s (state.Held c p k) = setRecord m s 2 c p k
-setState m s (state.Full c) = setRecord m s 3 c (blocksIn c) 0
-setState m s (state.Condemned c) = setRecord m s 4 c (blocksIn c) 0
+unfoldable pub setState : Geometry → Mem → ℕ → SegmentState → Mem
+setState g m s state.Free = setRecord m s Tag.free 0 0 0
+setState g m s (state.Part c p) = setRecord m s Tag.part c p 0
+setState g m s (state.Held c p k) = setRecord m s Tag.held c p k
+setState g m s (state.Full c) = setRecord m s Tag.full c (blocksIn g c) 0
+setState g m s (state.Condemned c) = setRecord m s Tag.condemned c (blocksIn g c) 0
 
 -- ---- stacks: "the last put on taken first; each class has its own part stack"
 
@@ -68,26 +70,26 @@ module _ (g : Geometry) where
 -- ---- bitmaps
 
 -- the levels above level 0 of a class's bitmap
-abbrev pub above : ℕ → ℕ
-above c = shapeFor (blocksIn c) .levels - 1
+abbrev pub above : Geometry → ℕ → ℕ
+above g c = shapeFor (blocksIn g c) .levels - 1
 
-abbrev pub bitmap : Mem → ℕ → List ℕ
-bitmap m s = run m 4 (s * bitmapWords) bitmapWords
+abbrev pub bitmap : Geometry → Mem → ℕ → List ℕ
+bitmap g m s = run m Region.bitmaps (s * bitmapWords g) (bitmapWords g)
 
-abbrev pub setBitmap : Mem → ℕ → List ℕ → Mem
-setBitmap m s ws = setRun m 4 (s * bitmapWords) ws
+abbrev pub setBitmap : Geometry → Mem → ℕ → List ℕ → Mem
+setBitmap g m s ws = setRun m Region.bitmaps (s * bitmapWords g) ws
 
-abbrev pub marksOf : Mem → ℕ → List ℕ
-marksOf m s = run m 5 (s * markWords) markWords
+abbrev pub marksOf : Geometry → Mem → ℕ → List ℕ
+marksOf g m s = run m Region.marks (s * markWords g) (markWords g)
 
 -- "the next free block": the first at or after the place whose bit is 0
-abbrev pub free : Mem → ℕ → ℕ → ℕ → Found
-free m s c p = nextFree (bitAt (bitmap m s)) (blocksIn c) p
+abbrev pub free : Geometry → Mem → ℕ → ℕ → ℕ → Found
+free g m s c p = nextFree (bitAt (bitmap g m s)) (blocksIn g c) p
 
 -- "A block is in use when it lies before the place or its bit is 1."
-abbrev pub usedBit : Mem → ℕ → ℕ → ℕ
-usedBit m s b = pick (ltb b (place m s)) 1 (bitAt (bitmap m s) b)
+abbrev pub usedBit : Geometry → Mem → ℕ → ℕ → ℕ
+usedBit g m s b = pick (ltb b (place m s)) 1 (bitAt (bitmap g m s) b)
 
 -- how many blocks of a segment are in use; none of a free one
-abbrev pub inUse : Mem → ℕ → ℕ
-inUse m s = pick (eqb (tag m s) 0) 0 (onesAmong (usedBit m s) (blocksIn (class m s)))
+abbrev pub inUse : Geometry → Mem → ℕ → ℕ
+inUse g m s = pick (eqb (tag m s) Tag.free) 0 (onesAmong (usedBit g m s) (blocksIn g (class m s)))

@@ -4,39 +4,40 @@ use mathlib.Core.Option.{Option, none, some}
 use Prim.Native.Nat.{ℕ, zero, suc, _+_, _-_}
 use lib.Dec.{eqb}
 use Rattle.rules.specs.Pick.{pick}
+use Rattle.layout.specs.declared.Geometry.{Geometry}
 use Rattle.layout.specs.Mem.{Mem, setTrace}
 use Rattle.theory.specs.Phases.{Duty, nothing, both, old}
 use Rattle.model.specs.Fields.{traceCount, setTraceCount, root}
 use Rattle.model.specs.Records.{record?, pointers, pointer, marked, queued, setMarked, setQueued, clearQueued}
 
 -- on top of the stack, with its bit
-abbrev pub onTop : Mem → ℕ → Mem
-onTop m at = setTraceCount (setTrace (setQueued m at) (traceCount m) (suc at)) (traceCount m + 1)
+abbrev pub onTop : Geometry → Mem → ℕ → Mem
+onTop g m at = setTraceCount (setTrace (setQueued g m at) (traceCount m) (suc at)) (traceCount m + 1)
 
 -- document 01: entering
-unfoldable pub push : Mem → Option ℕ → Mem
-push m none = m
-push m (some at) = pick (eqb (marked m at) 1) m (pick (eqb (queued m at) 1) m (onTop m at))
+unfoldable pub push : Geometry → Mem → Option ℕ → Mem
+push g m none = m
+push g m (some at) = pick (eqb (marked g m at) 1) m (pick (eqb (queued g m at) 1) m (onTop g m at))
 
 -- "it enters the new value, then the old"
-abbrev pub barrier : Duty → Mem → Option ℕ → Option ℕ → Mem
-barrier nothing m new o = m
-barrier both m new o = push (push m new) o
-barrier old m new o = push m o
+abbrev pub barrier : Geometry → Duty → Mem → Option ℕ → Option ℕ → Mem
+barrier g nothing m new o = m
+barrier g both m new o = push g (push g m new) o
+barrier g old m new o = push g m o
 
 -- the first n roots of mutator k, "in slot order"
-unfoldable pub pushRoots : Mem → ℕ → ℕ → Mem
-pushRoots m k zero = m
-pushRoots m k (suc n) = push (pushRoots m k n) (record? (root m k n))
+unfoldable pub pushRoots : Geometry → Mem → ℕ → ℕ → Mem
+pushRoots g m k zero = m
+pushRoots g m k (suc n) = push g (pushRoots g m k n) (record? (root m k n))
 
 -- the first n pointers of the record at a word, "in field order"
-unfoldable pub pushPointers : Mem → ℕ → ℕ → Mem
-pushPointers m at zero = m
-pushPointers m at (suc n) = push (pushPointers m at n) (record? (pointer m at n))
+unfoldable pub pushPointers : Geometry → Mem → ℕ → ℕ → Mem
+pushPointers g m at zero = m
+pushPointers g m at (suc n) = push g (pushPointers g m at n) (record? (pointer m at n))
 
 -- "takes the last entered record, marks it, enters its links in field order"
-abbrev pub popped : Mem → ℕ → Mem
-popped m at = setMarked (clearQueued (setTraceCount m (traceCount m - 1)) at) at
+abbrev pub popped : Geometry → Mem → ℕ → Mem
+popped g m at = setMarked g (clearQueued g (setTraceCount m (traceCount m - 1)) at) at
 
-abbrev pub traced : Mem → ℕ → Mem
-traced m at = pushPointers (popped m at) at (pointers m at)
+abbrev pub traced : Geometry → Mem → ℕ → Mem
+traced g m at = pushPointers g (popped g m at) at (pointers m at)

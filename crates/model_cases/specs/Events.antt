@@ -5,7 +5,7 @@ use Prim.Native.Nat.{ℕ, zero, suc}
 use lib.ListN.{take, drop, replicate}
 use Rattle.words.specs.Bits.{bitOf, bitAt, withBit, withoutBit, setBit, clearBit, onesAmong}
 use Rattle.layout.specs.declared.Geometry.{Geometry}
-use Rattle.layout.specs.Geometry.{len}
+use Rattle.layout.specs.Geometry.{len, segmentBytes}
 use Rattle.layout.specs.Mem.{Mem, setControl, setMutator, setSegment, setStack, setTrace, setHeap, setRun}
 use Rattle.bitmap_search.specs.Scan.{nextFree}
 use Rattle.bitmap_write.specs.Rebuild.{wordFrom, packed, fullBit, summed, rebuilt}
@@ -23,6 +23,7 @@ use Rattle.model.specs.Making.{handedOut, made}
 use Rattle.model.specs.Calls.{act, exec}
 use Rattle.model.specs.Collector.{condemned, anyFull, acksReset, started, startOf, outsideAnswered, waiting, lowest, swept, stepOf}
 use Rattle.model.specs.Opening.{downTo0, opened}
+use Rattle.layout.specs.Region as Region
 
 -- an opening, one of the collector's calls, a look, or a mutator's call; and words to be shown: the acknowledgements of the first mutators, a
 -- segment's first mark word, and words of the heap
@@ -67,12 +68,12 @@ does g m step = hasStepped (stepOf g m)
 does g m look = (shown g m, m)
 does g m (call c) = answered (exec g m c)
 does g m (acknowledgements n) = (words (acksOf m n), m)
-does g m (marks s) = (words (take 1 (marksOf m s)), m)
+does g m (marks s) = (words (take 1 (marksOf g m s)), m)
 does g m (heap i n) = (words (take n (drop i (m .heap))), m)
 
 -- the replies to a list of events, in order; to unfold it is to unfold every definition that it stands on
 unfoldable pub replies : Geometry → Mem → List Event → List Reply
-unfolding bitOf bitAt withBit withoutBit setBit clearBit onesAmong setControl setMutator setSegment setStack setTrace setHeap setRun nextFree wordFrom packed fullBit summed rebuilt padded completed cleared copied fresh adopted require ifRecord setState setMarked setQueued clearQueued push pushRoots pushPointers acknowledged attached released detached handedOut made act exec condemned anyFull acksReset started startOf outsideAnswered waiting lowest swept stepOf downTo0 opened
+unfolding segmentBytes bitOf bitAt withBit withoutBit setBit clearBit onesAmong setControl setMutator setSegment setStack setTrace setHeap setRun nextFree wordFrom packed fullBit summed rebuilt padded completed cleared copied fresh adopted require ifRecord setState setMarked setQueued clearQueued push pushRoots pushPointers acknowledged attached released detached handedOut made act exec condemned anyFull acksReset started startOf outsideAnswered waiting lowest swept stepOf downTo0 opened
 replies g m [] = []
 replies g m (e ∷ es) = let r = does g m e in r .0 ∷ replies g (r .1) es
 
@@ -83,15 +84,15 @@ geometry n = record { segments = n }
 -- lent memory of the right lengths, in which every word is 7
 abbrev pub sevens : Geometry → Mem
 sevens g = record {
-  control = replicate (len g 0) 7;
-  mutators = replicate (len g 1) 7;
-  segments = replicate (len g 2) 7;
-  stacks = replicate (len g 3) 7;
-  bitmaps = replicate (len g 4) 7;
-  marks = replicate (len g 5) 7;
-  queued = replicate (len g 6) 7;
-  trace = replicate (len g 7) 7;
-  heap = replicate (len g 8) 7;
+  control = replicate (len g Region.control) 7;
+  mutators = replicate (len g Region.mutators) 7;
+  segments = replicate (len g Region.segments) 7;
+  stacks = replicate (len g Region.stacks) 7;
+  bitmaps = replicate (len g Region.bitmaps) 7;
+  marks = replicate (len g Region.marks) 7;
+  queued = replicate (len g Region.queued) 7;
+  trace = replicate (len g Region.trace) 7;
+  heap = replicate (len g Region.heap) 7;
 }
 
 -- ---- a case: lines of an event and its reply

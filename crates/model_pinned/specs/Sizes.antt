@@ -17,7 +17,7 @@ row n x b = record { segments = n; length = x; refused = b }
 
 abbrev pub rows : List Row
 rows =
-    row 0 909 true ∷ row 1 7263 false ∷ row 1 7262 true ∷ row 1 7264 true ∷ row 2 7263 true ∷ row 256 1627533 false ∷ row 257 1633887 true ∷ []
+    row 0 1037 true ∷ row 1 7391 false ∷ row 1 7390 true ∷ row 1 7392 true ∷ row 2 7391 true ∷ row 256 1627661 false ∷ row 257 1634015 true ∷ []
 
 abbrev pub All : List Row → Type 0
 All [] = Unit

@@ -13,6 +13,7 @@ use Rattle.model.specs.declared.Answer.the-variants.{Ok, Refused}
 use Rattle.model.specs.Opening.{downTo0, opened}
 use Rattle.model.specs.Promise.{OpenPromise}
 use Rattle.opening.specs.Stacking.{stackedDown}
+use Rattle.layout.specs.Region as Region
 
 pub stacked-none : (m : Mem) (at n : ℕ) → n ≡ 0 → m ≡ stackedDown m at n
 unfolding stackedDown downTo0
@@ -50,24 +51,24 @@ filled (suc k) n h =
 -- the memory with five regions cleared
 abbrev cleared : Geometry → Mem → Mem
 cleared g m = record {
-  control = replicate (len g 0) 0;
-  mutators = replicate (len g 1) 0;
-  segments = replicate (len g 2) 0;
-  stacks = replicate (len g 3) 0;
+  control = replicate (len g Region.control) 0;
+  mutators = replicate (len g Region.mutators) 0;
+  segments = replicate (len g Region.segments) 0;
+  stacks = replicate (len g Region.stacks) 0;
   bitmaps = m .bitmaps;
   marks = m .marks;
-  queued = replicate (len g 6) 0;
+  queued = replicate (len g Region.queued) 0;
   trace = m .trace;
   heap = m .heap;
 }
 
 -- the memory after each write of the opening
 module _ (g : Geometry) (m : Mem) {m₀ m₁ m₂ m₃ m₄ m₅ m₆ : Mem} where
-  pub opened-by : m₀ ≡ clearRegion g m 0 → m₁ ≡ clearRegion g m₀ 1 → m₂ ≡ clearRegion g m₁ 2 → m₃ ≡ clearRegion g m₂ 3 → m₄ ≡ clearRegion g m₃ 6
+  pub opened-by : m₀ ≡ clearRegion g m Region.control → m₁ ≡ clearRegion g m₀ Region.mutators → m₂ ≡ clearRegion g m₁ Region.segments → m₃ ≡ clearRegion g m₂ Region.stacks → m₄ ≡ clearRegion g m₃ Region.queued
       → m₅ ≡ setStack m₄ 0 (g .segments) → m₆ ≡ stackedDown m₅ 1 (g .segments) → m₆ ≡ opened g m
   unfolding clearRegion setStack stackedDown opened
   opened-by e₀ e₁ e₂ e₃ e₄ e₅ e₆ =
-      e₆ ∙ rw (e₅, e₄, e₃, e₂, e₁, e₀) (ap (withRegion (cleared g m) 3) (filled (len g 3) (g .segments) (omega arith)))
+      e₆ ∙ rw (e₅, e₄, e₃, e₂, e₁, e₀) (ap (withRegion (cleared g m) Region.stacks) (filled (len g Region.stacks) (g .segments) (omega arith)))
 
 -- ---- the promise of the opening
 

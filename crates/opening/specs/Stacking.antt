@@ -3,6 +3,7 @@ use Prim.Native.Nat.{ℕ}
 use lib.Seq.{sets}
 use Rattle.layout.specs.Mem.{Mem, withRegion}
 use Rattle.model.specs.Opening.{downTo0}
+use Rattle.layout.specs.Region as Region
 
 unfoldable pub stackedDown : Mem → ℕ → ℕ → Mem
-stackedDown m at n = withRegion m 3 (sets (m .stacks) at (downTo0 n))
+stackedDown m at n = withRegion m Region.stacks (sets (m .stacks) at (downTo0 n))

@@ -8,10 +8,11 @@ ghost use Rattle.layout.specs.Geometry.{Sized, len, maxSegments};
 ghost use Rattle.layout.specs.Mem.{memOf};
 ghost use Rattle.model.specs.Promise.{OpenPromise};
 ghost use Rattle.opening.specs.Stacking.{stackedDown};
+ghost use Rattle.layout.specs.Region as Region;
 
 // The segments n - 1 down to 0, from word `at` of the stacks on.
 fn stack_down(g: Geometry, mem: &mut [u32], at: usize, n: usize)
-    requires { ⌜ (Sized g (length (now mem))) × (at + n ≤ len g 3) × (n ≤ maxSegments) ⌝ }
+    requires { ⌜ (Sized g (length (now mem))) × (at + n ≤ len g Region.stacks) × (n ≤ maxSegments) ⌝ }
     ensures { λ _. ⌜ memOf g (now (mem .exit)) ≡ stackedDown (memOf g (now (mem .entry))) at n ⌝ }
 {
     if n == 0 {

@@ -10,15 +10,16 @@ use Rattle.model.specs.declared.Held.{Held}
 use Rattle.model.specs.declared.Held.the-variants.{Nil, Record}
 use Rattle.records.specs.declared.Place.{Place}
 use Rattle.records.specs.declared.Place.the-variants.{At, Refused}
+use Rattle.layout.specs.Region as Region
 
 -- nil is 0, and a record is named by 1 + the index of its header word in the heap
 abbrev pub heldOf : ℕ → Held
 heldOf zero = Nil
 heldOf (suc at) = Record at
 
--- "13, torn": off the heap, region 8
+-- "13, torn": off the heap, region 2
 abbrev pub ifInHeap : Geometry → ℕ → Place → Place
-ifInHeap g at rest = pick (ltb at (len g 8)) rest (Refused 13)
+ifInHeap g at rest = pick (ltb at (len g Region.heap)) rest (Refused 13)
 
 -- field f of n, at a word: 8 where there is no such field
 abbrev pub fieldPlace : Geometry → ℕ → ℕ → ℕ → Place

@@ -28,7 +28,7 @@ pub fn pointer_place(g: Geometry, mem: &[u32], at: usize, f: u32) -> Place
     requires { ⌜ Sized g (length (now mem)) ⌝ }
     ensures { λ r. ⌜ r ≡ pointerPlace g (memOf g (now (mem .entry))) at f ⌝ }
 {
-    let end = g.segments * layout::SEGMENT_WORDS;
+    let end = layout::heap_words(g);
     if end <= at {
         return Place::Refused(13);
     }
@@ -47,7 +47,7 @@ pub fn value_place(g: Geometry, mem: &[u32], at: usize, f: u32) -> Place
     requires { ⌜ Sized g (length (now mem)) ⌝ }
     ensures { λ r. ⌜ r ≡ valuePlace g (memOf g (now (mem .entry))) at f ⌝ }
 {
-    let end = g.segments * layout::SEGMENT_WORDS;
+    let end = layout::heap_words(g);
     if end <= at {
         return Place::Refused(13);
     }

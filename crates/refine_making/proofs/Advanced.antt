@@ -7,9 +7,8 @@ use native.Mathlib.Omega.{arith}
 use lib.ListN.{length, getD}
 use Rattle.words.specs.Bits.{bitAt}
 use Rattle.classes.specs.Class.{firstClass}
-use Rattle.classes.specs.Shape.{blocksIn}
 use Rattle.layout.specs.declared.Geometry.{Geometry}
-use Rattle.layout.specs.Geometry.{mutatorWords, recordWords}
+use Rattle.layout.specs.Geometry.{mutatorWords, recordWords, blocksIn}
 use Rattle.layout.specs.Mem.{Mem, setMutator}
 use Rattle.bitmap_search.specs.declared.Found.{Found}
 use Rattle.bitmap_search.specs.declared.Found.the-variants.{Block, Nothing, Torn}
@@ -30,11 +29,11 @@ module _ (g : Geometry) (m : Mem) (s : Sizes g m) (k d cl r b p n : ℕ) (q : Re
   room = let z = s .segments in let l = q .inside in omega arith
 
   abbrev full : Mem
-  full = setState m r (Full cl)
+  full = setState g m r (Full cl)
 
-  still : (i : ℕ) → b + 1 ≤ i → i < blocksIn cl → bitAt (bitmap m r) i ≡ 0 → Moved g m (setState m r (Held cl (b + 1) k)) k cl r b
+  still : (i : ℕ) → b + 1 ≤ i → i < blocksIn g cl → bitAt (bitmap g m r) i ≡ 0 → Moved g m (setState g m r (Held cl (b + 1) k)) k cl r b
   still i a l e =
-      let f = state-others m r (Held cl (b + 1) k) in
+      let f = state-others g m r (Held cl (b + 1) k) in
       record {
         sizes = sizes-state g m s r (Held cl (b + 1) k);
         control = f .control;
@@ -45,9 +44,9 @@ module _ (g : Geometry) (m : Mem) (s : Sizes g m) (k d cl r b p n : ℕ) (q : Re
         trace = f .trace;
         heap = f .heap;
         words = λ j o h x. ap (λ (ws : List ℕ). getD ws (j * mutatorWords + o) 0) (f .mutators);
-        others = λ x h. state-other m r (Held cl (b + 1) k) x h;
+        others = λ x h. state-other g m r (Held cl (b + 1) k) x h;
         segment = inl (record {
-          recorded = state-there m r (Held cl (b + 1) k) room;
+          recorded = state-there g m r (Held cl (b + 1) k) room;
           held = ap (λ (ws : List ℕ). getD ws (k * mutatorWords + heldFrom + (cl - firstClass)) 0) (f .mutators) ∙ q .holds;
           next = i;
           after = a;
@@ -59,7 +58,7 @@ module _ (g : Geometry) (m : Mem) (s : Sizes g m) (k d cl r b p n : ℕ) (q : Re
   fills : Moved g m (setHolding full k cl 0) k cl r b
   unfolding setMutator
   fills =
-      let f = state-others m r (Full cl) in
+      let f = state-others g m r (Full cl) in
       let s₁ = sizes-state g m s r (Full cl) in
       record {
         sizes = sizes-mutator g full s₁ _ _;
@@ -71,14 +70,14 @@ module _ (g : Geometry) (m : Mem) (s : Sizes g m) (k d cl r b p n : ℕ) (q : Re
         trace = f .trace;
         heap = f .heap;
         words = λ j o h x. table-other g full s₁ k cl 0 (q .few) (q .isClass) j o h x ∙ ap (λ (ws : List ℕ). getD ws (j * mutatorWords + o) 0) (f .mutators);
-        others = λ x h. recorded-as full (setHolding full k cl 0) _ _ _ _ _ refl (state-other m r (Full cl) x h);
-        segment = inr (record { recorded = recorded-as full (setHolding full k cl 0) _ _ _ _ _ refl (state-there m r (Full cl) room); held = table-there g full s₁ k cl 0 (q .few) (q .isClass) });
+        others = λ x h. recorded-as full (setHolding full k cl 0) _ _ _ _ _ refl (state-other g m r (Full cl) x h);
+        segment = inr (record { recorded = recorded-as full (setHolding full k cl 0) _ _ _ _ _ refl (state-there g m r (Full cl) room); held = table-there g full s₁ k cl 0 (q .few) (q .isClass) });
       }
 
-  pub moved : Moved g m (advanced m k cl r (b + 1) (free m r cl (b + 1))) k cl r b
-  moved = go (free m r cl (b + 1)) (next-is (bitAt (bitmap m r)) (blocksIn cl) (b + 1))
+  pub moved : Moved g m (advanced g m k cl r (b + 1) (free g m r cl (b + 1))) k cl r b
+  moved = go (free g m r cl (b + 1)) (next-is (bitAt (bitmap g m r)) (blocksIn g cl) (b + 1))
     where
-      go : (f : Found) → IsNext (bitAt (bitmap m r)) (blocksIn cl) (b + 1) f → Moved g m (advanced m k cl r (b + 1) f) k cl r b
+      go : (f : Found) → IsNext (bitAt (bitmap g m r)) (blocksIn g cl) (b + 1) f → Moved g m (advanced g m k cl r (b + 1) f) k cl r b
       go (Block i) h = still i (h .0) (h .1) (h .2)
       go Nothing h = fills
       go Torn h = absurd h

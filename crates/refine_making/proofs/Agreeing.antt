@@ -9,7 +9,7 @@ use lib.Dec.{eqb}
 use lib.ListN.{replicate}
 use borrow.Author.Tests.{eq-eqb, eqb-true}
 use Rattle.layout.specs.declared.Geometry.{Geometry}
-use Rattle.layout.specs.Geometry.{rootCount}
+use Rattle.layout.specs.Geometry.{rootCount, segmentOf, bitIn}
 use Rattle.layout.specs.Mem.{Mem, heapWord}
 use Rattle.theory.specs.Phases.{black}
 use Rattle.theory.specs.Update.{upd, upd2}
@@ -17,13 +17,14 @@ use Rattle.theory.proofs.Updates.{upd-hit, upd-other, upd-hit₁, upd-miss₁}
 use Rattle.theory.proofs.Agree.{Agree}
 use Rattle.model.specs.Fields.{phase, acks, root, tag, class}
 use Rattle.model.specs.Segments.{usedBit}
-use Rattle.model.specs.Records.{record?, pointers, values, pointer, marked, segmentOf, blockOf, bitIn, bitOf, headerOf}
+use Rattle.model.specs.Records.{record?, pointers, values, pointer, marked, blockOf, bitOf, headerOf}
 use Rattle.model.specs.Reaching.{Live, isMarked}
 use Rattle.model.specs.Consistent.{Consistent, IsClass, RecordOk}
 use Rattle.refine_view.specs.View.{view, valuesOf, isHead, isUsed}
 use Rattle.refine_view.specs.Kept.{Sizes}
 use Rattle.refine_view.proofs.Bools.{and-both, ne-not}
-use Rattle.refine_view.proofs.Blocks.{header-segment, header-bit, header-is-class, header-head, of-block, same-bit, blocks-most}
+use Rattle.layout.proofs.Sizes.{segment-below}
+use Rattle.model.proofs.Blocks.{header-segment, header-bit, header-is-class, header-head, of-block, same-bit, blocks-most}
 use Rattle.refine_view.proofs.Segments.{in-range}
 use Rattle.theory.proofs.Updates.{upd2-by}
 use Rattle.refine_view.proofs.Invariants.{to-live, to-inv, used-of}
@@ -35,20 +36,21 @@ use Rattle.refine_making.proofs.Standing as standing
 use Rattle.refine_making.proofs.Apart as apart
 use Rattle.refine_making.proofs.Unused as unused
 use Rattle.refine_making.proofs.Newborn as newborn
+use Rattle.model.specs.Tag as Tag
 
 module _ (g : Geometry) (m : Mem) (s : Sizes g m) (c : Consistent g m) (m′ : Mem) (k d cl r b p n : ℕ) (q : Request g m k d cl r b p n) (a : Result g m m′ k d cl r b p n) where
   abbrev h : ℕ
-  h = headerOf r cl b
+  h = headerOf g r cl b
 
   abbrev pub after : machine.State
-  after = machine.make (view m) k d h p (replicate n 0)
+  after = machine.make (view g m) k d h p (replicate n 0)
 
   -- what is live afterwards is the new record or was live before
   pub old-or-new : (x : ℕ) → machine.Live after x → (Live m x × (x ≢ h)) ⊎ (x ≡ h)
-  old-or-new x l = go (making.live-back segmentOf (view m) (to-inv g m s c) k d h p (replicate n 0) (unused.not-used g m c k d cl r b p n q) (unused.not-collected g m c k d cl r b p n q) l)
+  old-or-new x l = go (making.live-back (segmentOf g) (view g m) (to-inv g m s c) k d h p (replicate n 0) (unused.not-used g m c k d cl r b p n q) (unused.not-collected g m c k d cl r b p n q) l)
     where
-      go : machine.Live (view m) x ⊎ (x ≡ h) → (Live m x × (x ≢ h)) ⊎ (x ≡ h)
-      go (inl y) = inl (to-live g m s c y, making.live-other segmentOf (view m) (to-inv g m s c) k d h p (replicate n 0) (unused.not-used g m c k d cl r b p n q) (unused.not-collected g m c k d cl r b p n q) x y)
+      go : machine.Live (view g m) x ⊎ (x ≡ h) → (Live m x × (x ≢ h)) ⊎ (x ≡ h)
+      go (inl y) = inl (to-live g m s c y, making.live-other (segmentOf g) (view g m) (to-inv g m s c) k d h p (replicate n 0) (unused.not-used g m c k d cl r b p n q) (unused.not-collected g m c k d cl r b p n q) x y)
       go (inr e) = inr e
 
   -- ---- another record
@@ -57,8 +59,8 @@ module _ (g : Geometry) (m : Mem) (s : Sizes g m) (c : Consistent g m) (m′ : M
     ok : RecordOk g m x
     ok = c .records x l
 
-    pub of-class : IsClass (class m (segmentOf x))
-    of-class = let i = ok .inside in c .segments (segmentOf x) (omega arith) .classes (ok .used)
+    pub of-class : IsClass (class m (segmentOf g x))
+    of-class = c .segments (segmentOf g x) (segment-below g x (ok .inside)) .classes (ok .used)
 
     pub header-on : heapWord m′ x ≡ heapWord m x
     header-on = apart.header-same g m m′ k d cl r b p n q a x ok of-class f
@@ -72,16 +74,16 @@ module _ (g : Geometry) (m : Mem) (s : Sizes g m) (c : Consistent g m) (m′ : M
     pointer-on : (i : ℕ) → i < pointers m x → pointer m′ x i ≡ pointer m x i
     pointer-on i y = apart.pointer-same g m m′ k d cl r b p n q a x ok of-class f i y
 
-    pub used-on : isUsed m′ x ≡ true
+    pub used-on : isUsed g m′ x ≡ true
     used-on =
-        let e : usedBit m′ (segmentOf x) (blockOf m′ x) ≡ 1 = ap (usedBit m′ (segmentOf x)) (standing.block-same g m m′ k d cl r b p n q a x) ∙ standing.used-on g m m′ k d cl r b p n q a (segmentOf x) (blockOf m x) (ok .block) in
-        and-both _ _ (ne-not _ _ (standing.tag-used g m m′ k d cl r b p n q a (segmentOf x) (ok .used))) (eq-eqb _ _ e)
+        let e : usedBit g m′ (segmentOf g x) (blockOf g m′ x) ≡ 1 = ap (usedBit g m′ (segmentOf g x)) (standing.block-same g m m′ k d cl r b p n q a x) ∙ standing.used-on g m m′ k d cl r b p n q a (segmentOf g x) (blockOf g m x) (ok .block) in
+        and-both _ _ (ne-not _ _ (standing.tag-used g m m′ k d cl r b p n q a (segmentOf g x) (ok .used))) (eq-eqb _ _ e)
 
     -- its bit is another
-    pub bit-other : bitOf m x ≡ bitIn r b → ⊥
-    bit-other e = f (same-bit m x h of-class (header-is-class cl (q .isClass) r b (q .below) m (q .ofClass)) (ok .aligned) (header-head cl (q .isClass) r b (q .below) m (q .ofClass)) (e ∙ sym (header-bit cl (q .isClass) r b (q .below) m (q .ofClass))))
+    pub bit-other : bitOf g m x ≡ bitIn g r b → ⊥
+    bit-other e = f (same-bit g m x h of-class (header-is-class g cl (q .isClass) r b (q .below) m (q .ofClass)) (ok .aligned) (header-head g cl (q .isClass) r b (q .below) m (q .ofClass)) (e ∙ sym (header-bit g cl (q .isClass) r b (q .below) m (q .ofClass))))
 
-    mark-on : (isHead m′ x && isMarked m′ x) ≡ (isHead m x && isMarked m x)
+    mark-on : (isHead g m′ x && isMarked g m′ x) ≡ (isHead g m x && isMarked g m x)
     mark-on = standing.mark-same g m m′ k d cl r b p n q a x bit-other
 
   -- ---- the machine's functions, changed at the new record
@@ -103,26 +105,26 @@ module _ (g : Geometry) (m : Mem) (s : Sizes g m) (c : Consistent g m) (m′ : M
 
   -- ---- segments of the collect set
 
-  fated-on : (x : ℕ) → eqb (tag m (segmentOf x)) 4 ≡ true → (isHead m′ x && isMarked m′ x) ≡ upd (λ at. isHead m at && isMarked m at) h (black (phase m) (acks m k)) x
-  fated-on x e = standing.mark-same g m m′ k d cl r b p n q a x other-bit ∙ sym (upd-other (λ at. isHead m at && isMarked m at) h (black (phase m) (acks m k)) x other)
+  fated-on : (x : ℕ) → eqb (tag m (segmentOf g x)) Tag.condemned ≡ true → (isHead g m′ x && isMarked g m′ x) ≡ upd (λ at. isHead g m at && isMarked g m at) h (black (phase m) (acks m k)) x
+  fated-on x e = standing.mark-same g m m′ k d cl r b p n q a x other-bit ∙ sym (upd-other (λ at. isHead g m at && isMarked g m at) h (black (phase m) (acks m k)) x other)
     where
-      four : tag m (segmentOf x) ≡ 4
-      four = eqb-true (tag m (segmentOf x)) 4 e
+      four : tag m (segmentOf g x) ≡ Tag.condemned
+      four = eqb-true (tag m (segmentOf g x)) 4 e
 
-      away : segmentOf x ≡ r → ⊥
-      away y = let z : tag m (segmentOf x) ≡ tag m r = ap (tag m) y in let w = q .isHeld in let u = four in omega arith
+      away : segmentOf g x ≡ r → ⊥
+      away y = let z : tag m (segmentOf g x) ≡ tag m r = ap (tag m) y in let w = q .isHeld in let u = four in omega arith
 
       other : x ≢ h
-      other y = away (ap segmentOf y ∙ header-segment cl (q .isClass) r b (q .below))
+      other y = away (ap (segmentOf g) y ∙ header-segment g cl (q .isClass) r b (q .below))
 
-      of : IsClass (class m (segmentOf x))
-      of = c .segments (segmentOf x) (in-range g m s (segmentOf x) (λ z. let u = four in omega arith)) .classes (λ z. let u = four in omega arith)
+      of : IsClass (class m (segmentOf g x))
+      of = c .segments (segmentOf g x) (in-range g m s (segmentOf g x) (λ z. let u = four in omega arith)) .classes (λ z. let u = four in omega arith)
 
-      other-bit : bitOf m x ≡ bitIn r b → ⊥
+      other-bit : bitOf g m x ≡ bitIn g r b → ⊥
       other-bit y =
-          let u = of-block m x of in
-          let v = blocks-most (class m (segmentOf x)) of in
-          away (standing.bit-there g m m′ k d cl r b p n q a (segmentOf x) (blockOf m x) (omega arith) y .0)
+          let u = of-block g m x of in
+          let v = blocks-most g (class m (segmentOf g x)) of in
+          away (standing.bit-there g m m′ k d cl r b p n q a (segmentOf g x) (blockOf g m x) (omega arith) y .0)
 
   -- ---- roots
 
@@ -143,7 +145,7 @@ module _ (g : Geometry) (m : Mem) (s : Sizes g m) (c : Consistent g m) (m′ : M
           ∙ ap record? (newborn.pointer-there g m c m′ k d cl r b p n q a f (subst (λ w. f < w) (upd-hit (pointers m) h p x e) y))
           ∙ sym (upd-hit₁ (λ at f. record? (pointer m at f)) h (λ _. none) x f e)
 
-  pub agree : Agree segmentOf after (view m′)
+  pub agree : Agree (segmentOf g) after (view g m′)
   agree = record {
     phase = standing.phase-same g m m′ k d cl r b p n q a;
     stack = standing.stack-same g m m′ k d cl r b p n q a;
@@ -151,11 +153,11 @@ module _ (g : Geometry) (m : Mem) (s : Sizes g m) (c : Consistent g m) (m′ : M
     inside = λ i. ap (λ z. eqb z 1) (standing.state-same g m m′ k d cl r b p n q a i);
     acks = standing.acks-same g m m′ k d cl r b p n q a;
     root = λ i j x l. root-on i j l;
-    marked = λ t. changed (λ at. isHead m at && isMarked m at) (λ at. isHead m′ at && isMarked m′ at) (black (phase m) (acks m k)) (newborn.mark-there g m c m′ k d cl r b p n q a t) mark-on;
+    marked = λ t. changed (λ at. isHead g m at && isMarked g m at) (λ at. isHead g m′ at && isMarked g m′ at) (black (phase m) (acks m k)) (newborn.mark-there g m c m′ k d cl r b p n q a t) mark-on;
     fated = fated-on;
     collect = λ y. standing.tag-test g m m′ k d cl r b p n q a 4 y (λ z. omega arith) (λ z. omega arith);
     pointers = changed (pointers m) (pointers m′) p (newborn.pointers-there g m c m′ k d cl r b p n q a) pointers-on;
     values = changed (valuesOf m) (valuesOf m′) (replicate n 0) (newborn.fields-there g m c m′ k d cl r b p n q a) fields-on;
     pointer = pointer-at;
-    used = changed (isUsed m) (isUsed m′) true (newborn.is-used-there g m c m′ k d cl r b p n q a) (λ x l f. used-on x l f ∙ sym (used-of g m s c x l));
+    used = changed (isUsed g m) (isUsed g m′) true (newborn.is-used-there g m c m′ k d cl r b p n q a) (λ x l f. used-on x l f ∙ sym (used-of g m s c x l));
   }

@@ -4,31 +4,32 @@ use mathlib.Core.Logic.{_⊎_, inl, inr}
 use Prim.Native.Nat.{ℕ, _+_, _-_, _≤_, _<_}
 use native.Mathlib.Omega.{arith}
 use Rattle.rules.proofs.Order.{le-or-lt}
+use Rattle.layout.specs.Geometry.{segmentOf}
 use Rattle.layout.specs.declared.Geometry.{Geometry}
 use Rattle.layout.specs.Mem.{Mem, heapWord}
 use Rattle.model.specs.Fields.{class}
-use Rattle.model.specs.Records.{pointers, values, pointer, segmentOf, headerOf, blockWords}
+use Rattle.model.specs.Records.{pointers, values, pointer, headerOf, blockWords}
 use Rattle.model.specs.Consistent.{IsClass, RecordOk}
 use Rattle.refine_view.specs.View.{valuesOf}
-use Rattle.refine_view.proofs.Blocks.{header-class, header-is-class, header-head}
+use Rattle.model.proofs.Blocks.{header-class, header-is-class, header-head}
 use Rattle.refine_view.proofs.Apart.{fits, heads-apart}
 use Rattle.refine_view.proofs.Contents.{pointers-by, pointer-by, fields-by}
 use Rattle.refine_making.proofs.Request.{Request}
 use Rattle.refine_making.proofs.Result.{Result}
 
-module _ (g : Geometry) (m m′ : Mem) (k d cl r b p n : ℕ) (q : Request g m k d cl r b p n) (a : Result g m m′ k d cl r b p n) (x : ℕ) (ok : RecordOk g m x) (of : IsClass (class m (segmentOf x))) (other : x ≡ headerOf r cl b → ⊥) where
+module _ (g : Geometry) (m m′ : Mem) (k d cl r b p n : ℕ) (q : Request g m k d cl r b p n) (a : Result g m m′ k d cl r b p n) (x : ℕ) (ok : RecordOk g m x) (of : IsClass (class m (segmentOf g x))) (other : x ≡ headerOf g r cl b → ⊥) where
   abbrev h : ℕ
-  h = headerOf r cl b
+  h = headerOf g r cl b
 
   word-same : (i : ℕ) → i ≤ pointers m x + values m x → heapWord m′ (x + i) ≡ heapWord m (x + i)
   word-same i l = go (le-or-lt h (x + i)) (le-or-lt (x + i) (h + (p + n)))
     where
       within : h ≤ x + i → x + i ≤ h + (p + n) → ⊥
       within u v =
-          let y = fits (pointers m x + values m x) (class m (segmentOf x)) (ok .sized) in
+          let y = fits (pointers m x + values m x) (class m (segmentOf g x)) (ok .sized) in
           let w = q .fits in
-          other (heads-apart m x h of (header-is-class cl (q .isClass) r b (q .below) m (q .ofClass)) (ok .aligned) (header-head cl (q .isClass) r b (q .below) m (q .ofClass)) i (x + i - h) (omega arith)
-          (subst (λ z. x + i - h < blockWords z) (sym (header-class cl (q .isClass) r b (q .below) m (q .ofClass))) (omega arith)) (omega arith))
+          other (heads-apart g m x h of (header-is-class g cl (q .isClass) r b (q .below) m (q .ofClass)) (ok .aligned) (header-head g cl (q .isClass) r b (q .below) m (q .ofClass)) i (x + i - h) (omega arith)
+          (subst (λ z. x + i - h < blockWords z) (sym (header-class g cl (q .isClass) r b (q .below) m (q .ofClass))) (omega arith)) (omega arith))
 
       go : (h ≤ x + i) ⊎ (x + i < h) → (x + i ≤ h + (p + n)) ⊎ (h + (p + n) < x + i) → heapWord m′ (x + i) ≡ heapWord m (x + i)
       go (inr u) v = a .before (x + i) u

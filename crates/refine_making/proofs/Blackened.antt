@@ -11,15 +11,16 @@ use Rattle.words.specs.Bits.{bitAt, setBit}
 use Rattle.words.proofs.Lists.{set-there, set-elsewhere}
 use Rattle.classes.specs.Class.{firstClass}
 use Rattle.layout.specs.declared.Geometry.{Geometry}
-use Rattle.layout.specs.Geometry.{mutatorWords}
+use Rattle.layout.specs.Geometry.{mutatorWords, mostBlocks, bitIn}
 use Rattle.layout.specs.Mem.{Mem, setMutator, setHeap, setRun}
 use Rattle.theory.specs.Phases.{black}
-use Rattle.model.specs.Fields.{phase, acks, setRoot, tag, class, place, owner}
-use Rattle.model.specs.Records.{headerOf, written, setMarked, bitIn, bitOf}
+use Rattle.model.specs.Fields.{phase, heldFrom, acks, setRoot, tag, class, place, owner}
+use Rattle.model.specs.Records.{headerOf, written, setMarked, bitOf}
 use Rattle.model.specs.Making.{blackened, handedOut}
 use Rattle.refine_view.specs.Kept.{Sizes}
+use Rattle.layout.proofs.Sizes.{within, marks-are}
 use Rattle.refine_view.proofs.Words.{Recorded, recorded-as}
-use Rattle.refine_view.proofs.Blocks.{header-bit, blocks-most}
+use Rattle.model.proofs.Blocks.{header-bit, blocks-most}
 use Rattle.refine_view.proofs.Frames.{beside}
 use Rattle.refine_view.proofs.Lengths.{sizes-mutator, sizes-heap, sizes-heap-run, sizes-marked}
 use Rattle.refine_making.proofs.Request.{Request}
@@ -29,7 +30,7 @@ use Rattle.refine_making.proofs.Written as words
 
 module _ (g : Geometry) (m : Mem) (k d cl r b p n : ℕ) (q : Request g m k d cl r b p n) (m₁ : Mem) (v : Moved g m m₁ k cl r b) where
   abbrev h : ℕ
-  h = headerOf r cl b
+  h = headerOf g r cl b
 
   abbrev m₂ : Mem
   m₂ = written m₁ h p n
@@ -40,7 +41,7 @@ module _ (g : Geometry) (m : Mem) (k d cl r b p n : ℕ) (q : Request g m k d cl
   class₁ : class m₁ r ≡ cl
   class₁ = go (v .segment)
     where
-      go : StillHeld m m₁ k cl r b ⊎ NowFull m₁ k cl r → class m₁ r ≡ cl
+      go : StillHeld g m m₁ k cl r b ⊎ NowFull g m₁ k cl r → class m₁ r ≡ cl
       go (inl x) = x .recorded .class
       go (inr x) = x .recorded .class
 
@@ -48,22 +49,22 @@ module _ (g : Geometry) (m : Mem) (k d cl r b p n : ℕ) (q : Request g m k d cl
   unfolding setHeap setRun
   class₂ = class₁
 
-  bit₂ : bitOf m₂ h ≡ bitIn r b
-  bit₂ = header-bit cl (q .isClass) r b (q .below) m₂ class₂
+  bit₂ : bitOf g m₂ h ≡ bitIn g r b
+  bit₂ = header-bit g cl (q .isClass) r b (q .below) m₂ class₂
 
   -- ---- the marks, born black
 
-  room : bitOf m₂ h / 32 < length (m₁ .marks)
-  room = let z = v .sizes .marks in let a = q .inside in let c = q .below in let e = blocks-most cl (q .isClass) in let f = bit₂ in omega arith
+  room : bitOf g m₂ h / 32 < length (m₁ .marks)
+  room = let z = v .sizes .marks in let a = q .inside in let c = q .below in let e = blocks-most g cl (q .isClass) in let f = bit₂ in let w = marks-are g (g .segments) in let y = within (mostBlocks g) r (g .segments) b a (omega arith) in omega arith
 
   marks₁ : (i : ℕ) → bitAt (m₁ .marks) i ≡ bitAt (m .marks) i
   marks₁ i = ap (λ (ws : List ℕ). bitAt ws i) (v .marks)
 
-  mark-there : bitAt (setBit (m₁ .marks) (bitOf m₂ h)) (bitIn r b) ≡ 1
-  mark-there = ap (λ i. bitAt (setBit (m₁ .marks) (bitOf m₂ h)) i) (sym bit₂) ∙ set-there (m₁ .marks) (bitOf m₂ h) room
+  mark-there : bitAt (setBit (m₁ .marks) (bitOf g m₂ h)) (bitIn g r b) ≡ 1
+  mark-there = ap (λ i. bitAt (setBit (m₁ .marks) (bitOf g m₂ h)) i) (sym bit₂) ∙ set-there (m₁ .marks) (bitOf g m₂ h) room
 
-  mark-other : (i : ℕ) → (i ≡ bitIn r b → ⊥) → bitAt (setBit (m₁ .marks) (bitOf m₂ h)) i ≡ bitAt (m .marks) i
-  mark-other i f = set-elsewhere (m₁ .marks) (bitOf m₂ h) room i (λ e. f (e ∙ bit₂)) ∙ marks₁ i
+  mark-other : (i : ℕ) → (i ≡ bitIn g r b → ⊥) → bitAt (setBit (m₁ .marks) (bitOf g m₂ h)) i ≡ bitAt (m .marks) i
+  mark-other i f = set-elsewhere (m₁ .marks) (bitOf g m₂ h) room i (λ e. f (e ∙ bit₂)) ∙ marks₁ i
 
   -- ---- the segment's record
 
@@ -74,13 +75,13 @@ module _ (g : Geometry) (m : Mem) (k d cl r b p n : ℕ) (q : Request g m k d cl
     others-on : (x : ℕ) → (x ≡ r → ⊥) → Recorded m₄ x (tag m x) (class m x) (place m x) (owner m x)
     others-on x f = record-on (v .others x f)
 
-    segment-on : StillHeld m m₄ k cl r b ⊎ NowFull m₄ k cl r
+    segment-on : StillHeld g m m₄ k cl r b ⊎ NowFull g m₄ k cl r
     segment-on = go (v .segment)
       where
-        go : StillHeld m m₁ k cl r b ⊎ NowFull m₁ k cl r → StillHeld m m₄ k cl r b ⊎ NowFull m₄ k cl r
+        go : StillHeld g m m₁ k cl r b ⊎ NowFull g m₁ k cl r → StillHeld g m m₄ k cl r b ⊎ NowFull g m₄ k cl r
         go (inl x) = inl (record {
           recorded = record-on (x .recorded);
-          held = ap (λ (ws : List ℕ). getD ws (k * mutatorWords + 18 + (cl - firstClass)) 0) table ∙ words.still-held g m k d cl r b p n q m₁ v ∙ x .held;
+          held = ap (λ (ws : List ℕ). getD ws (k * mutatorWords + heldFrom + (cl - firstClass)) 0) table ∙ words.still-held g m k d cl r b p n q m₁ v ∙ x .held;
           next = x .next;
           after = x .after;
           below = x .below;
@@ -88,14 +89,14 @@ module _ (g : Geometry) (m : Mem) (k d cl r b p n : ℕ) (q : Request g m k d cl
         })
         go (inr x) = inr (record {
           recorded = record-on (x .recorded);
-          held = ap (λ (ws : List ℕ). getD ws (k * mutatorWords + 18 + (cl - firstClass)) 0) table ∙ words.still-held g m k d cl r b p n q m₁ v ∙ x .held;
+          held = ap (λ (ws : List ℕ). getD ws (k * mutatorWords + heldFrom + (cl - firstClass)) 0) table ∙ words.still-held g m k d cl r b p n q m₁ v ∙ x .held;
         })
 
   -- ---- all of it
 
   -- with the marks that are left
-  ended : (ma : List ℕ) → Sizes g (beside m₂ (m₂ .control) (m₂ .mutators) ma (m₂ .queued) (m₂ .trace) (m₂ .heap)) → ((i : ℕ) → (i ≡ bitIn r b → ⊥) → bitAt ma i ≡ bitAt (m .marks) i) → (black (phase m) (acks m k) ≡ true → bitAt ma (bitIn r b) ≡ 1)
-      → (black (phase m) (acks m k) ≡ false → bitAt ma (bitIn r b) ≡ bitAt (m .marks) (bitIn r b)) → Result g m (setRoot (beside m₂ (m₂ .control) (m₂ .mutators) ma (m₂ .queued) (m₂ .trace) (m₂ .heap)) k d (suc h)) k d cl r b p n
+  ended : (ma : List ℕ) → Sizes g (beside m₂ (m₂ .control) (m₂ .mutators) ma (m₂ .queued) (m₂ .trace) (m₂ .heap)) → ((i : ℕ) → (i ≡ bitIn g r b → ⊥) → bitAt ma i ≡ bitAt (m .marks) i) → (black (phase m) (acks m k) ≡ true → bitAt ma (bitIn g r b) ≡ 1)
+      → (black (phase m) (acks m k) ≡ false → bitAt ma (bitIn g r b) ≡ bitAt (m .marks) (bitIn g r b)) → Result g m (setRoot (beside m₂ (m₂ .control) (m₂ .mutators) ma (m₂ .queued) (m₂ .trace) (m₂ .heap)) k d (suc h)) k d cl r b p n
   unfolding setHeap setRun setMutator
   ended ma z o x y = record {
     sizes = sizes-mutator g _ z _ _;
@@ -117,16 +118,16 @@ module _ (g : Geometry) (m : Mem) (k d cl r b p n : ℕ) (q : Request g m k d cl
     unborn = y;
   }
 
-  finished : (t : Bool) → black (phase m₁) (acks m₁ k) ≡ t → Result g m (setRoot (pick t (setMarked m₂ h) m₂) k d (suc h)) k d cl r b p n
+  finished : (t : Bool) → black (phase m₁) (acks m₁ k) ≡ t → Result g m (setRoot (pick t (setMarked g m₂ h) m₂) k d (suc h)) k d cl r b p n
   unfolding setHeap setRun setMarked setMutator
   finished true e = ended _ (sizes-marked g m₂ sizes₂ h) mark-other (λ x. mark-there) (λ x. absurd (true≢false (sym e ∙ words.black-same g m k d cl r b p n q m₁ v ∙ x)))
-  finished false e = ended _ sizes₂ (λ i f. marks₁ i) (λ x. absurd (true≢false (sym x ∙ sym (words.black-same g m k d cl r b p n q m₁ v) ∙ e))) (λ x. marks₁ (bitIn r b))
+  finished false e = ended _ sizes₂ (λ i f. marks₁ i) (λ x. absurd (true≢false (sym x ∙ sym (words.black-same g m k d cl r b p n q m₁ v) ∙ e))) (λ x. marks₁ (bitIn g r b))
 
-  filled : Result g m (setRoot (blackened m₂ k h) k d (suc h)) k d cl r b p n
+  filled : Result g m (setRoot (blackened g m₂ k h) k d (suc h)) k d cl r b p n
   unfolding setHeap setRun
   filled = finished (black (phase m₁) (acks m₁ k)) refl
 
 -- the memory that is handed out
-pub result : (g : Geometry) (m : Mem) → Sizes g m → (k d cl r b p n : ℕ) → Request g m k d cl r b p n → Result g m (handedOut m k d cl r b p n) k d cl r b p n
+pub result : (g : Geometry) (m : Mem) → Sizes g m → (k d cl r b p n : ℕ) → Request g m k d cl r b p n → Result g m (handedOut g m k d cl r b p n) k d cl r b p n
 unfolding handedOut
 result g m s k d cl r b p n q = filled g m k d cl r b p n q _ (moved g m s k d cl r b p n q)

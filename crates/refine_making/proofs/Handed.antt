@@ -8,14 +8,14 @@ use lib.ListN.{replicate}
 use Rattle.classes.specs.Class.{classOf}
 use Rattle.classes.specs.declared.SizeClass.the-variants.{Class}
 use Rattle.layout.specs.declared.Geometry.{Geometry}
-use Rattle.layout.specs.Geometry.{mutatorCount, rootCount}
+use Rattle.layout.specs.Geometry.{mutatorCount, rootCount, segmentOf}
 use Rattle.layout.specs.Mem.{Mem}
 use Rattle.bitmap_search.specs.declared.Found.the-variants.{Block}
 use Rattle.theory.specs.Machine.{make}
 use Rattle.theory.proofs.CallKeeps.{Alloc}
 use Rattle.model.specs.Fields.{root, holding, place}
 use Rattle.model.specs.Segments.{free}
-use Rattle.model.specs.Records.{segmentOf, headerOf}
+use Rattle.model.specs.Records.{headerOf}
 use Rattle.model.specs.Making.{handedOut}
 use Rattle.model.specs.Calls.{isAttached}
 use Rattle.model.specs.Consistent.{Consistent}
@@ -30,20 +30,20 @@ use Rattle.refine_making.proofs.Standing as standing
 
 module _ (g : Geometry) (m : Mem) (s : Sizes g m) (c : Consistent g m) where
   -- the memory afterwards, and the machine's state
-  moves : (k d cl r b p n : ℕ) → Request g m k d cl r b p n → Moves g m (handedOut m k d cl r b p n) (make (view m) k d (headerOf r cl b) p (replicate n 0))
+  moves : (k d cl r b p n : ℕ) → Request g m k d cl r b p n → Moves g m (handedOut g m k d cl r b p n) (make (view g m) k d (headerOf g r cl b) p (replicate n 0))
   moves k d cl r b p n q =
       let a = result g m s k d cl r b p n q in
       record {
-        structure = structure g m s c (handedOut m k d cl r b p n) k d cl r b p n q a;
-        agree = agree g m s c (handedOut m k d cl r b p n) k d cl r b p n q a;
-        steady = λ x l e. (standing.tag-back g m (handedOut m k d cl r b p n) k d cl r b p n q a x e .0, standing.class-same g m (handedOut m k d cl r b p n) k d cl r b p n q a x);
+        structure = structure g m s c (handedOut g m k d cl r b p n) k d cl r b p n q a;
+        agree = agree g m s c (handedOut g m k d cl r b p n) k d cl r b p n q a;
+        steady = λ x l e. (standing.tag-back g m (handedOut g m k d cl r b p n) k d cl r b p n q a x e .0, standing.class-same g m (handedOut g m k d cl r b p n) k d cl r b p n q a x);
       }
 
   pub handed : (k d cl r p n : ℕ) → k < mutatorCount → isAttached m k ≡ true → d < rootCount → classOf (p + n) ≡ Class cl → holding m k cl ≡ suc r
-      → (b : ℕ) × (free m r cl (place m r) ≡ Block b)
-      × Alloc segmentOf (λ _ _ _ _. some (headerOf r cl b)) (view m)
-      × Moves g m (handedOut m k d cl r b p n) (make (view m) k d (headerOf r cl b) p (replicate n 0))
-      × (root (handedOut m k d cl r b p n) k d ≡ suc (headerOf r cl b))
+      → (b : ℕ) × (free g m r cl (place m r) ≡ Block b)
+      × Alloc (segmentOf g) (λ _ _ _ _. some (headerOf g r cl b)) (view g m)
+      × Moves g m (handedOut g m k d cl r b p n) (make (view g m) k d (headerOf g r cl b) p (replicate n 0))
+      × (root (handedOut g m k d cl r b p n) k d ≡ suc (headerOf g r cl b))
   handed k d cl r p n few att within sized holds =
       let f = requested g m c k d cl r p n few att within sized holds in (
         f .0,

@@ -7,33 +7,35 @@ use lib.ListN.{replicate}
 use borrow.Author.Tests.{eq-eqb, ne-eqb}
 use Rattle.words.specs.Bits.{bitAt}
 use Rattle.layout.specs.declared.Geometry.{Geometry}
-use Rattle.layout.specs.Geometry.{segmentWords}
+use Rattle.layout.specs.Geometry.{segmentWords, segmentOf, bitIn}
 use Rattle.layout.specs.Mem.{Mem, heapWord}
 use Rattle.theory.specs.Phases.{black}
 use Rattle.theory.specs.TraceStack.{tab}
 use Rattle.theory.proofs.Invariant.{Tracing}
 use Rattle.model.specs.Fields.{phase, acks, tag, class}
 use Rattle.model.specs.Segments.{usedBit}
-use Rattle.model.specs.Records.{pointers, values, pointer, value, marked, segmentOf, blockOf, bitIn, bitOf, headerOf, blockWords}
+use Rattle.model.specs.Records.{pointers, values, pointer, value, marked, blockOf, bitOf, headerOf, blockWords}
 use Rattle.model.specs.Reaching.{isMarked}
 use Rattle.model.specs.Consistent.{Consistent}
 use Rattle.refine_view.specs.View.{valuesOf, isHead, isUsed}
 use Rattle.refine_view.proofs.Bools.{and-both, ne-not}
-use Rattle.refine_view.proofs.Blocks.{header-segment, header-block, header-bit, header-class, header-head, block-within}
+use Rattle.layout.proofs.Sizes.{bytes-are}
+use Rattle.model.proofs.Blocks.{header-segment, header-block, header-bit, header-class, header-head, block-within}
 use Rattle.refine_view.proofs.Tables.{tab-zeros}
 use Rattle.refine_making.proofs.Request.{Request}
 use Rattle.refine_making.proofs.Result.{Result}
 use Rattle.refine_making.proofs.Standing as standing
 use Rattle.refine_making.proofs.Unused as unused
+use Rattle.model.specs.Tag as Tag
 
 module _ (g : Geometry) (m : Mem) (c : Consistent g m) (m′ : Mem) (k d cl r b p n : ℕ) (q : Request g m k d cl r b p n) (a : Result g m m′ k d cl r b p n) where
   abbrev h : ℕ
-  h = headerOf r cl b
+  h = headerOf g r cl b
 
   -- ---- the new record
 
   small : n < 65536
-  small = let z = block-within cl (q .isClass) b (q .below) in let w = q .fits in omega arith
+  small = let z = block-within g cl (q .isClass) b (q .below) in let w = q .fits in let y = bytes-are g in let e = y .1 in let f = y .3 in omega arith
 
   pub pointers-there : pointers m′ h ≡ p
   pointers-there = let e = a .header in let l = small in omega arith
@@ -50,35 +52,35 @@ module _ (g : Geometry) (m : Mem) (c : Consistent g m) (m′ : Mem) (k d cl r b 
   pub fields-there : valuesOf m′ h ≡ replicate n 0
   fields-there = ap (λ z. tab z (value m′ h)) values-there ∙ tab-zeros n (value m′ h) value-there
 
-  pub class-at : class m′ (segmentOf h) ≡ cl
-  class-at = header-class cl (q .isClass) r b (q .below) m′ (standing.class-there g m m′ k d cl r b p n q a)
+  pub class-at : class m′ (segmentOf g h) ≡ cl
+  class-at = header-class g cl (q .isClass) r b (q .below) m′ (standing.class-there g m m′ k d cl r b p n q a)
 
-  pub aligned-there : h % segmentWords % blockWords (class m′ (segmentOf h)) ≡ 0
-  aligned-there = header-head cl (q .isClass) r b (q .below) m′ (standing.class-there g m m′ k d cl r b p n q a)
+  pub aligned-there : h % segmentWords g % blockWords (class m′ (segmentOf g h)) ≡ 0
+  aligned-there = header-head g cl (q .isClass) r b (q .below) m′ (standing.class-there g m m′ k d cl r b p n q a)
 
-  bit-there : bitOf m′ h ≡ bitIn r b
-  bit-there = header-bit cl (q .isClass) r b (q .below) m′ (standing.class-there g m m′ k d cl r b p n q a)
+  bit-there : bitOf g m′ h ≡ bitIn g r b
+  bit-there = header-bit g cl (q .isClass) r b (q .below) m′ (standing.class-there g m m′ k d cl r b p n q a)
 
-  pub used-there : usedBit m′ (segmentOf h) (blockOf m′ h) ≡ 1
+  pub used-there : usedBit g m′ (segmentOf g h) (blockOf g m′ h) ≡ 1
   used-there =
-      ap (λ z. usedBit m′ z (blockOf m′ h)) (header-segment cl (q .isClass) r b (q .below))
-      ∙ ap (usedBit m′ r) (header-block cl (q .isClass) r b (q .below) m′ (standing.class-there g m m′ k d cl r b p n q a))
+      ap (λ z. usedBit g m′ z (blockOf g m′ h)) (header-segment g cl (q .isClass) r b (q .below))
+      ∙ ap (usedBit g m′ r) (header-block g cl (q .isClass) r b (q .below) m′ (standing.class-there g m m′ k d cl r b p n q a))
       ∙ standing.used-there g m m′ k d cl r b p n q a
 
-  pub tag-at : tag m′ (segmentOf h) ≡ 0 → ⊥
+  pub tag-at : tag m′ (segmentOf g h) ≡ Tag.free → ⊥
   tag-at e =
-      let z : tag m′ (segmentOf h) ≡ tag m′ r = ap (tag m′) (header-segment cl (q .isClass) r b (q .below)) in
+      let z : tag m′ (segmentOf g h) ≡ tag m′ r = ap (tag m′) (header-segment g cl (q .isClass) r b (q .below)) in
       let l = standing.tag-there g m m′ k d cl r b p n q a .0 in
       omega arith
 
-  pub is-used-there : isUsed m′ h ≡ true
+  pub is-used-there : isUsed g m′ h ≡ true
   is-used-there = and-both _ _ (ne-not _ _ tag-at) (eq-eqb _ _ used-there)
 
-  pub mark-there : Tracing (phase m) → (isHead m′ h && isMarked m′ h) ≡ black (phase m) (acks m k)
-  mark-there t = rw (eq-eqb (h % segmentWords % blockWords (class m′ (segmentOf h))) 0 aligned-there) (go (black (phase m) (acks m k)) refl)
+  pub mark-there : Tracing (phase m) → (isHead g m′ h && isMarked g m′ h) ≡ black (phase m) (acks m k)
+  mark-there t = rw (eq-eqb (h % segmentWords g % blockWords (class m′ (segmentOf g h))) 0 aligned-there) (go (black (phase m) (acks m k)) refl)
     where
-      go : (x : Bool) → black (phase m) (acks m k) ≡ x → isMarked m′ h ≡ x
-      go true e = eq-eqb (marked m′ h) 1 (ap (bitAt (m′ .marks)) bit-there ∙ a .born e)
+      go : (x : Bool) → black (phase m) (acks m k) ≡ x → isMarked g m′ h ≡ x
+      go true e = eq-eqb (marked g m′ h) 1 (ap (bitAt (m′ .marks)) bit-there ∙ a .born e)
       go false e =
-          let z : marked m′ h ≡ 0 = ap (bitAt (m′ .marks)) bit-there ∙ a .unborn e ∙ unused.not-marked g m c k d cl r b p n q t in
-          ne-eqb (marked m′ h) 1 (λ y. omega arith)
+          let z : marked g m′ h ≡ 0 = ap (bitAt (m′ .marks)) bit-there ∙ a .unborn e ∙ unused.not-marked g m c k d cl r b p n q t in
+          ne-eqb (marked g m′ h) 1 (λ y. omega arith)

@@ -5,11 +5,10 @@ use Prim.Native.Nat.{ℕ, suc, _+_, _-_, _≤_, _<_}
 use native.Mathlib.Omega.{arith}
 use Rattle.words.specs.Bits.{bitAt}
 use Rattle.classes.specs.Class.{firstClass, classCount, classOf, recordBytes}
-use Rattle.classes.specs.Shape.{blocksIn}
 use Rattle.classes.specs.declared.SizeClass.the-variants.{Class}
 use Rattle.classes.proofs.Smallest.{is-smallest}
 use Rattle.layout.specs.declared.Geometry.{Geometry}
-use Rattle.layout.specs.Geometry.{mutatorCount, rootCount}
+use Rattle.layout.specs.Geometry.{mutatorCount, rootCount, blocksIn}
 use Rattle.layout.specs.Mem.{Mem}
 use Rattle.bitmap_search.specs.declared.Found.{Found}
 use Rattle.bitmap_search.specs.declared.Found.the-variants.{Block, Nothing, Torn}
@@ -21,6 +20,7 @@ use Rattle.model.specs.Calls.{isAttached}
 use Rattle.model.specs.Consistent.{Consistent, IsClass}
 use Rattle.refine_view.proofs.Bools.{not-eq}
 use Rattle.refine_view.proofs.Apart.{fits}
+use Rattle.model.specs.Tag as Tag
 
 -- mutator k makes a record of p pointers and n values into its root d, out of block b of its segment r of class cl
 pub record Request (g : Geometry) (m : Mem) (k d cl r b p n : ℕ) : Type 0 where
@@ -31,13 +31,13 @@ pub record Request (g : Geometry) (m : Mem) (k d cl r b p n : ℕ) : Type 0 wher
   pub isClass : IsClass cl
   pub fits : 1 + (p + n) ≤ blockWords cl
   pub inside : r < g .segments
-  pub isHeld : tag m r ≡ 2
+  pub isHeld : tag m r ≡ Tag.held
   pub ofClass : class m r ≡ cl
   pub ofMutator : owner m r ≡ k
   pub holds : holding m k cl ≡ suc r
   pub after : place m r ≤ b
-  pub below : b < blocksIn cl
-  pub unused : bitAt (bitmap m r) b ≡ 0
+  pub below : b < blocksIn g cl
+  pub unused : bitAt (bitmap g m r) b ≡ 0
 
 -- the scan finds a block where there is one
 found : (bit : ℕ → ℕ) (n p : ℕ) (f : Found) → IsNext bit n p f → (i : ℕ) → p ≤ i → i < n → bit i ≡ 0 → (b : ℕ) × (f ≡ Block b) × (p ≤ b) × (b < n) × (bit b ≡ 0)
@@ -53,15 +53,15 @@ module _ (g : Geometry) (m : Mem) (c : Consistent g m) (k d cl r p n : ℕ) (few
   fit = let l = fits (p + n) cl sized in omega arith
 
   -- a held segment has a free block at or after its place
-  pub requested : (b : ℕ) × (free m r cl (place m r) ≡ Block b) × Request g m k d cl r b p n
+  pub requested : (b : ℕ) × (free g m r cl (place m r) ≡ Block b) × Request g m k d cl r b p n
   requested = go (c .mutators k few .holds cl r is-class holds)
     where
-      go : (r < g .segments) × (tag m r ≡ 2) × (class m r ≡ cl) × (owner m r ≡ k) → (b : ℕ) × (free m r cl (place m r) ≡ Block b) × Request g m k d cl r b p n
+      go : (r < g .segments) × (tag m r ≡ Tag.held) × (class m r ≡ cl) × (owner m r ≡ k) → (b : ℕ) × (free g m r cl (place m r) ≡ Block b) × Request g m k d cl r b p n
       go h = on (c .segments r (h .0) .remains (let e = h .1 in omega arith) (let e = h .1 in omega arith))
         where
-          on : (b : ℕ) × (place m r ≤ b) × (b < blocksIn (class m r)) × (bitAt (bitmap m r) b ≡ 0) → (b : ℕ) × (free m r cl (place m r) ≡ Block b) × Request g m k d cl r b p n
+          on : (b : ℕ) × (place m r ≤ b) × (b < blocksIn g (class m r)) × (bitAt (bitmap g m r) b ≡ 0) → (b : ℕ) × (free g m r cl (place m r) ≡ Block b) × Request g m k d cl r b p n
           on i =
-              let f = found (bitAt (bitmap m r)) (blocksIn cl) (place m r) (free m r cl (place m r)) (next-is (bitAt (bitmap m r)) (blocksIn cl) (place m r)) (i .0) (i .1) (subst (λ z. i .0 < blocksIn z) (h .2) (i .2)) (i .3) in (
+              let f = found (bitAt (bitmap g m r)) (blocksIn g cl) (place m r) (free g m r cl (place m r)) (next-is (bitAt (bitmap g m r)) (blocksIn g cl) (place m r)) (i .0) (i .1) (subst (λ z. i .0 < blocksIn g z) (h .2) (i .2)) (i .3) in (
                 f .0,
                 f .1,
                 record {

@@ -5,29 +5,28 @@ use mathlib.Core.Logic.{_⊎_}
 use Prim.Native.Nat.{ℕ, suc, _+_, _-_, _*_, _≤_, _<_}
 use Rattle.words.specs.Bits.{bitAt}
 use Rattle.classes.specs.Class.{firstClass}
-use Rattle.classes.specs.Shape.{blocksIn}
 use Rattle.layout.specs.declared.Geometry.{Geometry}
-use Rattle.layout.specs.Geometry.{mutatorWords}
+use Rattle.layout.specs.Geometry.{mutatorWords, blocksIn, bitIn}
 use Rattle.layout.specs.Mem.{Mem, mutatorWord, heapWord}
 use Rattle.theory.specs.Phases.{black}
-use Rattle.model.specs.Fields.{phase, rootsFrom, heldFrom, acks, root, holding, tag, class, place, owner}
+use Rattle.model.specs.Fields.{phase, heldFrom, acks, root, holding, tag, class, place, owner}
 use Rattle.model.specs.Segments.{bitmap}
-use Rattle.model.specs.Records.{headerOf, bitIn}
+use Rattle.model.specs.Records.{headerOf}
 use Rattle.refine_view.specs.Kept.{Sizes}
 use Rattle.refine_view.proofs.Words.{Recorded}
 
 -- the segment is still held, with a free block at or after its place
-pub record StillHeld (m m′ : Mem) (k cl r b : ℕ) : Type 0 where
+pub record StillHeld (g : Geometry) (m m′ : Mem) (k cl r b : ℕ) : Type 0 where
   pub recorded : Recorded m′ r 2 cl (b + 1) k
   pub held : holding m′ k cl ≡ suc r
   pub next : ℕ
   pub after : b + 1 ≤ next
-  pub below : next < blocksIn cl
-  pub unused : bitAt (bitmap m r) next ≡ 0
+  pub below : next < blocksIn g cl
+  pub unused : bitAt (bitmap g m r) next ≡ 0
 
 -- the segment has become full
-pub record NowFull (m′ : Mem) (k cl r : ℕ) : Type 0 where
-  pub recorded : Recorded m′ r 3 cl (blocksIn cl) 0
+pub record NowFull (g : Geometry) (m′ : Mem) (k cl r : ℕ) : Type 0 where
+  pub recorded : Recorded m′ r 3 cl (blocksIn g cl) 0
   pub held : holding m′ k cl ≡ 0
 
 -- the place has moved: what is left of the segment, of the mutator's table and of the rest
@@ -42,7 +41,7 @@ pub record Moved (g : Geometry) (m m′ : Mem) (k cl r b : ℕ) : Type 0 where
   pub heap : m′ .heap ≡ m .heap
   pub words : (j o : ℕ) → o < mutatorWords → (j ≡ k → o ≡ heldFrom + (cl - firstClass) → ⊥) → mutatorWord m′ (j * mutatorWords + o) ≡ mutatorWord m (j * mutatorWords + o)
   pub others : (x : ℕ) → (x ≡ r → ⊥) → Recorded m′ x (tag m x) (class m x) (place m x) (owner m x)
-  pub segment : StillHeld m m′ k cl r b ⊎ NowFull m′ k cl r
+  pub segment : StillHeld g m m′ k cl r b ⊎ NowFull g m′ k cl r
 
 -- a record of p pointers and n values in block b of segment r, in root d of mutator k
 pub record Result (g : Geometry) (m m′ : Mem) (k d cl r b p n : ℕ) : Type 0 where
@@ -52,14 +51,14 @@ pub record Result (g : Geometry) (m m′ : Mem) (k d cl r b p n : ℕ) : Type 0 
   pub bitmaps : m′ .bitmaps ≡ m .bitmaps
   pub queued : m′ .queued ≡ m .queued
   pub trace : m′ .trace ≡ m .trace
-  pub words : (j o : ℕ) → o < mutatorWords → (j ≡ k → o ≡ heldFrom + (cl - firstClass) → ⊥) → (j ≡ k → o ≡ rootsFrom + d → ⊥) → mutatorWord m′ (j * mutatorWords + o) ≡ mutatorWord m (j * mutatorWords + o)
-  pub named : root m′ k d ≡ suc (headerOf r cl b)
+  pub words : (j o : ℕ) → o < mutatorWords → (j ≡ k → o ≡ heldFrom + (cl - firstClass) → ⊥) → (j ≡ k → o ≡ d → ⊥) → mutatorWord m′ (j * mutatorWords + o) ≡ mutatorWord m (j * mutatorWords + o)
+  pub named : root m′ k d ≡ suc (headerOf g r cl b)
   pub others : (x : ℕ) → (x ≡ r → ⊥) → Recorded m′ x (tag m x) (class m x) (place m x) (owner m x)
-  pub segment : StillHeld m m′ k cl r b ⊎ NowFull m′ k cl r
-  pub header : heapWord m′ (headerOf r cl b) ≡ p * 65536 + n
-  pub fields : (i : ℕ) → i < p + n → heapWord m′ (headerOf r cl b + 1 + i) ≡ 0
-  pub before : (i : ℕ) → i < headerOf r cl b → heapWord m′ i ≡ heapWord m i
-  pub behind : (i : ℕ) → headerOf r cl b + (p + n) < i → heapWord m′ i ≡ heapWord m i
-  pub marks : (i : ℕ) → (i ≡ bitIn r b → ⊥) → bitAt (m′ .marks) i ≡ bitAt (m .marks) i
-  pub born : black (phase m) (acks m k) ≡ true → bitAt (m′ .marks) (bitIn r b) ≡ 1
-  pub unborn : black (phase m) (acks m k) ≡ false → bitAt (m′ .marks) (bitIn r b) ≡ bitAt (m .marks) (bitIn r b)
+  pub segment : StillHeld g m m′ k cl r b ⊎ NowFull g m′ k cl r
+  pub header : heapWord m′ (headerOf g r cl b) ≡ p * 65536 + n
+  pub fields : (i : ℕ) → i < p + n → heapWord m′ (headerOf g r cl b + 1 + i) ≡ 0
+  pub before : (i : ℕ) → i < headerOf g r cl b → heapWord m′ i ≡ heapWord m i
+  pub behind : (i : ℕ) → headerOf g r cl b + (p + n) < i → heapWord m′ i ≡ heapWord m i
+  pub marks : (i : ℕ) → (i ≡ bitIn g r b → ⊥) → bitAt (m′ .marks) i ≡ bitAt (m .marks) i
+  pub born : black (phase m) (acks m k) ≡ true → bitAt (m′ .marks) (bitIn g r b) ≡ 1
+  pub unborn : black (phase m) (acks m k) ≡ false → bitAt (m′ .marks) (bitIn g r b) ≡ bitAt (m .marks) (bitIn g r b)

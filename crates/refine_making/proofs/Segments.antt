@@ -7,9 +7,8 @@ use native.Mathlib.Omega.{arith}
 use Rattle.rules.proofs.Order.{same-or-not}
 use Rattle.words.specs.Bits.{bitAt}
 use Rattle.words.specs.Tree.{Tree}
-use Rattle.classes.specs.Shape.{blocksIn}
 use Rattle.layout.specs.declared.Geometry.{Geometry}
-use Rattle.layout.specs.Geometry.{mutatorCount}
+use Rattle.layout.specs.Geometry.{mutatorCount, blocksIn}
 use Rattle.layout.specs.Mem.{Mem}
 use Rattle.model.specs.Fields.{state, holding, tag, class, place, owner}
 use Rattle.model.specs.Segments.{bitmap, above}
@@ -18,20 +17,21 @@ use Rattle.refine_view.proofs.Segments.{segment-same}
 use Rattle.refine_making.proofs.Request.{Request}
 use Rattle.refine_making.proofs.Result.{StillHeld, NowFull, Result}
 use Rattle.refine_making.proofs.Standing as standing
+use Rattle.model.specs.Tag as Tag
 
 module _ (g : Geometry) (m : Mem) (c : Consistent g m) (m′ : Mem) (k d cl r b p n : ℕ) (q : Request g m k d cl r b p n) (a : Result g m m′ k d cl r b p n) where
-  tree-on : (x : ℕ) → Tree (above (class m x)) (blocksIn (class m x)) (bitmap m x) → Tree (above (class m′ x)) (blocksIn (class m′ x)) (bitmap m′ x)
+  tree-on : (x : ℕ) → Tree (above g (class m x)) (blocksIn g (class m x)) (bitmap g m x) → Tree (above g (class m′ x)) (blocksIn g (class m′ x)) (bitmap g m′ x)
   tree-on x t =
-      subst (λ (ws : List ℕ). Tree (above (class m′ x)) (blocksIn (class m′ x)) ws) (sym (standing.bitmap-same g m m′ k d cl r b p n q a x))
-      (subst (λ z. Tree (above z) (blocksIn z) (bitmap m x)) (sym (standing.class-same g m m′ k d cl r b p n q a x)) t)
+      subst (λ (ws : List ℕ). Tree (above g (class m′ x)) (blocksIn g (class m′ x)) ws) (sym (standing.bitmap-same g m m′ k d cl r b p n q a x))
+      (subst (λ z. Tree (above g z) (blocksIn g z) (bitmap g m x)) (sym (standing.class-same g m m′ k d cl r b p n q a x)) t)
 
   -- ---- another segment
 
   module _ (x : ℕ) (l : x < g .segments) (f : x ≡ r → ⊥) where
-    ok : SegmentOk m x
+    ok : SegmentOk g m x
     ok = c .segments x l
 
-    held-on : tag m x ≡ 2 → holding m′ (owner m x) (class m x) ≡ suc x
+    held-on : tag m x ≡ Tag.held → holding m′ (owner m x) (class m x) ≡ suc x
     held-on e = standing.holding-same g m m′ k d cl r b p n q a (owner m x) (class m x) (ok .classes (λ z. omega arith)) other ∙ ok .held e .2
       where
         other : owner m x ≡ k → class m x ≡ cl → ⊥
@@ -40,18 +40,18 @@ module _ (g : Geometry) (m : Mem) (c : Consistent g m) (m′ : Mem) (k d cl r b 
             let v = q .holds in
             f (omega arith)
 
-    other-ok : SegmentOk m′ x
-    other-ok = segment-same m m′ x ok (a .others x f) (standing.bitmap-same g m m′ k d cl r b p n q a x) (λ e. (λ y. ok .held e .1 (sym (standing.state-same g m m′ k d cl r b p n q a (owner m x)) ∙ y), held-on e))
+    other-ok : SegmentOk g m′ x
+    other-ok = segment-same g m m′ x ok (a .others x f) (standing.bitmap-same g m m′ k d cl r b p n q a x) (λ e. (λ y. ok .held e .1 (sym (standing.state-same g m m′ k d cl r b p n q a (owner m x)) ∙ y), held-on e))
 
   -- ---- the segment of the block
 
-  tree-there : Tree (above (class m′ r)) (blocksIn (class m′ r)) (bitmap m′ r)
+  tree-there : Tree (above g (class m′ r)) (blocksIn g (class m′ r)) (bitmap g m′ r)
   tree-there = tree-on r (c .segments r (q .inside) .tree (λ e. let z = q .isHeld in omega arith))
 
   class-there : IsClass (class m′ r)
   class-there = subst IsClass (sym (standing.class-there g m m′ k d cl r b p n q a)) (q .isClass)
 
-  same-segment : StillHeld m m′ k cl r b ⊎ NowFull m′ k cl r → SegmentOk m′ r
+  same-segment : StillHeld g m m′ k cl r b ⊎ NowFull g m′ k cl r → SegmentOk g m′ r
   same-segment (inl x) =
       let o = x .recorded in
       let t = o .tag in
@@ -61,7 +61,7 @@ module _ (g : Geometry) (m : Mem) (c : Consistent g m) (m′ : Mem) (k d cl r b 
         unowned = λ h. absurd (h t);
         classes = λ h. class-there;
         tree = λ h. tree-there;
-        remains = λ u v. (x .next, subst (λ z. z ≤ x .next) (sym (o .place)) (x .after), subst (λ z. x .next < blocksIn z) (sym (o .class)) (x .below), ap (λ (ws : List ℕ). bitAt ws (x .next)) (standing.bitmap-same g m m′ k d cl r b p n q a r) ∙ x .unused);
+        remains = λ u v. (x .next, subst (λ z. z ≤ x .next) (sym (o .place)) (x .after), subst (λ z. x .next < blocksIn g z) (sym (o .class)) (x .below), ap (λ (ws : List ℕ). bitAt ws (x .next)) (standing.bitmap-same g m m′ k d cl r b p n q a r) ∙ x .unused);
         whole = λ u. absurd (omega arith);
         held = λ e. (
           subst (λ w. w < mutatorCount) (sym (o .owner)) (q .few),
@@ -79,9 +79,9 @@ module _ (g : Geometry) (m : Mem) (c : Consistent g m) (m′ : Mem) (k d cl r b 
         classes = λ h. class-there;
         tree = λ h. tree-there;
         remains = λ u v. absurd (omega arith);
-        whole = λ u. o .place ∙ ap blocksIn (sym (o .class));
+        whole = λ u. o .place ∙ ap (blocksIn g) (sym (o .class));
         held = λ e. absurd (omega arith);
       }
 
-  pub segments-ok : (x : ℕ) → x < g .segments → SegmentOk m′ x
-  segments-ok x l = ⊎-elim (λ e. subst (SegmentOk m′) (sym e) (same-segment (a .segment))) (other-ok x l) (same-or-not x r)
+  pub segments-ok : (x : ℕ) → x < g .segments → SegmentOk g m′ x
+  segments-ok x l = ⊎-elim (λ e. subst (SegmentOk g m′) (sym e) (same-segment (a .segment))) (other-ok x l) (same-or-not x r)

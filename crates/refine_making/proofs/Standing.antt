@@ -13,22 +13,24 @@ use Rattle.rules.proofs.Order.{same-or-not}
 use Rattle.words.specs.Bits.{bitAt}
 use Rattle.classes.specs.Class.{firstClass}
 use Rattle.layout.specs.declared.Geometry.{Geometry}
-use Rattle.layout.specs.Geometry.{rootCount, segmentWords, mostBlocks}
+use Rattle.layout.specs.Geometry.{rootCount, segmentWords, mostBlocks, segmentOf, bitIn}
 use Rattle.layout.specs.Mem.{Mem, controlWord, traceWord}
-use Rattle.model.specs.Fields.{phase, traceCount, state, acks, root, holding, tag, class, place}
+use Rattle.model.specs.Fields.{phase, traceCount, stateAt, acksAt, heldFrom, state, acks, root, holding, tag, class, place}
 use Rattle.model.specs.Segments.{bitmap, usedBit}
-use Rattle.model.specs.Records.{segmentOf, blockOf, bitOf, bitIn, blockWords, marked}
+use Rattle.model.specs.Records.{blockOf, bitOf, blockWords, marked}
 use Rattle.model.specs.Reaching.{isMarked}
 use Rattle.model.specs.Consistent.{IsClass}
 use Rattle.model.specs.Rules.{phaseOf}
 use Rattle.refine_view.specs.View.{stackOf, isHead}
-use Rattle.refine_view.proofs.Blocks.{blocks-most}
+use Rattle.model.proofs.Blocks.{blocks-most}
 use Rattle.refine_view.proofs.Bitmaps.{bitmap-by}
 use Rattle.refine_view.proofs.Seeing.{entries-same}
-use Rattle.refine_view.proofs.Entries.{state-by, root-by, holding-by, table-below}
+use Rattle.refine_view.proofs.Entries.{holding-by, table-below}
 use Rattle.refine_view.proofs.Segments.{used-same}
 use Rattle.refine_making.proofs.Request.{Request}
 use Rattle.refine_making.proofs.Result.{StillHeld, NowFull, Result}
+use Rattle.layout.proofs.Sizes.{one-way}
+use Rattle.model.specs.Tag as Tag
 
 module _ (g : Geometry) (m m′ : Mem) (k d cl r b p n : ℕ) (q : Request g m k d cl r b p n) (a : Result g m m′ k d cl r b p n) where
   -- ---- control and the trace stack
@@ -51,30 +53,30 @@ module _ (g : Geometry) (m m′ : Mem) (k d cl r b p n : ℕ) (q : Request g m k
   -- ---- mutators
 
   pub state-same : (j : ℕ) → state m′ j ≡ state m j
-  state-same j = state-by m m′ j (a .words j 0 (omega arith) (λ x y. omega arith) (λ x y. omega arith))
+  state-same j = let w = q .within in a .words j stateAt (omega arith) (λ x y. omega arith) (λ x y. omega arith)
 
   pub acks-same : (j : ℕ) → acks m′ j ≡ acks m j
-  acks-same j = a .words j 1 (omega arith) (λ x y. omega arith) (λ x y. omega arith)
+  acks-same j = let w = q .within in a .words j acksAt (omega arith) (λ x y. omega arith) (λ x y. omega arith)
 
   pub root-same : (j i : ℕ) → i < rootCount → (j ≡ k → i ≡ d → ⊥) → root m′ j i ≡ root m j i
-  root-same j i l f = root-by m m′ j i (a .words j (2 + i) (omega arith) (λ x y. omega arith) (λ x y. f x (omega arith)))
+  root-same j i l f = a .words j i (omega arith) (λ x y. omega arith) f
 
   pub holding-same : (j c : ℕ) → IsClass c → (j ≡ k → c ≡ cl → ⊥) → holding m′ j c ≡ holding m j c
-  holding-same j c i f = let u = i .0 in let x = q .isClass .0 in let w = q .within in holding-by m m′ j c (a .words j (18 + (c - firstClass)) (table-below c i) (λ x y. f x (omega arith)) (λ x y. omega arith))
+  holding-same j c i f = let u = i .0 in let x = q .isClass .0 in let w = q .within in holding-by m m′ j c (a .words j (heldFrom + (c - firstClass)) (table-below c i) (λ x y. f x (omega arith)) (λ x y. omega arith))
 
   -- ---- segments
 
   pub class-there : class m′ r ≡ cl
   class-there = go (a .segment)
     where
-      go : StillHeld m m′ k cl r b ⊎ NowFull m′ k cl r → class m′ r ≡ cl
+      go : StillHeld g m m′ k cl r b ⊎ NowFull g m′ k cl r → class m′ r ≡ cl
       go (inl x) = x .recorded .class
       go (inr x) = x .recorded .class
 
-  pub tag-there : (2 ≤ tag m′ r) × (tag m′ r ≤ 3)
+  pub tag-there : (Tag.held ≤ tag m′ r) × (tag m′ r ≤ Tag.full)
   tag-there = go (a .segment)
     where
-      go : StillHeld m m′ k cl r b ⊎ NowFull m′ k cl r → (2 ≤ tag m′ r) × (tag m′ r ≤ 3)
+      go : StillHeld g m m′ k cl r b ⊎ NowFull g m′ k cl r → (Tag.held ≤ tag m′ r) × (tag m′ r ≤ Tag.full)
       go (inl x) = let e = x .recorded .tag in (omega arith, omega arith)
       go (inr x) = let e = x .recorded .tag in (omega arith, omega arith)
 
@@ -82,7 +84,7 @@ module _ (g : Geometry) (m m′ : Mem) (k d cl r b p n : ℕ) (q : Request g m k
   pub place-there : b < place m′ r
   place-there = go (a .segment)
     where
-      go : StillHeld m m′ k cl r b ⊎ NowFull m′ k cl r → b < place m′ r
+      go : StillHeld g m m′ k cl r b ⊎ NowFull g m′ k cl r → b < place m′ r
       go (inl x) = let e = x .recorded .place in omega arith
       go (inr x) = let e = x .recorded .place in let l = q .below in omega arith
 
@@ -107,15 +109,15 @@ module _ (g : Geometry) (m m′ : Mem) (k d cl r b p n : ℕ) (q : Request g m k
           ne-eqb (tag m′ x) t (λ w. ⊎-elim (λ x. y x) (λ x. z (omega arith)) (same-or-not t 2)) ∙ sym (ne-eqb (tag m x) t (λ w. y (omega arith)))
       go (inr f) = ap (λ w. eqb w t) (a .others x f .tag)
 
-  pub tag-back : (x : ℕ) → tag m′ x ≡ 4 → (tag m x ≡ 4) × (x ≡ r → ⊥)
+  pub tag-back : (x : ℕ) → tag m′ x ≡ Tag.condemned → (tag m x ≡ Tag.condemned) × (x ≡ r → ⊥)
   tag-back x e = go (same-or-not x r)
     where
-      go : (x ≡ r) ⊎ (x ≡ r → ⊥) → (tag m x ≡ 4) × (x ≡ r → ⊥)
+      go : (x ≡ r) ⊎ (x ≡ r → ⊥) → (tag m x ≡ Tag.condemned) × (x ≡ r → ⊥)
       go (inl i) = let u : tag m′ x ≡ tag m′ r = ap (tag m′) i in let j = tag-there .1 in absurd (omega arith)
       go (inr f) = (sym (a .others x f .tag) ∙ e, f)
 
   -- a segment in use stays so
-  pub tag-used : (x : ℕ) → (tag m x ≡ 0 → ⊥) → tag m′ x ≡ 0 → ⊥
+  pub tag-used : (x : ℕ) → (tag m x ≡ Tag.free → ⊥) → tag m′ x ≡ Tag.free → ⊥
   tag-used x y e = go (same-or-not x r)
     where
       go : (x ≡ r) ⊎ (x ≡ r → ⊥) → ⊥
@@ -124,29 +126,29 @@ module _ (g : Geometry) (m m′ : Mem) (k d cl r b p n : ℕ) (q : Request g m k
 
   -- ---- blocks
 
-  pub bitmap-same : (x : ℕ) → bitmap m′ x ≡ bitmap m x
-  bitmap-same = bitmap-by m m′ (a .bitmaps)
+  pub bitmap-same : (x : ℕ) → bitmap g m′ x ≡ bitmap g m x
+  bitmap-same = bitmap-by g m m′ (a .bitmaps)
 
-  pub head-same : (x : ℕ) → isHead m′ x ≡ isHead m x
-  head-same x = ap (λ c. eqb (x % segmentWords % blockWords c) 0) (class-same (segmentOf x))
+  pub head-same : (x : ℕ) → isHead g m′ x ≡ isHead g m x
+  head-same x = ap (λ c. eqb (x % segmentWords g % blockWords c) 0) (class-same (segmentOf g x))
 
-  pub block-same : (x : ℕ) → blockOf m′ x ≡ blockOf m x
-  block-same x = ap (λ c. x % segmentWords / blockWords c) (class-same (segmentOf x))
+  pub block-same : (x : ℕ) → blockOf g m′ x ≡ blockOf g m x
+  block-same x = ap (λ c. x % segmentWords g / blockWords c) (class-same (segmentOf g x))
 
-  pub bit-same : (x : ℕ) → bitOf m′ x ≡ bitOf m x
-  bit-same x = ap (bitIn (segmentOf x)) (block-same x)
+  pub bit-same : (x : ℕ) → bitOf g m′ x ≡ bitOf g m x
+  bit-same x = ap (bitIn g (segmentOf g x)) (block-same x)
 
-  used-before : (x i : ℕ) → i < place m′ x → usedBit m′ x i ≡ 1
+  used-before : (x i : ℕ) → i < place m′ x → usedBit g m′ x i ≡ 1
   used-before x i l = rw (lt-ltb i (place m′ x) l) refl
 
-  pub used-there : usedBit m′ r b ≡ 1
+  pub used-there : usedBit g m′ r b ≡ 1
   used-there = used-before r b place-there
 
   -- a block in use stays so
-  pub used-on : (x i : ℕ) → usedBit m x i ≡ 1 → usedBit m′ x i ≡ 1
+  pub used-on : (x i : ℕ) → usedBit g m x i ≡ 1 → usedBit g m′ x i ≡ 1
   used-on x i e = go (same-or-not x r) (ltb i (place m x)) refl e
     where
-      go : (x ≡ r) ⊎ (x ≡ r → ⊥) → (t : Bool) → ltb i (place m x) ≡ t → pick t 1 (bitAt (bitmap m x) i) ≡ 1 → usedBit m′ x i ≡ 1
+      go : (x ≡ r) ⊎ (x ≡ r → ⊥) → (t : Bool) → ltb i (place m x) ≡ t → pick t 1 (bitAt (bitmap g m x) i) ≡ 1 → usedBit g m′ x i ≡ 1
       go (inl z) true y w =
           let l = ltb-true i (place m x) y in
           let u : place m′ x ≡ place m′ r = ap (place m′) z in
@@ -156,16 +158,16 @@ module _ (g : Geometry) (m m′ : Mem) (k d cl r b p n : ℕ) (q : Request g m k
           used-before x i (omega arith)
       go (inl z) false y w = bit (ltb i (place m′ x))
         where
-          bit : (t : Bool) → pick t 1 (bitAt (bitmap m′ x) i) ≡ 1
+          bit : (t : Bool) → pick t 1 (bitAt (bitmap g m′ x) i) ≡ 1
           bit true = refl
           bit false = ap (λ ws. bitAt ws i) (bitmap-same x) ∙ w
-      go (inr f) t y w = used-same m m′ x i (a .others x f .place) (bitmap-same x) ∙ e
+      go (inr f) t y w = used-same g m m′ x i (a .others x f .place) (bitmap-same x) ∙ e
 
   -- a bit of another block is another bit
-  pub bit-there : (x i : ℕ) → i < mostBlocks → bitIn x i ≡ bitIn r b → (x ≡ r) × (i ≡ b)
-  bit-there x i l e = let u = q .below in let v = blocks-most cl (q .isClass) in (omega arith, omega arith)
+  pub bit-there : (x i : ℕ) → i < mostBlocks g → bitIn g x i ≡ bitIn g r b → (x ≡ r) × (i ≡ b)
+  bit-there x i l e = let u = q .below in let v = blocks-most g cl (q .isClass) in one-way (mostBlocks g) x i r b l (omega arith) e
 
-  pub mark-same : (x : ℕ) → (bitOf m x ≡ bitIn r b → ⊥) → (isHead m′ x && isMarked m′ x) ≡ (isHead m x && isMarked m x)
+  pub mark-same : (x : ℕ) → (bitOf g m x ≡ bitIn g r b → ⊥) → (isHead g m′ x && isMarked g m′ x) ≡ (isHead g m x && isMarked g m x)
   mark-same x f =
-      let e : marked m′ x ≡ marked m x = ap (bitAt (m′ .marks)) (bit-same x) ∙ a .marks (bitOf m x) f in
-      ap (λ z. z && isMarked m′ x) (head-same x) ∙ ap (λ z. isHead m x && eqb z 1) e
+      let e : marked g m′ x ≡ marked g m x = ap (bitAt (m′ .marks)) (bit-same x) ∙ a .marks (bitOf g m x) f in
+      ap (λ z. z && isMarked g m′ x) (head-same x) ∙ ap (λ z. isHead g m x && eqb z 1) e

@@ -6,21 +6,20 @@ use native.Mathlib.Omega.{arith}
 use Rattle.rules.proofs.Order.{same-or-not}
 use Rattle.words.specs.Bits.{bitAt}
 use Rattle.classes.specs.Class.{classOf}
-use Rattle.classes.specs.Shape.{blocksIn}
 use Rattle.classes.specs.declared.SizeClass.the-variants.{Class}
 use Rattle.layout.specs.declared.Geometry.{Geometry}
-use Rattle.layout.specs.Geometry.{mutatorCount}
+use Rattle.layout.specs.Geometry.{mutatorCount, blocksIn, segmentOf, bitIn}
 use Rattle.layout.specs.Mem.{Mem}
 use Rattle.theory.specs.Phases.{sync1, black}
 use Rattle.theory.proofs.Agree.{live-back}
 use Rattle.model.specs.Fields.{phase, state, acks, holding, tag, class, owner}
 use Rattle.model.specs.Segments.{freeStack, partStack}
-use Rattle.model.specs.Records.{values, segmentOf, blockOf, bitIn, headerOf}
+use Rattle.model.specs.Records.{values, blockOf, headerOf}
 use Rattle.model.specs.Reaching.{Live}
 use Rattle.model.specs.Consistent.{Consistent, IsClass, MutatorOk, StackOk, isFree, isPart, RecordOk, BlockInUse, MarksOf}
 use Rattle.refine_view.specs.View.{view}
 use Rattle.refine_view.specs.Kept.{Sizes, QueuedOk, MarksIn, Structure}
-use Rattle.refine_view.proofs.Blocks.{header-inside}
+use Rattle.model.proofs.Blocks.{header-inside}
 use Rattle.refine_view.proofs.Entries.{mutators-table}
 use Rattle.refine_view.proofs.OtherStacks.{stack-by}
 use Rattle.refine_view.proofs.Segments.{part-same}
@@ -33,14 +32,15 @@ use Rattle.refine_making.proofs.Agreeing.{after, agree, old-or-new, hea
 use Rattle.refine_making.proofs.Segments.{segments-ok}
 use Rattle.refine_making.proofs.Standing as standing
 use Rattle.refine_making.proofs.Newborn as newborn
+use Rattle.model.specs.Tag as Tag
 
 module _ (g : Geometry) (m : Mem) (s : Sizes g m) (c : Consistent g m) (m′ : Mem) (k d cl r b p n : ℕ) (q : Request g m k d cl r b p n) (a : Result g m m′ k d cl r b p n) where
   abbrev h : ℕ
-  h = headerOf r cl b
+  h = headerOf g r cl b
 
   -- ---- mutators
 
-  new : (y : ℕ) → holding m′ k cl ≡ suc y → StillHeld m m′ k cl r b ⊎ NowFull m′ k cl r → (y < g .segments) × (tag m′ y ≡ 2) × (class m′ y ≡ cl) × (owner m′ y ≡ k)
+  new : (y : ℕ) → holding m′ k cl ≡ suc y → StillHeld g m m′ k cl r b ⊎ NowFull g m′ k cl r → (y < g .segments) × (tag m′ y ≡ Tag.held) × (class m′ y ≡ cl) × (owner m′ y ≡ k)
   new y e (inl w) =
       let t = w .held in
       let y-is : y ≡ r = omega arith in
@@ -50,7 +50,7 @@ module _ (g : Geometry) (m : Mem) (s : Sizes g m) (c : Consistent g m) (m′ : M
 
   mutators-ok : (j : ℕ) → j < mutatorCount → MutatorOk g m′ j
   mutators-ok = mutators-table g m m′ (c .mutators) k cl (standing.state-same g m m′ k d cl r b p n q a) (standing.acks-same g m m′ k d cl r b p n q a)
-      (λ j z i w. let away : j ≡ k → ⊥ = λ u. q .attached (ap (state m) (sym u) ∙ z) in a .words j i w (λ u v. away u) (λ u v. away u))
+      (λ j z i w. let away : j ≡ k → ⊥ = λ u. q .attached (ap (state m) (sym u) ∙ z) in a .words j i (omega arith) (λ u v. away u) (λ u v. away u))
       (standing.holding-same g m m′ k d cl r b p n q a)
       (λ j x y f t u v. a .others y (λ w. f (sym v ∙ ap (owner m) w ∙ q .ofMutator) (sym u ∙ ap (class m) w ∙ q .ofClass)))
       (λ y e. new y e (a .segment))
@@ -66,11 +66,11 @@ module _ (g : Geometry) (m : Mem) (s : Sizes g m) (c : Consistent g m) (m′ : M
   -- ---- records
 
   old-record : (x : ℕ) → Live m x → x ≢ h → RecordOk g m′ x
-  old-record x l f = let o = c .records x l in record-by m m′ x (standing.class-same g m m′ k d cl r b p n q a (segmentOf x)) g o (standing.tag-used g m m′ k d cl r b p n q a (segmentOf x) (o .used)) (standing.used-on g m m′ k d cl r b p n q a (segmentOf x) (blockOf m x) (o .block)) (header-on g m s c m′ k d cl r b p n q a x l f)
+  old-record x l f = let o = c .records x l in record-by g m m′ x (standing.class-same g m m′ k d cl r b p n q a (segmentOf g x)) o (standing.tag-used g m m′ k d cl r b p n q a (segmentOf g x) (o .used)) (standing.used-on g m m′ k d cl r b p n q a (segmentOf g x) (blockOf g m x) (o .block)) (header-on g m s c m′ k d cl r b p n q a x l f)
 
   new-record : RecordOk g m′ h
   new-record = record {
-    inside = let z = header-inside cl (q .isClass) r b (q .below) g (q .inside) in let w = q .fits in omega arith;
+    inside = let z = header-inside g cl (q .isClass) r b (q .below) (q .inside) in let w = q .fits in omega arith;
     used = newborn.tag-at g m c m′ k d cl r b p n q a;
     aligned = newborn.aligned-there g m c m′ k d cl r b p n q a;
     block = newborn.used-there g m c m′ k d cl r b p n q a;
@@ -78,7 +78,7 @@ module _ (g : Geometry) (m : Mem) (s : Sizes g m) (c : Consistent g m) (m′ : M
   }
 
   records-ok : (x : ℕ) → Live m′ x → RecordOk g m′ x
-  records-ok x l = go (old-or-new g m s c m′ k d cl r b p n q a x (live-back segmentOf (after g m s c m′ k d cl r b p n q a) (view m′) (agree g m s c m′ k d cl r b p n q a) (live-on m′ l)))
+  records-ok x l = go (old-or-new g m s c m′ k d cl r b p n q a x (live-back (segmentOf g) (after g m s c m′ k d cl r b p n q a) (view g m′) (agree g m s c m′ k d cl r b p n q a) (live-on g m′ l)))
     where
       go : (Live m x × (x ≢ h)) ⊎ (x ≡ h) → RecordOk g m′ x
       go (inl y) = old-record x (y .0) (y .1)
@@ -91,30 +91,30 @@ module _ (g : Geometry) (m : Mem) (s : Sizes g m) (c : Consistent g m) (m′ : M
 
   -- ---- marks
 
-  use-on : (x i : ℕ) → BlockInUse m x i → BlockInUse m′ x i
-  use-on x i u = use-by m m′ x i u (standing.class-same g m m′ k d cl r b p n q a x) (standing.tag-used g m m′ k d cl r b p n q a x (u .used)) (standing.used-on g m m′ k d cl r b p n q a x i (u .block))
+  use-on : (x i : ℕ) → BlockInUse g m x i → BlockInUse g m′ x i
+  use-on x i u = use-by g m m′ x i u (standing.class-same g m m′ k d cl r b p n q a x) (standing.tag-used g m m′ k d cl r b p n q a x (u .used)) (standing.used-on g m m′ k d cl r b p n q a x i (u .block))
 
-  use-new : BlockInUse m′ r b
+  use-new : BlockInUse g m′ r b
   use-new = record {
     used = λ e. let z = standing.tag-there g m m′ k d cl r b p n q a .0 in omega arith;
-    within = subst (λ z. b < blocksIn z) (sym (standing.class-there g m m′ k d cl r b p n q a)) (q .below);
+    within = subst (λ z. b < blocksIn g z) (sym (standing.class-there g m m′ k d cl r b p n q a)) (q .below);
     block = standing.used-there g m m′ k d cl r b p n q a;
   }
 
   marks-of : (test : ℕ → Type 0) → MarksOf g m test → MarksOf g m′ test
-  marks-of test o x i l t y e = go (same-or-not (bitIn x i) (bitIn r b))
+  marks-of test o x i l t y e = go (same-or-not (bitIn g x i) (bitIn g r b))
     where
-      go : (bitIn x i ≡ bitIn r b) ⊎ (bitIn x i ≡ bitIn r b → ⊥) → BlockInUse m′ x i
+      go : (bitIn g x i ≡ bitIn g r b) ⊎ (bitIn g x i ≡ bitIn g r b → ⊥) → BlockInUse g m′ x i
       go (inl z) =
           let w = standing.bit-there g m m′ k d cl r b p n q a x i y z in
-          subst (λ u. BlockInUse m′ u i) (sym (w .0)) (subst (BlockInUse m′ r) (sym (w .1)) use-new)
-      go (inr z) = use-on x i (o x i l t y (sym (a .marks (bitIn x i) z) ∙ e))
+          subst (λ u. BlockInUse g m′ u i) (sym (w .0)) (subst (BlockInUse g m′ r) (sym (w .1)) use-new)
+      go (inr z) = use-on x i (o x i l t y (sym (a .marks (bitIn g x i) z) ∙ e))
 
   -- nothing is born black before the second handshake
   blank : phase m ≡ sync1 → MarksIn sync1 g m → MarksIn sync1 g m′
-  blank e o i l = go (same-or-not i (bitIn r b))
+  blank e o i l = go (same-or-not i (bitIn g r b))
     where
-      go : (i ≡ bitIn r b) ⊎ (i ≡ bitIn r b → ⊥) → bitAt (m′ .marks) i ≡ 0
+      go : (i ≡ bitIn g r b) ⊎ (i ≡ bitIn g r b → ⊥) → bitAt (m′ .marks) i ≡ 0
       go (inl z) = ap (bitAt (m′ .marks)) z ∙ a .unborn (ap (λ w. black w (acks m k)) e) ∙ ap (bitAt (m .marks)) (sym z) ∙ o i l
       go (inr z) = a .marks i z ∙ o i l
 

@@ -11,6 +11,7 @@ use Rattle.rules.proofs.Order.{same-or-not}
 use Rattle.words.specs.Bits.{bitAt}
 use Rattle.words.proofs.Word.{one-of-not-zero}
 use Rattle.words.proofs.Lists.{at-lt}
+use Rattle.layout.specs.Geometry.{mostBlocks, segmentOf, bitIn}
 use Rattle.layout.specs.declared.Geometry.{Geometry}
 use Rattle.layout.specs.Mem.{Mem}
 use Rattle.theory.specs.Phases.{Phase, idle, sync1, sync2, mark, sweep}
@@ -18,62 +19,64 @@ use Rattle.theory.proofs.Invariant.{Tracing}
 use Rattle.theory.proofs.CallKeeps.{Alloc}
 use Rattle.model.specs.Fields.{phase, tag, place}
 use Rattle.model.specs.Segments.{usedBit}
-use Rattle.model.specs.Records.{segmentOf, blockOf, bitIn, headerOf}
+use Rattle.model.specs.Records.{blockOf, headerOf}
 use Rattle.model.specs.Consistent.{Consistent, MarksOf}
 use Rattle.refine_view.specs.View.{view, isUsed}
 use Rattle.refine_view.specs.Kept.{MarksIn}
 use Rattle.refine_view.proofs.Bools.{and-false}
-use Rattle.refine_view.proofs.Blocks.{header-segment, header-block, blocks-most}
+use Rattle.model.proofs.Blocks.{header-segment, header-block, blocks-most}
 use Rattle.refine_view.proofs.Invariants.{structure-of}
 use Rattle.refine_making.proofs.Request.{Request}
+use Rattle.layout.proofs.Sizes.{within}
+use Rattle.model.specs.Tag as Tag
 
 module _ (g : Geometry) (m : Mem) (c : Consistent g m) (k d cl r b p n : ℕ) (q : Request g m k d cl r b p n) where
   abbrev h : ℕ
-  h = headerOf r cl b
+  h = headerOf g r cl b
 
-  pub segment-is : segmentOf h ≡ r
-  segment-is = header-segment cl (q .isClass) r b (q .below)
+  pub segment-is : segmentOf g h ≡ r
+  segment-is = header-segment g cl (q .isClass) r b (q .below)
 
-  pub unused-bit : usedBit m r b ≡ 0
+  pub unused-bit : usedBit g m r b ≡ 0
   unused-bit = rw (le-ltb b (place m r) (q .after)) (q .unused)
 
-  pub not-used : isUsed m h ≡ false
+  pub not-used : isUsed g m h ≡ false
   not-used =
-      let e : usedBit m (segmentOf h) (blockOf m h) ≡ usedBit m r b = ap (λ z. usedBit m z (blockOf m h)) segment-is ∙ ap (usedBit m r) (header-block cl (q .isClass) r b (q .below) m (q .ofClass)) in
+      let e : usedBit g m (segmentOf g h) (blockOf g m h) ≡ usedBit g m r b = ap (λ z. usedBit g m z (blockOf g m h)) segment-is ∙ ap (usedBit g m r) (header-block g cl (q .isClass) r b (q .below) m (q .ofClass)) in
       let z = unused-bit in
-      ap (λ x. not (eqb (tag m (segmentOf h)) 0) && x) (ne-eqb (usedBit m (segmentOf h) (blockOf m h)) 1 (λ y. omega arith)) ∙ and-false (not (eqb (tag m (segmentOf h)) 0))
+      ap (λ x. not (eqb (tag m (segmentOf g h)) Tag.free) && x) (ne-eqb (usedBit g m (segmentOf g h) (blockOf g m h)) 1 (λ y. omega arith)) ∙ and-false (not (eqb (tag m (segmentOf g h)) Tag.free))
 
-  pub not-collected : eqb (tag m (segmentOf h)) 4 ≡ false
+  pub not-collected : eqb (tag m (segmentOf g h)) Tag.condemned ≡ false
   not-collected =
-      let e : tag m (segmentOf h) ≡ tag m r = ap (tag m) segment-is in
+      let e : tag m (segmentOf g h) ≡ tag m r = ap (tag m) segment-is in
       let z = q .isHeld in
-      ne-eqb (tag m (segmentOf h)) 4 (λ y. omega arith)
+      ne-eqb (tag m (segmentOf g h)) 4 (λ y. omega arith)
 
-  pub alloc : Alloc segmentOf (λ _ _ _ _. some h) (view m)
+  pub alloc : Alloc (segmentOf g) (λ _ _ _ _. some h) (view g m)
   alloc = record {
-    free = λ i a o x e. ap (isUsed m) (sym (Option·some-injective h x e)) ∙ not-used;
-    sound = λ i a o x e. ap (λ z. eqb (tag m (segmentOf z)) 4) (sym (Option·some-injective h x e)) ∙ not-collected;
+    free = λ i a o x e. ap (isUsed g m) (sym (Option·some-injective h x e)) ∙ not-used;
+    sound = λ i a o x e. ap (λ z. eqb (tag m (segmentOf g z)) Tag.condemned) (sym (Option·some-injective h x e)) ∙ not-collected;
   }
 
   -- only blocks in use have marks
-  pub not-marked : Tracing (phase m) → bitAt (m .marks) (bitIn r b) ≡ 0
+  pub not-marked : Tracing (phase m) → bitAt (m .marks) (bitIn g r b) ≡ 0
   not-marked t = go (phase m) (structure-of g m c .marks) t
     where
-      in-use : MarksOf g m (λ s. Unit {0}) → bitAt (m .marks) (bitIn r b) ≡ 0
-      in-use f = ⊎-elim (λ z. z) (λ z. absurd (used z)) (same-or-not (bitAt (m .marks) (bitIn r b)) 0)
+      in-use : MarksOf g m (λ s. Unit {0}) → bitAt (m .marks) (bitIn g r b) ≡ 0
+      in-use f = ⊎-elim (λ z. z) (λ z. absurd (used z)) (same-or-not (bitAt (m .marks) (bitIn g r b)) 0)
         where
-          used : (bitAt (m .marks) (bitIn r b) ≡ 0 → ⊥) → ⊥
+          used : (bitAt (m .marks) (bitIn g r b) ≡ 0 → ⊥) → ⊥
           used z =
               let l = q .below in
-              let y = blocks-most cl (q .isClass) in
-              let w = f r b (q .inside) tt (omega arith) (one-of-not-zero _ (at-lt (m .marks) (bitIn r b)) z) in
+              let y = blocks-most g cl (q .isClass) in
+              let w = f r b (q .inside) tt (omega arith) (one-of-not-zero _ (at-lt (m .marks) (bitIn g r b)) z) in
               let u = w .block in
               let v = unused-bit in
               omega arith
 
-      go : (ph : Phase) → MarksIn ph g m → Tracing ph → bitAt (m .marks) (bitIn r b) ≡ 0
+      go : (ph : Phase) → MarksIn ph g m → Tracing ph → bitAt (m .marks) (bitIn g r b) ≡ 0
       go idle f t = absurd t
-      go sync1 f t = let l = q .below in let y = blocks-most cl (q .isClass) in let z = q .inside in f (bitIn r b) (omega arith)
+      go sync1 f t = let l = q .below in let y = blocks-most g cl (q .isClass) in let z = q .inside in f (bitIn g r b) (within (mostBlocks g) r (g .segments) b z (omega arith))
       go sync2 f t = in-use f
       go mark f t = in-use f
       go sweep f t = absurd t

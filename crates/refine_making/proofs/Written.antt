@@ -11,17 +11,17 @@ use Rattle.layout.specs.declared.Geometry.{Geometry}
 use Rattle.layout.specs.Geometry.{mutatorWords}
 use Rattle.layout.specs.Mem.{Mem, mutatorWord, heapWord}
 use Rattle.theory.specs.Phases.{black}
-use Rattle.model.specs.Fields.{phase, rootsFrom, heldFrom, acks, holding}
+use Rattle.model.specs.Fields.{phase, acksAt, heldFrom, acks, holding}
 use Rattle.model.specs.Records.{headerOf, written}
 use Rattle.model.specs.Rules.{phaseOf}
 use Rattle.refine_view.proofs.Windows.{sets-in, sets-out}
-use Rattle.refine_view.proofs.Blocks.{header-inside}
+use Rattle.model.proofs.Blocks.{header-inside}
 use Rattle.refine_making.proofs.Request.{Request}
 use Rattle.refine_making.proofs.Result.{Moved}
 
 module _ (g : Geometry) (m : Mem) (k d cl r b p n : ℕ) (q : Request g m k d cl r b p n) (m₁ : Mem) (v : Moved g m m₁ k cl r b) where
   abbrev pub h : ℕ
-  h = headerOf r cl b
+  h = headerOf g r cl b
 
   abbrev pub m₂ : Mem
   m₂ = written m₁ h p n
@@ -29,7 +29,7 @@ module _ (g : Geometry) (m : Mem) (k d cl r b p n : ℕ) (q : Request g m k d cl
   -- ---- the words of the heap
 
   inside : h + (1 + (p + n)) ≤ length (m₁ .heap)
-  inside = let z = v .sizes .heap in let a = header-inside cl (q .isClass) r b (q .below) g (q .inside) in let f = q .fits in omega arith
+  inside = let z = v .sizes .heap in let a = header-inside g cl (q .isClass) r b (q .below) (q .inside) in let f = q .fits in omega arith
 
   zeros : length {A = ℕ} (replicate (p + n) 0) ≡ p + n
   zeros = length-replicate {A = ℕ} (p + n) 0
@@ -55,24 +55,24 @@ module _ (g : Geometry) (m : Mem) (k d cl r b p n : ℕ) (q : Request g m k d cl
   -- ---- the words of the mutators
 
   abbrev pub rooted : List ℕ
-  rooted = set (m₁ .mutators) (k * mutatorWords + rootsFrom + d) (suc h)
+  rooted = set (m₁ .mutators) (k * mutatorWords + d) (suc h)
 
-  pub at-root : getD rooted (k * mutatorWords + rootsFrom + d) 0 ≡ suc h
-  at-root = let z = v .sizes .mutators in let a = q .few in let e = q .within in getD-set-same (m₁ .mutators) (k * mutatorWords + rootsFrom + d) (suc h) 0 (omega arith)
+  pub at-root : getD rooted (k * mutatorWords + d) 0 ≡ suc h
+  at-root = let z = v .sizes .mutators in let a = q .few in let e = q .within in getD-set-same (m₁ .mutators) (k * mutatorWords + d) (suc h) 0 (omega arith)
 
-  not-root : (j o : ℕ) → o < mutatorWords → (j ≡ k → o ≡ rootsFrom + d → ⊥) → getD rooted (j * mutatorWords + o) 0 ≡ mutatorWord m₁ (j * mutatorWords + o)
-  not-root j o l f = let e = q .within in getD-set-other (m₁ .mutators) (k * mutatorWords + rootsFrom + d) (j * mutatorWords + o) (suc h) 0 (λ e. f (omega arith) (omega arith))
+  not-root : (j o : ℕ) → o < mutatorWords → (j ≡ k → o ≡ d → ⊥) → getD rooted (j * mutatorWords + o) 0 ≡ mutatorWord m₁ (j * mutatorWords + o)
+  not-root j o l f = let e = q .within in getD-set-other (m₁ .mutators) (k * mutatorWords + d) (j * mutatorWords + o) (suc h) 0 (λ e. f (omega arith) (omega arith))
 
   pub still-held : getD rooted (k * mutatorWords + heldFrom + (cl - firstClass)) 0 ≡ holding m₁ k cl
   still-held =
       let a = q .within in
       let b = q .isClass .0 in
-      getD-set-other (m₁ .mutators) (k * mutatorWords + rootsFrom + d) (k * mutatorWords + heldFrom + (cl - firstClass)) (suc h) 0 (λ e. omega arith)
+      getD-set-other (m₁ .mutators) (k * mutatorWords + d) (k * mutatorWords + heldFrom + (cl - firstClass)) (suc h) 0 (λ e. omega arith)
 
-  pub words-on : (j o : ℕ) → o < mutatorWords → (j ≡ k → o ≡ heldFrom + (cl - firstClass) → ⊥) → (j ≡ k → o ≡ rootsFrom + d → ⊥) → getD rooted (j * mutatorWords + o) 0 ≡ mutatorWord m (j * mutatorWords + o)
+  pub words-on : (j o : ℕ) → o < mutatorWords → (j ≡ k → o ≡ heldFrom + (cl - firstClass) → ⊥) → (j ≡ k → o ≡ d → ⊥) → getD rooted (j * mutatorWords + o) 0 ≡ mutatorWord m (j * mutatorWords + o)
   words-on j o l f e = not-root j o l e ∙ v .words j o l f
 
   pub black-same : black (phase m₁) (acks m₁ k) ≡ black (phase m) (acks m k)
   black-same =
-      let a : acks m₁ k ≡ acks m k = v .words k 1 (omega arith) (λ x y. omega arith) in
+      let a : acks m₁ k ≡ acks m k = v .words k acksAt (omega arith) (λ x y. omega arith) in
       ap (λ (ws : List ℕ). black (phaseOf (getD ws 0 0)) (acks m₁ k)) (v .control) ∙ ap (black (phase m)) a

@@ -32,7 +32,7 @@ module _ (g : Geometry) (m : Mem) (s : Sizes g m) (c : Consistent g m) where
       let w = wanted-in g m k i (pointer? f) (p .1) (r .0) (r .1) in
       let n : fields.root m k i ≡ suc (w .at) = named _ _ (w .is) in
       let x = lt-of _ _ (require-ok (ltb f (pointers m (w .at))) 8 0 (omega arith) (w .asked) .0) in
-      let h = on-record g m (record? (fields.root m k i)) (w .at) (w .is) (λ at. (a-ok, setRoot m k d (pointer m at f))) (λ at. (a-ok, machine.setRoot (view m) k d (record? (pointer m at f)))) refl
+      let h = on-record g m (record? (fields.root m k i)) (w .at) (w .is) (λ at. (a-ok, setRoot m k d (pointer m at f))) (λ at. (a-ok, machine.setRoot (view g m) k d (record? (pointer m at f)))) refl
       (root-moves g m s c k d (pointer m (w .at) f) (p .0) (p .1) (q .0) (λ b y. next (root (is-root g m k i (w .at) (p .0) (r .0) (p .1) n)) (record { field = f; within = x; names = y }))) in
       matches-by g m _ _ (h .0) (h .1)
 
@@ -60,7 +60,7 @@ module _ (g : Geometry) (m : Mem) (s : Sizes g m) (c : Consistent g m) where
       let r = root-ok i _ (p .3) in
       let w = wanted-in g m k i (value? f) (p .1) (r .0) (r .1) in
       let x = lt-of _ _ (require-ok (ltb f (values m (w .at))) 8 0 (omega arith) (w .asked) .0) in
-      let h = on-record g m (record? (fields.root m k i)) (w .at) (w .is) (λ at. (a-num (value m at f), m)) (λ at. (a-num (getD (valuesOf m at) f 0), view m)) (ap a-num (sym (getD-tab (values m (w .at)) (value m (w .at)) f x))) (moves-self g m c) in
+      let h = on-record g m (record? (fields.root m k i)) (w .at) (w .is) (λ at. (a-num (value m at f), m)) (λ at. (a-num (getD (valuesOf m at) f 0), view g m)) (ap a-num (sym (getD-tab (values m (w .at)) (value m (w .at)) f x))) (moves-self g m c) in
       matches-by g m _ _ (h .0) (h .1)
 
   pub same-kept : (k i j : ℕ) → refusal (face m) (c-same k i j) ≡ 0 → ActKept g m (c-same k i j)
@@ -73,5 +73,5 @@ module _ (g : Geometry) (m : Mem) (s : Sizes g m) (c : Consistent g m) where
       let p = by-ok (face m) k _ e in
       let r = root-ok i _ (p .3) in
       let w = wanted-in g m k i (λ _. 0) (p .1) (r .0) (r .1) in
-      let h = on-record g m (record? (fields.root m k i)) (w .at) (w .is) (λ at. (a-shape (pointers m at) (values m at), m)) (λ at. (a-shape (pointers m at) (length (valuesOf m at)), view m)) (ap (a-shape (pointers m (w .at))) (sym (length-tab (values m (w .at)) (value m (w .at))))) (moves-self g m c) in
+      let h = on-record g m (record? (fields.root m k i)) (w .at) (w .is) (λ at. (a-shape (pointers m at) (values m at), m)) (λ at. (a-shape (pointers m at) (length (valuesOf m at)), view g m)) (ap (a-shape (pointers m (w .at))) (sym (length-tab (values m (w .at)) (value m (w .at))))) (moves-self g m c) in
       matches-by g m _ _ (h .0) (h .1)

@@ -3,16 +3,17 @@ use mathlib.Core.Path.{_≡_, refl, sym, _∙_, ap, subst}
 use mathlib.Core.Logic.{_⊎_, inl, inr, ⊎-elim}
 use mathlib.Core.Bool.{Bool, true, false, not, true≢false}
 use mathlib.Core.Option.{none}
-use mathlib.Core.List.{List, _∷_}
+use mathlib.Core.List.{List, _∷_, _++_}
 use Prim.Native.Nat.{ℕ, zero, suc, _+_, _-_, _*_, _≤_, _<_}
 use native.Mathlib.Omega.{arith}
 use lib.Dec.{eqb, ltb}
-use lib.ListN.{length, getD, replicate, length-replicate, getD-replicate}
+use lib.ListN.{length, getD, replicate, getD-replicate, List·getD-append}
+use lib.Seq.{getD-append-add}
 use borrow.Author.Tests.{eqb-true, not-true, not-false}
 use Rattle.rules.proofs.Order.{same-or-not}
 use Rattle.classes.specs.Class.{firstClass}
 use Rattle.layout.specs.declared.Geometry.{Geometry}
-use Rattle.layout.specs.Geometry.{mutatorCount, mutatorWords, rootCount}
+use Rattle.layout.specs.Geometry.{mutatorCount, mutatorWords, rootCount, segmentOf}
 use Rattle.layout.specs.Mem.{Mem, mutatorWord, setRun}
 use Rattle.theory.specs.Phases.{Phase, idle, sync1, sync2, mark, sweep, newcomer, inHandshake}
 use Rattle.theory.specs.Calls.{c-attach, c-spawn, refusal, unless}
@@ -20,8 +21,8 @@ use Rattle.theory.proofs.CallKeeps.{require-ok, root-ok, lt-of}
 use Rattle.theory.specs.Update.{upd}
 use Rattle.theory.proofs.Updates.{upd-hit, upd-other, upd-hit₁, upd-miss₁}
 use Rattle.theory.proofs.CycleKeeps.{attach-live}
-use Rattle.model.specs.Fields.{phase, absent, inside, rootsFrom, heldFrom, state, acks, holding}
-use Rattle.model.specs.Records.{record?, segmentOf}
+use Rattle.model.specs.Fields.{phase, absent, inside, stateAt, acksAt, heldFrom, state, acks, holding}
+use Rattle.model.specs.Records.{record?}
 use Rattle.model.specs.Mutators.{attached, setEntry}
 use Rattle.model.specs.Calls.{isAttached, isInside, face, act}
 use Rattle.model.specs.Reaching.{IsRoot}
@@ -32,7 +33,7 @@ use Rattle.refine_view.proofs.Seeing.{root-on, named}
 use Rattle.refine_view.proofs.Invariants.{to-inv, structure-of}
 use Rattle.refine_view.proofs.Keeping.{matches-by, moves-self, is-root}
 use Rattle.theory.proofs.Updates.{upd-by}
-use Rattle.refine_view.proofs.Entries.{state-word, root-word, holding-word, state-by, root-by, holding-by, table-below, entry-in, entry-out}
+use Rattle.refine_view.proofs.Entries.{holding-word, holding-by, table-below, entry-in, entry-out}
 use Rattle.refine_view.proofs.EntriesOnly.{entries-moves}
 use Rattle.theory.specs.Machine as machine
 use Rattle.model.specs.Fields as fields
@@ -41,10 +42,10 @@ use Rattle.model.specs.Fields as fields
 
 module _ (g : Geometry) (m : Mem) (s : Sizes g m) (c : Consistent g m) (k v : ℕ) (l : k < mutatorCount) (a : state m k ≡ absent) (r : (b : ℕ) → v ≡ suc b → IsRoot m b) where
   abbrev words : List ℕ
-  words = inside ∷ newcomer (phase m) ∷ v ∷ replicate (mutatorWords - 3) 0
+  words = v ∷ replicate (rootCount - 1) 0 ++ inside ∷ newcomer (phase m) ∷ replicate (mutatorWords - heldFrom) 0
 
   long : length words ≡ mutatorWords
-  long = ap (λ n. suc (suc (suc n))) (length-replicate {A = ℕ} (mutatorWords - 3) 0)
+  long = refl
 
   abbrev now : Mem
   now = setEntry m k words
@@ -59,35 +60,40 @@ module _ (g : Geometry) (m : Mem) (s : Sizes g m) (c : Consistent g m) (k v : �
   word-there j o h f = entry-out g m s k l words long j o h f
 
   state-here : (j : ℕ) → j ≡ k → state now j ≡ inside
-  state-here j e = ap (state now) e ∙ state-word now k ∙ word-here 0 (omega arith)
+  state-here j e = ap (state now) e ∙ word-here stateAt (omega arith)
 
   state-there : (j : ℕ) → (j ≡ k → ⊥) → state now j ≡ state m j
-  state-there j f = state-by m now j (word-there j 0 (omega arith) f)
+  state-there j f = word-there j stateAt (omega arith) f
 
-  -- the words after the first root are 0
-  zero-word : (o : ℕ) → o < mutatorWords - 3 → getD words (3 + o) 0 ≡ 0
-  zero-word o h = let e : 3 + o ≡ suc (suc (suc o)) = omega arith in ap (λ z. getD words z 0) e ∙ getD-replicate (mutatorWords - 3) o 0 0 h
+  abbrev after : List ℕ
+  after = inside ∷ newcomer (phase m) ∷ replicate (mutatorWords - heldFrom) 0
 
-  root-here : (i : ℕ) → i < rootCount → fields.root now k i ≡ getD words (rootsFrom + i) 0
-  root-here i h = root-word now k i ∙ word-here (rootsFrom + i) (omega arith)
+  -- the roots after the first, and the words after the acknowledgements, are 0
+  zero-root : (i : ℕ) → suc i < rootCount → getD words (suc i) 0 ≡ 0
+  zero-root i h = List·getD-append (replicate (rootCount - 1) 0) after 0 i (omega arith) ∙ getD-replicate (rootCount - 1) i 0 0 (omega arith)
+
+  zero-held : (o : ℕ) → o < mutatorWords - heldFrom → getD words (heldFrom + o) 0 ≡ 0
+  zero-held o h =
+      let e : heldFrom + o ≡ suc (length (replicate {A = ℕ} (rootCount - 1) 0) + suc (suc o)) = omega arith in
+      ap (λ z. getD words z 0) e ∙ getD-append-add (replicate (rootCount - 1) 0) after (suc (suc o)) 0 ∙ getD-replicate (mutatorWords - heldFrom) o 0 0 h
+
+  root-here : (i : ℕ) → i < rootCount → fields.root now k i ≡ getD words i 0
+  root-here i h = word-here i (omega arith)
 
   first-root : (i : ℕ) → i < rootCount → record? (fields.root now k i) ≡ upd (λ _. none) 0 (record? v) i
   first-root zero h = ap record? (root-here 0 h) ∙ sym (upd-hit (λ _. none) 0 (record? v) 0 refl)
-  first-root (suc i) h =
-      let e : rootsFrom + suc i ≡ 3 + i = omega arith in
-      ap record? (root-here (suc i) h ∙ ap (λ z. getD words z 0) e ∙ zero-word i (omega arith)) ∙ sym (upd-other (λ _. none) 0 (record? v) (suc i) (λ z. omega arith))
+  first-root (suc i) h = ap record? (root-here (suc i) h ∙ zero-root i h) ∙ sym (upd-other (λ _. none) 0 (record? v) (suc i) (λ z. omega arith))
 
   root-at : (j i : ℕ) → i < rootCount → record? (fields.root now j i) ≡ upd (λ j i. record? (fields.root m j i)) k (upd (λ _. none) 0 (record? v)) j i
   root-at j i h = ⊎-elim
       (λ e. ap (λ z. record? (fields.root now z i)) e ∙ first-root i h ∙ sym (upd-hit₁ (λ j i. record? (fields.root m j i)) k (upd (λ _. none) 0 (record? v)) j i e))
-      (λ f. ap record? (root-by m now j i (word-there j (rootsFrom + i) (omega arith) f)) ∙ sym (upd-miss₁ (λ j i. record? (fields.root m j i)) k (upd (λ _. none) 0 (record? v)) j i f)) (same-or-not j k)
+      (λ f. ap record? (word-there j i (omega arith) f) ∙ sym (upd-miss₁ (λ j i. record? (fields.root m j i)) k (upd (λ _. none) 0 (record? v)) j i f)) (same-or-not j k)
 
   holding-here : (cl : ℕ) → IsClass cl → holding now k cl ≡ 0
   holding-here cl q =
       let x = q .0 in
       let y = q .1 in
-      let e : heldFrom + (cl - firstClass) ≡ 3 + (15 + (cl - 3)) = omega arith in
-      holding-word now k cl ∙ word-here (heldFrom + (cl - firstClass)) (omega arith) ∙ ap (λ z. getD words z 0) e ∙ zero-word (15 + (cl - 3)) (omega arith)
+      holding-word now k cl ∙ word-here (heldFrom + (cl - firstClass)) (omega arith) ∙ zero-held (cl - firstClass) (omega arith)
 
   holding-there : (j cl : ℕ) → IsClass cl → (j ≡ k → ⊥) → holding now j cl ≡ holding m j cl
   holding-there j cl q f = holding-by m now j cl (word-there j (heldFrom + (cl - firstClass)) (table-below cl q) f)
@@ -106,7 +112,7 @@ module _ (g : Geometry) (m : Mem) (s : Sizes g m) (c : Consistent g m) (k v : �
       here : MutatorOk g now k
       here = record {
         states = subst (λ z. z ≤ 2) (sym (state-here k refl)) (omega arith);
-        acknowledged = subst (λ z. z ≤ 2) (sym (word-here 1 (omega arith))) (newcomer-le (phase m));
+        acknowledged = subst (λ z. z ≤ 2) (sym (word-here acksAt (omega arith))) (newcomer-le (phase m));
         gone = λ e i w. absurd (let z = sym (state-here k refl) ∙ e in omega arith);
         holds = λ cl r i e. absurd (let z = sym (holding-here cl i) ∙ e in omega arith);
       }
@@ -116,8 +122,8 @@ module _ (g : Geometry) (m : Mem) (s : Sizes g m) (c : Consistent g m) (k v : �
           let o = c .mutators j q in
           record {
             states = subst (λ z. z ≤ 2) (sym (state-there j f)) (o .states);
-            acknowledged = subst (λ z. z ≤ 2) (sym (word-there j 1 (omega arith) f)) (o .acknowledged);
-            gone = λ e i w. word-there j i w f ∙ o .gone (sym (state-there j f) ∙ e) i w;
+            acknowledged = subst (λ z. z ≤ 2) (sym (word-there j acksAt (omega arith) f)) (o .acknowledged);
+            gone = λ e i w. word-there j i (omega arith) f ∙ o .gone (sym (state-there j f) ∙ e) i w;
             holds = λ cl r i e. o .holds cl r i (sym (holding-there j cl i f) ∙ e);
           }
 
@@ -135,20 +141,20 @@ module _ (g : Geometry) (m : Mem) (s : Sizes g m) (c : Consistent g m) (k v : �
     not-second : phase m ≡ sync2 → ⊥
     not-second e = true≢false (ap inHandshake (sym e) ∙ quiet)
 
-    pub coming-moves : Moves g m (attached m k v) (machine.attach (view m) k (record? v))
+    pub coming-moves : Moves g m (attached m k v) (machine.attach (view g m) k (record? v))
     unfolding attached setRun
     coming-moves = entries-moves g m _ _ _ _ _ s (structure-of g m c) (record {
       mutators = mutator-on;
       held = λ j cl q i f. (λ e. f (sym (state-there j (other j f)) ∙ e), holding-there j cl i (other j f));
       attached = λ j. upd-by (isAttached m) k true j (isAttached now j) (λ e. ap (λ x. not (eqb x absent)) (state-here j e)) (λ f. ap (λ x. not (eqb x absent)) (state-there j f));
       inside = λ j. upd-by (isInside m) k true j (isInside now j) (λ e. ap (λ x. eqb x inside) (state-here j e)) (λ f. ap (λ x. eqb x inside) (state-there j f));
-      acks = λ j. upd-by (acks m) k (newcomer (phase m)) j (acks now j) (λ e. ap (acks now) e ∙ word-here 1 (omega arith)) (λ f. word-there j 1 (omega arith) f);
+      acks = λ j. upd-by (acks m) k (newcomer (phase m)) j (acks now j) (λ e. ap (acks now) e ∙ word-here acksAt (omega arith)) (λ f. word-there j acksAt (omega arith) f);
       root = λ j i b q. root-at j i q;
-      live = λ x p. attach-live segmentOf (view m) (to-inv g m s c) k (record? v) (λ b e. root-on m b (r b (named v b e))) not-first not-second p;
+      live = λ x p. attach-live (segmentOf g) (view g m) (to-inv g m s c) k (record? v) (λ b e. root-on g m b (r b (named v b e))) not-first not-second p;
     })
 
 -- refused 11 in a handshake, and then nothing changes
-pub unless-moves : (g : Geometry) (m m′ : Mem) (st : machine.State) → Consistent g m → (b : Bool) → (b ≡ false → Moves g m m′ st) → (unless b 11 m m′ .0 ≡ unless b 11 (view m) st .0) × Moves g m (unless b 11 m m′ .1) (unless b 11 (view m) st .1)
+pub unless-moves : (g : Geometry) (m m′ : Mem) (st : machine.State) → Consistent g m → (b : Bool) → (b ≡ false → Moves g m m′ st) → (unless b 11 m m′ .0 ≡ unless b 11 (view g m) st .0) × Moves g m (unless b 11 m m′ .1) (unless b 11 (view g m) st .1)
 unless-moves g m m′ st c true h = (refl, moves-self g m c)
 unless-moves g m m′ st c false h = (refl, h refl)
 
@@ -161,7 +167,7 @@ module _ (g : Geometry) (m : Mem) (s : Sizes g m) (c : Consistent g m) where
   attach-kept k e =
       let p = require-ok (ltb k mutatorCount) 2 _ (omega arith) e in
       let q = require-ok (not (isAttached m k)) 3 _ (omega arith) (p .1) in
-      let h = unless-moves g m (attached m k 0) (machine.attach (view m) k none) c (inHandshake (phase m)) (λ x. coming-moves g m s c k 0 (lt-of k 32 (p .0)) (not-there k (q .0)) (λ b y. absurd (omega arith)) x) in
+      let h = unless-moves g m (attached m k 0) (machine.attach (view g m) k none) c (inHandshake (phase m)) (λ x. coming-moves g m s c k 0 (lt-of k 32 (p .0)) (not-there k (q .0)) (λ b y. absurd (omega arith)) x) in
       matches-by g m _ _ (h .0) (h .1)
 
   pub spawn-kept : (k p i : ℕ) → refusal (face m) (c-spawn k p i) ≡ 0 → ActKept g m (c-spawn k p i)
@@ -173,5 +179,5 @@ module _ (g : Geometry) (m : Mem) (s : Sizes g m) (c : Consistent g m) where
       let f = require-ok (isAttached m p) 4 _ (omega arith) (d .1) in
       let n = require-ok (isInside m p) 5 _ (omega arith) (f .1) in
       let q = root-ok i _ (n .1) in
-      let h = unless-moves g m (attached m k (fields.root m p i)) (machine.attach (view m) k (record? (fields.root m p i))) c (inHandshake (phase m)) (λ x. coming-moves g m s c k (fields.root m p i) (lt-of k 32 (a .0)) (not-there k (d .0)) (λ at y. is-root g m p i at (lt-of p 32 (b .0)) (q .0) (f .0) y) x) in
+      let h = unless-moves g m (attached m k (fields.root m p i)) (machine.attach (view g m) k (record? (fields.root m p i))) c (inHandshake (phase m)) (λ x. coming-moves g m s c k (fields.root m p i) (lt-of k 32 (a .0)) (not-there k (d .0)) (λ at y. is-root g m p i at (lt-of p 32 (b .0)) (q .0) (f .0) y) x) in
       matches-by g m _ _ (h .0) (h .1)

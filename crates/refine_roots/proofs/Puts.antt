@@ -6,6 +6,7 @@ use native.Mathlib.Omega.{arith}
 use lib.Dec.{ltb}
 use lib.ListN.{set}
 use lib.Seq.{getD-set-same, getD-set-other}
+use Rattle.layout.specs.Geometry.{segmentOf}
 use Rattle.layout.specs.declared.Geometry.{Geometry}
 use Rattle.layout.specs.Mem.{Mem, heapWord, setHeap}
 use Rattle.theory.specs.Calls.{c-put, a-ok, value?, refusal}
@@ -15,7 +16,7 @@ use Rattle.theory.specs.TraceStack.{tab}
 use Rattle.theory.specs.Update.{upd}
 use Rattle.theory.proofs.Agree.{Agree}
 use Rattle.model.specs.Fields.{phase, traceCount}
-use Rattle.model.specs.Records.{record?, pointers, values, pointer, value, setValue, segmentOf}
+use Rattle.model.specs.Records.{record?, pointers, values, pointer, value, setValue}
 use Rattle.model.specs.Calls.{face, act}
 use Rattle.model.specs.Reaching.{Live}
 use Rattle.model.specs.Consistent.{Consistent, RecordOk}
@@ -93,7 +94,7 @@ module _ (g : Geometry) (m : Mem) (s : Sizes g m) (c : Consistent g m) (at : ℕ
           ap (λ n. tab n (value after at)) (values-by m after at (header at r))
           ∙ sym (tab-set (values m at) (value m at) (value after at) f v h value-there (λ i l d. value-by m after at (header at r) i (value-word at i r l (λ y z. d z))))
 
-  agree : Agree segmentOf (machine.setValues (view m) at (set (valuesOf m at) f v)) (view after)
+  agree : Agree (segmentOf g) (machine.setValues (view g m) at (set (valuesOf m at) f v)) (view g after)
   unfolding setHeap
   agree = record {
     phase = refl;
@@ -112,9 +113,9 @@ module _ (g : Geometry) (m : Mem) (s : Sizes g m) (c : Consistent g m) (at : ℕ
   }
 
   live : (x : ℕ) → Live after x → Live m x
-  live x p = to-live g m s c (agreeing.live-back segmentOf (machine.setValues (view m) at (set (valuesOf m at) f v)) (view after) agree (live-on after p))
+  live x p = to-live g m s c (agreeing.live-back (segmentOf g) (machine.setValues (view g m) at (set (valuesOf m at) f v)) (view g after) agree (live-on g after p))
 
-  pub value-moves : Moves g m (setValue m at f v) (machine.setValues (view m) at (set (valuesOf m at) f v))
+  pub value-moves : Moves g m (setValue m at f v) (machine.setValues (view g m) at (set (valuesOf m at) f v))
   unfolding setHeap
   value-moves = record { structure = heap-structure g m place v (structure-of g m c) (λ x p. header x (c .records x p)) live; agree = agree; steady = λ x q e. (e, refl) }
 
@@ -126,6 +127,6 @@ put-kept g m s c k i f v e =
     let w = wanted-in g m k i (value? f) (p .1) (r .0) (r .1) in
     let n : fields.root m k i ≡ suc (w .at) = named _ _ (w .is) in
     let x = lt-of _ _ (require-ok (ltb f (values m (w .at))) 8 0 (omega arith) (w .asked) .0) in
-    let h = on-record g m (record? (fields.root m k i)) (w .at) (w .is) (λ at. (a-ok, setValue m at f v)) (λ at. (a-ok, machine.setValues (view m) at (set (valuesOf m at) f v))) refl
+    let h = on-record g m (record? (fields.root m k i)) (w .at) (w .is) (λ at. (a-ok, setValue m at f v)) (λ at. (a-ok, machine.setValues (view g m) at (set (valuesOf m at) f v))) refl
     (value-moves g m s c (w .at) (c .records (w .at) (root (inl (is-root g m k i (w .at) (p .0) (r .0) (p .1) n)))) f v x) in
     matches-by g m _ _ (h .0) (h .1)

@@ -69,19 +69,19 @@ module _ (g : Geometry) (m : Mem) (k d p n : ℕ) where
   made-ok : Fine a-ok
   made-ok = gives _ _ a-ok refl refl refl
 
-  block-answers : (taken : Mem) (f : Found) (c s : ℕ) → Fine (inBlock m taken f k d c s p n .0)
+  block-answers : (taken : Mem) (f : Found) (c s : ℕ) → Fine (inBlock g m taken f k d c s p n .0)
   block-answers taken (Block b) c s = made-ok
   block-answers taken Nothing c s = refuses _ _ 13 refl (λ q. omega arith)
   block-answers taken Torn c s = refuses _ _ 13 refl (λ q. omega arith)
 
   source-answers : (c : ℕ) (x : Source) → Fine (fromSource g m k d c p n x .0)
-  source-answers c (held s) = block-answers m (free m s c (place m s)) c s
+  source-answers c (held s) = block-answers m (free g m s c (place m s)) c s
   source-answers c (part s) =
-      let taken : Mem = takes (pop g m (partStack c)) k c s (place m s) in
-      block-answers taken (free taken s c (place taken s)) c s
+      let taken : Mem = takes g (pop g m (partStack c)) k c s (place m s) in
+      block-answers taken (free g taken s c (place taken s)) c s
   source-answers c (unused s) =
-      let taken : Mem = freshened (takes (pop g m freeStack) k c s 0) s c in
-      block-answers taken (free taken s c (place taken s)) c s
+      let taken : Mem = freshened g (takes g (pop g m freeStack) k c s 0) s c in
+      block-answers taken (free g taken s c (place taken s)) c s
   source-answers c noRoom = refuses _ _ 10 refl (λ q. omega arith)
 
   made-answers : (c : ℕ) → Fine (made g m k d c p n .0)
@@ -133,9 +133,9 @@ moves-answers : (n : ℕ) (m : Mem) (p : Phase) → stepRefusalOf (moves n m p .
 moves-answers zero m p = refl
 moves-answers (suc n) m p = refl
 
-traces-answers : (n : ℕ) (m : Mem) → stepRefusalOf (traces n m .0) ≡ none
-traces-answers zero m = refl
-traces-answers (suc n) m = refl
+traces-answers : (g : Geometry) (n : ℕ) (m : Mem) → stepRefusalOf (traces g n m .0) ≡ none
+traces-answers g zero m = refl
+traces-answers g (suc n) m = refl
 
 sweeps-answers : (g : Geometry) (o : Option ℕ) (m : Mem) → stepRefusalOf (sweeps g o m .0) ≡ none
 sweeps-answers g none m = refl
@@ -143,9 +143,9 @@ sweeps-answers g (some s) m = refl
 
 step-in : (p : Phase) (g : Geometry) (m : Mem) → stepRefusalOf (stepIn p g m .0) ≡ none
 step-in idle g m = refl
-step-in sync1 g m = moves-answers (waiting (outsideAnswered m mutatorCount) mutatorCount) (outsideAnswered m mutatorCount) sync2
-step-in sync2 g m = moves-answers (waiting (outsideAnswered m mutatorCount) mutatorCount) (outsideAnswered m mutatorCount) mark
-step-in mark g m = traces-answers (traceCount m) m
+step-in sync1 g m = moves-answers (waiting (outsideAnswered g m mutatorCount) mutatorCount) (outsideAnswered g m mutatorCount) sync2
+step-in sync2 g m = moves-answers (waiting (outsideAnswered g m mutatorCount) mutatorCount) (outsideAnswered g m mutatorCount) mark
+step-in mark g m = traces-answers g (traceCount m) m
 step-in sweep g m = sweeps-answers g (lowest m (g .segments)) m
 
 -- a step of the definition never refuses

@@ -4,9 +4,8 @@ use mathlib.Core.Option.{Option, none, some}
 use Prim.Native.Nat.{ℕ, zero, suc, _-_, _*_}
 use lib.Dec.{eqb}
 use Rattle.rules.specs.Pick.{pick}
-use Rattle.classes.specs.Shape.{blocksIn, bitmapWords}
 use Rattle.layout.specs.declared.Geometry.{Geometry}
-use Rattle.layout.specs.Geometry.{mutatorCount}
+use Rattle.layout.specs.Geometry.{mutatorCount, blocksIn, bitmapWords}
 use Rattle.layout.specs.Mem.{Mem, traceWord}
 use Rattle.bitmap_write.specs.Ready.{adopted}
 use Rattle.theory.specs.Phases.{Phase, idle, sync1, sync2, mark, sweep}
@@ -41,18 +40,18 @@ module _ (g : Geometry) where
 
   -- ---- step
 
-  sizes-answered : (m : Mem) → Sizes g m → (n : ℕ) → Sizes g (outsideAnswered m n)
+  sizes-answered : (m : Mem) → Sizes g m → (n : ℕ) → Sizes g (outsideAnswered g m n)
   unfolding outsideAnswered
   sizes-answered m z zero = z
   sizes-answered m z (suc k) =
-      let y : Sizes g (outsideAnswered m k) = sizes-answered m z k in
-      sizes-pick g (eqb (state m k) outside) (acknowledged (outsideAnswered m k) k) (outsideAnswered m k) (sizes-acknowledged g (outsideAnswered m k) y k) y
+      let y : Sizes g (outsideAnswered g m k) = sizes-answered m z k in
+      sizes-pick g (eqb (state m k) outside) (acknowledged g (outsideAnswered g m k) k) (outsideAnswered g m k) (sizes-acknowledged g (outsideAnswered g m k) y k) y
 
   sizes-moves : (n : ℕ) (m : Mem) → Sizes g m → (p : Phase) → Sizes g (moves n m p .1)
   sizes-moves zero m z p = sizes-control g m z 0 (phaseNumber p)
   sizes-moves (suc n) m z p = z
 
-  sizes-traces : (n : ℕ) (m : Mem) → Sizes g m → Sizes g (traces n m .1)
+  sizes-traces : (n : ℕ) (m : Mem) → Sizes g m → Sizes g (traces g n m .1)
   sizes-traces zero m z = sizes-control g m z 0 (phaseNumber sweep)
   sizes-traces (suc n) m z = sizes-traced g m z (traceWord m n - 1)
 
@@ -60,15 +59,15 @@ module _ (g : Geometry) where
   unfolding swept
   sizes-swept m z s =
       let c : ℕ = class m s in
-      let m₁ : Mem = rebuiltBy m s in
-      let z₁ : Sizes g m₁ = sizes-bitmap g m z (s * bitmapWords) (adopted (above c) (blocksIn c) (marksOf m s) (bitmap m s)) in
-      let unused : Mem = stacked g (setState m₁ s segment.Free) freeStack s in
-      let full : Mem = setState m₁ s (segment.Full c) in
-      let part : Mem = stacked g (setState m₁ s (segment.Part c 0)) (partStack c) s in
-      sizes-pick g (eqb (keptBy m s) 0) unused (pick (eqb (keptBy m s) (blocksIn c)) full part)
-      (sizes-stacked g (setState m₁ s segment.Free) (sizes-state g m₁ z₁ s segment.Free) freeStack s)
-      (sizes-pick g (eqb (keptBy m s) (blocksIn c)) full part (sizes-state g m₁ z₁ s (segment.Full c))
-      (sizes-stacked g (setState m₁ s (segment.Part c 0)) (sizes-state g m₁ z₁ s (segment.Part c 0)) (partStack c) s))
+      let m₁ : Mem = rebuiltBy g m s in
+      let z₁ : Sizes g m₁ = sizes-bitmap g m z (s * bitmapWords g) (adopted (above g c) (blocksIn g c) (marksOf g m s) (bitmap g m s)) in
+      let unused : Mem = stacked g (setState g m₁ s segment.Free) freeStack s in
+      let full : Mem = setState g m₁ s (segment.Full c) in
+      let part : Mem = stacked g (setState g m₁ s (segment.Part c 0)) (partStack c) s in
+      sizes-pick g (eqb (keptBy g m s) 0) unused (pick (eqb (keptBy g m s) (blocksIn g c)) full part)
+      (sizes-stacked g (setState g m₁ s segment.Free) (sizes-state g m₁ z₁ s segment.Free) freeStack s)
+      (sizes-pick g (eqb (keptBy g m s) (blocksIn g c)) full part (sizes-state g m₁ z₁ s (segment.Full c))
+      (sizes-stacked g (setState g m₁ s (segment.Part c 0)) (sizes-state g m₁ z₁ s (segment.Part c 0)) (partStack c) s))
 
   sizes-sweeps : (o : Option ℕ) (m : Mem) → Sizes g m → Sizes g (sweeps g o m .1)
   sizes-sweeps none m z = sizes-control g m z 0 (phaseNumber idle)
@@ -77,10 +76,10 @@ module _ (g : Geometry) where
   sizes-stepIn : (p : Phase) (m : Mem) → Sizes g m → Sizes g (stepIn p g m .1)
   sizes-stepIn idle m z = z
   sizes-stepIn sync1 m z =
-      let m′ : Mem = outsideAnswered m mutatorCount in
+      let m′ : Mem = outsideAnswered g m mutatorCount in
       sizes-moves (waiting m′ mutatorCount) m′ (sizes-answered m z mutatorCount) sync2
   sizes-stepIn sync2 m z =
-      let m′ : Mem = outsideAnswered m mutatorCount in
+      let m′ : Mem = outsideAnswered g m mutatorCount in
       sizes-moves (waiting m′ mutatorCount) m′ (sizes-answered m z mutatorCount) mark
   sizes-stepIn mark m z = sizes-traces (traceCount m) m z
   sizes-stepIn sweep m z = sizes-sweeps (lowest m (g .segments)) m z

@@ -24,6 +24,7 @@ use Rattle.refine_run.proofs.Whole.{length-flat}
 use Rattle.refine_run.proofs.Sizing.{sizes-exec}
 use Rattle.refine_run.proofs.Collecting.{sizes-start, sizes-step}
 use Rattle.refine_run.proofs.Meeting.{meets-call, meets-start, meets-step}
+use Rattle.layout.specs.Region as Region
 
 -- ---- one request
 
@@ -37,7 +38,7 @@ module _ (g : Geometry) (words : List ℕ) (z : Sized g (length words)) where
   length-left start = length-flat g (startOf g (memOf g words) .1) (sizes-start g (memOf g words) (sizes-of g words z)) ∙ sym (z .is)
   length-left step = length-flat g (stepOf g (memOf g words) .1) (sizes-step g (memOf g words) (sizes-of g words z)) ∙ sym (z .is)
   length-left look = refl
-  length-left (lookInto output) = go (eqb (length output) (len g 2))
+  length-left (lookInto output) = go (eqb (length output) (len g Region.segments))
     where
       go : (b : Bool) → length (left (shown b g words output)) ≡ length words
       go true = refl
@@ -66,7 +67,7 @@ module _ (g : Geometry) (words : List ℕ) (z : Sized g (length words)) where
   right : (after : List ℕ) → pick (wrongSize g (length words)) words after ≡ after
   right after = ap (λ (b : Bool). pick b words after) (right-size g (length words) z)
 
-  shown-fine : (output : List ℕ) (b : Bool) → eqb (length output) (len g 2) ≡ b → Fine (shown b g words output)
+  shown-fine : (output : List ℕ) (b : Bool) → eqb (length output) (len g Region.segments) ≡ b → Fine (shown b g words output)
   shown-fine output true e = record {
     meets = record {
       sizes = (λ h. absurd (wrong h), λ f. absurd (f (eqb-true _ _ e)));
@@ -129,7 +130,7 @@ module _ (g : Geometry) (words : List ℕ) (z : Sized g (length words)) where
     gets = record { geometry = refl; memory = refl; opening = λ x. x };
     ahead = unmoved (wrongSize g (length words));
   }
-  fine k (lookInto output) = shown-fine output (eqb (length output) (len g 2)) refl
+  fine k (lookInto output) = shown-fine output (eqb (length output) (len g Region.segments)) refl
   fine k (examine scratch) = examined-fine k scratch (eqb (length scratch) (scratchWords g)) refl
 
   linked : Consistent g (memOf g words) → (r : Request) (es : List Element) → Chain g (left (answered g words r)) es → Chain g words (answered g words r ∷ es)

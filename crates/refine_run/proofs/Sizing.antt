@@ -1,16 +1,15 @@
 -- Every mutator's call keeps the lengths of the regions, over memory of any content. Assumes nothing.
 use mathlib.Core.Bool.{Bool, true, false}
 use mathlib.Core.Option.{Option, none, some}
-use mathlib.Core.List.{_∷_}
+use mathlib.Core.List.{_∷_, _++_}
 use Prim.Native.Nat.{ℕ, zero, suc, _+_, _-_, _*_}
 use lib.Dec.{eqb}
 use lib.ListN.{replicate}
 use Rattle.classes.specs.Class.{firstClass, classCount, classOf}
-use Rattle.classes.specs.Shape.{blocksIn, bitmapWords}
 use Rattle.classes.specs.declared.SizeClass.{SizeClass}
 use Rattle.classes.specs.declared.SizeClass.the-variants.{Class, TooBig}
 use Rattle.layout.specs.declared.Geometry.{Geometry}
-use Rattle.layout.specs.Geometry.{mutatorWords}
+use Rattle.layout.specs.Geometry.{mutatorWords, rootCount, blocksIn, bitmapWords}
 use Rattle.layout.specs.Mem.{Mem, setHeap}
 use Rattle.bitmap_search.specs.declared.Found.{Found}
 use Rattle.bitmap_search.specs.declared.Found.the-variants.{Block, Nothing, Torn}
@@ -18,7 +17,7 @@ use Rattle.bitmap_write.specs.Ready.{fresh}
 use Rattle.theory.specs.Phases.{newcomer, duty, black, inHandshake}
 use Rattle.theory.specs.Calls.{Call, c-attach, c-detach, c-check, c-leave, c-enter, c-spawn, c-make, c-load, c-store, c-copy, c-clear, c-put, c-get, c-same, c-shape, Answer, unless, refuse, refusal, onRecord}
 use Rattle.model.specs.declared.SegmentState.the-variants.{Part, Held, Full}
-use Rattle.model.specs.Fields.{phase, acks, inside, outside, holding, place, root, rootsFrom, heldFrom}
+use Rattle.model.specs.Fields.{phase, acks, inside, outside, holding, place, root, stateAt, heldFrom}
 use Rattle.model.specs.Segments.{partStack, freeStack, stacked, count, pop, bitmap, above, free}
 use Rattle.model.specs.Records.{record?, pointers, pointer, headerOf, written}
 use Rattle.model.specs.Mutators.{acknowledged, attached, detached, released, releasedOne}
@@ -34,12 +33,12 @@ module _ (g : Geometry) where
 
   sizes-attached : (m : Mem) → Sizes g m → (k v : ℕ) → Sizes g (attached m k v)
   unfolding attached
-  sizes-attached m s k v = sizes-entry g m s (k * mutatorWords) (inside ∷ newcomer (phase m) ∷ v ∷ replicate (mutatorWords - 3) 0)
+  sizes-attached m s k v = sizes-entry g m s (k * mutatorWords) (v ∷ replicate (rootCount - 1) 0 ++ inside ∷ newcomer (phase m) ∷ replicate (mutatorWords - heldFrom) 0)
 
   released-one : (m : Mem) → Sizes g m → (k c : ℕ) → Sizes g (releasedOne g m k c)
   released-one m z k c =
       let s : ℕ = holding m k c - 1 in
-      let m′ : Mem = segments.setState m s (Part c (place m s)) in
+      let m′ : Mem = segments.setState g m s (Part c (place m s)) in
       sizes-pick g (eqb (holding m k c) 0) m (stacked g m′ (partStack c) s) z (sizes-stacked g m′ (sizes-state g m z s (Part c (place m s))) (partStack c) s)
 
   sizes-released : (m : Mem) → Sizes g m → (k n : ℕ) → Sizes g (released g m k n)
@@ -53,48 +52,48 @@ module _ (g : Geometry) where
 
   -- ---- make
 
-  sizes-takes : (m : Mem) → Sizes g m → (k c s p : ℕ) → Sizes g (takes m k c s p)
-  sizes-takes m z k c s p = sizes-mutator g (segments.setState m s (Held c p k)) (sizes-state g m z s (Held c p k)) (k * mutatorWords + heldFrom + (c - firstClass)) (suc s)
+  sizes-takes : (m : Mem) → Sizes g m → (k c s p : ℕ) → Sizes g (takes g m k c s p)
+  sizes-takes m z k c s p = sizes-mutator g (segments.setState g m s (Held c p k)) (sizes-state g m z s (Held c p k)) (k * mutatorWords + heldFrom + (c - firstClass)) (suc s)
 
-  sizes-advanced : (m : Mem) → Sizes g m → (k c s p : ℕ) (f : Found) → Sizes g (advanced m k c s p f)
+  sizes-advanced : (m : Mem) → Sizes g m → (k c s p : ℕ) (f : Found) → Sizes g (advanced g m k c s p f)
   sizes-advanced m z k c s p (Block b) = sizes-state g m z s (Held c p k)
-  sizes-advanced m z k c s p Nothing = sizes-mutator g (segments.setState m s (Full c)) (sizes-state g m z s (Full c)) (k * mutatorWords + heldFrom + (c - firstClass)) 0
-  sizes-advanced m z k c s p Torn = sizes-mutator g (segments.setState m s (Full c)) (sizes-state g m z s (Full c)) (k * mutatorWords + heldFrom + (c - firstClass)) 0
+  sizes-advanced m z k c s p Nothing = sizes-mutator g (segments.setState g m s (Full c)) (sizes-state g m z s (Full c)) (k * mutatorWords + heldFrom + (c - firstClass)) 0
+  sizes-advanced m z k c s p Torn = sizes-mutator g (segments.setState g m s (Full c)) (sizes-state g m z s (Full c)) (k * mutatorWords + heldFrom + (c - firstClass)) 0
 
   sizes-written : (m : Mem) → Sizes g m → (at p n : ℕ) → Sizes g (written m at p n)
   sizes-written m z at p n = sizes-heap-run g (setHeap m at (p * 65536 + n)) (sizes-heap g m z at (p * 65536 + n)) (at + 1) (replicate (p + n) 0)
 
-  sizes-blackened : (m : Mem) → Sizes g m → (k at : ℕ) → Sizes g (blackened m k at)
+  sizes-blackened : (m : Mem) → Sizes g m → (k at : ℕ) → Sizes g (blackened g m k at)
   sizes-blackened m z k at = sizes-pick g (black (phase m) (acks m k)) _ m (sizes-marked g m z at) z
 
-  sizes-handed : (m : Mem) → Sizes g m → (k d c s b p n : ℕ) → Sizes g (handedOut m k d c s b p n)
+  sizes-handed : (m : Mem) → Sizes g m → (k d c s b p n : ℕ) → Sizes g (handedOut g m k d c s b p n)
   unfolding handedOut
   sizes-handed m z k d c s b p n =
-      let at : ℕ = headerOf s c b in
-      let m₁ : Mem = advanced m k c s (b + 1) (free m s c (b + 1)) in
-      let z₁ : Sizes g m₁ = sizes-advanced m z k c s (b + 1) (free m s c (b + 1)) in
+      let at : ℕ = headerOf g s c b in
+      let m₁ : Mem = advanced g m k c s (b + 1) (free g m s c (b + 1)) in
+      let z₁ : Sizes g m₁ = sizes-advanced m z k c s (b + 1) (free g m s c (b + 1)) in
       let m₂ : Mem = written m₁ at p n in
       let z₂ : Sizes g m₂ = sizes-written m₁ z₁ at p n in
-      sizes-mutator g (blackened m₂ k at) (sizes-blackened m₂ z₂ k at) (k * mutatorWords + rootsFrom + d) (suc at)
+      sizes-mutator g (blackened g m₂ k at) (sizes-blackened m₂ z₂ k at) (k * mutatorWords + d) (suc at)
 
-  sizes-block : (m taken : Mem) → Sizes g m → Sizes g taken → (f : Found) (k d c s p n : ℕ) → Sizes g (inBlock m taken f k d c s p n .1)
+  sizes-block : (m taken : Mem) → Sizes g m → Sizes g taken → (f : Found) (k d c s p n : ℕ) → Sizes g (inBlock g m taken f k d c s p n .1)
   sizes-block m taken z y (Block b) k d c s p n = sizes-handed taken y k d c s b p n
   sizes-block m taken z y Nothing k d c s p n = z
   sizes-block m taken z y Torn k d c s p n = z
 
   sizes-source : (m : Mem) → Sizes g m → (k d c p n : ℕ) (x : Source) → Sizes g (fromSource g m k d c p n x .1)
-  sizes-source m z k d c p n (held s) = sizes-block m m z z (free m s c (place m s)) k d c s p n
+  sizes-source m z k d c p n (held s) = sizes-block m m z z (free g m s c (place m s)) k d c s p n
   sizes-source m z k d c p n (part s) =
       let popped : Mem = pop g m (partStack c) in
       let y : Sizes g popped = sizes-stack g m z (partStack c * (1 + g .segments)) (count g m (partStack c) - 1) in
-      let taken : Mem = takes popped k c s (place m s) in
-      sizes-block m taken z (sizes-takes popped y k c s (place m s)) (free taken s c (place taken s)) k d c s p n
+      let taken : Mem = takes g popped k c s (place m s) in
+      sizes-block m taken z (sizes-takes popped y k c s (place m s)) (free g taken s c (place taken s)) k d c s p n
   sizes-source m z k d c p n (unused s) =
       let popped : Mem = pop g m freeStack in
       let y : Sizes g popped = sizes-stack g m z (freeStack * (1 + g .segments)) (count g m freeStack - 1) in
-      let owned : Mem = takes popped k c s 0 in
-      let taken : Mem = freshened owned s c in
-      sizes-block m taken z (sizes-bitmap g owned (sizes-takes popped y k c s 0) (s * bitmapWords) (fresh (above c) (blocksIn c) (bitmap owned s))) (free taken s c (place taken s)) k d c s p n
+      let owned : Mem = takes g popped k c s 0 in
+      let taken : Mem = freshened g owned s c in
+      sizes-block m taken z (sizes-bitmap g owned (sizes-takes popped y k c s 0) (s * bitmapWords g) (fresh (above g c) (blocksIn g c) (bitmap g owned s))) (free g taken s c (place taken s)) k d c s p n
   sizes-source m z k d c p n noRoom = z
 
   sizes-made : (m : Mem) → Sizes g m → (k d c p n : ℕ) → Sizes g (made g m k d c p n .1)
@@ -125,15 +124,15 @@ module _ (g : Geometry) where
   sizes-act m z (c-spawn k p i) = sizes-unless (inHandshake (phase m)) 11 m (attached m k (root m p i)) z (sizes-attached m z k (root m p i))
   sizes-act m z (c-detach k) = sizes-unless (inHandshake (phase m)) 11 m (detached g m k) z (sizes-detached m z k)
   sizes-act m z (c-check k) = sizes-acknowledged g m z k
-  sizes-act m z (c-leave k) = sizes-mutator g (acknowledged m k) (sizes-acknowledged g m z k) (k * mutatorWords) outside
-  sizes-act m z (c-enter k) = sizes-mutator g m z (k * mutatorWords) inside
+  sizes-act m z (c-leave k) = sizes-mutator g (acknowledged g m k) (sizes-acknowledged g m z k) (k * mutatorWords + stateAt) outside
+  sizes-act m z (c-enter k) = sizes-mutator g m z (k * mutatorWords + stateAt) inside
   sizes-act m z (c-make k d p n) = sizes-class m z (classOf (p + n)) (λ c. made g m k d c p n) (λ c. sizes-made m z k d c p n)
-  sizes-act m z (c-load k d i f) = sizes-record (record? (root m k i)) m _ z (λ at. sizes-mutator g m z (k * mutatorWords + rootsFrom + d) (pointer m at f))
+  sizes-act m z (c-load k d i f) = sizes-record (record? (root m k i)) m _ z (λ at. sizes-mutator g m z (k * mutatorWords + d) (pointer m at f))
   sizes-act m z (c-store k i f j) =
       sizes-record (record? (root m k i)) m _ z
       (λ at. sizes-heap g _ (sizes-barrier g (duty (phase m) (acks m k)) m z (record? (root m k j)) (record? (pointer m at f))) (at + 1 + f) (root m k j))
-  sizes-act m z (c-copy k d i) = sizes-mutator g m z (k * mutatorWords + rootsFrom + d) (root m k i)
-  sizes-act m z (c-clear k d) = sizes-mutator g m z (k * mutatorWords + rootsFrom + d) 0
+  sizes-act m z (c-copy k d i) = sizes-mutator g m z (k * mutatorWords + d) (root m k i)
+  sizes-act m z (c-clear k d) = sizes-mutator g m z (k * mutatorWords + d) 0
   sizes-act m z (c-put k i f v) = sizes-record (record? (root m k i)) m _ z (λ at. sizes-heap g m z (at + 1 + pointers m at + f) v)
   sizes-act m z (c-get k i f) = sizes-record (record? (root m k i)) m _ z (λ at. z)
   sizes-act m z (c-same k i j) = z

@@ -8,7 +8,7 @@ use Rattle.rules.proofs.Order.{le-or-lt, same-or-not}
 use Rattle.layout.specs.declared.Geometry.{Geometry}
 use Rattle.layout.specs.Geometry.{mutatorCount, mutatorWords}
 use Rattle.layout.specs.Mem.{Mem, mutatorWord, setMutator}
-use Rattle.model.specs.Fields.{acks, setAcks}
+use Rattle.model.specs.Fields.{acksAt, acks, setAcks}
 use Rattle.model.specs.Collector.{acksReset}
 use Rattle.refine_view.specs.Kept.{Sizes}
 use Rattle.refine_view.proofs.Words.{mutator-there, mutator-other}
@@ -36,10 +36,10 @@ beside-reset m (suc k) =
 -- ---- the mutators' words
 
 module _ (g : Geometry) (m : Mem) (z : Sizes g m) where
-  words-kept : (n : ℕ) → n ≤ mutatorCount → (k o : ℕ) → o < mutatorWords → (o ≡ 1 → ⊥) → mutatorWord (acksReset m n) (k * mutatorWords + o) ≡ mutatorWord m (k * mutatorWords + o)
+  words-kept : (n : ℕ) → n ≤ mutatorCount → (k o : ℕ) → o < mutatorWords → (o ≡ acksAt → ⊥) → mutatorWord (acksReset m n) (k * mutatorWords + o) ≡ mutatorWord m (k * mutatorWords + o)
   unfolding acksReset
   words-kept zero h k o l f = refl
-  words-kept (suc j) h k o l f = mutator-other g (acksReset m j) (sizes-reset g m z j) j 1 0 (omega arith) (omega arith) k o l (λ e q. f q) ∙ words-kept j (omega arith) k o l f
+  words-kept (suc j) h k o l f = mutator-other g (acksReset m j) (sizes-reset g m z j) j acksAt 0 (omega arith) (omega arith) k o l (λ e q. f q) ∙ words-kept j (omega arith) k o l f
 
   acks-below : (n : ℕ) → n ≤ mutatorCount → (k : ℕ) → k < n → acks (acksReset m n) k ≡ 0
   unfolding acksReset
@@ -47,10 +47,10 @@ module _ (g : Geometry) (m : Mem) (z : Sizes g m) where
   acks-below (suc j) h k l = go (same-or-not k j) (λ q. acks-below j (omega arith) k q)
     where
       go : (k ≡ j) ⊎ (k ≡ j → ⊥) → (k < j → acks (acksReset m j) k ≡ 0) → acks (setAcks (acksReset m j) j 0) k ≡ 0
-      go (inl q) ih = ap (acks (setAcks (acksReset m j) j 0)) q ∙ mutator-there g (acksReset m j) (sizes-reset g m z j) j 1 0 (omega arith) (omega arith)
-      go (inr q) ih = mutator-other g (acksReset m j) (sizes-reset g m z j) j 1 0 (omega arith) (omega arith) k 1 (omega arith) (λ e y. q e) ∙ ih (lt-of l q)
+      go (inl q) ih = ap (acks (setAcks (acksReset m j) j 0)) q ∙ mutator-there g (acksReset m j) (sizes-reset g m z j) j acksAt 0 (omega arith) (omega arith)
+      go (inr q) ih = mutator-other g (acksReset m j) (sizes-reset g m z j) j acksAt 0 (omega arith) (omega arith) k acksAt (omega arith) (λ e y. q e) ∙ ih (lt-of l q)
 
-  pub reset-kept : (k o : ℕ) → o < mutatorWords → (o ≡ 1 → ⊥) → mutatorWord (acksReset m mutatorCount) (k * mutatorWords + o) ≡ mutatorWord m (k * mutatorWords + o)
+  pub reset-kept : (k o : ℕ) → o < mutatorWords → (o ≡ acksAt → ⊥) → mutatorWord (acksReset m mutatorCount) (k * mutatorWords + o) ≡ mutatorWord m (k * mutatorWords + o)
   reset-kept = words-kept mutatorCount (omega arith)
 
   -- past the last mutator the word is 0

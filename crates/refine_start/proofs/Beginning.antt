@@ -8,7 +8,7 @@ use Rattle.words.specs.Bits.{bitAt}
 use Rattle.layout.specs.declared.Geometry.{Geometry}
 use Rattle.layout.specs.Geometry.{mutatorCount, mutatorWords}
 use Rattle.layout.specs.Mem.{Mem, controlWord, mutatorWord, setControl}
-use Rattle.model.specs.Fields.{traceCount, acks}
+use Rattle.model.specs.Fields.{traceCount, acksAt, acks}
 use Rattle.model.specs.Collector.{condemned, acksReset, started}
 use Rattle.model.specs.Consistent.{SegmentOk}
 use Rattle.refine_view.specs.Kept.{Sizes}
@@ -22,7 +22,7 @@ pub record Begun (m m′ : Mem) : Type 0 where
   pub phase : controlWord m′ 0 ≡ 1
   pub traced : traceCount m′ ≡ traceCount m
   pub acks : (k : ℕ) → acks m′ k ≡ 0
-  pub mutators : (k o : ℕ) → o < mutatorWords → (o ≡ 1 → ⊥) → mutatorWord m′ (k * mutatorWords + o) ≡ mutatorWord m (k * mutatorWords + o)
+  pub mutators : (k o : ℕ) → o < mutatorWords → (o ≡ acksAt → ⊥) → mutatorWord m′ (k * mutatorWords + o) ≡ mutatorWord m (k * mutatorWords + o)
   pub segments : (s : ℕ) → After m m′ s
   pub stacks : m′ .stacks ≡ m .stacks
   pub bitmaps : m′ .bitmaps ≡ m .bitmaps
@@ -34,7 +34,7 @@ pub record Begun (m m′ : Mem) : Type 0 where
 module _ (g : Geometry) (m : Mem) (z : Sizes g m) where
   -- condemned, and then the acknowledgements anew
   abbrev m₁ : Mem
-  m₁ = condemned m (g .segments)
+  m₁ = condemned g m (g .segments)
 
   abbrev m₂ : Mem
   m₂ = acksReset m₁ mutatorCount
@@ -46,12 +46,12 @@ module _ (g : Geometry) (m : Mem) (z : Sizes g m) where
   reset-sizes = sizes-reset g m₁ condemned-sizes mutatorCount
 
   condemned-others : OtherRegions m m₁
-  condemned-others = others-condemned m (g .segments)
+  condemned-others = others-condemned g m (g .segments)
 
   reset-others : BesideMutators m₁ m₂
   reset-others = beside-reset m₁ mutatorCount
 
-  pub begun : ((s : ℕ) → s < g .segments → SegmentOk m s) → Begun m (started g m)
+  pub begun : ((s : ℕ) → s < g .segments → SegmentOk g m s) → Begun m (started g m)
   unfolding started setControl
   begun ok = record {
     phase = let y = reset-sizes .control in getD-set-same (m₂ .control) 0 1 0 (omega arith);

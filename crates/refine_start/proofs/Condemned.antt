@@ -8,7 +8,7 @@ use lib.ListN.{List·getD-eq-default}
 use borrow.Author.Tests.{eqb-true, ne-eqb}
 use Rattle.rules.specs.Pick.{pick}
 use Rattle.rules.proofs.Order.{le-or-lt, same-or-not}
-use Rattle.classes.specs.Shape.{blocksIn}
+use Rattle.layout.specs.Geometry.{blocksIn}
 use Rattle.layout.specs.declared.Geometry.{Geometry}
 use Rattle.layout.specs.Mem.{Mem}
 use Rattle.model.specs.Fields.{tag, class, place, owner}
@@ -20,6 +20,7 @@ use Rattle.refine_view.proofs.Words.{Recorded, recorded-by, OtherRegions, state
 use Rattle.words.proofs.Counts.{lt-of}
 use Rattle.refine_view.proofs.Operations.{sizes-condemned}
 use Rattle.model.specs.declared.SegmentState.the-variants as segment
+use Rattle.model.specs.Tag as Tag
 
 -- ---- the other regions
 
@@ -35,13 +36,13 @@ others-then a b c p q = record {
   heap = q .heap ∙ p .heap;
 }
 
-pub others-condemned : (m : Mem) (n : ℕ) → OtherRegions m (condemned m n)
+pub others-condemned : (g : Geometry) (m : Mem) (n : ℕ) → OtherRegions m (condemned g m n)
 unfolding condemned
-others-condemned m zero = record { control = refl; mutators = refl; stacks = refl; bitmaps = refl; marks = refl; queued = refl; trace = refl; heap = refl }
-others-condemned m (suc s) = go (isFull m s) (others-condemned m s)
+others-condemned g m zero = record { control = refl; mutators = refl; stacks = refl; bitmaps = refl; marks = refl; queued = refl; trace = refl; heap = refl }
+others-condemned g m (suc s) = go (isFull m s) (others-condemned g m s)
   where
-    go : (b : Bool) → OtherRegions m (condemned m s) → OtherRegions m (pick b (setState (condemned m s) s (segment.Condemned (class m s))) (condemned m s))
-    go true ih = others-then m (condemned m s) _ ih (state-others (condemned m s) s (segment.Condemned (class m s)))
+    go : (b : Bool) → OtherRegions m (condemned g m s) → OtherRegions m (pick b (setState g (condemned g m s) s (segment.Condemned (class m s))) (condemned g m s))
+    go true ih = others-then m (condemned g m s) _ ih (state-others g (condemned g m s) s (segment.Condemned (class m s)))
     go false ih = ih
 
 -- ---- the segments' records
@@ -56,45 +57,45 @@ Before m m′ x = Recorded m′ x (tag m x) (class m x) (place m x) (owner m x)
 abbrev pub After : Mem → Mem → ℕ → Type 0
 After m m′ x = Recorded m′ x (tagAfter m x) (class m x) (place m x) (owner m x)
 
-module _ (g : Geometry) (m : Mem) (z : Sizes g m) (ok : (s : ℕ) → s < g .segments → SegmentOk m s) where
+module _ (g : Geometry) (m : Mem) (z : Sizes g m) (ok : (s : ℕ) → s < g .segments → SegmentOk g m s) where
   -- below n condemned, from n on as before
-  below-from : (n : ℕ) → n ≤ g .segments → (x : ℕ) → (x < n → After m (condemned m n) x) × (n ≤ x → Before m (condemned m n) x)
+  below-from : (n : ℕ) → n ≤ g .segments → (x : ℕ) → (x < n → After m (condemned g m n) x) × (n ≤ x → Before m (condemned g m n) x)
   unfolding condemned
   below-from zero h x = (λ l. absurd (omega arith), λ l. record { tag = refl; class = refl; place = refl; owner = refl })
   below-from (suc s) h x = go (isFull m s) refl (same-or-not x s) (below-from s (omega arith) x)
     where
-      here : isFull m s ≡ true → Recorded (setState (condemned m s) s (segment.Condemned (class m s))) s 4 (class m s) (place m s) (owner m s)
+      here : isFull m s ≡ true → Recorded (setState g (condemned g m s) s (segment.Condemned (class m s))) s 4 (class m s) (place m s) (owner m s)
       here e =
-          let t : tag m s ≡ 3 = eqb-true _ _ e in
+          let t : tag m s ≡ Tag.full = eqb-true _ _ e in
           let o = ok s (omega arith) in
-          let p : place m s ≡ blocksIn (class m s) = o .whole (omega arith) in
+          let p : place m s ≡ blocksIn g (class m s) = o .whole (omega arith) in
           let k : owner m s ≡ 0 = o .unowned (λ q. omega arith) in
           let l = sizes-condemned g m z s .segments in
-          let r = state-there (condemned m s) s (segment.Condemned (class m s)) (omega arith) in
+          let r = state-there g (condemned g m s) s (segment.Condemned (class m s)) (omega arith) in
           record { tag = r .tag; class = r .class; place = r .place ∙ sym p; owner = r .owner ∙ sym k }
 
-      go : (b : Bool) → isFull m s ≡ b → (x ≡ s) ⊎ (x ≡ s → ⊥) → (x < s → After m (condemned m s) x) × (s ≤ x → Before m (condemned m s) x)
-          → (x < suc s → After m (pick b (setState (condemned m s) s (segment.Condemned (class m s))) (condemned m s)) x) × (suc s ≤ x → Before m (pick b (setState (condemned m s) s (segment.Condemned (class m s))) (condemned m s)) x)
+      go : (b : Bool) → isFull m s ≡ b → (x ≡ s) ⊎ (x ≡ s → ⊥) → (x < s → After m (condemned g m s) x) × (s ≤ x → Before m (condemned g m s) x)
+          → (x < suc s → After m (pick b (setState g (condemned g m s) s (segment.Condemned (class m s))) (condemned g m s)) x) × (suc s ≤ x → Before m (pick b (setState g (condemned g m s) s (segment.Condemned (class m s))) (condemned g m s)) x)
       go true e (inl q) ih =
-          let a : After m (setState (condemned m s) s (segment.Condemned (class m s))) s = subst (λ b. Recorded (setState (condemned m s) s (segment.Condemned (class m s))) s (pick b 4 (tag m s)) (class m s) (place m s) (owner m s)) (sym e) (here e) in
-          (λ l. subst (After m (setState (condemned m s) s (segment.Condemned (class m s)))) (sym q) a, λ l. absurd (omega arith))
+          let a : After m (setState g (condemned g m s) s (segment.Condemned (class m s))) s = subst (λ b. Recorded (setState g (condemned g m s) s (segment.Condemned (class m s))) s (pick b 4 (tag m s)) (class m s) (place m s) (owner m s)) (sym e) (here e) in
+          (λ l. subst (After m (setState g (condemned g m s) s (segment.Condemned (class m s)))) (sym q) a, λ l. absurd (omega arith))
       go true e (inr q) ih =
-          let o = state-other (condemned m s) s (segment.Condemned (class m s)) x q in
-          (λ l. recorded-by (condemned m s) _ x _ _ _ _ (ih .0 (lt-of l q)) o, λ l. recorded-by (condemned m s) _ x _ _ _ _ (ih .1 (omega arith)) o)
+          let o = state-other g (condemned g m s) s (segment.Condemned (class m s)) x q in
+          (λ l. recorded-by (condemned g m s) _ x _ _ _ _ (ih .0 (lt-of l q)) o, λ l. recorded-by (condemned g m s) _ x _ _ _ _ (ih .1 (omega arith)) o)
       go false e (inl q) ih =
           let f : isFull m x ≡ false = ap (isFull m) q ∙ e in
-          let old : Before m (condemned m s) x = ih .1 (omega arith) in
-          (λ l. subst (λ b. Recorded (condemned m s) x (pick b 4 (tag m x)) (class m x) (place m x) (owner m x)) (sym f) old, λ l. absurd (omega arith))
+          let old : Before m (condemned g m s) x = ih .1 (omega arith) in
+          (λ l. subst (λ b. Recorded (condemned g m s) x (pick b 4 (tag m x)) (class m x) (place m x) (owner m x)) (sym f) old, λ l. absurd (omega arith))
       go false e (inr q) ih = (λ l. ih .0 (lt-of l q), λ l. ih .1 (omega arith))
 
   -- all of them; past the last segment the words are 0 before and after
-  pub segments-condemned : (x : ℕ) → After m (condemned m (g .segments)) x
+  pub segments-condemned : (x : ℕ) → After m (condemned g m (g .segments)) x
   segments-condemned x = go (le-or-lt (g .segments) x)
     where
-      go : (g .segments ≤ x) ⊎ (x < g .segments) → After m (condemned m (g .segments)) x
+      go : (g .segments ≤ x) ⊎ (x < g .segments) → After m (condemned g m (g .segments)) x
       go (inr l) = below-from (g .segments) (omega arith) x .0 l
       go (inl l) =
           let y = z .segments in
-          let t : tag m x ≡ 0 = List·getD-eq-default (m .segments) 0 (omega arith) in
+          let t : tag m x ≡ Tag.free = List·getD-eq-default (m .segments) 0 (omega arith) in
           let f : isFull m x ≡ false = ne-eqb (tag m x) 3 (λ e. omega arith) in
-          subst (λ b. Recorded (condemned m (g .segments)) x (pick b 4 (tag m x)) (class m x) (place m x) (owner m x)) (sym f) (below-from (g .segments) (omega arith) x .1 l)
+          subst (λ b. Recorded (condemned g m (g .segments)) x (pick b 4 (tag m x)) (class m x) (place m x) (owner m x)) (sym f) (below-from (g .segments) (omega arith) x .1 l)

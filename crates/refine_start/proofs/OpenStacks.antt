@@ -15,6 +15,7 @@ use Rattle.model.specs.Segments.{freeStack, count, entry}
 use Rattle.model.specs.Consistent.{StackOk}
 use Rattle.words.proofs.Counts.{no-ones, only-ones}
 use Rattle.words.proofs.Zeros.{zeros-at}
+use Rattle.layout.specs.Region as Region
 
 length-down : (n : ℕ) → length (downTo0 n) ≡ n
 unfolding downTo0
@@ -27,11 +28,11 @@ down-at zero i h = absurd (omega arith)
 down-at (suc n) zero h = omega arith
 down-at (suc n) (suc i) h = down-at n i (omega arith) ∙ omega arith
 
-pub length-open : (g : Geometry) → length (openStacks g) ≡ len g 3
+pub length-open : (g : Geometry) → length (openStacks g) ≡ len g Region.stacks
 length-open g =
-    let a = length-append (downTo0 (g .segments)) (replicate (len g 3 - (1 + g .segments)) 0) in
+    let a = length-append (downTo0 (g .segments)) (replicate (len g Region.stacks - (1 + g .segments)) 0) in
     let b = length-down (g .segments) in
-    let c = length-replicate {A = ℕ} (len g 3 - (1 + g .segments)) 0 in
+    let c = length-replicate {A = ℕ} (len g Region.stacks - (1 + g .segments)) 0 in
     omega arith
 
 module _ (g : Geometry) (m : Mem) (e : m .stacks ≡ openStacks g) where
@@ -45,7 +46,7 @@ module _ (g : Geometry) (m : Mem) (e : m .stacks ≡ openStacks g) where
   free-entry i h =
       let z : freeStack * (1 + g .segments) + 1 + i ≡ suc i = omega arith in
       let l = length-down (g .segments) in
-      ap (stackWord m) z ∙ word (suc i) ∙ List·getD-append (downTo0 (g .segments)) (replicate (len g 3 - (1 + g .segments)) 0) 0 i (omega arith) ∙ down-at (g .segments) i h
+      ap (stackWord m) z ∙ word (suc i) ∙ List·getD-append (downTo0 (g .segments)) (replicate (len g Region.stacks - (1 + g .segments)) 0) 0 i (omega arith) ∙ down-at (g .segments) i h
 
   -- every segment passes the test
   pub free-open : (test : ℕ → Bool) → ((s : ℕ) → s < g .segments → test s ≡ true) → StackOk g m freeStack test
@@ -60,7 +61,7 @@ module _ (g : Geometry) (m : Mem) (e : m .stacks ≡ openStacks g) where
   part-count t =
       let l = length-down (g .segments) in
       let z : (1 + t) * (1 + g .segments) ≡ suc (length (downTo0 (g .segments)) + t * (1 + g .segments)) = (let q = suc-mul t (1 + g .segments) in let p : (1 + t) * (1 + g .segments) ≡ suc t * (1 + g .segments) = ap (λ x. x * (1 + g .segments)) (omega arith) in omega arith) in
-      ap (stackWord m) z ∙ word (suc (length (downTo0 (g .segments)) + t * (1 + g .segments))) ∙ getD-append-add (downTo0 (g .segments)) (replicate (len g 3 - (1 + g .segments)) 0) (t * (1 + g .segments)) 0 ∙ zeros-at (len g 3 - (1 + g .segments)) (t * (1 + g .segments))
+      ap (stackWord m) z ∙ word (suc (length (downTo0 (g .segments)) + t * (1 + g .segments))) ∙ getD-append-add (downTo0 (g .segments)) (replicate (len g Region.stacks - (1 + g .segments)) 0) (t * (1 + g .segments)) 0 ∙ zeros-at (len g Region.stacks - (1 + g .segments)) (t * (1 + g .segments))
 
   -- no segment passes it
   pub part-open : (t : ℕ) (test : ℕ → Bool) → ((s : ℕ) → s < g .segments → test s ≡ false) → StackOk g m (1 + t) test

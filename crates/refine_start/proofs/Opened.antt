@@ -11,7 +11,7 @@ use borrow.Author.Tests.{eq-eqb, ne-eqb, eqb-true}
 use Rattle.words.specs.Bits.{bitAt}
 use Rattle.classes.specs.Class.{firstClass}
 use Rattle.layout.specs.declared.Geometry.{Geometry}
-use Rattle.layout.specs.Geometry.{len, mutatorWords, recordWords, mostBlocks}
+use Rattle.layout.specs.Geometry.{len, mutatorWords, recordWords, mostBlocks, segmentOf}
 use Rattle.layout.specs.Mem.{Mem, controlWord, mutatorWord, segmentWord}
 use Rattle.theory.specs.Phases.{idle}
 use Rattle.theory.specs.Unbounded.{empty}
@@ -19,8 +19,7 @@ use Rattle.theory.proofs.Graph.{reach-empty}
 use Rattle.theory.proofs.Invariant.{none-some}
 use Rattle.theory.proofs.CallKeeps.{Good}
 use Rattle.model.specs.Rules.{phaseOf}
-use Rattle.model.specs.Fields.{phase, traceCount, state, tag}
-use Rattle.model.specs.Records.{segmentOf}
+use Rattle.model.specs.Fields.{phase, traceCount, stateAt, acksAt, heldFrom, state, tag}
 use Rattle.model.specs.Calls.{isAttached}
 use Rattle.model.specs.Opening.{openStacks, opened}
 use Rattle.model.specs.Reaching.{IsRoot, IsEntry, PointsTo, Live}
@@ -32,21 +31,23 @@ use Rattle.refine_view.proofs.Invariants.{to-inv}
 use Rattle.words.proofs.Counts.{no-ones}
 use Rattle.words.proofs.Zeros.{zeros-at, zeros-bit}
 use Rattle.refine_start.proofs.OpenStacks.{length-open, free-open, part-open}
+use Rattle.layout.specs.Region as Region
+use Rattle.model.specs.Tag as Tag
 
 -- ---- its words
 
 module _ (g : Geometry) (m : Mem) where
   pub opened-control : (i : ℕ) → controlWord (opened g m) i ≡ 0
   unfolding opened
-  opened-control i = zeros-at (len g 0) i
+  opened-control i = zeros-at (len g Region.control) i
 
   pub opened-mutator : (i : ℕ) → mutatorWord (opened g m) i ≡ 0
   unfolding opened
-  opened-mutator i = zeros-at (len g 1) i
+  opened-mutator i = zeros-at (len g Region.mutators) i
 
   pub opened-segment : (i : ℕ) → segmentWord (opened g m) i ≡ 0
   unfolding opened
-  opened-segment i = zeros-at (len g 2) i
+  opened-segment i = zeros-at (len g Region.segments) i
 
   opened-stacks : opened g m .stacks ≡ openStacks g
   unfolding opened
@@ -54,7 +55,7 @@ module _ (g : Geometry) (m : Mem) where
 
   opened-queued : (k : ℕ) → bitAt (opened g m .queued) k ≡ 0
   unfolding opened
-  opened-queued k = zeros-bit (len g 6) k
+  opened-queued k = zeros-bit (len g Region.queued) k
 
   pub opened-idle : phase (opened g m) ≡ idle
   opened-idle = ap phaseOf (opened-control 0)
@@ -62,13 +63,13 @@ module _ (g : Geometry) (m : Mem) where
 pub sizes-opened : (g : Geometry) (m : Mem) → Sizes g m → Sizes g (opened g m)
 unfolding opened
 sizes-opened g m s = record {
-  control = length-replicate {A = ℕ} (len g 0) 0;
-  mutators = length-replicate {A = ℕ} (len g 1) 0;
-  segments = length-replicate {A = ℕ} (len g 2) 0;
+  control = length-replicate {A = ℕ} (len g Region.control) 0;
+  mutators = length-replicate {A = ℕ} (len g Region.mutators) 0;
+  segments = length-replicate {A = ℕ} (len g Region.segments) 0;
   stacks = length-open g;
   bitmaps = s .bitmaps;
   marks = s .marks;
-  queued = length-replicate {A = ℕ} (len g 6) 0;
+  queued = length-replicate {A = ℕ} (len g Region.queued) 0;
   trace = s .trace;
   heap = s .heap;
 }
@@ -79,15 +80,15 @@ pub no-reached : (g : Geometry) (m : Mem) (at : ℕ) → Live (opened g m) at �
 no-reached g m at p = reach-empty {R = λ x. IsRoot (opened g m) x ⊎ IsEntry (opened g m) x} {E = PointsTo (opened g m)} none-there p
   where
     none-there : (x : ℕ) → IsRoot (opened g m) x ⊎ IsEntry (opened g m) x → ⊥
-    none-there x (inl r) = r .attached (opened-mutator g m (r .mutator * mutatorWords))
+    none-there x (inl r) = r .attached (opened-mutator g m (r .mutator * mutatorWords + stateAt))
     none-there x (inr e) = let z : traceCount (opened g m) ≡ 0 = opened-control g m 1 in let l = e .within in omega arith
 
 -- ---- it is in order
 
 module _ (g : Geometry) (m : Mem) where
-  segment-ok : (s : ℕ) → SegmentOk (opened g m) s
+  segment-ok : (s : ℕ) → SegmentOk g (opened g m) s
   segment-ok s =
-      let t : tag (opened g m) s ≡ 0 = opened-segment g m (s * recordWords) in
+      let t : tag (opened g m) s ≡ Tag.free = opened-segment g m (s * recordWords) in
       record {
         tags = omega arith;
         free = λ e. (opened-segment g m (s * recordWords + 1), opened-segment g m (s * recordWords + 2), opened-segment g m (s * recordWords + 3));
@@ -101,13 +102,13 @@ module _ (g : Geometry) (m : Mem) where
 
   mutator-ok : (k : ℕ) → MutatorOk g (opened g m) k
   mutator-ok k =
-      let a = opened-mutator g m (k * mutatorWords) in
-      let b = opened-mutator g m (k * mutatorWords + 1) in
+      let a = opened-mutator g m (k * mutatorWords + stateAt) in
+      let b = opened-mutator g m (k * mutatorWords + acksAt) in
       record {
         states = omega arith;
         acknowledged = omega arith;
         gone = λ e i l. opened-mutator g m (k * mutatorWords + i);
-        holds = λ c s l e. absurd (let z = opened-mutator g m (k * mutatorWords + 18 + (c - firstClass)) in omega arith);
+        holds = λ c s l e. absurd (let z = opened-mutator g m (k * mutatorWords + heldFrom + (c - firstClass)) in omega arith);
       }
 
   trace-ok : TraceOk g (opened g m)
@@ -118,11 +119,11 @@ module _ (g : Geometry) (m : Mem) where
         once = λ i j l k e. omega arith;
         unmarked = λ at e. absurd (let l = e .within in omega arith);
         bits = λ at e. absurd (let l = e .within in omega arith);
-        number = z ∙ sym (no-ones (bitAt (opened g m .queued)) (g .segments * mostBlocks) (λ i l. opened-queued g m i));
+        number = z ∙ sym (no-ones (bitAt (opened g m .queued)) (g .segments * mostBlocks g) (λ i l. opened-queued g m i));
       }
 
   in-idle : InPhase idle g (opened g m)
-  in-idle = (opened-control g m 1, λ s l e. let t : tag (opened g m) s ≡ 0 = opened-segment g m (s * recordWords) in omega arith)
+  in-idle = (opened-control g m 1, λ s l e. let t : tag (opened g m) s ≡ Tag.free = opened-segment g m (s * recordWords) in omega arith)
 
   not-part : (c s : ℕ) → isPart (opened g m) c s ≡ false
   not-part c s = rw (opened-segment g m (s * recordWords)) refl
@@ -132,7 +133,7 @@ opened-consistent g m s = record {
   phases = let z = opened-control g m 0 in omega arith;
   segments = λ r l. segment-ok g m r;
   mutators = λ k l. mutator-ok g m k;
-  acknowledgements = λ k l f. absurd (f (opened-mutator g m (k * mutatorWords)));
+  acknowledgements = λ k l f. absurd (f (opened-mutator g m (k * mutatorWords + stateAt)));
   freeSegments = free-open g (opened g m) (opened-stacks g m) (isFree (opened g m)) (λ r l. eq-eqb _ _ (opened-segment g m (r * recordWords)));
   partSegments = λ c h. part-open g (opened g m) (opened-stacks g m) (c - firstClass) (isPart (opened g m) c) (λ r l. not-part g m c r);
   records = λ at p. absurd (no-reached g m at p);
@@ -142,14 +143,14 @@ opened-consistent g m s = record {
 
 -- ---- and the unbounded heap beside it is empty
 
-pub opened-good : (g : Geometry) (m : Mem) → Sizes g m → Good segmentOf (λ _. ⊥) (λ _. none) (view (opened g m)) empty
+pub opened-good : (g : Geometry) (m : Mem) → Sizes g m → Good (segmentOf g) (λ _. ⊥) (λ _. none) (view g (opened g m)) empty
 opened-good g m s = record {
   inv = to-inv g (opened g m) (sizes-opened g m s) (opened-consistent g m s);
   sim = record {
     attached = gone;
-    inside = λ i. ne-eqb (state (opened g m) i) 1 (λ e. let z = opened-mutator g m (i * mutatorWords) in omega arith);
+    inside = λ i. ne-eqb (state (opened g m) i) 1 (λ e. let z = opened-mutator g m (i * mutatorWords + stateAt) in omega arith);
     root = λ i k a l. absurd (true≢false (sym a ∙ gone i));
-    rec = λ b p. absurd (no-reached g m b (live-back (opened g m) g (sizes-opened g m s) (trace-ok g m .named) p));
+    rec = λ b p. absurd (no-reached g m b (live-back g (opened g m) (sizes-opened g m s) (trace-ok g m .named) p));
     inj = λ b c r e h. none-some e;
     old = λ b r e. none-some e;
   };
@@ -158,7 +159,7 @@ opened-good g m s = record {
 }
   where
     gone : (i : ℕ) → isAttached (opened g m) i ≡ false
-    gone i = ap not (eq-eqb (state (opened g m) i) 0 (opened-mutator g m (i * mutatorWords)))
+    gone i = ap not (eq-eqb (state (opened g m) i) 0 (opened-mutator g m (i * mutatorWords + stateAt)))
 
-    not-collected : (b : ℕ) → eqb (tag (opened g m) (segmentOf b)) 4 ≡ true → ⊥
-    not-collected b k = let z : tag (opened g m) (segmentOf b) ≡ 4 = eqb-true _ _ k in let y = opened-segment g m (segmentOf b * recordWords) in omega arith
+    not-collected : (b : ℕ) → eqb (tag (opened g m) (segmentOf g b)) Tag.condemned ≡ true → ⊥
+    not-collected b k = let z : tag (opened g m) (segmentOf g b) ≡ Tag.condemned = eqb-true _ _ k in let y = opened-segment g m (segmentOf g b * recordWords) in omega arith

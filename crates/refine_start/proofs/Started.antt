@@ -10,17 +10,16 @@ use borrow.Author.Tests.{ne-eqb, eq-eqb, eqb-true, eqb-false}
 use Rattle.rules.proofs.Order.{same-or-not}
 use Rattle.rules.specs.Pick.{pick}
 use Rattle.words.specs.Tree.{Tree}
-use Rattle.classes.specs.Shape.{blocksIn}
 use Rattle.layout.specs.declared.Geometry.{Geometry}
-use Rattle.layout.specs.Geometry.{mutatorWords, rootCount}
+use Rattle.layout.specs.Geometry.{mutatorWords, entryWords, rootCount, blocksIn, segmentOf}
 use Rattle.layout.specs.Mem.{Mem, mutatorWord, heapWord}
 use Rattle.theory.specs.Phases.{idle, sync1}
 use Rattle.theory.specs.Machine.{start}
 use Rattle.theory.proofs.Agree.{Agree}
 use Rattle.model.specs.Rules.{phaseOf}
-use Rattle.model.specs.Fields.{phase, traceCount, absent, state, tag, class, place, owner, root, holding}
+use Rattle.model.specs.Fields.{phase, traceCount, absent, stateAt, acksAt, state, tag, class, place, owner, root, holding}
 use Rattle.model.specs.Segments.{freeStack, partStack, above, bitmap, usedBit}
-use Rattle.model.specs.Records.{record?, pointers, values, pointer, segmentOf, blockOf, bitOf, marked}
+use Rattle.model.specs.Records.{record?, pointers, values, pointer, blockOf, bitOf, marked}
 use Rattle.model.specs.Collector.{isFull, started}
 use Rattle.model.specs.Reaching.{Live, isMarked}
 use Rattle.model.specs.Consistent.{Consistent, InPhase, IsClass, SegmentOk, MutatorOk, RecordOk, isFree, isPart}
@@ -32,10 +31,11 @@ use Rattle.refine_view.proofs.Seeing.{root-was, edge-was, live-was}
 use Rattle.refine_view.proofs.OtherStacks.{stack-by}
 use Rattle.refine_view.proofs.Carried.{block-by, bit-by, record-by, queued-by}
 use Rattle.refine_view.proofs.Invariants.{structure-of}
-use Rattle.refine_view.proofs.Entries.{state-by, root-by, holding-by, table-below}
+use Rattle.refine_view.proofs.Entries.{holding-by, table-below}
 use Rattle.refine_view.proofs.Segments.{segment-same, part-same, used-same, in-range}
 use Rattle.refine_view.proofs.Bitmaps.{bitmap-by}
 use Rattle.refine_start.proofs.Beginning.{Begun, begun}
+use Rattle.model.specs.Tag as Tag
 
 module _ (g : Geometry) (m m′ : Mem) (z : Sizes g m) (ok : Consistent g m) (quiet : phase m ≡ idle) (b : Begun m m′) where
   -- ---- before: the trace stack is empty, and no segment is condemned
@@ -53,7 +53,7 @@ module _ (g : Geometry) (m m′ : Mem) (z : Sizes g m) (ok : Consistent g m) (qu
 
   -- full before and condemned now, or as it was
   abbrev Changed : ℕ → Type 0
-  Changed s = ((tag m s ≡ 3) × (tag m′ s ≡ 4)) ⊎ ((tag m s ≡ 3 → ⊥) × (tag m′ s ≡ tag m s))
+  Changed s = ((tag m s ≡ Tag.full) × (tag m′ s ≡ Tag.condemned)) ⊎ ((tag m s ≡ Tag.full → ⊥) × (tag m′ s ≡ tag m s))
 
   changed : (s : ℕ) → Changed s
   changed s = go (isFull m s) refl (b .segments s .tag)
@@ -80,30 +80,30 @@ module _ (g : Geometry) (m m′ : Mem) (z : Sizes g m) (ok : Consistent g m) (qu
   tag-test : (s t : ℕ) → t ≤ 2 → eqb (tag m′ s) t ≡ eqb (tag m s) t
   tag-test s t l = test-same (tag m s) (tag m′ s) t (tag-on s t l) (tag-back s t l)
 
-  never-condemned : (s : ℕ) → tag m s ≡ 4 → ⊥
+  never-condemned : (s : ℕ) → tag m s ≡ Tag.condemned → ⊥
   never-condemned s e = was-idle .1 s (in-range g m z s (λ t. omega arith)) e
 
-  full-test : (s : ℕ) → eqb (tag m′ s) 4 ≡ isFull m s
+  full-test : (s : ℕ) → eqb (tag m′ s) Tag.condemned ≡ isFull m s
   full-test s = go (changed s)
     where
-      go : Changed s → eqb (tag m′ s) 4 ≡ isFull m s
+      go : Changed s → eqb (tag m′ s) Tag.condemned ≡ isFull m s
       go (inl q) = eq-eqb _ _ (q .1) ∙ sym (eq-eqb _ _ (q .0))
       go (inr q) = ne-eqb _ _ (λ e. never-condemned s (sym (q .1) ∙ e)) ∙ sym (ne-eqb _ _ (q .0))
 
-  was-full : (s : ℕ) → tag m′ s ≡ 4 → tag m s ≡ 3
+  was-full : (s : ℕ) → tag m′ s ≡ Tag.condemned → tag m s ≡ Tag.full
   was-full s e = go (changed s)
     where
-      go : Changed s → tag m s ≡ 3
+      go : Changed s → tag m s ≡ Tag.full
       go (inl q) = q .0
       go (inr q) = absurd (never-condemned s (sym (q .1) ∙ e))
 
   -- ---- mutators
 
   state-same : (k : ℕ) → state m′ k ≡ state m k
-  state-same k = state-by m m′ k (b .mutators k 0 (omega arith) (λ q. omega arith))
+  state-same k = b .mutators k stateAt (omega arith) (λ q. omega arith)
 
   root-same : (k i : ℕ) → i < rootCount → root m′ k i ≡ root m k i
-  root-same k i l = root-by m m′ k i (b .mutators k (2 + i) (omega arith) (λ q. omega arith))
+  root-same k i l = b .mutators k i (omega arith) (λ q. omega arith)
 
   holding-same : (k c : ℕ) → IsClass c → holding m′ k c ≡ holding m k c
   holding-same k c h = holding-by m m′ k c (b .mutators k _ (table-below c h) (λ q. omega arith))
@@ -113,13 +113,13 @@ module _ (g : Geometry) (m m′ : Mem) (z : Sizes g m) (ok : Consistent g m) (qu
 
   -- ---- segments
 
-  segment-ok : (s : ℕ) → SegmentOk m s → SegmentOk m′ s
+  segment-ok : (s : ℕ) → SegmentOk g m s → SegmentOk g m′ s
   segment-ok s o = go (changed s)
     where
-      go : Changed s → SegmentOk m′ s
+      go : Changed s → SegmentOk g m′ s
       go (inr q) =
           let w = b .segments s in
-          segment-same m m′ s o (record { tag = q .1; class = w .class; place = w .place; owner = w .owner }) (bitmap-by m m′ (b .bitmaps) s)
+          segment-same g m m′ s o (record { tag = q .1; class = w .class; place = w .place; owner = w .owner }) (bitmap-by g m m′ (b .bitmaps) s)
           (λ e. let h = o .held e in (λ n. h .1 (sym (state-same (owner m s)) ∙ n), holding-same (owner m s) (class m s) (o .classes (λ n. omega arith)) ∙ h .2))
       go (inl q) =
           let w = b .segments s in
@@ -130,9 +130,9 @@ module _ (g : Geometry) (m m′ : Mem) (z : Sizes g m) (ok : Consistent g m) (qu
             free = λ e. absurd (omega arith);
             unowned = λ f. w .owner ∙ o .unowned (λ e. omega arith);
             classes = λ f. subst IsClass (sym (w .class)) (o .classes (λ e. omega arith));
-            tree = λ f. subst (λ c. Tree (above c) (blocksIn c) (bitmap m′ s)) (sym (w .class)) (subst (Tree (above (class m s)) (blocksIn (class m s))) (sym (bitmap-by m m′ (b .bitmaps) s)) (o .tree (λ e. omega arith)));
+            tree = λ f. subst (λ c. Tree (above g c) (blocksIn g c) (bitmap g m′ s)) (sym (w .class)) (subst (Tree (above g (class m s)) (blocksIn g (class m s))) (sym (bitmap-by g m m′ (b .bitmaps) s)) (o .tree (λ e. omega arith)));
             remains = λ l h. absurd (omega arith);
-            whole = λ l. w .place ∙ o .whole (omega arith) ∙ ap blocksIn (sym (w .class));
+            whole = λ l. w .place ∙ o .whole (omega arith) ∙ ap (blocksIn g) (sym (w .class));
             held = λ e. absurd (omega arith);
           }
 
@@ -142,13 +142,13 @@ module _ (g : Geometry) (m m′ : Mem) (z : Sizes g m) (ok : Consistent g m) (qu
   mutator-ok k o = record {
     states = let e = state-same k in let l = o .states in omega arith;
     acknowledged = let e = b .acks k in omega arith;
-    gone = λ e i l. blank e i l (same-or-not i 1);
+    gone = λ e i l. blank e i l (same-or-not i acksAt);
     holds = λ c s h e. let q = o .holds c s h (sym (holding-same k c h) ∙ e) in (q .0, tag-on s 2 (omega arith) (q .1), b .segments s .class ∙ q .2, b .segments s .owner ∙ q .3);
   }
     where
-      blank : state m′ k ≡ absent → (i : ℕ) → i < mutatorWords → (i ≡ 1) ⊎ (i ≡ 1 → ⊥) → mutatorWord m′ (k * mutatorWords + i) ≡ 0
+      blank : state m′ k ≡ absent → (i : ℕ) → i < entryWords → (i ≡ acksAt) ⊎ (i ≡ acksAt → ⊥) → mutatorWord m′ (k * mutatorWords + i) ≡ 0
       blank e i l (inl q) = ap (λ x. mutatorWord m′ (k * mutatorWords + x)) q ∙ b .acks k
-      blank e i l (inr f) = b .mutators k i l f ∙ o .gone (sym (state-same k) ∙ e) i l
+      blank e i l (inr f) = b .mutators k i (omega arith) f ∙ o .gone (sym (state-same k) ∙ e) i l
 
   -- ---- stacks
 
@@ -163,16 +163,16 @@ module _ (g : Geometry) (m m′ : Mem) (z : Sizes g m) (ok : Consistent g m) (qu
   live-before : (at : ℕ) → Live m′ at → Live m at
   live-before at p = live-was m m′ (root-was m m′ (λ k e. state-same k ∙ e) (root-same)) (λ x e. absurd (let l = e .within in let n = none-left in omega arith)) (edge-was m m′ word-same) p
 
-  use-same : (s k : ℕ) → usedBit m′ s k ≡ usedBit m s k
-  use-same s k = used-same m m′ s k (b .segments s .place) (bitmap-by m m′ (b .bitmaps) s)
+  use-same : (s k : ℕ) → usedBit g m′ s k ≡ usedBit g m s k
+  use-same s k = used-same g m m′ s k (b .segments s .place) (bitmap-by g m m′ (b .bitmaps) s)
 
   record-ok : (at : ℕ) → RecordOk g m at → RecordOk g m′ at
-  record-ok at r = record-by m m′ at (b .segments (segmentOf at) .class) g r (λ e. r .used (tag-back (segmentOf at) 0 (omega arith) e)) (use-same (segmentOf at) (blockOf m at) ∙ r .block) (word-same at)
+  record-ok at r = record-by g m m′ at (b .segments (segmentOf g at) .class) r (λ e. r .used (tag-back (segmentOf g at) 0 (omega arith) e)) (use-same (segmentOf g at) (blockOf g m at) ∙ r .block) (word-same at)
 
   -- ---- the trace stack
 
   trace-ok : QueuedOk g m′
-  trace-ok = queued-by g m m′ (structure-of g m ok .trace) (b .traced) (λ i. ap (λ l. getD l i 0) (b .trace)) (b .queued) (λ at e. bit-by m m′ at (b .segments (segmentOf at) .class))
+  trace-ok = queued-by g m m′ (structure-of g m ok .trace) (b .traced) (λ i. ap (λ l. getD l i 0) (b .trace)) (b .queued) (λ at e. bit-by g m m′ at (b .segments (segmentOf g at) .class))
 
   structure : Structure g m′
   structure = record {
@@ -188,18 +188,18 @@ module _ (g : Geometry) (m m′ : Mem) (z : Sizes g m) (ok : Consistent g m) (qu
 
   -- ---- beside the machine's start
 
-  no-mark : (at : ℕ) → (isHead m′ at && isMarked m′ at) ≡ false
+  no-mark : (at : ℕ) → (isHead g m′ at && isMarked g m′ at) ≡ false
   no-mark at =
-      let e : isMarked m′ at ≡ false = ne-eqb (marked m′ at) 1 (λ e. let q = b .marks (bitOf m′ at) in omega arith) in
-      ap (λ x. isHead m′ at && x) e ∙ and-false (isHead m′ at)
+      let e : isMarked g m′ at ≡ false = ne-eqb (marked g m′ at) 1 (λ e. let q = b .marks (bitOf g m′ at) in omega arith) in
+      ap (λ x. isHead g m′ at && x) e ∙ and-false (isHead g m′ at)
 
-  used-test : (at : ℕ) → isUsed m′ at ≡ isUsed m at
+  used-test : (at : ℕ) → isUsed g m′ at ≡ isUsed g m at
   used-test at =
-      let u : usedBit m′ (segmentOf at) (blockOf m′ at) ≡ usedBit m (segmentOf at) (blockOf m at) = use-same (segmentOf at) (blockOf m′ at) ∙ ap (usedBit m (segmentOf at)) (block-by m m′ at (b .segments (segmentOf at) .class)) in
-      ap (λ x. not x && eqb (usedBit m′ (segmentOf at) (blockOf m′ at)) 1) (tag-test (segmentOf at) 0 (omega arith))
-      ∙ ap (λ x. not (eqb (tag m (segmentOf at)) 0) && eqb x 1) u
+      let u : usedBit g m′ (segmentOf g at) (blockOf g m′ at) ≡ usedBit g m (segmentOf g at) (blockOf g m at) = use-same (segmentOf g at) (blockOf g m′ at) ∙ ap (usedBit g m (segmentOf g at)) (block-by g m m′ at (b .segments (segmentOf g at) .class)) in
+      ap (λ x. not x && eqb (usedBit g m′ (segmentOf g at) (blockOf g m′ at)) 1) (tag-test (segmentOf g at) 0 (omega arith))
+      ∙ ap (λ x. not (eqb (tag m (segmentOf g at)) Tag.free) && eqb x 1) u
 
-  agree : Agree segmentOf (start (view m) (isFull m)) (view m′)
+  agree : Agree (segmentOf g) (start (view g m) (isFull m)) (view g m′)
   agree = record {
     phase = begun-phase;
     stack = ap (stackOf m′) none-left ∙ sym (ap (stackOf m) no-entries);

@@ -9,7 +9,7 @@ use lib.Dec.{eqb}
 use borrow.Author.Tests.{eq-eqb, ne-eqb}
 use Rattle.words.specs.Bits.{bitAt}
 use Rattle.layout.specs.declared.Geometry.{Geometry}
-use Rattle.layout.specs.Geometry.{segmentWords}
+use Rattle.layout.specs.Geometry.{segmentWords, segmentOf, bitIn}
 use Rattle.layout.specs.Mem.{Mem}
 use Rattle.theory.specs.Phases.{sweep}
 use Rattle.theory.specs.Update.{pick}
@@ -17,7 +17,7 @@ use Rattle.theory.proofs.Updates.{upd-cases}
 use Rattle.theory.proofs.Agree.{Agree}
 use Rattle.theory.proofs.Invariant.{Tracing}
 use Rattle.model.specs.Fields.{phase, traceCount, absent, inside, tag, class}
-use Rattle.model.specs.Records.{segmentOf, blockWords, blockOf, bitIn, record?}
+use Rattle.model.specs.Records.{blockWords, blockOf, record?}
 use Rattle.model.specs.Reaching.{Live, isMarked}
 use Rattle.model.specs.Consistent.{Consistent}
 use Rattle.refine_view.specs.View.{view, stackOf, isHead, isUsed}
@@ -31,39 +31,40 @@ use Rattle.refine_sweep.proofs.Outcome.{Outcome}
 use Rattle.refine_sweep.proofs.Survivors.{empty, empty-after, phase-after, live-marked}
 use Rattle.refine_sweep.proofs.Structured.{record-after, structure-after, steady-after}
 use Rattle.theory.specs.Machine as machine
+use Rattle.model.specs.Tag as Tag
 
-module _ (g : Geometry) (m : Mem) (s : Sizes g m) (c : Consistent g m) (ph : phase m ≡ sweep) (m′ : Mem) (r : ℕ) (l : r < g .segments) (t : tag m r ≡ 4) (o : Outcome g m m′ r) where
+module _ (g : Geometry) (m : Mem) (s : Sizes g m) (c : Consistent g m) (ph : phase m ≡ sweep) (m′ : Mem) (r : ℕ) (l : r < g .segments) (t : tag m r ≡ Tag.condemned) (o : Outcome g m m′ r) where
   abbrev after : machine.State
-  after = machine.sweepSegment segmentOf (view m) r
+  after = machine.sweepSegment (segmentOf g) (view g m) r
 
   stack-agrees : stackOf m′ (traceCount m′) ≡ stackOf m (traceCount m)
   stack-agrees = ap (stackOf m′) (empty-after g m s c ph m′ r l t o) ∙ sym (ap (stackOf m) (empty g m s c ph m′ r l t o))
 
-  used-agrees : (x : ℕ) → Live m x → isUsed m′ x ≡ after .used x
-  used-agrees x p = used-record g m′ x (record-after g m s c ph m′ r l t o x p) ∙ sym (go (ℕ-discrete (segmentOf x) r))
+  used-agrees : (x : ℕ) → Live m x → isUsed g m′ x ≡ after .used x
+  used-agrees x p = used-record g m′ x (record-after g m s c ph m′ r l t o x p) ∙ sym (go (ℕ-discrete (segmentOf g x) r))
     where
-      go : (d : Dec (segmentOf x ≡ r)) → pick d (isHead m x && isMarked m x) (isUsed m x) ≡ true
-      go (yes e) = and-both _ _ (head-of m g s (c .trace .named) (c .records) x p) (eq-eqb _ _ (live-marked g m s c ph m′ r l t o x p e))
+      go : (d : Dec (segmentOf g x ≡ r)) → pick d (isHead g m x && isMarked g m x) (isUsed g m x) ≡ true
+      go (yes e) = and-both _ _ (head-of g m s (c .trace .named) (c .records) x p) (eq-eqb _ _ (live-marked g m s c ph m′ r l t o x p e))
       go (no e) = used-of g m s c x p
 
-  collect-agrees : (x : ℕ) → eqb (tag m′ x) 4 ≡ after .collect x
-  collect-agrees x = go (upd-cases (λ z. eqb (tag m z) 4) r false x)
+  collect-agrees : (x : ℕ) → eqb (tag m′ x) Tag.condemned ≡ after .collect x
+  collect-agrees x = go (upd-cases (λ z. eqb (tag m z) Tag.condemned) r false x)
     where
-      go : ((x ≡ r) × (after .collect x ≡ false)) ⊎ ((x ≡ r → ⊥) × (after .collect x ≡ eqb (tag m x) 4)) → eqb (tag m′ x) 4 ≡ after .collect x
+      go : ((x ≡ r) × (after .collect x ≡ false)) ⊎ ((x ≡ r → ⊥) × (after .collect x ≡ eqb (tag m x) Tag.condemned)) → eqb (tag m′ x) Tag.condemned ≡ after .collect x
       go (inl h) = ne-eqb _ _ (λ e. o .uncondemned (sym (ap (tag m′) (h .0)) ∙ e)) ∙ sym (h .1)
       go (inr h) = ap (λ z. eqb z 4) (o .left .other x (h .0) .tag) ∙ sym (h .1)
 
   -- the marks of the segments that remain to be swept
-  fated-agrees : (x : ℕ) → after .collect (segmentOf x) ≡ true → (isHead m′ x && isMarked m′ x) ≡ (isHead m x && isMarked m x)
-  fated-agrees x e = go (upd-cases (λ z. eqb (tag m z) 4) r false (segmentOf x))
+  fated-agrees : (x : ℕ) → after .collect (segmentOf g x) ≡ true → (isHead g m′ x && isMarked g m′ x) ≡ (isHead g m x && isMarked g m x)
+  fated-agrees x e = go (upd-cases (λ z. eqb (tag m z) Tag.condemned) r false (segmentOf g x))
     where
-      go : ((segmentOf x ≡ r) × (after .collect (segmentOf x) ≡ false)) ⊎ ((segmentOf x ≡ r → ⊥) × (after .collect (segmentOf x) ≡ eqb (tag m (segmentOf x)) 4)) → (isHead m′ x && isMarked m′ x) ≡ (isHead m x && isMarked m x)
+      go : ((segmentOf g x ≡ r) × (after .collect (segmentOf g x) ≡ false)) ⊎ ((segmentOf g x ≡ r → ⊥) × (after .collect (segmentOf g x) ≡ eqb (tag m (segmentOf g x)) Tag.condemned)) → (isHead g m′ x && isMarked g m′ x) ≡ (isHead g m x && isMarked g m x)
       go (inl h) = absurd (true≢false (sym e ∙ h .1))
       go (inr h) =
-          ap (λ z. eqb (x % segmentWords % blockWords z) 0 && eqb (bitAt (m′ .marks) (bitIn (segmentOf x) (x % segmentWords / blockWords z))) 1) (o .left .other (segmentOf x) (h .0) .class)
-          ∙ ap (λ (z : List ℕ). isHead m x && eqb (bitAt z (bitIn (segmentOf x) (blockOf m x))) 1) (o .left .marks)
+          ap (λ z. eqb (x % segmentWords g % blockWords z) 0 && eqb (bitAt (m′ .marks) (bitIn g (segmentOf g x) (x % segmentWords g / blockWords z))) 1) (o .left .other (segmentOf g x) (h .0) .class)
+          ∙ ap (λ (z : List ℕ). isHead g m x && eqb (bitAt z (bitIn g (segmentOf g x) (blockOf g m x))) 1) (o .left .marks)
 
-  pub agree-after : Agree segmentOf after (view m′)
+  pub agree-after : Agree (segmentOf g) after (view g m′)
   agree-after =
       let st = mutator-same m m′ (o .left .mutators) in
       record {

@@ -8,33 +8,33 @@ use Rattle.rules.specs.Pick.{pick}
 use Rattle.words.specs.Bits.{bitAt}
 use Rattle.words.specs.Tree.{Tree}
 use Rattle.words.proofs.Lists.{at-lt}
-use Rattle.classes.specs.Shape.{blocksIn}
+use Rattle.layout.specs.Geometry.{blocksIn, bitIn}
 use Rattle.layout.specs.declared.Geometry.{Geometry}
 use Rattle.layout.specs.Mem.{Mem}
 use Rattle.model.specs.declared.SegmentState.{SegmentState}
 use Rattle.model.specs.Fields.{tag, class, place, owner}
 use Rattle.model.specs.Segments.{above, bitmap, marksOf}
-use Rattle.model.specs.Records.{bitIn}
 use Rattle.model.specs.Collector.{keptBy}
 use Rattle.model.specs.Consistent.{IsClass}
 use Rattle.refine_view.specs.Kept.{Sizes}
 use Rattle.refine_view.proofs.Words.{tagOf, classIn, placeIn, ownerIn}
 use Rattle.refine_view.proofs.Parted.{Stacks}
-use Rattle.refine_view.proofs.Blocks.{blocks-most}
+use Rattle.model.proofs.Blocks.{blocks-most}
 use Rattle.words.proofs.Counts.{none-one, all-one, one-missing}
 use Rattle.refine_sweep.proofs.Rebuilding.{mark-bit}
 use Rattle.refine_sweep.proofs.Settled.{Settled}
 use Rattle.refine_sweep.proofs.Outcome.{Outcome}
 use Rattle.model.specs.declared.SegmentState.the-variants as segment
+use Rattle.model.specs.Tag as Tag
 
 module _ (g : Geometry) (m : Mem) (s : Sizes g m) (r : ℕ) (l : r < g .segments) (k : IsClass (class m r)) (m′ : Mem) where
   -- a block's bit among the segment's marks, and among all
-  to-mark : (b : ℕ) → b < blocksIn (class m r) → bitAt (marksOf m r) b ≡ bitAt (m .marks) (bitIn r b)
-  to-mark b h = let q = blocks-most (class m r) k in mark-bit g m s r l k b (omega arith)
+  to-mark : (b : ℕ) → b < blocksIn g (class m r) → bitAt (marksOf g m r) b ≡ bitAt (m .marks) (bitIn g r b)
+  to-mark b h = let q = blocks-most g (class m r) k in mark-bit g m s r l k b (omega arith)
 
-  pub free-end : Settled m m′ r segment.Free → keptBy m r ≡ 0 → Stacks g m′ → Outcome g m m′ r
+  pub free-end : Settled g m m′ r segment.Free → keptBy g m r ≡ 0 → Stacks g m′ → Outcome g m m′ r
   free-end q e p =
-      let z : tag m′ r ≡ 0 = q .there .tag in
+      let z : tag m′ r ≡ Tag.free = q .there .tag in
       record {
         left = q .left;
         segment = record {
@@ -51,13 +51,13 @@ module _ (g : Geometry) (m : Mem) (s : Sizes g m) (r : ℕ) (l : r < g .segments
         uncondemned = λ a. omega arith;
         classed = λ d. absurd (d z);
         used = λ d b h. absurd (d z);
-        kept = λ b h a _. (let y : bitAt (m .marks) (bitIn r b) ≡ 0 = sym (to-mark b h) ∙ none-one (bitAt (marksOf m r)) (blocksIn (class m r)) e b h in omega arith);
+        kept = λ b h a _. (let y : bitAt (m .marks) (bitIn g r b) ≡ 0 = sym (to-mark b h) ∙ none-one (bitAt (marksOf g m r)) (blocksIn g (class m r)) e b h in omega arith);
         stacks = p;
       }
 
   -- a segment that stays in use, with its class
-  kept-end : (x : SegmentState) → Settled m m′ r x → classIn x ≡ class m r → ownerIn x ≡ 0 → 1 ≤ tagOf x → (tagOf x ≡ 2 → ⊥) → tagOf x ≤ 3 → (tagOf x ≤ 2 → (b : ℕ) × (placeIn x ≤ b) × (b < blocksIn (class m r)) × (bitAt (bitmap m′ r) b ≡ 0)) → (3 ≤ tagOf x → placeIn x ≡ blocksIn (class m r))
-      → ((b : ℕ) → b < blocksIn (class m r) → pick (ltb b (placeIn x)) 1 (bitAt (bitmap m′ r) b) ≡ bitAt (m .marks) (bitIn r b)) → Stacks g m′ → Outcome g m m′ r
+  kept-end : (x : SegmentState) → Settled g m m′ r x → classIn x ≡ class m r → ownerIn x ≡ 0 → 1 ≤ tagOf x → (tagOf x ≡ 2 → ⊥) → tagOf x ≤ 3 → (tagOf x ≤ 2 → (b : ℕ) × (placeIn g x ≤ b) × (b < blocksIn g (class m r)) × (bitAt (bitmap g m′ r) b ≡ 0)) → (3 ≤ tagOf x → placeIn g x ≡ blocksIn g (class m r))
+      → ((b : ℕ) → b < blocksIn g (class m r) → pick (ltb b (placeIn g x)) 1 (bitAt (bitmap g m′ r) b) ≡ bitAt (m .marks) (bitIn g r b)) → Stacks g m′ → Outcome g m m′ r
   kept-end x q c o low two top remains whole used p =
       let z : tag m′ r ≡ tagOf x = q .there .tag in
       let w : class m′ r ≡ class m r = q .there .class ∙ c in
@@ -68,25 +68,25 @@ module _ (g : Geometry) (m : Mem) (s : Sizes g m) (r : ℕ) (l : r < g .segments
           free = λ a. absurd (omega arith);
           unowned = λ _. q .there .owner ∙ o;
           classes = λ d. subst IsClass (sym w) k;
-          tree = λ d. subst (λ c. Tree (above c) (blocksIn c) (bitmap m′ r)) (sym w) (q .tree);
-          remains = λ a b. let y = remains (omega arith) in (y .0, subst (λ v. v ≤ y .0) (sym (q .there .place)) (y .1), subst (λ c. y .0 < blocksIn c) (sym w) (y .2), y .3);
-          whole = λ a. q .there .place ∙ whole (omega arith) ∙ sym (ap blocksIn w);
+          tree = λ d. subst (λ c. Tree (above g c) (blocksIn g c) (bitmap g m′ r)) (sym w) (q .tree);
+          remains = λ a b. let y = remains (omega arith) in (y .0, subst (λ v. v ≤ y .0) (sym (q .there .place)) (y .1), subst (λ c. y .0 < blocksIn g c) (sym w) (y .2), y .3);
+          whole = λ a. q .there .place ∙ whole (omega arith) ∙ sym (ap (blocksIn g) w);
           held = λ a. absurd (two (sym z ∙ a));
         };
         unheld = λ a. two (sym z ∙ a);
         uncondemned = λ a. omega arith;
         classed = λ d. w;
-        used = λ d b h. ap (λ y. pick (ltb b y) 1 (bitAt (bitmap m′ r) b)) (q .there .place) ∙ used b h;
+        used = λ d b h. ap (λ y. pick (ltb b y) 1 (bitAt (bitmap g m′ r) b)) (q .there .place) ∙ used b h;
         kept = λ b h a y. omega arith;
         stacks = p;
       }
 
-  pub full-end : Settled m m′ r (segment.Full (class m r)) → keptBy m r ≡ blocksIn (class m r) → Stacks g m′ → Outcome g m m′ r
+  pub full-end : Settled g m m′ r (segment.Full (class m r)) → keptBy g m r ≡ blocksIn g (class m r) → Stacks g m′ → Outcome g m m′ r
   full-end q e p = kept-end (segment.Full (class m r)) q refl refl (omega arith) (λ a. omega arith) (omega arith) (λ a. absurd (omega arith)) (λ a. refl)
-      (λ b h. ap (λ y. pick y 1 (bitAt (bitmap m′ r) b)) (lt-ltb b (blocksIn (class m r)) h) ∙ sym (all-one (bitAt (marksOf m r)) (at-lt (marksOf m r)) (blocksIn (class m r)) e b h) ∙ to-mark b h) p
+      (λ b h. ap (λ y. pick y 1 (bitAt (bitmap g m′ r) b)) (lt-ltb b (blocksIn g (class m r)) h) ∙ sym (all-one (bitAt (marksOf g m r)) (at-lt (marksOf g m r)) (blocksIn g (class m r)) e b h) ∙ to-mark b h) p
 
-  pub part-end : Settled m m′ r (segment.Part (class m r) 0) → (keptBy m r ≡ blocksIn (class m r) → ⊥) → Stacks g m′ → Outcome g m m′ r
+  pub part-end : Settled g m m′ r (segment.Part (class m r) 0) → (keptBy g m r ≡ blocksIn g (class m r) → ⊥) → Stacks g m′ → Outcome g m m′ r
   part-end q e p =
-      let y = one-missing (bitAt (marksOf m r)) (at-lt (marksOf m r)) (blocksIn (class m r)) e in
+      let y = one-missing (bitAt (marksOf g m r)) (at-lt (marksOf g m r)) (blocksIn g (class m r)) e in
       kept-end (segment.Part (class m r) 0) q refl refl (omega arith) (λ a. omega arith) (omega arith) (λ a. (y .0, omega arith, y .1, q .bits (y .0) (y .1) ∙ sym (to-mark (y .0) (y .1)) ∙ y .2)) (λ a. absurd (omega arith))
-      (λ b h. ap (λ x. pick x 1 (bitAt (bitmap m′ r) b)) (le-ltb b 0 (omega arith)) ∙ q .bits b h) p
+      (λ b h. ap (λ x. pick x 1 (bitAt (bitmap g m′ r) b)) (le-ltb b 0 (omega arith)) ∙ q .bits b h) p

@@ -11,6 +11,7 @@ use Rattle.refine_view.specs.Kept.{Sizes, Moves}
 use Rattle.refine_view.proofs.Keeping.{moves-self}
 use Rattle.refine_view.proofs.Phasing.{phase-moves}
 use Rattle.theory.specs.Machine as machine
+use Rattle.model.specs.Tag as Tag
 
-pub moves-done : (g : Geometry) (m : Mem) → Sizes g m → Consistent g m → ((x : ℕ) → x < g .segments → tag m x ≡ 4 → ⊥) → Moves g m (setPhase m idle) (machine.setPhase (view m) idle)
-moves-done g m s c left = phase-moves g m m (view m) (moves-self g m c) s idle (λ t. absurd t) left
+pub moves-done : (g : Geometry) (m : Mem) → Sizes g m → Consistent g m → ((x : ℕ) → x < g .segments → tag m x ≡ Tag.condemned → ⊥) → Moves g m (setPhase m idle) (machine.setPhase (view g m) idle)
+moves-done g m s c left = phase-moves g m m (view g m) (moves-self g m c) s idle (λ t. absurd t) left

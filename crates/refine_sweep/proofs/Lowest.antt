@@ -18,37 +18,38 @@ use Rattle.model.specs.Collector.{lowest, orThen}
 use Rattle.refine_view.specs.View.{view}
 use Rattle.refine_view.specs.Kept.{Sizes}
 use Rattle.refine_view.proofs.Segments.{in-range}
+use Rattle.model.specs.Tag as Tag
 
 -- what the scan finds is in the collect set
-pub found-condemned : (m : Mem) (n r : ℕ) → lowest m n ≡ some r → (r < n) × (tag m r ≡ 4)
+pub found-condemned : (m : Mem) (n r : ℕ) → lowest m n ≡ some r → (r < n) × (tag m r ≡ Tag.condemned)
 unfolding lowest
 found-condemned m zero r e = none-some e
 found-condemned m (suc n) r e = go (lowest m n) refl e (λ q. found-condemned m n r q)
   where
-    here : (t : Bool) → eqb (tag m n) 4 ≡ t → pick t (some n) none ≡ some r → (r < suc n) × (tag m r ≡ 4)
+    here : (t : Bool) → eqb (tag m n) Tag.condemned ≡ t → pick t (some n) none ≡ some r → (r < suc n) × (tag m r ≡ Tag.condemned)
     here true q f = let z : n ≡ r = Option·some-injective n r f in (omega arith, ap (tag m) (sym z) ∙ eqb-true _ _ q)
     here false q f = none-some f
 
-    go : (o : Option ℕ) → lowest m n ≡ o → orThen o (pick (eqb (tag m n) 4) (some n) none) ≡ some r → (lowest m n ≡ some r → (r < n) × (tag m r ≡ 4)) → (r < suc n) × (tag m r ≡ 4)
-    go none q f ih = here (eqb (tag m n) 4) refl f
+    go : (o : Option ℕ) → lowest m n ≡ o → orThen o (pick (eqb (tag m n) Tag.condemned) (some n) none) ≡ some r → (lowest m n ≡ some r → (r < n) × (tag m r ≡ Tag.condemned)) → (r < suc n) × (tag m r ≡ Tag.condemned)
+    go none q f ih = here (eqb (tag m n) Tag.condemned) refl f
     go (some s) q f ih = let z = ih (q ∙ f) in let l : r < n = z .0 in (omega arith, z .1)
 
 -- where it finds none, none is there
-pub none-condemned : (m : Mem) (n : ℕ) → lowest m n ≡ none → (s : ℕ) → s < n → tag m s ≡ 4 → ⊥
+pub none-condemned : (m : Mem) (n : ℕ) → lowest m n ≡ none → (s : ℕ) → s < n → tag m s ≡ Tag.condemned → ⊥
 unfolding lowest
 none-condemned m zero e s l q = omega arith
 none-condemned m (suc n) e s l q = go (lowest m n) refl e (λ f h. none-condemned m n f s h q)
   where
-    here : (t : Bool) → eqb (tag m n) 4 ≡ t → pick t (some n) none ≡ none → (s < n → ⊥) → ⊥
+    here : (t : Bool) → eqb (tag m n) Tag.condemned ≡ t → pick t (some n) none ≡ none → (s < n → ⊥) → ⊥
     here true k f ih = none-some (sym f)
     here false k f ih = ⊎-elim (λ z. let y : n ≡ s = omega arith in eqb-false _ _ k (ap (tag m) y ∙ q)) ih (le-or-lt n s)
 
-    go : (o : Option ℕ) → lowest m n ≡ o → orThen o (pick (eqb (tag m n) 4) (some n) none) ≡ none → (lowest m n ≡ none → s < n → ⊥) → ⊥
-    go none k f ih = here (eqb (tag m n) 4) refl f (ih k)
+    go : (o : Option ℕ) → lowest m n ≡ o → orThen o (pick (eqb (tag m n) Tag.condemned) (some n) none) ≡ none → (lowest m n ≡ none → s < n → ⊥) → ⊥
+    go none k f ih = here (eqb (tag m n) Tag.condemned) refl f (ih k)
     go (some x) k f ih = none-some (sym f)
 
 module _ (g : Geometry) (m : Mem) (s : Sizes g m) where
-  pub pick-lowest : Pick (λ _. lowest m (g .segments)) (view m)
+  pub pick-lowest : Pick (λ _. lowest m (g .segments)) (view g m)
   pick-lowest = record {
     condemned = λ x e. eq-eqb _ _ (found-condemned m (g .segments) x e .1);
     none-left = λ e x l. ne-eqb _ _ (λ q. none-condemned m (g .segments) e x (in-range g m s x (λ z. omega arith)) q);

@@ -3,18 +3,18 @@
 use mathlib.Core.Path.{_≡_}
 use Prim.Native.Nat.{ℕ, _<_}
 use Rattle.words.specs.Bits.{bitAt}
-use Rattle.classes.specs.Shape.{blocksIn}
+use Rattle.layout.specs.Geometry.{blocksIn, bitIn}
 use Rattle.layout.specs.declared.Geometry.{Geometry}
 use Rattle.layout.specs.Mem.{Mem}
 use Rattle.model.specs.Fields.{tag, class, place, owner}
 use Rattle.model.specs.Segments.{bitmap, usedBit}
-use Rattle.model.specs.Records.{bitIn}
 use Rattle.model.specs.Consistent.{SegmentOk}
 use Rattle.refine_view.proofs.Words.{Recorded}
 use Rattle.refine_view.proofs.Parted.{Stacks}
+use Rattle.model.specs.Tag as Tag
 
 -- what the sweep of segment r leaves alone: other regions, and other segments
-pub record Left (m m′ : Mem) (r : ℕ) : Type 0 where
+pub record Left (g : Geometry) (m m′ : Mem) (r : ℕ) : Type 0 where
   pub control : m′ .control ≡ m .control
   pub mutators : m′ .mutators ≡ m .mutators
   pub marks : m′ .marks ≡ m .marks
@@ -22,15 +22,15 @@ pub record Left (m m′ : Mem) (r : ℕ) : Type 0 where
   pub trace : m′ .trace ≡ m .trace
   pub heap : m′ .heap ≡ m .heap
   pub other : (x : ℕ) → (x ≡ r → ⊥) → Recorded m′ x (tag m x) (class m x) (place m x) (owner m x)
-  pub bitmaps : (x : ℕ) → (x ≡ r → ⊥) → bitmap m′ x ≡ bitmap m x
+  pub bitmaps : (x : ℕ) → (x ≡ r → ⊥) → bitmap g m′ x ≡ bitmap g m x
 
 pub record Outcome (g : Geometry) (m m′ : Mem) (r : ℕ) : Type 0 where
-  pub left : Left m m′ r
+  pub left : Left g m m′ r
   -- the segment itself: free, part or full; in use is what is marked
-  pub segment : SegmentOk m′ r
-  pub unheld : tag m′ r ≡ 2 → ⊥
-  pub uncondemned : tag m′ r ≡ 4 → ⊥
-  pub classed : (tag m′ r ≡ 0 → ⊥) → class m′ r ≡ class m r
-  pub used : (tag m′ r ≡ 0 → ⊥) → (b : ℕ) → b < blocksIn (class m r) → usedBit m′ r b ≡ bitAt (m .marks) (bitIn r b)
-  pub kept : (b : ℕ) → b < blocksIn (class m r) → bitAt (m .marks) (bitIn r b) ≡ 1 → tag m′ r ≡ 0 → ⊥
+  pub segment : SegmentOk g m′ r
+  pub unheld : tag m′ r ≡ Tag.held → ⊥
+  pub uncondemned : tag m′ r ≡ Tag.condemned → ⊥
+  pub classed : (tag m′ r ≡ Tag.free → ⊥) → class m′ r ≡ class m r
+  pub used : (tag m′ r ≡ Tag.free → ⊥) → (b : ℕ) → b < blocksIn g (class m r) → usedBit g m′ r b ≡ bitAt (m .marks) (bitIn g r b)
+  pub kept : (b : ℕ) → b < blocksIn g (class m r) → bitAt (m .marks) (bitIn g r b) ≡ 1 → tag m′ r ≡ Tag.free → ⊥
   pub stacks : Stacks g m′

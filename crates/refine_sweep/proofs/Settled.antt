@@ -5,13 +5,12 @@ use Prim.Native.Nat.{ℕ, _<_}
 use native.Mathlib.Omega.{arith}
 use Rattle.words.specs.Bits.{bitAt}
 use Rattle.words.specs.Tree.{Tree}
-use Rattle.classes.specs.Shape.{blocksIn}
+use Rattle.layout.specs.Geometry.{blocksIn, bitIn}
 use Rattle.layout.specs.declared.Geometry.{Geometry}
 use Rattle.layout.specs.Mem.{Mem, setStack, setRun}
 use Rattle.model.specs.declared.SegmentState.{SegmentState}
 use Rattle.model.specs.Fields.{class}
 use Rattle.model.specs.Segments.{setState, above, bitmap, stacked}
-use Rattle.model.specs.Records.{bitIn}
 use Rattle.model.specs.Collector.{rebuiltBy}
 use Rattle.model.specs.Consistent.{IsClass}
 use Rattle.refine_view.specs.Kept.{Sizes}
@@ -21,30 +20,30 @@ use Rattle.refine_view.proofs.Lengths.{sizes-bitmap, sizes-state}
 use Rattle.refine_sweep.proofs.Outcome.{Left}
 use Rattle.refine_sweep.proofs.Rebuilding.{rebuilt-other, rebuilt-bit, rebuilt-tree}
 
-pub record Settled (m m′ : Mem) (r : ℕ) (x : SegmentState) : Type 0 where
-  pub left : Left m m′ r
-  pub there : Recorded m′ r (tagOf x) (classIn x) (placeIn x) (ownerIn x)
-  pub bits : (b : ℕ) → b < blocksIn (class m r) → bitAt (bitmap m′ r) b ≡ bitAt (m .marks) (bitIn r b)
-  pub tree : Tree (above (class m r)) (blocksIn (class m r)) (bitmap m′ r)
+pub record Settled (g : Geometry) (m m′ : Mem) (r : ℕ) (x : SegmentState) : Type 0 where
+  pub left : Left g m m′ r
+  pub there : Recorded m′ r (tagOf x) (classIn x) (placeIn g x) (ownerIn x)
+  pub bits : (b : ℕ) → b < blocksIn g (class m r) → bitAt (bitmap g m′ r) b ≡ bitAt (m .marks) (bitIn g r b)
+  pub tree : Tree (above g (class m r)) (blocksIn g (class m r)) (bitmap g m′ r)
 
 module _ (g : Geometry) (m : Mem) (s : Sizes g m) (r : ℕ) (l : r < g .segments) (k : IsClass (class m r)) (x : SegmentState) where
   abbrev pub settledMem : Mem
-  settledMem = setState (rebuiltBy m r) r x
+  settledMem = setState g (rebuiltBy g m r) r x
 
   pub settled-sizes : Sizes g settledMem
-  settled-sizes = sizes-state g (rebuiltBy m r) (sizes-bitmap g m s _ _) r x
+  settled-sizes = sizes-state g (rebuiltBy g m r) (sizes-bitmap g m s _ _) r x
 
-  others : OtherRegions (rebuiltBy m r) settledMem
-  others = state-others (rebuiltBy m r) r x
+  others : OtherRegions (rebuiltBy g m r) settledMem
+  others = state-others g (rebuiltBy g m r) r x
 
   pub settled-stacks : settledMem .stacks ≡ m .stacks
   unfolding setRun
   settled-stacks = others .stacks
 
-  bitmap-left : (y : ℕ) → bitmap settledMem y ≡ bitmap (rebuiltBy m r) y
-  bitmap-left = bitmap-by (rebuiltBy m r) settledMem (others .bitmaps)
+  bitmap-left : (y : ℕ) → bitmap g settledMem y ≡ bitmap g (rebuiltBy g m r) y
+  bitmap-left = bitmap-by g (rebuiltBy g m r) settledMem (others .bitmaps)
 
-  pub settled-state : Settled m settledMem r x
+  pub settled-state : Settled g m settledMem r x
   unfolding setRun
   settled-state = record {
     left = record {
@@ -54,16 +53,16 @@ module _ (g : Geometry) (m : Mem) (s : Sizes g m) (r : ℕ) (l : r < g .segments
       queued = others .queued;
       trace = others .trace;
       heap = others .heap;
-      other = λ y d. state-other (rebuiltBy m r) r x y d;
+      other = λ y d. state-other g (rebuiltBy g m r) r x y d;
       bitmaps = λ y d. bitmap-left y ∙ rebuilt-other g m s r l k y d;
     };
-    there = state-there (rebuiltBy m r) r x (let z = s .segments in omega arith);
+    there = state-there g (rebuiltBy g m r) r x (let z = s .segments in omega arith);
     bits = λ b h. ap (λ (z : List ℕ). bitAt z b) (bitmap-left r) ∙ rebuilt-bit g m s r l k b h;
-    tree = subst (λ (z : List ℕ). Tree (above (class m r)) (blocksIn (class m r)) z) (sym (bitmap-left r)) (rebuilt-tree g m s r l k);
+    tree = subst (λ (z : List ℕ). Tree (above g (class m r)) (blocksIn g (class m r)) z) (sym (bitmap-left r)) (rebuilt-tree g m s r l k);
   }
 
 -- and put on a stack
-pub settled-stacked : (g : Geometry) (m m′ : Mem) (r : ℕ) (x : SegmentState) (t : ℕ) → Settled m m′ r x → Settled m (stacked g m′ t r) r x
+pub settled-stacked : (g : Geometry) (m m′ : Mem) (r : ℕ) (x : SegmentState) (t : ℕ) → Settled g m m′ r x → Settled g m (stacked g m′ t r) r x
 unfolding setStack
 settled-stacked g m m′ r x t q =
     let o = q .left in

@@ -8,11 +8,10 @@ use lib.ListN.{getD}
 use Rattle.rules.proofs.Order.{same-or-not}
 use Rattle.words.specs.Bits.{bitAt}
 use Rattle.layout.specs.declared.Geometry.{Geometry}
-use Rattle.layout.specs.Geometry.{mutatorCount}
+use Rattle.layout.specs.Geometry.{mutatorCount, bitIn}
 use Rattle.layout.specs.Mem.{Mem}
 use Rattle.theory.specs.Phases.{sweep}
 use Rattle.model.specs.Fields.{phase, tag}
-use Rattle.model.specs.Records.{bitIn}
 use Rattle.model.specs.Reaching.{Live}
 use Rattle.model.specs.Consistent.{Consistent, InPhase, SegmentOk, MutatorOk, RecordOk, BlockInUse}
 use Rattle.refine_view.specs.Kept.{Sizes, Structure, MarksIn, Steady}
@@ -22,16 +21,17 @@ use Rattle.refine_view.proofs.Invariants.{structure-of}
 use Rattle.refine_sweep.proofs.Frames.{mutator-same, heap-same}
 use Rattle.refine_sweep.proofs.Outcome.{Outcome}
 use Rattle.refine_sweep.proofs.Survivors.{control-same, empty, phase-after, live-was, class-same, used-other, tag-after, block-after}
+use Rattle.model.specs.Tag as Tag
 
-module _ (g : Geometry) (m : Mem) (s : Sizes g m) (c : Consistent g m) (ph : phase m ≡ sweep) (m′ : Mem) (r : ℕ) (l : r < g .segments) (t : tag m r ≡ 4) (o : Outcome g m m′ r) where
+module _ (g : Geometry) (m : Mem) (s : Sizes g m) (c : Consistent g m) (ph : phase m ≡ sweep) (m′ : Mem) (r : ℕ) (l : r < g .segments) (t : tag m r ≡ Tag.condemned) (o : Outcome g m m′ r) where
   pub record-after : (x : ℕ) → Live m x → RecordOk g m′ x
-  record-after x p = record-by m m′ x (class-same g m s c ph m′ r l t o x p) g (c .records x p) (tag-after g m s c ph m′ r l t o x p) (block-after g m s c ph m′ r l t o x p) (heap-same m m′ (o .left .heap) x)
+  record-after x p = record-by g m m′ x (class-same g m s c ph m′ r l t o x p) (c .records x p) (tag-after g m s c ph m′ r l t o x p) (block-after g m s c ph m′ r l t o x p) (heap-same m m′ (o .left .heap) x)
 
-  segment-after : (x : ℕ) → x < g .segments → (x ≡ r) ⊎ (x ≡ r → ⊥) → SegmentOk m′ x
-  segment-after x h (inl e) = subst (SegmentOk m′) (sym e) (o .segment)
+  segment-after : (x : ℕ) → x < g .segments → (x ≡ r) ⊎ (x ≡ r → ⊥) → SegmentOk g m′ x
+  segment-after x h (inl e) = subst (SegmentOk g m′) (sym e) (o .segment)
   segment-after x h (inr d) =
       let st = mutator-same m m′ (o .left .mutators) in
-      segment-same m m′ x (c .segments x h) (o .left .other x d) (o .left .bitmaps x d) (λ e. let y = c .segments x h .held e in (λ z. y .1 (sym (st _) ∙ z), st _ ∙ y .2))
+      segment-same g m m′ x (c .segments x h) (o .left .other x d) (o .left .bitmaps x d) (λ e. let y = c .segments x h .held e in (λ z. y .1 (sym (st _) ∙ z), st _ ∙ y .2))
 
   mutator-after : (k : ℕ) → k < mutatorCount → MutatorOk g m′ k
   mutator-after k h =
@@ -41,7 +41,7 @@ module _ (g : Geometry) (m : Mem) (s : Sizes g m) (c : Consistent g m) (ph : pha
         states = subst (λ z. z ≤ 2) (sym (st _)) (q .states);
         acknowledged = subst (λ z. z ≤ 2) (sym (st _)) (q .acknowledged);
         gone = λ e i a. st _ ∙ q .gone (sym (st _) ∙ e) i a;
-        holds = λ x y a e. let z = q .holds x y a (sym (st _) ∙ e) in let d : y ≡ r → ⊥ = (λ f. let u : tag m y ≡ 4 = ap (tag m) f ∙ t in let v : tag m y ≡ 2 = z .1 in omega arith) in let w = o .left .other y d in (z .0, w .tag ∙ z .1, w .class ∙ z .2, w .owner ∙ z .3);
+        holds = λ x y a e. let z = q .holds x y a (sym (st _) ∙ e) in let d : y ≡ r → ⊥ = (λ f. let u : tag m y ≡ Tag.condemned = ap (tag m) f ∙ t in let v : tag m y ≡ Tag.held = z .1 in omega arith) in let w = o .left .other y d in (z .0, w .tag ∙ z .1, w .class ∙ z .2, w .owner ∙ z .3);
       }
 
   pub steady-after : Steady g m m′
@@ -54,8 +54,8 @@ module _ (g : Geometry) (m : Mem) (s : Sizes g m) (c : Consistent g m) (ph : pha
   marks-after x b h e k q =
       let d : x ≡ r → ⊥ = λ f. o .uncondemned (sym (ap (tag m′) f) ∙ e) in
       let w = o .left .other x d in
-      let u : BlockInUse m x b = subst (λ p. InPhase p g m) ph (c .cycle) .1 x b h (sym (w .tag) ∙ e) k (sym (ap (λ (z : List ℕ). bitAt z (bitIn x b)) (o .left .marks)) ∙ q) in
-      use-by m m′ x b u (w .class) (λ z. u .used (sym (w .tag) ∙ z)) (used-other g m s c ph m′ r l t o x b d ∙ u .block)
+      let u : BlockInUse g m x b = subst (λ p. InPhase p g m) ph (c .cycle) .1 x b h (sym (w .tag) ∙ e) k (sym (ap (λ (z : List ℕ). bitAt z (bitIn g x b)) (o .left .marks)) ∙ q) in
+      use-by g m m′ x b u (w .class) (λ z. u .used (sym (w .tag) ∙ z)) (used-other g m s c ph m′ r l t o x b d ∙ u .block)
 
   pub structure-after : Structure g m′
   structure-after = record {

@@ -7,23 +7,24 @@ use native.Mathlib.Omega.{arith}
 use lib.ListN.{getD}
 use Rattle.rules.proofs.Order.{same-or-not}
 use Rattle.words.specs.Bits.{bitAt}
-use Rattle.classes.specs.Shape.{blocksIn}
+use Rattle.layout.specs.Geometry.{blocksIn, segmentOf, bitIn}
 use Rattle.layout.specs.declared.Geometry.{Geometry}
 use Rattle.layout.specs.Mem.{Mem, controlWord}
 use Rattle.theory.specs.Phases.{sweep}
 use Rattle.model.specs.Rules.{phaseOf}
 use Rattle.model.specs.Fields.{phase, traceCount, tag, class}
 use Rattle.model.specs.Segments.{usedBit}
-use Rattle.model.specs.Records.{segmentOf, blockOf, bitIn, marked}
+use Rattle.model.specs.Records.{blockOf, marked}
 use Rattle.model.specs.Reaching.{Live}
 use Rattle.model.specs.Consistent.{Consistent, InPhase, IsClass}
 use Rattle.refine_view.specs.Kept.{Sizes}
-use Rattle.refine_view.proofs.Blocks.{of-block}
+use Rattle.model.proofs.Blocks.{of-block}
 use Rattle.refine_view.proofs.Segments.{used-same}
 use Rattle.refine_sweep.proofs.Frames.{live-reached, live-before}
 use Rattle.refine_sweep.proofs.Outcome.{Outcome}
+use Rattle.model.specs.Tag as Tag
 
-module _ (g : Geometry) (m : Mem) (s : Sizes g m) (c : Consistent g m) (ph : phase m ≡ sweep) (m′ : Mem) (r : ℕ) (l : r < g .segments) (t : tag m r ≡ 4) (o : Outcome g m m′ r) where
+module _ (g : Geometry) (m : Mem) (s : Sizes g m) (c : Consistent g m) (ph : phase m ≡ sweep) (m′ : Mem) (r : ℕ) (l : r < g .segments) (t : tag m r ≡ Tag.condemned) (o : Outcome g m m′ r) where
   in-sweep : InPhase sweep g m
   in-sweep = subst (λ p. InPhase p g m) ph (c .cycle)
 
@@ -43,40 +44,40 @@ module _ (g : Geometry) (m : Mem) (s : Sizes g m) (c : Consistent g m) (ph : pha
   live-was p = live-before m m′ empty empty-after (o .left .mutators) (o .left .heap) p
 
   -- a live record of the segment is marked
-  pub live-marked : (x : ℕ) → Live m x → segmentOf x ≡ r → marked m x ≡ 1
+  pub live-marked : (x : ℕ) → Live m x → segmentOf g x ≡ r → marked g m x ≡ 1
   live-marked x p e = in-sweep .2 x (live-reached m m′ empty empty-after p) (ap (tag m) e ∙ t)
 
   pub class-swept : IsClass (class m r)
   class-swept = c .segments r l .classes (λ z. let y = t in omega arith)
 
   -- so its segment is not freed, and its block stays in use
-  pub segment-kept : (x : ℕ) → Live m x → segmentOf x ≡ r → tag m′ r ≡ 0 → ⊥
-  segment-kept x p e = o .kept (blockOf m x) (subst (λ z. blockOf m x < blocksIn (class m z)) e (of-block m x (subst (λ z. IsClass (class m z)) (sym e) class-swept))) (sym (ap (λ z. bitAt (m .marks) (bitIn z (blockOf m x))) e) ∙ live-marked x p e)
+  pub segment-kept : (x : ℕ) → Live m x → segmentOf g x ≡ r → tag m′ r ≡ Tag.free → ⊥
+  segment-kept x p e = o .kept (blockOf g m x) (subst (λ z. blockOf g m x < blocksIn g (class m z)) e (of-block g m x (subst (λ z. IsClass (class m z)) (sym e) class-swept))) (sym (ap (λ z. bitAt (m .marks) (bitIn g z (blockOf g m x))) e) ∙ live-marked x p e)
 
-  pub class-same : (x : ℕ) → Live m x → class m′ (segmentOf x) ≡ class m (segmentOf x)
-  class-same x p = go (same-or-not (segmentOf x) r)
+  pub class-same : (x : ℕ) → Live m x → class m′ (segmentOf g x) ≡ class m (segmentOf g x)
+  class-same x p = go (same-or-not (segmentOf g x) r)
     where
-      go : (segmentOf x ≡ r) ⊎ (segmentOf x ≡ r → ⊥) → class m′ (segmentOf x) ≡ class m (segmentOf x)
+      go : (segmentOf g x ≡ r) ⊎ (segmentOf g x ≡ r → ⊥) → class m′ (segmentOf g x) ≡ class m (segmentOf g x)
       go (inl e) = ap (class m′) e ∙ o .classed (segment-kept x p e) ∙ sym (ap (class m) e)
-      go (inr d) = o .left .other (segmentOf x) d .class
+      go (inr d) = o .left .other (segmentOf g x) d .class
 
-  pub used-other : (x b : ℕ) → (x ≡ r → ⊥) → usedBit m′ x b ≡ usedBit m x b
-  used-other x b d = used-same m m′ x b (o .left .other x d .place) (o .left .bitmaps x d)
+  pub used-other : (x b : ℕ) → (x ≡ r → ⊥) → usedBit g m′ x b ≡ usedBit g m x b
+  used-other x b d = used-same g m m′ x b (o .left .other x d .place) (o .left .bitmaps x d)
 
-  pub tag-after : (x : ℕ) → Live m x → tag m′ (segmentOf x) ≡ 0 → ⊥
-  tag-after x p z = go (same-or-not (segmentOf x) r)
+  pub tag-after : (x : ℕ) → Live m x → tag m′ (segmentOf g x) ≡ Tag.free → ⊥
+  tag-after x p z = go (same-or-not (segmentOf g x) r)
     where
-      go : (segmentOf x ≡ r) ⊎ (segmentOf x ≡ r → ⊥) → ⊥
+      go : (segmentOf g x ≡ r) ⊎ (segmentOf g x ≡ r → ⊥) → ⊥
       go (inl e) = segment-kept x p e (sym (ap (tag m′) e) ∙ z)
-      go (inr d) = c .records x p .used (sym (o .left .other (segmentOf x) d .tag) ∙ z)
+      go (inr d) = c .records x p .used (sym (o .left .other (segmentOf g x) d .tag) ∙ z)
 
-  pub block-after : (x : ℕ) → Live m x → usedBit m′ (segmentOf x) (blockOf m x) ≡ 1
-  block-after x p = go (same-or-not (segmentOf x) r)
+  pub block-after : (x : ℕ) → Live m x → usedBit g m′ (segmentOf g x) (blockOf g m x) ≡ 1
+  block-after x p = go (same-or-not (segmentOf g x) r)
     where
-      go : (segmentOf x ≡ r) ⊎ (segmentOf x ≡ r → ⊥) → usedBit m′ (segmentOf x) (blockOf m x) ≡ 1
+      go : (segmentOf g x ≡ r) ⊎ (segmentOf g x ≡ r → ⊥) → usedBit g m′ (segmentOf g x) (blockOf g m x) ≡ 1
       go (inl e) =
-          ap (λ z. usedBit m′ z (blockOf m x)) e
-          ∙ o .used (segment-kept x p e) (blockOf m x) (subst (λ z. blockOf m x < blocksIn (class m z)) e (of-block m x (subst (λ z. IsClass (class m z)) (sym e) class-swept)))
-          ∙ sym (ap (λ z. bitAt (m .marks) (bitIn z (blockOf m x))) e)
+          ap (λ z. usedBit g m′ z (blockOf g m x)) e
+          ∙ o .used (segment-kept x p e) (blockOf g m x) (subst (λ z. blockOf g m x < blocksIn g (class m z)) e (of-block g m x (subst (λ z. IsClass (class m z)) (sym e) class-swept)))
+          ∙ sym (ap (λ z. bitAt (m .marks) (bitIn g z (blockOf g m x))) e)
           ∙ live-marked x p e
-      go (inr d) = used-other (segmentOf x) (blockOf m x) d ∙ c .records x p .block
+      go (inr d) = used-other (segmentOf g x) (blockOf g m x) d ∙ c .records x p .block

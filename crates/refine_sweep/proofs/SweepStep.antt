@@ -6,7 +6,7 @@ use native.Mathlib.Omega.{arith}
 use lib.Dec.{eqb}
 use borrow.Author.Tests.{eqb-true, eqb-false}
 use Rattle.rules.specs.Pick.{pick}
-use Rattle.classes.specs.Shape.{blocksIn}
+use Rattle.layout.specs.Geometry.{blocksIn}
 use Rattle.layout.specs.declared.Geometry.{Geometry}
 use Rattle.layout.specs.Mem.{Mem}
 use Rattle.model.specs.Fields.{tag, class}
@@ -19,8 +19,9 @@ use Rattle.refine_sweep.proofs.SweptStacks.{full-stacks, free-state, fr
 use Rattle.refine_sweep.proofs.Ends.{free-end, full-end, part-end}
 use Rattle.refine_sweep.proofs.Outcome.{Outcome}
 use Rattle.model.specs.declared.SegmentState.the-variants as segment
+use Rattle.model.specs.Tag as Tag
 
-module _ (g : Geometry) (m : Mem) (s : Sizes g m) (c : Consistent g m) (r : ℕ) (l : r < g .segments) (t : tag m r ≡ 4) where
+module _ (g : Geometry) (m : Mem) (s : Sizes g m) (c : Consistent g m) (r : ℕ) (l : r < g .segments) (t : tag m r ≡ Tag.condemned) where
   classed : IsClass (class m r)
   classed = c .segments r l .classes (λ z. omega arith)
 
@@ -33,23 +34,23 @@ module _ (g : Geometry) (m : Mem) (s : Sizes g m) (c : Consistent g m) (r : ℕ)
   abbrev parted : Mem
   parted = stacked g (settledMem g m s r l classed (segment.Part (class m r) 0)) (partStack (class m r)) r
 
-  freed-is : keptBy m r ≡ 0 → Outcome g m freed r
+  freed-is : keptBy g m r ≡ 0 → Outcome g m freed r
   freed-is e = free-end g m s r l classed freed (free-state g m s c r l classed t) e (free-stacks g m s c r l classed t)
 
-  filled-is : keptBy m r ≡ blocksIn (class m r) → Outcome g m filled r
+  filled-is : keptBy g m r ≡ blocksIn g (class m r) → Outcome g m filled r
   filled-is e = full-end g m s r l classed filled (settled-state g m s r l classed (segment.Full (class m r))) e (full-stacks g m s c r l classed t)
 
-  parted-is : (keptBy m r ≡ blocksIn (class m r) → ⊥) → Outcome g m parted r
+  parted-is : (keptBy g m r ≡ blocksIn g (class m r) → ⊥) → Outcome g m parted r
   parted-is e = part-end g m s r l classed parted (part-state g m s c r l classed t) e (part-stacks g m s c r l classed t)
 
   pub swept-outcome : Outcome g m (swept g m r) r
   unfolding swept
-  swept-outcome = none? (eqb (keptBy m r) 0) refl
+  swept-outcome = none? (eqb (keptBy g m r) 0) refl
     where
-      all? : (b : Bool) → eqb (keptBy m r) (blocksIn (class m r)) ≡ b → Outcome g m (pick b filled parted) r
+      all? : (b : Bool) → eqb (keptBy g m r) (blocksIn g (class m r)) ≡ b → Outcome g m (pick b filled parted) r
       all? true e = filled-is (eqb-true _ _ e)
       all? false e = parted-is (eqb-false _ _ e)
 
-      none? : (b : Bool) → eqb (keptBy m r) 0 ≡ b → Outcome g m (pick b freed (pick (eqb (keptBy m r) (blocksIn (class m r))) filled parted)) r
+      none? : (b : Bool) → eqb (keptBy g m r) 0 ≡ b → Outcome g m (pick b freed (pick (eqb (keptBy g m r) (blocksIn g (class m r))) filled parted)) r
       none? true e = freed-is (eqb-true _ _ e)
-      none? false e = all? (eqb (keptBy m r) (blocksIn (class m r))) refl
+      none? false e = all? (eqb (keptBy g m r) (blocksIn g (class m r))) refl

@@ -6,7 +6,7 @@ use mathlib.Core.Option.{Option, none, some}
 use Prim.Native.Nat.{ℕ, _<_}
 use Rattle.rules.proofs.Order.{same-or-not}
 use Rattle.words.specs.Bits.{bitAt}
-use Rattle.classes.specs.Shape.{blocksIn}
+use Rattle.layout.specs.Geometry.{blocksIn, segmentOf, bitIn}
 use Rattle.layout.specs.declared.Geometry.{Geometry}
 use Rattle.layout.specs.Mem.{Mem}
 use Rattle.theory.specs.Phases.{sweep}
@@ -14,7 +14,6 @@ use Rattle.theory.specs.MachineCalls.{sweepStep, stepBy}
 use Rattle.theory.proofs.CollectorKeeps.{Pick}
 use Rattle.model.specs.Fields.{phase, tag, class}
 use Rattle.model.specs.Segments.{usedBit}
-use Rattle.model.specs.Records.{segmentOf, bitIn}
 use Rattle.model.specs.Collector.{lowest, swept, sweeps, stepIn}
 use Rattle.model.specs.Consistent.{Consistent}
 use Rattle.refine_view.specs.View.{view}
@@ -23,24 +22,25 @@ use Rattle.refine_sweep.proofs.Lowest.{found-condemned, none-condemned,
 use Rattle.refine_sweep.proofs.SweepStep.{swept-outcome}
 use Rattle.refine_sweep.proofs.Agreeing.{moves-after}
 use Rattle.refine_sweep.proofs.LastStep.{moves-done}
+use Rattle.model.specs.Tag as Tag
 
 module _ (g : Geometry) (m : Mem) (s : Sizes g m) (c : Consistent g m) where
-  pub lowest-condemned : (r : ℕ) → lowest m (g .segments) ≡ some r → (r < g .segments) × (tag m r ≡ 4)
+  pub lowest-condemned : (r : ℕ) → lowest m (g .segments) ≡ some r → (r < g .segments) × (tag m r ≡ Tag.condemned)
   lowest-condemned r e = found-condemned m (g .segments) r e
 
-  pub picked : Pick (λ _. lowest m (g .segments)) (view m)
+  pub picked : Pick (λ _. lowest m (g .segments)) (view g m)
   picked = pick-lowest g m s
 
-  pub sweep-moves : phase m ≡ sweep → Moves g m (stepIn sweep g m .1) (stepBy segmentOf (λ _. lowest m (g .segments)) sweep (view m) .1)
+  pub sweep-moves : phase m ≡ sweep → Moves g m (stepIn sweep g m .1) (stepBy (segmentOf g) (λ _. lowest m (g .segments)) sweep (view g m) .1)
   sweep-moves ph = go (lowest m (g .segments)) refl
     where
-      go : (o : Option ℕ) → lowest m (g .segments) ≡ o → Moves g m (sweeps g o m .1) (sweepStep segmentOf o (view m) .1)
+      go : (o : Option ℕ) → lowest m (g .segments) ≡ o → Moves g m (sweeps g o m .1) (sweepStep (segmentOf g) o (view g m) .1)
       go none e = moves-done g m s c (none-condemned m (g .segments) e)
       go (some r) e = let h = lowest-condemned r e in moves-after g m s c ph (swept g m r) r (h .0) (h .1) (swept-outcome g m s c r (h .0) (h .1))
 
-  pub swept-free : phase m ≡ sweep → (r b : ℕ) → lowest m (g .segments) ≡ some r → b < blocksIn (class m r) → bitAt (m .marks) (bitIn r b) ≡ 0 → (usedBit (swept g m r) r b ≡ 0) ⊎ (tag (swept g m r) r ≡ 0)
+  pub swept-free : phase m ≡ sweep → (r b : ℕ) → lowest m (g .segments) ≡ some r → b < blocksIn g (class m r) → bitAt (m .marks) (bitIn g r b) ≡ 0 → (usedBit g (swept g m r) r b ≡ 0) ⊎ (tag (swept g m r) r ≡ Tag.free)
   swept-free ph r b e l w = go (same-or-not (tag (swept g m r) r) 0)
     where
-      go : (tag (swept g m r) r ≡ 0) ⊎ (tag (swept g m r) r ≡ 0 → ⊥) → (usedBit (swept g m r) r b ≡ 0) ⊎ (tag (swept g m r) r ≡ 0)
+      go : (tag (swept g m r) r ≡ Tag.free) ⊎ (tag (swept g m r) r ≡ Tag.free → ⊥) → (usedBit g (swept g m r) r b ≡ 0) ⊎ (tag (swept g m r) r ≡ Tag.free)
       go (inl z) = inr z
       go (inr n) = let h = lowest-condemned r e in inl (swept-outcome g m s c r (h .0) (h .1) .used n b l ∙ w)

@@ -17,8 +17,9 @@ use Rattle.refine_view.proofs.OtherStacks.{stack-by, push-left}
 use Rattle.refine_view.proofs.Segments.{not-free, free-other, free-left, part-left}
 use Rattle.refine_sweep.proofs.Settled.{Settled, settledMem, settled-sizes, settled-stacks, settled-state, settled-stacked}
 use Rattle.model.specs.declared.SegmentState.the-variants as segment
+use Rattle.model.specs.Tag as Tag
 
-module _ (g : Geometry) (m : Mem) (s : Sizes g m) (c : Consistent g m) (r : ℕ) (l : r < g .segments) (k : IsClass (class m r)) (t : tag m r ≡ 4) where
+module _ (g : Geometry) (m : Mem) (s : Sizes g m) (c : Consistent g m) (r : ℕ) (l : r < g .segments) (k : IsClass (class m r)) (t : tag m r ≡ Tag.condemned) where
   -- a stack after the segment's state is set, before anything is put on
   kept-stack : (x : SegmentState) (u : ℕ) (p p′ : ℕ → Bool) → StackOk g m u p → ((i : ℕ) → p′ i ≡ p i) → StackOk g (settledMem g m s r l k x) u p′
   kept-stack x u p p′ o e = stack-by g m (settledMem g m s r l k x) u p p′ (settled-stacks g m s r l k x) o (λ i h. e i)
@@ -27,7 +28,7 @@ module _ (g : Geometry) (m : Mem) (s : Sizes g m) (c : Consistent g m) (r : ℕ)
   abbrev fullMem : Mem
   fullMem = settledMem g m s r l k (segment.Full (class m r))
 
-  full-state : Settled m fullMem r (segment.Full (class m r))
+  full-state : Settled g m fullMem r (segment.Full (class m r))
   full-state = settled-state g m s r l k (segment.Full (class m r))
 
   pub full-stacks : Stacks g fullMem
@@ -40,7 +41,7 @@ module _ (g : Geometry) (m : Mem) (s : Sizes g m) (c : Consistent g m) (r : ℕ)
   abbrev freeMem : Mem
   freeMem = stacked g (settledMem g m s r l k segment.Free) freeStack r
 
-  pub free-state : Settled m freeMem r segment.Free
+  pub free-state : Settled g m freeMem r segment.Free
   free-state = settled-stacked g m (settledMem g m s r l k segment.Free) r segment.Free freeStack (settled-state g m s r l k segment.Free)
 
   abbrev unstacked : Mem
@@ -63,7 +64,7 @@ module _ (g : Geometry) (m : Mem) (s : Sizes g m) (c : Consistent g m) (r : ℕ)
   abbrev partMem : Mem
   partMem = stacked g (settledMem g m s r l k partState) (partStack (class m r)) r
 
-  pub part-state : Settled m partMem r partState
+  pub part-state : Settled g m partMem r partState
   part-state = settled-stacked g m (settledMem g m s r l k partState) r partState (partStack (class m r)) (settled-state g m s r l k partState)
 
   pub part-stacks : Stacks g partMem

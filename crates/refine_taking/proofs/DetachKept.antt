@@ -28,6 +28,6 @@ module _ (g : Geometry) (m : Mem) (s : Sizes g m) (c : Consistent g m) where
       few = by-ok (face m) k 0 e .0
 
       go : (b : Bool) → inHandshake (phase m) ≡ b → Matches g m (unless b 11 m (detached g m k)) (λ alloc st. machine.act alloc st (c-detach k))
-      go true h = matches-self g m c _ _ (subst (λ b. unless true 11 m (detached g m k) .0 ≡ unless b 11 (view m) (detach (view m) k) .0) (sym h) refl) refl (subst (λ b. unless b 11 (view m) (detach (view m) k) .1 ≡ view m) (sym h) refl)
-      go false h = matches-by g m (a-ok, detached g m k) (λ alloc st. machine.act alloc st (c-detach k)) (subst (λ b. a-ok ≡ unless b 11 (view m) (detach (view m) k) .0) (sym h) refl)
-          (subst (λ b. Moves g m (detached g m k) (unless b 11 (view m) (detach (view m) k) .1)) (sym h) (detached-moves g m s c k few))
+      go true h = matches-self g m c _ _ (subst (λ b. unless true 11 m (detached g m k) .0 ≡ unless b 11 (view g m) (detach (view g m) k) .0) (sym h) refl) refl (subst (λ b. unless b 11 (view g m) (detach (view g m) k) .1 ≡ view g m) (sym h) refl)
+      go false h = matches-by g m (a-ok, detached g m k) (λ alloc st. machine.act alloc st (c-detach k)) (subst (λ b. a-ok ≡ unless b 11 (view g m) (detach (view g m) k) .0) (sym h) refl)
+          (subst (λ b. Moves g m (detached g m k) (unless b 11 (view g m) (detach (view g m) k) .1)) (sym h) (detached-moves g m s c k few))

@@ -12,18 +12,17 @@ use lib.Seq.{sets}
 use Rattle.rules.proofs.Order.{same-or-not}
 use Rattle.words.specs.Tree.{Tree}
 use Rattle.classes.specs.Class.{classCount}
-use Rattle.classes.specs.Shape.{blocksIn}
 use Rattle.layout.specs.declared.Geometry.{Geometry}
-use Rattle.layout.specs.Geometry.{mutatorCount, mutatorWords, rootCount}
+use Rattle.layout.specs.Geometry.{mutatorCount, mutatorWords, rootCount, blocksIn, segmentOf}
 use Rattle.layout.specs.Mem.{Mem, mutatorWord, setRun}
 use Rattle.theory.specs.Machine.{detach}
 use Rattle.theory.specs.Update.{upd}
 use Rattle.theory.proofs.Agree.{Agree}
 use Rattle.theory.proofs.Updates.{upd-cases, upd-miss₁}
 use Rattle.theory.proofs.CycleKeeps.{detach-live}
-use Rattle.model.specs.Fields.{traceCount, absent, state, acks, root, holding, tag, class, place, owner}
+use Rattle.model.specs.Fields.{traceCount, absent, stateAt, acksAt, state, acks, root, holding, tag, class, place, owner}
 use Rattle.model.specs.Segments.{freeStack, partStack, above, bitmap}
-use Rattle.model.specs.Records.{record?, segmentOf}
+use Rattle.model.specs.Records.{record?}
 use Rattle.model.specs.Mutators.{released, detached}
 use Rattle.model.specs.Calls.{isAttached, isInside}
 use Rattle.model.specs.Reaching.{IsRoot, Live}
@@ -32,7 +31,7 @@ use Rattle.refine_view.specs.View.{view}
 use Rattle.refine_view.specs.Kept.{Sizes, Structure, Moves}
 use Rattle.refine_view.proofs.Words.{Recorded, recorded-as}
 use Rattle.theory.proofs.Updates.{upd-by}
-use Rattle.refine_view.proofs.Entries.{state-word, holding-word, state-by, root-by, holding-by, table-below, entry-in, entry-out}
+use Rattle.refine_view.proofs.Entries.{holding-word, holding-by, table-below, entry-in, entry-out}
 use Rattle.refine_view.proofs.Stacks.{stack-same}
 use Rattle.refine_view.proofs.Segments.{segment-same}
 use Rattle.refine_view.proofs.Seeing.{entries-same}
@@ -41,6 +40,8 @@ use Rattle.refine_taking.proofs.Standing.{over, Stood, Stands, marked-l
 use Rattle.refine_taking.proofs.Releasing.{Gone, gone?, Releasing}
 use Rattle.refine_taking.proofs.Released.{releasing}
 use Rattle.theory.specs.Machine as machine
+use Rattle.layout.specs.Region as Region
+use Rattle.model.specs.Tag as Tag
 
 module _ (g : Geometry) (m : Mem) (s : Sizes g m) (c : Consistent g m) (k : ℕ) (few : k < mutatorCount) (zeros : List ℕ) (is-zeros : zeros ≡ replicate mutatorWords 0) where
   abbrev parted : Mem
@@ -67,13 +68,13 @@ module _ (g : Geometry) (m : Mem) (s : Sizes g m) (c : Consistent g m) (k : ℕ)
   word-other = entry-out g m s k few zeros long
 
   state-there : state m₁ k ≡ 0
-  state-there = state-word m₁ k ∙ word-there 0 (omega arith)
+  state-there = word-there stateAt (omega arith)
 
   state-other : (j : ℕ) → (j ≡ k → ⊥) → state m₁ j ≡ state m j
-  state-other j f = state-by m m₁ j (word-other j 0 (omega arith) f)
+  state-other j f = word-other j stateAt (omega arith) f
 
   root-other : (j i : ℕ) → i < rootCount → (j ≡ k → ⊥) → root m₁ j i ≡ root m j i
-  root-other j i l f = root-by m m₁ j i (word-other j (2 + i) (omega arith) f)
+  root-other j i l f = word-other j i (omega arith) f
 
   holding-other : (j d : ℕ) → IsClass d → (j ≡ k → ⊥) → holding m₁ j d ≡ holding m j d
   holding-other j d i f = holding-by m m₁ j d (word-other j _ (table-below d i) f)
@@ -90,43 +91,43 @@ module _ (g : Geometry) (m : Mem) (s : Sizes g m) (c : Consistent g m) (k : ℕ)
   others : (q j : ℕ) → owner m q ≡ j → (j ≡ k → ⊥) → Gone m k classCount q → ⊥
   others q j e f z = f (sym e ∙ z .1)
 
-  segment-gone : (q : ℕ) → q < g .segments → Gone m k classCount q → SegmentOk m₁ q
+  segment-gone : (q : ℕ) → q < g .segments → Gone m k classCount q → SegmentOk g m₁ q
   segment-gone q l z = record {
     tags = let y = x .tag in omega arith;
     free = λ e. let y = x .tag in absurd (omega arith);
     unowned = λ f. x .owner;
     classes = λ f. subst IsClass (sym (x .class)) (o .classes used);
-    tree = λ f. subst (λ w. Tree (above w) (blocksIn w) (bitmap m q)) (sym (x .class)) (o .tree used);
-    remains = λ a b. let w = z .0 in let y = o .remains (omega arith) (omega arith) in (y .0, subst (λ w. w ≤ y .0) (sym (x .place)) (y .1), subst (λ w. y .0 < blocksIn w) (sym (x .class)) (y .2), y .3);
+    tree = λ f. subst (λ w. Tree (above g w) (blocksIn g w) (bitmap g m q)) (sym (x .class)) (o .tree used);
+    remains = λ a b. let w = z .0 in let y = o .remains (omega arith) (omega arith) in (y .0, subst (λ w. w ≤ y .0) (sym (x .place)) (y .1), subst (λ w. y .0 < blocksIn g w) (sym (x .class)) (y .2), y .3);
     whole = λ e. let y = x .tag in absurd (omega arith);
     held = λ e. let y = x .tag in absurd (omega arith);
   }
     where
-      o : SegmentOk m q
+      o : SegmentOk g m q
       o = c .segments q l
 
       x : Recorded m₁ q 1 (class m q) (place m q) 0
       x = gone q z
 
-      used : tag m q ≡ 0 → ⊥
+      used : tag m q ≡ Tag.free → ⊥
       used e = let y = z .0 in omega arith
 
-  segment-stay : (q : ℕ) → q < g .segments → (Gone m k classCount q → ⊥) → SegmentOk m₁ q
-  segment-stay q l f = segment-same m m₁ q o (stay q f) refl keeps
+  segment-stay : (q : ℕ) → q < g .segments → (Gone m k classCount q → ⊥) → SegmentOk g m₁ q
+  segment-stay q l f = segment-same g m m₁ q o (stay q f) refl keeps
     where
-      o : SegmentOk m q
+      o : SegmentOk g m q
       o = c .segments q l
 
-      keeps : tag m q ≡ 2 → (state m₁ (owner m q) ≡ absent → ⊥) × (holding m₁ (owner m q) (class m q) ≡ suc q)
+      keeps : tag m q ≡ Tag.held → (state m₁ (owner m q) ≡ absent → ⊥) × (holding m₁ (owner m q) (class m q) ≡ suc q)
       keeps e =
           let i : IsClass (class m q) = o .classes (λ z. omega arith) in
           let n : owner m q ≡ k → ⊥ = λ z. f (e, z, i .1) in
           (λ z. o .held e .1 (sym (state-other (owner m q) n) ∙ z), holding-other (owner m q) (class m q) i n ∙ o .held e .2)
 
-  segments-ok : (q : ℕ) → q < g .segments → SegmentOk m₁ q
+  segments-ok : (q : ℕ) → q < g .segments → SegmentOk g m₁ q
   segments-ok q l = go (gone? m k classCount q)
     where
-      go : Gone m k classCount q ⊎ (Gone m k classCount q → ⊥) → SegmentOk m₁ q
+      go : Gone m k classCount q ⊎ (Gone m k classCount q → ⊥) → SegmentOk g m₁ q
       go (inl z) = segment-gone q l z
       go (inr f) = segment-stay q l f
 
@@ -135,16 +136,16 @@ module _ (g : Geometry) (m : Mem) (s : Sizes g m) (c : Consistent g m) (k : ℕ)
   mutator-there : MutatorOk g m₁ k
   mutator-there = record {
     states = let z = state-there in omega arith;
-    acknowledged = let z = word-there 1 (omega arith) in omega arith;
-    gone = λ e i l. word-there i l;
+    acknowledged = let z = word-there acksAt (omega arith) in omega arith;
+    gone = λ e i l. word-there i (omega arith);
     holds = λ d q i e. let z = holding-word m₁ k d ∙ word-there _ (table-below d i) in absurd (omega arith);
   }
 
   mutator-other : (j : ℕ) → j < mutatorCount → (j ≡ k → ⊥) → MutatorOk g m₁ j
   mutator-other j l f = record {
     states = let y = state-other j f in let z = o .states in omega arith;
-    acknowledged = let y = word-other j 1 (omega arith) f in let z = o .acknowledged in omega arith;
-    gone = λ e i h. word-other j i h f ∙ o .gone (sym (state-other j f) ∙ e) i h;
+    acknowledged = let y = word-other j acksAt (omega arith) f in let z = o .acknowledged in omega arith;
+    gone = λ e i h. word-other j i (omega arith) f ∙ o .gone (sym (state-other j f) ∙ e) i h;
     holds = λ d q i e. let y = o .holds d q i (sym (holding-other j d i f) ∙ e) in let x = stay q (others q j (y .3) f) in (y .0, x .tag ∙ y .1, x .class ∙ y .2, x .owner ∙ y .3);
   }
     where
@@ -160,18 +161,18 @@ module _ (g : Geometry) (m : Mem) (s : Sizes g m) (c : Consistent g m) (k : ℕ)
 
   -- ---- what was not free stays
 
-  stands : Stands m m₁
+  stands : Stands g m m₁
   stands = record {
     stood = λ q u. stood-at q u (gone? m k classCount q);
     condemned = λ q e. condemned-at q e (gone? m k classCount q);
     still = λ q e. stay q (λ z. let y = z .0 in omega arith) .tag ∙ e;
   }
     where
-      stood-at : (q : ℕ) → (tag m q ≡ 0 → ⊥) → Gone m k classCount q ⊎ (Gone m k classCount q → ⊥) → Stood m m₁ q
+      stood-at : (q : ℕ) → (tag m q ≡ Tag.free → ⊥) → Gone m k classCount q ⊎ (Gone m k classCount q → ⊥) → Stood g m m₁ q
       stood-at q u (inl z) = let x = gone q z in record { used = λ e. let y = x .tag in omega arith; class = x .class; place = x .place; bitmap = refl }
       stood-at q u (inr f) = let x = stay q f in record { used = λ e. u (sym (x .tag) ∙ e); class = x .class; place = x .place; bitmap = refl }
 
-      condemned-at : (q : ℕ) → tag m₁ q ≡ 4 → Gone m k classCount q ⊎ (Gone m k classCount q → ⊥) → tag m q ≡ 4
+      condemned-at : (q : ℕ) → tag m₁ q ≡ Tag.condemned → Gone m k classCount q ⊎ (Gone m k classCount q → ⊥) → tag m q ≡ Tag.condemned
       condemned-at q e (inl z) = let y = gone q z .tag in absurd (omega arith)
       condemned-at q e (inr f) = sym (stay q f .tag) ∙ e
 
@@ -201,8 +202,8 @@ module _ (g : Geometry) (m : Mem) (s : Sizes g m) (c : Consistent g m) (k : ℕ)
 
   -- ---- the machine's detach
 
-  was-live : {at : ℕ} → machine.Live (detach (view m) k) at → Live m at
-  was-live q = to-live g m s c (detach-live segmentOf (view m) (to-inv g m s c) k q)
+  was-live : {at : ℕ} → machine.Live (detach (view g m) k) at → Live m at
+  was-live q = to-live g m s c (detach-live (segmentOf g) (view g m) (to-inv g m s c) k q)
 
   -- a function of each mutator's words, changed at k only
   changed : {A : Type 0} (f : Mem → ℕ → A) (v : A) → f m₁ k ≡ v → ((j : ℕ) → (j ≡ k → ⊥) → f m₁ j ≡ f m j) → (j : ℕ) → f m₁ j ≡ upd (f m) k v j
@@ -215,13 +216,13 @@ module _ (g : Geometry) (m : Mem) (s : Sizes g m) (c : Consistent g m) (k : ℕ)
       go (inl z) = true≢false (sym a ∙ z .1)
       go (inr z) = z .0 e
 
-  agree : Agree segmentOf (detach (view m) k) (view m₁)
+  agree : Agree (segmentOf g) (detach (view g m) k) (view g m₁)
   agree = record {
     phase = refl;
     stack = entries-same m m₁ (traceCount m) (λ i l. refl);
     attached = changed isAttached false (ap (λ z. not (eqb z 0)) state-there) (λ j f. ap (λ z. not (eqb z 0)) (state-other j f));
     inside = changed isInside false (ap (λ z. eqb z 1) state-there) (λ j f. ap (λ z. eqb z 1) (state-other j f));
-    acks = changed acks 0 (word-there 1 (omega arith)) (λ j f. word-other j 1 (omega arith) f);
+    acks = changed acks 0 (word-there acksAt (omega arith)) (λ j f. word-other j acksAt (omega arith) f);
     root = λ j i a l. let n = still-there j a in ap record? (root-other j i l n) ∙ sym (upd-miss₁ (λ x y. record? (root m x y)) k (λ _. none) j i n);
     marked = λ _ b l. marked-live g m s c emptied (parted .segments) (parted .stacks) (m .bitmaps) stands b (was-live l);
     fated = marked-fated g m s c emptied (parted .segments) (parted .stacks) (m .bitmaps) stands;
@@ -232,16 +233,16 @@ module _ (g : Geometry) (m : Mem) (s : Sizes g m) (c : Consistent g m) (k : ℕ)
     used = λ b l. used-live g m s c emptied (parted .segments) (parted .stacks) (m .bitmaps) stands b (was-live l);
   }
 
-  moves-over : Moves g m m₁ (detach (view m) k)
+  moves-over : Moves g m m₁ (detach (view g m) k)
   moves-over = record { structure = structure; agree = agree; steady = steady g m s c emptied (parted .segments) (parted .stacks) (m .bitmaps) stands }
 
-  same : setRun parted 1 (k * mutatorWords) zeros ≡ m₁
+  same : setRun parted Region.mutators (k * mutatorWords) zeros ≡ m₁
   unfolding setRun
   same = ap (λ z. over z (sets (z .mutators) (k * mutatorWords) zeros) (parted .segments) (parted .stacks) (z .bitmaps)) (parts .frame)
 
-  moves-run : Moves g m (setRun parted 1 (k * mutatorWords) zeros) (detach (view m) k)
-  moves-run = subst (λ z. Moves g m z (detach (view m) k)) (sym same) moves-over
+  moves-run : Moves g m (setRun parted Region.mutators (k * mutatorWords) zeros) (detach (view g m) k)
+  moves-run = subst (λ z. Moves g m z (detach (view g m) k)) (sym same) moves-over
 
-pub detached-moves : (g : Geometry) (m : Mem) → Sizes g m → Consistent g m → (k : ℕ) → k < mutatorCount → Moves g m (detached g m k) (detach (view m) k)
+pub detached-moves : (g : Geometry) (m : Mem) → Sizes g m → Consistent g m → (k : ℕ) → k < mutatorCount → Moves g m (detached g m k) (detach (view g m) k)
 unfolding detached
 detached-moves g m s c k few = moves-run g m s c k few (replicate mutatorWords 0) refl

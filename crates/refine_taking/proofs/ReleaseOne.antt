@@ -21,6 +21,7 @@ use Rattle.refine_view.proofs.Parted.{Stacks, parted}
 use Rattle.refine_view.proofs.Lengths.{sizes-stack, sizes-state}
 use Rattle.refine_taking.proofs.Standing.{over}
 use Rattle.refine_taking.proofs.Releasing.{Gone, Releasing, gone-less, gone-other}
+use Rattle.model.specs.Tag as Tag
 
 module _ (g : Geometry) (m : Mem) (s : Sizes g m) (c : Consistent g m) (k : ℕ) (few : k < mutatorCount) (n : ℕ) (ln : n < classCount) (m′ : Mem) (h : Releasing g m m′ k n) (r : ℕ) (e : holding m k (firstClass + n) ≡ suc r) where
   abbrev d : ℕ
@@ -29,14 +30,14 @@ module _ (g : Geometry) (m : Mem) (s : Sizes g m) (c : Consistent g m) (k : ℕ)
   is-class : IsClass d
   is-class = (omega arith, omega arith)
 
-  was : (r < g .segments) × (tag m r ≡ 2) × (class m r ≡ d) × (owner m r ≡ k)
+  was : (r < g .segments) × (tag m r ≡ Tag.held) × (class m r ≡ d) × (owner m r ≡ k)
   was = c .mutators k few .holds d r is-class e
 
   still : Recorded m′ r (tag m r) (class m r) (place m r) (owner m r)
   still = h .stay r (λ z. let l : class m r < 3 + n = z .2 in let y = was .2 in omega arith)
 
   abbrev m₁ : Mem
-  m₁ = setState m′ r (Part d (place m′ r))
+  m₁ = setState g m′ r (Part d (place m′ r))
 
   abbrev m₂ : Mem
   m₂ = stacked g m₁ (partStack d) r
@@ -65,10 +66,10 @@ module _ (g : Geometry) (m : Mem) (s : Sizes g m) (c : Consistent g m) (k : ℕ)
   -- ---- the records
 
   there : Recorded m₂ r 1 d (place m′ r) 0
-  there = let z = h .sizes .segments in let l = was .0 in recorded-as m₁ m₂ r 1 d (place m′ r) 0 segments-as (state-there m′ r (Part d (place m′ r)) (omega arith))
+  there = let z = h .sizes .segments in let l = was .0 in recorded-as m₁ m₂ r 1 d (place m′ r) 0 segments-as (state-there g m′ r (Part d (place m′ r)) (omega arith))
 
   other : (q : ℕ) → (q ≡ r → ⊥) → Recorded m₂ q (tag m′ q) (class m′ q) (place m′ q) (owner m′ q)
-  other q f = recorded-as m₁ m₂ q (tag m′ q) (class m′ q) (place m′ q) (owner m′ q) segments-as (state-other m′ r (Part d (place m′ r)) q f)
+  other q f = recorded-as m₁ m₂ q (tag m′ q) (class m′ q) (place m′ q) (owner m′ q) segments-as (state-other g m′ r (Part d (place m′ r)) q f)
 
   through : (q t x p o : ℕ) → (q ≡ r → ⊥) → Recorded m′ q t x p o → Recorded m₂ q t x p o
   through q t x p o f z = recorded-by m′ m₂ q t x p o z (other q f)
@@ -103,8 +104,8 @@ module _ (g : Geometry) (m : Mem) (s : Sizes g m) (c : Consistent g m) (k : ℕ)
   is-one =
       let z : holding m′ k d ≡ suc r = ap (λ w. holding w k d) (h .frame) ∙ e in
       let y : holding m′ k d - 1 ≡ r = omega arith in
-      ap (λ b. pick b m′ (stacked g (setState m′ (holding m′ k d - 1) (Part d (place m′ (holding m′ k d - 1)))) (partStack d) (holding m′ k d - 1))) (ne-eqb (holding m′ k d) 0 (λ q. omega arith))
-      ∙ ap (λ w. stacked g (setState m′ w (Part d (place m′ w))) (partStack d) w) y
+      ap (λ b. pick b m′ (stacked g (setState g m′ (holding m′ k d - 1) (Part d (place m′ (holding m′ k d - 1)))) (partStack d) (holding m′ k d - 1))) (ne-eqb (holding m′ k d) 0 (λ q. omega arith))
+      ∙ ap (λ w. stacked g (setState g m′ w (Part d (place m′ w))) (partStack d) w) y
 
   pub releasing-one : Releasing g m (releasedOne g m′ k d) k (suc n)
   releasing-one = subst (λ z. Releasing g m z k (suc n)) (sym is-one) releasing-more

@@ -16,15 +16,16 @@ use Rattle.refine_view.proofs.Words.{Recorded}
 use Rattle.words.proofs.Counts.{lt-of}
 use Rattle.refine_view.proofs.Segments.{in-range}
 use Rattle.refine_taking.proofs.Standing.{over}
+use Rattle.model.specs.Tag as Tag
 
 -- segment q was held by mutator k and is of one of the first n classes
 abbrev pub Gone : Mem → ℕ → ℕ → ℕ → Type 0
-Gone m k n q = (tag m q ≡ 2) × (owner m q ≡ k) × (class m q < firstClass + n)
+Gone m k n q = (tag m q ≡ Tag.held) × (owner m q ≡ k) × (class m q < firstClass + n)
 
 pub gone? : (m : Mem) (k n q : ℕ) → Gone m k n q ⊎ (Gone m k n q → ⊥)
 gone? m k n q = go (same-or-not (tag m q) 2) (same-or-not (owner m q) k) (le-or-lt (3 + n) (class m q))
   where
-    go : (tag m q ≡ 2) ⊎ (tag m q ≡ 2 → ⊥) → (owner m q ≡ k) ⊎ (owner m q ≡ k → ⊥) → (3 + n ≤ class m q) ⊎ (class m q < 3 + n) → Gone m k n q ⊎ (Gone m k n q → ⊥)
+    go : (tag m q ≡ Tag.held) ⊎ (tag m q ≡ Tag.held → ⊥) → (owner m q ≡ k) ⊎ (owner m q ≡ k → ⊥) → (3 + n ≤ class m q) ⊎ (class m q < 3 + n) → Gone m k n q ⊎ (Gone m k n q → ⊥)
     go (inl a) (inl b) (inr l) = inl (a, b, l)
     go (inl a) (inl b) (inl l) = inr (λ z. let y : class m q < 3 + n = z .2 in omega arith)
     go (inl a) (inr f) l = inr (λ z. f (z .1))
@@ -39,11 +40,11 @@ pub record Releasing (g : Geometry) (m m′ : Mem) (k n : ℕ) : Type 0 where
   pub part : (d : ℕ) → IsClass d → StackOk g m′ (partStack d) (isPart m′ d)
 
 module _ (g : Geometry) (m : Mem) (s : Sizes g m) (c : Consistent g m) where
-  pub held-range : (q : ℕ) → tag m q ≡ 2 → q < g .segments
+  pub held-range : (q : ℕ) → tag m q ≡ Tag.held → q < g .segments
   held-range q e = in-range g m s q (λ z. omega arith)
 
   -- a mutator holds one segment of a class
-  pub held-one : (q k d : ℕ) → tag m q ≡ 2 → owner m q ≡ k → class m q ≡ d → holding m k d ≡ suc q
+  pub held-one : (q k d : ℕ) → tag m q ≡ Tag.held → owner m q ≡ k → class m q ≡ d → holding m k d ≡ suc q
   held-one q k d t o e = ap (λ x. holding m x d) (sym o) ∙ ap (holding m (owner m q)) (sym e) ∙ c .segments q (held-range q t) .held t .2
 
   module _ (k n : ℕ) where

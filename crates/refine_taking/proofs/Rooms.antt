@@ -15,6 +15,7 @@ use Rattle.model.specs.Making.{Source, held, part, unused, noRoom, sourceOf, No
 use Rattle.model.specs.Consistent.{Consistent, IsClass, isPart}
 use Rattle.refine_view.specs.Kept.{Sizes}
 use Rattle.refine_view.proofs.Bools.{and-left, and-right, and-both}
+use Rattle.model.specs.Tag as Tag
 
 module _ (g : Geometry) (m : Mem) (s : Sizes g m) (c : Consistent g m) (k cl : ℕ) (few : k < mutatorCount) (ic : IsClass cl) where
   -- ---- from the segments to the words
@@ -35,7 +36,7 @@ module _ (g : Geometry) (m : Mem) (s : Sizes g m) (c : Consistent g m) (k cl : �
         go (suc n) e = let z = c .partSegments cl ic .members 0 (omega arith) in absurd (never (entry g m (partStack cl) 0) (z .0) (z .1))
           where
             never : (q : ℕ) → q < g .segments → isPart m cl q ≡ true → ⊥
-            never q l h = o .noPart q l (eqb-true _ _ (and-left (eqb (tag m q) 1) (eqb (class m q) cl) h)) (eqb-true _ _ (and-right (eqb (tag m q) 1) (eqb (class m q) cl) h))
+            never q l h = o .noPart q l (eqb-true _ _ (and-left (eqb (tag m q) Tag.part) (eqb (class m q) cl) h)) (eqb-true _ _ (and-right (eqb (tag m q) Tag.part) (eqb (class m q) cl) h))
 
     frees-none : count g m freeStack ≡ 0
     frees-none = go (count g m freeStack) refl

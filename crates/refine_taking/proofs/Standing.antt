@@ -10,12 +10,12 @@ use lib.Dec.{eqb}
 use borrow.Author.Tests.{eqb-true}
 use Rattle.words.specs.Bits.{bitAt}
 use Rattle.layout.specs.declared.Geometry.{Geometry}
-use Rattle.layout.specs.Geometry.{segmentWords}
+use Rattle.layout.specs.Geometry.{segmentWords, segmentOf}
 use Rattle.layout.specs.Mem.{Mem}
 use Rattle.theory.specs.Reach.{root}
 use Rattle.model.specs.Fields.{phase, tag, class, place}
 use Rattle.model.specs.Segments.{bitmap, usedBit}
-use Rattle.model.specs.Records.{segmentOf, blockWords, blockOf, queued, marked}
+use Rattle.model.specs.Records.{blockWords, blockOf, queued, marked}
 use Rattle.model.specs.Reaching.{IsRoot, Live, isMarked}
 use Rattle.model.specs.Consistent.{Consistent, RecordOk, MarksOf}
 use Rattle.refine_view.specs.View.{view, isHead}
@@ -25,59 +25,60 @@ use Rattle.refine_view.proofs.Seeing.{entry-was, edge-was, live-was}
 use Rattle.refine_view.proofs.Segments.{used-same}
 use Rattle.refine_view.proofs.Carried.{block-by, bit-by, record-by, use-by, queued-by, marks-by}
 use Rattle.refine_view.proofs.Invariants.{structure-of}
+use Rattle.model.specs.Tag as Tag
 
 -- a memory with other mutators' entries, segments' records, stacks and bitmaps
 abbrev pub over : Mem → List ℕ → List ℕ → List ℕ → List ℕ → Mem
 over m mutators segments stacks bitmaps = record { control = m .control; mutators = mutators; segments = segments; stacks = stacks; bitmaps = bitmaps; marks = m .marks; queued = m .queued; trace = m .trace; heap = m .heap }
 
 -- a segment is not free, and has the class, the place and the bitmap that it had
-pub record Stood (m m₁ : Mem) (s : ℕ) : Type 0 where
-  pub used : tag m₁ s ≡ 0 → ⊥
+pub record Stood (g : Geometry) (m m₁ : Mem) (s : ℕ) : Type 0 where
+  pub used : tag m₁ s ≡ Tag.free → ⊥
   pub class : class m₁ s ≡ class m s
   pub place : place m₁ s ≡ place m s
-  pub bitmap : bitmap m₁ s ≡ bitmap m s
+  pub bitmap : bitmap g m₁ s ≡ bitmap g m s
 
 -- so has each that was not free, and the condemned ones are those that were
-pub record Stands (m m₁ : Mem) : Type 0 where
-  pub stood : (s : ℕ) → (tag m s ≡ 0 → ⊥) → Stood m m₁ s
-  pub condemned : (s : ℕ) → tag m₁ s ≡ 4 → tag m s ≡ 4
-  pub still : (s : ℕ) → tag m s ≡ 4 → tag m₁ s ≡ 4
+pub record Stands (g : Geometry) (m m₁ : Mem) : Type 0 where
+  pub stood : (s : ℕ) → (tag m s ≡ Tag.free → ⊥) → Stood g m m₁ s
+  pub condemned : (s : ℕ) → tag m₁ s ≡ Tag.condemned → tag m s ≡ Tag.condemned
+  pub still : (s : ℕ) → tag m s ≡ Tag.condemned → tag m₁ s ≡ Tag.condemned
 
-module _ (g : Geometry) (m : Mem) (s : Sizes g m) (c : Consistent g m) (mu se st bi : List ℕ) (h : Stands m (over m mu se st bi)) where
+module _ (g : Geometry) (m : Mem) (s : Sizes g m) (c : Consistent g m) (mu se st bi : List ℕ) (h : Stands g m (over m mu se st bi)) where
   abbrev m₁ : Mem
   m₁ = over m mu se st bi
 
   -- ---- a segment that was not free
 
-  block-same : (at : ℕ) → (tag m (segmentOf at) ≡ 0 → ⊥) → blockOf m₁ at ≡ blockOf m at
-  block-same at u = block-by m m₁ at (h .stood (segmentOf at) u .class)
+  block-same : (at : ℕ) → (tag m (segmentOf g at) ≡ Tag.free → ⊥) → blockOf g m₁ at ≡ blockOf g m at
+  block-same at u = block-by g m m₁ at (h .stood (segmentOf g at) u .class)
 
-  use-same : (q b : ℕ) → (tag m q ≡ 0 → ⊥) → usedBit m₁ q b ≡ usedBit m q b
-  use-same q b u = let z = h .stood q u in used-same m m₁ q b (z .place) (z .bitmap)
+  use-same : (q b : ℕ) → (tag m q ≡ Tag.free → ⊥) → usedBit g m₁ q b ≡ usedBit g m q b
+  use-same q b u = let z = h .stood q u in used-same g m m₁ q b (z .place) (z .bitmap)
 
   -- ---- what the machine sees
 
-  pub marked-same : (at : ℕ) → (tag m (segmentOf at) ≡ 0 → ⊥) → view m₁ .marked at ≡ view m .marked at
-  marked-same at u = ap (λ z. eqb (at % segmentWords % blockWords z) 0 && isMarked m₁ at) (h .stood (segmentOf at) u .class) ∙ ap (λ z. isHead m at && eqb (bitAt (m .marks) z) 1) (bit-by m m₁ at (h .stood (segmentOf at) u .class))
+  pub marked-same : (at : ℕ) → (tag m (segmentOf g at) ≡ Tag.free → ⊥) → view g m₁ .marked at ≡ view g m .marked at
+  marked-same at u = ap (λ z. eqb (at % segmentWords g % blockWords z) 0 && isMarked g m₁ at) (h .stood (segmentOf g at) u .class) ∙ ap (λ z. isHead g m at && eqb (bitAt (m .marks) z) 1) (bit-by g m m₁ at (h .stood (segmentOf g at) u .class))
 
-  pub marked-live : (at : ℕ) → Live m at → view m₁ .marked at ≡ view m .marked at
+  pub marked-live : (at : ℕ) → Live m at → view g m₁ .marked at ≡ view g m .marked at
   marked-live at l = marked-same at (c .records at l .used)
 
-  pub marked-fated : (at : ℕ) → view m .collect (segmentOf at) ≡ true → view m₁ .marked at ≡ view m .marked at
-  marked-fated at e = let z : tag m (segmentOf at) ≡ 4 = eqb-true (tag m (segmentOf at)) 4 e in marked-same at (λ q. omega arith)
+  pub marked-fated : (at : ℕ) → view g m .collect (segmentOf g at) ≡ true → view g m₁ .marked at ≡ view g m .marked at
+  marked-fated at e = let z : tag m (segmentOf g at) ≡ Tag.condemned = eqb-true (tag m (segmentOf g at)) 4 e in marked-same at (λ q. omega arith)
 
-  pub collect-same : (q : ℕ) → view m₁ .collect q ≡ view m .collect q
+  pub collect-same : (q : ℕ) → view g m₁ .collect q ≡ view g m .collect q
   collect-same q = test-same (tag m q) (tag m₁ q) 4 (h .still q) (h .condemned q)
 
-  pub used-live : (at : ℕ) → Live m at → view m₁ .used at ≡ view m .used at
+  pub used-live : (at : ℕ) → Live m at → view g m₁ .used at ≡ view g m .used at
   used-live at l =
       let u = c .records at l .used in
-      let a : not (eqb (tag m₁ (segmentOf at)) 0) ≡ not (eqb (tag m (segmentOf at)) 0) = ne-not _ _ (h .stood (segmentOf at) u .used) ∙ sym (ne-not _ _ u) in
-      let b : usedBit m₁ (segmentOf at) (blockOf m₁ at) ≡ usedBit m (segmentOf at) (blockOf m at) = ap (usedBit m₁ (segmentOf at)) (block-same at u) ∙ use-same (segmentOf at) (blockOf m at) u in
-      ap (λ z. z && eqb (usedBit m₁ (segmentOf at) (blockOf m₁ at)) 1) a ∙ ap (λ z. not (eqb (tag m (segmentOf at)) 0) && eqb z 1) b
+      let a : not (eqb (tag m₁ (segmentOf g at)) Tag.free) ≡ not (eqb (tag m (segmentOf g at)) Tag.free) = ne-not _ _ (h .stood (segmentOf g at) u .used) ∙ sym (ne-not _ _ u) in
+      let b : usedBit g m₁ (segmentOf g at) (blockOf g m₁ at) ≡ usedBit g m (segmentOf g at) (blockOf g m at) = ap (usedBit g m₁ (segmentOf g at)) (block-same at u) ∙ use-same (segmentOf g at) (blockOf g m at) u in
+      ap (λ z. z && eqb (usedBit g m₁ (segmentOf g at) (blockOf g m₁ at)) 1) a ∙ ap (λ z. not (eqb (tag m (segmentOf g at)) Tag.free) && eqb z 1) b
 
   pub steady : Steady g m m₁
-  steady q l e = let z : tag m q ≡ 4 = h .condemned q e in (z, h .stood q (λ y. omega arith) .class)
+  steady q l e = let z : tag m q ≡ Tag.condemned = h .condemned q e in (z, h .stood q (λ y. omega arith) .class)
 
   -- ---- what is live, where each root was one
 
@@ -88,17 +89,17 @@ module _ (g : Geometry) (m : Mem) (s : Sizes g m) (c : Consistent g m) (mu se st
     pub records-stand : (at : ℕ) → Live m₁ at → RecordOk g m₁ at
     records-stand at p =
         let r = c .records at (live-before p) in
-        let z = h .stood (segmentOf at) (r .used) in
-        record-by m m₁ at (z .class) g r (z .used) (use-same (segmentOf at) (blockOf m at) (r .used) ∙ r .block) refl
+        let z = h .stood (segmentOf g at) (r .used) in
+        record-by g m m₁ at (z .class) r (z .used) (use-same (segmentOf g at) (blockOf g m at) (r .used) ∙ r .block) refl
 
   pub trace-stands : QueuedOk g m₁
-  trace-stands = queued-by g m m₁ (structure-of g m c .trace) refl (λ i. refl) refl (λ at e. bit-by m m₁ at (h .stood (segmentOf at) (c .records at (root (inr e)) .used) .class))
+  trace-stands = queued-by g m m₁ (structure-of g m c .trace) refl (λ i. refl) refl (λ at e. bit-by g m m₁ at (h .stood (segmentOf g at) (c .records at (root (inr e)) .used) .class))
 
   marks-of : (test : ℕ → Type 0) → MarksOf g m test → MarksOf g m₁ test
   marks-of test o q b l w k e =
       let u = o q b l w k e in
       let z = h .stood q (u .used) in
-      use-by m m₁ q b u (z .class) (z .used) (use-same q b (u .used) ∙ u .block)
+      use-by g m m₁ q b u (z .class) (z .used) (use-same q b (u .used) ∙ u .block)
 
   pub marks-stand : MarksIn (phase m₁) g m₁
   marks-stand = marks-by g m m₁ (h .condemned) marks-of (phase m) (λ e o. o) (structure-of g m c .marks)

@@ -10,9 +10,8 @@ use borrow.Author.Tests.{eqb-true}
 use Rattle.words.specs.Bits.{bitAt}
 use Rattle.words.specs.Levels.{treeWords}
 use Rattle.words.specs.Tree.{Tree}
-use Rattle.classes.specs.Shape.{blocksIn, bitmapWords}
 use Rattle.layout.specs.declared.Geometry.{Geometry}
-use Rattle.layout.specs.Geometry.{mutatorCount}
+use Rattle.layout.specs.Geometry.{mutatorCount, blocksIn, bitmapWords}
 use Rattle.layout.specs.Mem.{Mem, setStack, setSegment, setMutator, setRun}
 use Rattle.bitmap_write.specs.Ready.{fresh}
 use Rattle.bitmap_write.proofs.Copied.{fresh-tree, fresh-bit, length-fresh}
@@ -25,8 +24,9 @@ use Rattle.refine_view.specs.Kept.{Sizes}
 use Rattle.refine_view.proofs.Words.{Recorded, recorded-as}
 use Rattle.refine_view.proofs.Segments.{not-free, free-other, part-left}
 use Rattle.refine_view.proofs.Windows.{window-there, window-other}
-use Rattle.refine_view.proofs.Bitmaps.{class-height, bitmap-ends, length-bitmap, tree-room}
-use Rattle.refine_view.proofs.Blocks.{blocks-some}
+use Rattle.layout.proofs.Sizes.{class-height}
+use Rattle.refine_view.proofs.Bitmaps.{bitmap-ends, length-bitmap, tree-room}
+use Rattle.model.proofs.Blocks.{blocks-some}
 use Rattle.refine_view.proofs.Lengths.{sizes-bitmap}
 use Rattle.refine_view.proofs.Stacks.{stack-same, pop-ok}
 use Rattle.refine_view.proofs.OtherStacks.{stack-apart}
@@ -34,6 +34,7 @@ use Rattle.refine_taking.proofs.Standing.{over}
 use Rattle.refine_taking.proofs.Takes.{popped, after, takes-sizes, takes-there, takes-other, takes-holds, takes-entries}
 use Rattle.refine_taking.proofs.Taken.{Taken}
 use Rattle.refine_taking.proofs.Taking.{Took, taken-by}
+use Rattle.model.specs.Tag as Tag
 
 module _ (g : Geometry) (m : Mem) (s : Sizes g m) (c : Consistent g m) (k cl : ℕ) (few : k < mutatorCount) (here : isAttached m k ≡ true) (ic : IsClass cl) (none : holding m k cl ≡ 0) (some : 1 ≤ count g m freeStack) where
   abbrev r : ℕ
@@ -42,7 +43,7 @@ module _ (g : Geometry) (m : Mem) (s : Sizes g m) (c : Consistent g m) (k cl : �
   top-free : (r < g .segments) × (isFree m r ≡ true)
   top-free = c .freeSegments .members (count g m freeStack - 1) (omega arith)
 
-  top-tag : tag m r ≡ 0
+  top-tag : tag m r ≡ Tag.free
   top-tag = eqb-true (tag m r) 0 (top-free .1)
 
   abbrev n : ℕ
@@ -55,25 +56,25 @@ module _ (g : Geometry) (m : Mem) (s : Sizes g m) (c : Consistent g m) (k cl : �
   taken = after g m s n v k cl r 0
 
   abbrev clean : List ℕ
-  clean = fresh (above cl) (blocksIn cl) (bitmap m r)
+  clean = fresh (above g cl) (blocksIn g cl) (bitmap g m r)
 
   abbrev m₁ : Mem
-  m₁ = over m (taken .mutators) (taken .segments) (popped g m s n v k cl r 0 .stacks) (sets (m .bitmaps) (r * bitmapWords) clean)
+  m₁ = over m (taken .mutators) (taken .segments) (popped g m s n v k cl r 0 .stacks) (sets (m .bitmaps) (r * bitmapWords g) clean)
 
-  same : freshened taken r cl ≡ m₁
+  same : freshened g taken r cl ≡ m₁
   unfolding setStack setState setSegment setMutator setRun
   same = refl
 
   -- ---- the bitmap
 
-  room : treeWords (above cl) (blocksIn cl) ≤ length (bitmap m r)
+  room : treeWords (above g cl) (blocksIn g cl) ≤ length (bitmap g m r)
   room = tree-room g m s r (top-free .0) cl ic
 
-  long-clean : length clean ≡ bitmapWords
-  long-clean = length-fresh (above cl) (blocksIn cl) (bitmap m r) room ∙ length-bitmap g m s r (top-free .0)
+  long-clean : length clean ≡ bitmapWords g
+  long-clean = length-fresh (above g cl) (blocksIn g cl) (bitmap g m r) room ∙ length-bitmap g m s r (top-free .0)
 
-  reads : bitmap m₁ r ≡ clean
-  reads = window-there clean (m .bitmaps) (r * bitmapWords) bitmapWords long-clean (bitmap-ends g m s r (top-free .0))
+  reads : bitmap g m₁ r ≡ clean
+  reads = window-there clean (m .bitmaps) (r * bitmapWords g) (bitmapWords g) long-clean (bitmap-ends g m s r (top-free .0))
 
   -- ---- the records
 
@@ -89,9 +90,9 @@ module _ (g : Geometry) (m : Mem) (s : Sizes g m) (c : Consistent g m) (k cl : �
     below = top-free .0;
     there = there;
     other = other;
-    bitmaps = λ q f. window-other bitmapWords r q clean (m .bitmaps) long-clean f;
-    tree = subst (Tree (above cl) (blocksIn cl)) (sym reads) (fresh-tree (above cl) (blocksIn cl) (bitmap m r) room (class-height cl));
-    remains = (0, omega arith, blocks-some cl ic, ap (λ z. bitAt z 0) reads ∙ fresh-bit (above cl) (blocksIn cl) (bitmap m r) room 0 (blocks-some cl ic));
+    bitmaps = λ q f. window-other (bitmapWords g) r q clean (m .bitmaps) long-clean f;
+    tree = subst (Tree (above g cl) (blocksIn g cl)) (sym reads) (fresh-tree (above g cl) (blocksIn g cl) (bitmap g m r) room (class-height g cl));
+    remains = (0, omega arith, blocks-some g cl ic, ap (λ z. bitAt z 0) reads ∙ fresh-bit (above g cl) (blocksIn g cl) (bitmap g m r) room 0 (blocks-some g cl ic));
     holds = takes-holds g m s n v k cl r 0 few ic;
     entries = takes-entries g m s n v k cl r 0 few ic;
     before = let z = top-tag in omega arith;
@@ -108,7 +109,7 @@ module _ (g : Geometry) (m : Mem) (s : Sizes g m) (c : Consistent g m) (k cl : �
   part-stacks d i = stack-apart g m s m₁ freeStack v (omega arith) refl (partStack d) (λ e. omega arith) (isPart m d) (isPart m₁ d) (c .partSegments d i) (λ q l. part-left m m₁ r other d (λ e z. let y = top-tag in omega arith) (λ e z. let y = there .tag in omega arith) q)
 
   taken-over : Taken g m m₁ k cl r
-  taken-over = taken-by g m s c (taken .mutators) (taken .segments) (popped g m s n v k cl r 0 .stacks) (sets (m .bitmaps) (r * bitmapWords) clean) k cl r 0 few here ic none took free-stack part-stacks
+  taken-over = taken-by g m s c (taken .mutators) (taken .segments) (popped g m s n v k cl r 0 .stacks) (sets (m .bitmaps) (r * bitmapWords g) clean) k cl r 0 few here ic none took free-stack part-stacks
 
-  pub taken-free : Taken g m (freshened (takes (pop g m freeStack) k cl r 0) r cl) k cl r
+  pub taken-free : Taken g m (freshened g (takes g (pop g m freeStack) k cl r 0) r cl) k cl r
   taken-free = subst (λ z. Taken g m z k cl r) (sym same) taken-over

@@ -8,9 +8,8 @@ use lib.Dec.{eqb}
 use borrow.Author.Tests.{eqb-true}
 use Rattle.rules.proofs.Order.{same-or-not}
 use Rattle.words.specs.Tree.{Tree}
-use Rattle.classes.specs.Shape.{blocksIn}
 use Rattle.layout.specs.declared.Geometry.{Geometry}
-use Rattle.layout.specs.Geometry.{mutatorCount}
+use Rattle.layout.specs.Geometry.{mutatorCount, blocksIn}
 use Rattle.layout.specs.Mem.{Mem}
 use Rattle.model.specs.Fields.{holding, tag, class, place, owner}
 use Rattle.model.specs.Segments.{freeStack, partStack, count, top, pop, above, bitmap}
@@ -27,6 +26,7 @@ use Rattle.refine_taking.proofs.Standing.{over}
 use Rattle.refine_taking.proofs.Takes.{popped, after, takes-over, takes-sizes, takes-there, takes-other, takes-holds, takes-entries}
 use Rattle.refine_taking.proofs.Taken.{Taken}
 use Rattle.refine_taking.proofs.Taking.{Took, taken-by}
+use Rattle.model.specs.Tag as Tag
 
 module _ (g : Geometry) (m : Mem) (s : Sizes g m) (c : Consistent g m) (k cl : ℕ) (few : k < mutatorCount) (here : isAttached m k ≡ true) (ic : IsClass cl) (none : holding m k cl ≡ 0) (some : 1 ≤ count g m (partStack cl)) where
   abbrev r : ℕ
@@ -35,11 +35,11 @@ module _ (g : Geometry) (m : Mem) (s : Sizes g m) (c : Consistent g m) (k cl : �
   top-part : (r < g .segments) × (isPart m cl r ≡ true)
   top-part = c .partSegments cl ic .members (count g m (partStack cl) - 1) (omega arith)
 
-  top-tag : tag m r ≡ 1
-  top-tag = eqb-true (tag m r) 1 (and-left (eqb (tag m r) 1) (eqb (class m r) cl) (top-part .1))
+  top-tag : tag m r ≡ Tag.part
+  top-tag = eqb-true (tag m r) 1 (and-left (eqb (tag m r) Tag.part) (eqb (class m r) cl) (top-part .1))
 
   top-class : class m r ≡ cl
-  top-class = eqb-true (class m r) cl (and-right (eqb (tag m r) 1) (eqb (class m r) cl) (top-part .1))
+  top-class = eqb-true (class m r) cl (and-right (eqb (tag m r) Tag.part) (eqb (class m r) cl) (top-part .1))
 
   abbrev n : ℕ
   n = partStack cl * (1 + g .segments)
@@ -62,7 +62,7 @@ module _ (g : Geometry) (m : Mem) (s : Sizes g m) (c : Consistent g m) (k cl : �
   other : (q : ℕ) → (q ≡ r → ⊥) → Recorded m₁ q (tag m q) (class m q) (place m q) (owner m q)
   other q f = subst (λ z. Recorded z q (tag m q) (class m q) (place m q) (owner m q)) same (takes-other g m s n v k cl r (place m r) q f)
 
-  segment-r : SegmentOk m r
+  segment-r : SegmentOk g m r
   segment-r = c .segments r (top-part .0)
 
   took : Took g m m₁ k cl r (place m r)
@@ -72,8 +72,8 @@ module _ (g : Geometry) (m : Mem) (s : Sizes g m) (c : Consistent g m) (k cl : �
     there = there;
     other = other;
     bitmaps = λ q f. refl;
-    tree = subst (λ z. Tree (above z) (blocksIn z) (bitmap m r)) top-class (segment-r .tree (λ e. let z = top-tag in omega arith));
-    remains = let z = top-tag in let y = segment-r .remains (omega arith) (omega arith) in (y .0, y .1, subst (λ w. y .0 < blocksIn w) top-class (y .2), y .3);
+    tree = subst (λ z. Tree (above g z) (blocksIn g z) (bitmap g m r)) top-class (segment-r .tree (λ e. let z = top-tag in omega arith));
+    remains = let z = top-tag in let y = segment-r .remains (omega arith) (omega arith) in (y .0, y .1, subst (λ w. y .0 < blocksIn g w) top-class (y .2), y .3);
     holds = subst (λ z. holding z k cl ≡ suc r) same (takes-holds g m s n v k cl r (place m r) few ic);
     entries = takes-entries g m s n v k cl r (place m r) few ic;
     before = let z = top-tag in omega arith;
@@ -82,7 +82,7 @@ module _ (g : Geometry) (m : Mem) (s : Sizes g m) (c : Consistent g m) (k cl : �
 
   -- ---- the stacks
 
-  held-now : tag m₁ r ≡ 1 → ⊥
+  held-now : tag m₁ r ≡ Tag.part → ⊥
   held-now e = let z = there .tag in omega arith
 
   part-stack : StackOk g m₁ (partStack cl) (isPart m₁ cl)
@@ -102,5 +102,5 @@ module _ (g : Geometry) (m : Mem) (s : Sizes g m) (c : Consistent g m) (k cl : �
   taken-over : Taken g m m₁ k cl r
   taken-over = taken-by g m s c (taken .mutators) (taken .segments) (popped g m s n v k cl r (place m r) .stacks) (m .bitmaps) k cl r (place m r) few here ic none took free-stack part-stacks
 
-  pub taken-part : Taken g m (takes (pop g m (partStack cl)) k cl r (place m r)) k cl r
+  pub taken-part : Taken g m (takes g (pop g m (partStack cl)) k cl r (place m r)) k cl r
   taken-part = subst (λ z. Taken g m z k cl r) (sym same) taken-over

@@ -2,11 +2,11 @@
 use mathlib.Core.Path.{_≡_}
 use mathlib.Core.Bool.{true}
 use Prim.Native.Nat.{ℕ, suc}
+use Rattle.layout.specs.Geometry.{segmentOf}
 use Rattle.layout.specs.declared.Geometry.{Geometry}
 use Rattle.layout.specs.Mem.{Mem}
 use Rattle.theory.proofs.Agree.{Agree}
 use Rattle.model.specs.Fields.{holding}
-use Rattle.model.specs.Records.{segmentOf}
 use Rattle.model.specs.Calls.{isAttached}
 use Rattle.refine_view.specs.View.{view}
 use Rattle.refine_view.specs.Kept.{Sizes, Structure, Steady}
@@ -16,8 +16,8 @@ use Rattle.theory.specs.MachineCalls as machine
 pub record Taken (g : Geometry) (m m₁ : Mem) (k cl r : ℕ) : Type 0 where
   pub sizes : Sizes g m₁
   pub structure : Structure g m₁
-  pub prepared : Agree segmentOf (view m) (view m₁)
-  pub shows : machine.face (view m₁) ≡ machine.face (view m)
+  pub prepared : Agree (segmentOf g) (view g m) (view g m₁)
+  pub shows : machine.face (view g m₁) ≡ machine.face (view g m)
   pub steady : Steady g m m₁
   pub holds : holding m₁ k cl ≡ suc r
   pub known : isAttached m₁ k ≡ true

@@ -24,10 +24,10 @@ module _ (g : Geometry) (m : Mem) (s : Sizes g m) (n v k cl r p : ℕ) where
   popped = setStack m n v
 
   abbrev pub noted : Mem
-  noted = setState popped r (Held cl p k)
+  noted = setState g popped r (Held cl p k)
 
   abbrev pub after : Mem
-  after = takes popped k cl r p
+  after = takes g popped k cl r p
 
   pub takes-over : after ≡ over m (after .mutators) (after .segments) (popped .stacks) (m .bitmaps)
   unfolding setStack setState setSegment setMutator
@@ -44,11 +44,11 @@ module _ (g : Geometry) (m : Mem) (s : Sizes g m) (n v k cl r p : ℕ) where
   segments-as = refl
 
   pub takes-there : r < g .segments → Recorded after r 2 cl p k
-  takes-there l = let z = sizes-stack g m s n v .segments in recorded-as noted after r 2 cl p k segments-as (state-there popped r (Held cl p k) (omega arith))
+  takes-there l = let z = sizes-stack g m s n v .segments in recorded-as noted after r 2 cl p k segments-as (state-there g popped r (Held cl p k) (omega arith))
 
   pub takes-other : (q : ℕ) → (q ≡ r → ⊥) → Recorded after q (tag m q) (class m q) (place m q) (owner m q)
   unfolding setStack
-  takes-other q f = recorded-as noted after q (tag m q) (class m q) (place m q) (owner m q) segments-as (state-other popped r (Held cl p k) q f)
+  takes-other q f = recorded-as noted after q (tag m q) (class m q) (place m q) (owner m q) segments-as (state-other g popped r (Held cl p k) q f)
 
   mutators-as : noted .mutators ≡ m .mutators
   unfolding setStack setState setSegment

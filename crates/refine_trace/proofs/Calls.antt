@@ -39,11 +39,11 @@ module _ (g : Geometry) (m : Mem) (s : Sizes g m) (c : Consistent g m) where
   leave-kept k e =
       let a = by-ok (face m) k 0 e in
       let v = acknowledged-moves g m s c k (a .0) (not-eq _ _ (a .1)) in
-      let h : isAttached (acknowledged m k) k ≡ true = v .agree .attached k ∙ check-attached (phase m) (acks m k) (view m) k k ∙ a .1 in
-      matches-by g m (act g m (c-leave k)) (λ alloc st. machine.act alloc st (c-leave k)) refl (left-moves g m (acknowledged m k) (check (view m) k) v (sizes-acknowledged g m s k) k (a .0) (not-eq _ _ h))
+      let h : isAttached (acknowledged g m k) k ≡ true = v .agree .attached k ∙ check-attached (phase m) (acks m k) (view g m) k k ∙ a .1 in
+      matches-by g m (act g m (c-leave k)) (λ alloc st. machine.act alloc st (c-leave k)) refl (left-moves g m (acknowledged g m k) (check (view g m) k) v (sizes-acknowledged g m s k) k (a .0) (not-eq _ _ h))
 
   abbrev stored : ℕ → ℕ → ℕ → ℕ → Answer × Mem
-  stored k f w at = (a-ok, setPointer (tracing.barrier (duty (phase m) (acks m k)) m (record? w) (record? (pointer m at f))) at f w)
+  stored k f w at = (a-ok, setPointer (tracing.barrier g (duty (phase m) (acks m k)) m (record? w) (record? (pointer m at f))) at f w)
 
   pub store-kept : (k i f j : ℕ) → refusal (face m) (c-store k i f j) ≡ 0 → ActKept g m (c-store k i f j)
   unfolding act
@@ -53,6 +53,6 @@ module _ (g : Geometry) (m : Mem) (s : Sizes g m) (c : Consistent g m) where
       let d = root-ok j _ (b .1) in
       let w = wanted-in g m k i (pointer? f) (a .1) (b .0) (d .1) in
       let l = lt-of _ _ (require-ok (ltb f (pointers m (w .at))) 8 0 (omega arith) (w .asked) .0) in
-      let h = on-record g m (record? (fields.root m k i)) (w .at) (w .is) (stored k f (fields.root m k j)) (λ at. (a-ok, store (view m) k at f (record? (fields.root m k j)))) refl
+      let h = on-record g m (record? (fields.root m k i)) (w .at) (w .is) (stored k f (fields.root m k j)) (λ at. (a-ok, store (view g m) k at f (record? (fields.root m k j)))) refl
       (store-moves g m s c k (w .at) f (fields.root m k j) (i, a .1, b .0, w .is) l (λ x z. (j, a .1, d .0, z))) in
       matches-by g m _ _ (h .0) (h .1)

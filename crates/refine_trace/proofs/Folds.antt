@@ -19,33 +19,33 @@ use Rattle.model.specs.Tracing as tracing
 
 -- ---- the folds of the model, step by step
 
-roots-none : (m : Mem) (k : ℕ) → pushRoots m k 0 ≡ m
+roots-none : (g : Geometry) (m : Mem) (k : ℕ) → pushRoots g m k 0 ≡ m
 unfolding pushRoots
-roots-none m k = refl
+roots-none g m k = refl
 
-roots-next : (m : Mem) (k n : ℕ) → pushRoots m k (suc n) ≡ tracing.push (pushRoots m k n) (record? (root m k n))
+roots-next : (g : Geometry) (m : Mem) (k n : ℕ) → pushRoots g m k (suc n) ≡ tracing.push g (pushRoots g m k n) (record? (root m k n))
 unfolding pushRoots
-roots-next m k n = refl
+roots-next g m k n = refl
 
-pointers-none : (m : Mem) (x : ℕ) → pushPointers m x 0 ≡ m
+pointers-none : (g : Geometry) (m : Mem) (x : ℕ) → pushPointers g m x 0 ≡ m
 unfolding pushPointers
-pointers-none m x = refl
+pointers-none g m x = refl
 
-pointers-next : (m : Mem) (x n : ℕ) → pushPointers m x (suc n) ≡ tracing.push (pushPointers m x n) (record? (pointer m x n))
+pointers-next : (g : Geometry) (m : Mem) (x n : ℕ) → pushPointers g m x (suc n) ≡ tracing.push g (pushPointers g m x n) (record? (pointer m x n))
 unfolding pushPointers
-pointers-next m x n = refl
+pointers-next g m x n = refl
 
 -- pushes of a table of references by any such fold
-fold-pushed : (g : Geometry) (m : Mem) → Segments g m → (h : ℕ → Mem) (r : ℕ → Option ℕ) (l : List ℕ) → ((n : ℕ) → h (suc n) ≡ tracing.push (h n) (r n)) → Pushed g m (h 0) l → (n : ℕ) → ((i at : ℕ) → i < n → r i ≡ some at → RecordOk g m at) → Pushed g m (h n) (pushes (view m .marked) (tab n r) l)
+fold-pushed : (g : Geometry) (m : Mem) → Segments g m → (h : ℕ → Mem) (r : ℕ → Option ℕ) (l : List ℕ) → ((n : ℕ) → h (suc n) ≡ tracing.push g (h n) (r n)) → Pushed g m (h 0) l → (n : ℕ) → ((i at : ℕ) → i < n → r i ≡ some at → RecordOk g m at) → Pushed g m (h n) (pushes (view g m .marked) (tab n r) l)
 fold-pushed g m f h r l e p zero k = p
 fold-pushed g m f h r l e p (suc n) k =
-    subst (λ z. Pushed g m z (pushes (view m .marked) (tab n r ++ (r n ∷ [])) l)) (sym (e n))
-    (subst (λ z. Pushed g m (tracing.push (h n) (r n)) z) (sym (pushes-append (view m .marked) (tab n r) (r n) l))
-    (push-pushed g m f (h n) (pushes (view m .marked) (tab n r) l) (fold-pushed g m f h r l e p n (λ i at q. k i at (omega arith))) (r n) (λ at. k n at (omega arith))))
+    subst (λ z. Pushed g m z (pushes (view g m .marked) (tab n r ++ (r n ∷ [])) l)) (sym (e n))
+    (subst (λ z. Pushed g m (tracing.push g (h n) (r n)) z) (sym (pushes-append (view g m .marked) (tab n r) (r n) l))
+    (push-pushed g m f (h n) (pushes (view g m .marked) (tab n r) l) (fold-pushed g m f h r l e p n (λ i at q. k i at (omega arith))) (r n) (λ at. k n at (omega arith))))
 
 module _ (g : Geometry) (m : Mem) (f : Segments g m) (m′ : Mem) (l : List ℕ) (p : Pushed g m m′ l) where
-  pub roots-pushed : (k n : ℕ) → ((i at : ℕ) → i < n → record? (root m′ k i) ≡ some at → RecordOk g m at) → Pushed g m (pushRoots m′ k n) (pushes (view m .marked) (tab n (λ i. record? (root m′ k i))) l)
-  roots-pushed k n r = fold-pushed g m f (pushRoots m′ k) (λ i. record? (root m′ k i)) l (roots-next m′ k) (subst (λ z. Pushed g m z l) (sym (roots-none m′ k)) p) n r
+  pub roots-pushed : (k n : ℕ) → ((i at : ℕ) → i < n → record? (root m′ k i) ≡ some at → RecordOk g m at) → Pushed g m (pushRoots g m′ k n) (pushes (view g m .marked) (tab n (λ i. record? (root m′ k i))) l)
+  roots-pushed k n r = fold-pushed g m f (pushRoots g m′ k) (λ i. record? (root m′ k i)) l (roots-next g m′ k) (subst (λ z. Pushed g m z l) (sym (roots-none g m′ k)) p) n r
 
-  pub pointers-pushed : (x n : ℕ) → ((i at : ℕ) → i < n → record? (pointer m′ x i) ≡ some at → RecordOk g m at) → Pushed g m (pushPointers m′ x n) (pushes (view m .marked) (tab n (λ i. record? (pointer m′ x i))) l)
-  pointers-pushed x n r = fold-pushed g m f (pushPointers m′ x) (λ i. record? (pointer m′ x i)) l (pointers-next m′ x) (subst (λ z. Pushed g m z l) (sym (pointers-none m′ x)) p) n r
+  pub pointers-pushed : (x n : ℕ) → ((i at : ℕ) → i < n → record? (pointer m′ x i) ≡ some at → RecordOk g m at) → Pushed g m (pushPointers g m′ x n) (pushes (view g m .marked) (tab n (λ i. record? (pointer m′ x i))) l)
+  pointers-pushed x n r = fold-pushed g m f (pushPointers g m′ x) (λ i. record? (pointer m′ x i)) l (pointers-next g m′ x) (subst (λ z. Pushed g m z l) (sym (pointers-none g m′ x)) p) n r

@@ -9,7 +9,7 @@ use borrow.Author.Tests.{ne-eqb}
 use Rattle.rules.specs.Pick.{pick, oneIf}
 use Rattle.rules.proofs.Order.{same-or-not}
 use Rattle.layout.specs.declared.Geometry.{Geometry}
-use Rattle.layout.specs.Geometry.{mutatorCount, mostBlocks}
+use Rattle.layout.specs.Geometry.{mutatorCount, mostBlocks, segmentOf, bitIn}
 use Rattle.layout.specs.Mem.{Mem}
 use Rattle.theory.specs.Phases.{Phase, sync1, sync2, mark, owes}
 use Rattle.theory.specs.Machine.{State, check}
@@ -18,7 +18,6 @@ use Rattle.theory.proofs.Agree.{Agree, agree-inv}
 use Rattle.theory.proofs.Invariant.{Tracing}
 use Rattle.theory.proofs.CycleKeeps.{check-inv}
 use Rattle.model.specs.Fields.{phase, state, acks}
-use Rattle.model.specs.Records.{segmentOf, bitIn}
 use Rattle.model.specs.Calls.{isAttached}
 use Rattle.model.specs.Mutators.{acknowledged}
 use Rattle.model.specs.Collector.{outsideAnswered, waiting, moves}
@@ -26,7 +25,7 @@ use Rattle.model.specs.Consistent.{Consistent}
 use Rattle.refine_view.specs.View.{view}
 use Rattle.refine_view.specs.Kept.{Sizes, Moves, MarksIn, Steady}
 use Rattle.refine_view.proofs.Bools.{not-eq, and-false}
-use Rattle.refine_view.proofs.Words.{within}
+use Rattle.layout.proofs.Sizes.{within}
 use Rattle.refine_view.proofs.Invariants.{to-inv, consistent-of, structure-of}
 use Rattle.refine_view.proofs.Keeping.{agree-self}
 use Rattle.refine_view.proofs.Operations.{sizes-acknowledged}
@@ -41,48 +40,48 @@ use Rattle.theory.specs.MachineCalls as machine
 record Answered (g : Geometry) (m m′ : Mem) (st : State) : Type 0 where
   pub sizes : Sizes g m′
   pub consistent : Consistent g m′
-  pub agree : Agree segmentOf st (view m′)
+  pub agree : Agree (segmentOf g) st (view g m′)
   pub steady : Steady g m m′
 
 module _ (g : Geometry) (m : Mem) where
   -- one more mutator answers
-  one-answers : (m′ : Mem) (st : State) → Answered g m m′ st → (k : ℕ) → k < mutatorCount → st .attached k ≡ true → Answered g m (acknowledged m′ k) (check st k)
+  one-answers : (m′ : Mem) (st : State) → Answered g m m′ st → (k : ℕ) → k < mutatorCount → st .attached k ≡ true → Answered g m (acknowledged g m′ k) (check st k)
   one-answers m′ st w k l h =
       let there : isAttached m′ k ≡ true = w .agree .attached k ∙ h in
       let v = acknowledged-moves g m′ (w .sizes) (w .consistent) k l (not-eq _ _ there) in
       let z = sizes-acknowledged g m′ (w .sizes) k in
       record {
         sizes = z;
-        consistent = consistent-of g (acknowledged m′ k) z (v .structure) (agree-inv segmentOf (check (view m′) k) (view (acknowledged m′ k)) (v .agree) (check-inv segmentOf (view m′) (to-inv g m′ (w .sizes) (w .consistent)) k there));
-        agree = agree-trans segmentOf (check st k) (check (view m′) k) (check-agree segmentOf st (view m′) (w .agree) k h) (view (acknowledged m′ k)) (v .agree);
+        consistent = consistent-of g (acknowledged g m′ k) z (v .structure) (agree-inv (segmentOf g) (check (view g m′) k) (view g (acknowledged g m′ k)) (v .agree) (check-inv (segmentOf g) (view g m′) (to-inv g m′ (w .sizes) (w .consistent)) k there));
+        agree = agree-trans (segmentOf g) (check st k) (check (view g m′) k) (check-agree (segmentOf g) st (view g m′) (w .agree) k h) (view g (acknowledged g m′ k)) (v .agree);
         steady = λ x d e. let a = v .steady x d e in let b = w .steady x d (a .0) in (b .0, a .1 ∙ b .1);
       }
 
   -- by the state of a mutator's entry
-  by-state : (m′ : Mem) (st : State) → Answered g m m′ st → (k : ℕ) → k < mutatorCount → (x : ℕ) → x ≤ 2 → st .attached k ≡ not (eqb x 0) → Answered g m (pick (eqb x 2) (acknowledged m′ k) m′) (outside (not (eqb x 0)) (eqb x 1) st (check st k))
+  by-state : (m′ : Mem) (st : State) → Answered g m m′ st → (k : ℕ) → k < mutatorCount → (x : ℕ) → x ≤ 2 → st .attached k ≡ not (eqb x 0) → Answered g m (pick (eqb x 2) (acknowledged g m′ k) m′) (outside (not (eqb x 0)) (eqb x 1) st (check st k))
   by-state m′ st w k l zero h a = w
   by-state m′ st w k l (suc zero) h a = w
   by-state m′ st w k l (suc (suc zero)) h a = one-answers m′ st w k l a
   by-state m′ st w k l (suc (suc (suc x))) h a = absurd (omega arith)
 
-  answered-next : (k : ℕ) → outsideAnswered m (suc k) ≡ pick (eqb (state m k) 2) (acknowledged (outsideAnswered m k) k) (outsideAnswered m k)
+  answered-next : (k : ℕ) → outsideAnswered g m (suc k) ≡ pick (eqb (state m k) 2) (acknowledged g (outsideAnswered g m k) k) (outsideAnswered g m k)
   unfolding outsideAnswered
   answered-next k = refl
 
-  answered-none : outsideAnswered m 0 ≡ m
+  answered-none : outsideAnswered g m 0 ≡ m
   unfolding outsideAnswered
   answered-none = refl
 
   module _ (s : Sizes g m) (c : Consistent g m) where
-    all-answered : (n : ℕ) → n ≤ mutatorCount → Answered g m (outsideAnswered m n) (answerOutside n (view m))
-    all-answered zero h = subst (λ z. Answered g m z (view m)) (sym answered-none) (record { sizes = s; consistent = c; agree = agree-self m; steady = λ x l e. (e, refl) })
+    all-answered : (n : ℕ) → n ≤ mutatorCount → Answered g m (outsideAnswered g m n) (answerOutside n (view g m))
+    all-answered zero h = subst (λ z. Answered g m z (view g m)) (sym answered-none) (record { sizes = s; consistent = c; agree = agree-self g m; steady = λ x l e. (e, refl) })
     all-answered (suc n) h =
         let w = all-answered n (omega arith) in
-        let u = outside-later n (view m) in
-        subst (λ z. Answered g m z (outside (answerOutside n (view m) .attached n) (answerOutside n (view m) .inside n) (answerOutside n (view m)) (check (answerOutside n (view m)) n))) (sym (answered-next n))
-        (subst (λ z. Answered g m (pick (eqb (state m n) 2) (acknowledged (outsideAnswered m n) n) (outsideAnswered m n)) (outside z (answerOutside n (view m) .inside n) (answerOutside n (view m)) (check (answerOutside n (view m)) n))) (sym (u .attached n))
-        (subst (λ z. Answered g m (pick (eqb (state m n) 2) (acknowledged (outsideAnswered m n) n) (outsideAnswered m n)) (outside (isAttached m n) z (answerOutside n (view m)) (check (answerOutside n (view m)) n))) (sym (u .inside n))
-        (by-state (outsideAnswered m n) (answerOutside n (view m)) w n h (state m n) (c .mutators n h .states) (u .attached n))))
+        let u = outside-later n (view g m) in
+        subst (λ z. Answered g m z (outside (answerOutside n (view g m) .attached n) (answerOutside n (view g m) .inside n) (answerOutside n (view g m)) (check (answerOutside n (view g m)) n))) (sym (answered-next n))
+        (subst (λ z. Answered g m (pick (eqb (state m n) 2) (acknowledged g (outsideAnswered g m n) n) (outsideAnswered g m n)) (outside z (answerOutside n (view g m) .inside n) (answerOutside n (view g m)) (check (answerOutside n (view g m)) n))) (sym (u .attached n))
+        (subst (λ z. Answered g m (pick (eqb (state m n) 2) (acknowledged g (outsideAnswered g m n) n) (outsideAnswered g m n)) (outside (isAttached m n) z (answerOutside n (view g m)) (check (answerOutside n (view g m)) n))) (sym (u .inside n))
+        (by-state (outsideAnswered g m n) (answerOutside n (view g m)) w n h (state m n) (c .mutators n h .states) (u .attached n))))
 
 -- ---- how many still owe an answer
 
@@ -93,7 +92,7 @@ inside-attached x o = go (same-or-not x 1)
     go (inl e) = rw e refl
     go (inr d) = rw (ne-eqb x 1 d) (sym (and-false (not (eqb x 0))))
 
-module _ (m : Mem) (st : State) (a : Agree segmentOf st (view m)) where
+module _ (g : Geometry) (m : Mem) (st : State) (a : Agree (segmentOf g) st (view g m)) where
   owing : (k : ℕ) → oneIf (eqb (state m k) 1 && owes (phase m) (acks m k)) ≡ oneIf (st .attached k && (st .inside k && owes (st .phase) (st .acks k)))
   owing k = rw (← a .attached k, ← a .inside k, ← a .phase, ← a .acks k) (ap oneIf (inside-attached (state m k) (owes (phase m) (acks m k))))
 
@@ -113,24 +112,24 @@ module _ (g : Geometry) (m m′ : Mem) (st : State) (w : Answered g m m′ st) (
   by-waiting (suc n) = now
 
   stepped : (n : ℕ) → Moves g m (moves (waiting m′ n) m′ p .1) (move (machine.waiting n st) st p .1)
-  stepped n = subst (λ z. Moves g m (moves (waiting m′ n) m′ p .1) (move z st p .1)) (waiting-same m′ st (w .agree) n) (by-waiting (waiting m′ n))
+  stepped n = subst (λ z. Moves g m (moves (waiting m′ n) m′ p .1) (move z st p .1)) (waiting-same g m′ st (w .agree) n) (by-waiting (waiting m′ n))
 
 module _ (g : Geometry) (m : Mem) (s : Sizes g m) (c : Consistent g m) where
   -- the phase after the answers
-  phase-kept : (n : ℕ) → n ≤ mutatorCount → phase (outsideAnswered m n) ≡ phase m
-  phase-kept n h = all-answered g m s c n h .agree .phase ∙ outside-later n (view m) .phase
+  phase-kept : (n : ℕ) → n ≤ mutatorCount → phase (outsideAnswered g m n) ≡ phase m
+  phase-kept n h = all-answered g m s c n h .agree .phase ∙ outside-later n (view g m) .phase
 
-  marks-kept : (n : ℕ) → n ≤ mutatorCount → (p : Phase) → phase m ≡ p → MarksIn p g (outsideAnswered m n)
-  marks-kept n h p e = subst (λ z. MarksIn z g (outsideAnswered m n)) (phase-kept n h ∙ e) (structure-of g (outsideAnswered m n) (all-answered g m s c n h .consistent) .marks)
+  marks-kept : (n : ℕ) → n ≤ mutatorCount → (p : Phase) → phase m ≡ p → MarksIn p g (outsideAnswered g m n)
+  marks-kept n h p e = subst (λ z. MarksIn z g (outsideAnswered g m n)) (phase-kept n h ∙ e) (structure-of g (outsideAnswered g m n) (all-answered g m s c n h .consistent) .marks)
 
-  tracing-kept : (n : ℕ) (p : Phase) → phase m ≡ p → Tracing p → Tracing (answerOutside n (view m) .phase)
-  tracing-kept n p e t = subst Tracing (sym (outside-later n (view m) .phase ∙ e)) t
+  tracing-kept : (n : ℕ) (p : Phase) → phase m ≡ p → Tracing p → Tracing (answerOutside n (view g m) .phase)
+  tracing-kept n p e t = subst Tracing (sym (outside-later n (view g m) .phase ∙ e)) t
 
   blank : (m′ : Mem) → MarksIn sync1 g m′ → MarksIn sync2 g m′
-  blank m′ h = λ x b l u k e. absurd (let z = h (bitIn x b) (within mostBlocks x (g .segments) b l k) in omega arith)
+  blank m′ h = λ x b l u k e. absurd (let z = h (bitIn g x b) (within (mostBlocks g) x (g .segments) b l k) in omega arith)
 
-  pub first-by : (n : ℕ) → n ≤ mutatorCount → phase m ≡ sync1 → Moves g m (moves (waiting (outsideAnswered m n) n) (outsideAnswered m n) sync2 .1) (move (machine.waiting n (answerOutside n (view m))) (answerOutside n (view m)) sync2 .1)
-  first-by n h e = stepped g m (outsideAnswered m n) (answerOutside n (view m)) (all-answered g m s c n h) sync2 (λ t. tracing-kept n sync1 e tt) (blank (outsideAnswered m n) (marks-kept n h sync1 e)) n
+  pub first-by : (n : ℕ) → n ≤ mutatorCount → phase m ≡ sync1 → Moves g m (moves (waiting (outsideAnswered g m n) n) (outsideAnswered g m n) sync2 .1) (move (machine.waiting n (answerOutside n (view g m))) (answerOutside n (view g m)) sync2 .1)
+  first-by n h e = stepped g m (outsideAnswered g m n) (answerOutside n (view g m)) (all-answered g m s c n h) sync2 (λ t. tracing-kept n sync1 e tt) (blank (outsideAnswered g m n) (marks-kept n h sync1 e)) n
 
-  pub second-by : (n : ℕ) → n ≤ mutatorCount → phase m ≡ sync2 → Moves g m (moves (waiting (outsideAnswered m n) n) (outsideAnswered m n) mark .1) (move (machine.waiting n (answerOutside n (view m))) (answerOutside n (view m)) mark .1)
-  second-by n h e = stepped g m (outsideAnswered m n) (answerOutside n (view m)) (all-answered g m s c n h) mark (λ t. tracing-kept n sync2 e tt) (marks-kept n h sync2 e) n
+  pub second-by : (n : ℕ) → n ≤ mutatorCount → phase m ≡ sync2 → Moves g m (moves (waiting (outsideAnswered g m n) n) (outsideAnswered g m n) mark .1) (move (machine.waiting n (answerOutside n (view g m))) (answerOutside n (view g m)) mark .1)
+  second-by n h e = stepped g m (outsideAnswered g m n) (answerOutside n (view g m)) (all-answered g m s c n h) mark (λ t. tracing-kept n sync2 e tt) (marks-kept n h sync2 e) n

@@ -21,9 +21,9 @@ over m c q t = beside m c (m .mutators) (m .marks) q t (m .heap)
 pub over-self : (m : Mem) → m ≡ over m (m .control) (m .queued) (m .trace)
 over-self m = refl
 
-pub push-over : (m : Mem) (c q t : List ℕ) (at : ℕ) → push (over m c q t) (some at) ≡ pick (eqb (marked m at) 1) (over m c q t) (pick (eqb (bitAt q (bitOf m at)) 1) (over m c q t) (over m (set c 1 (getD c 1 0 + 1)) (setBit q (bitOf m at)) (set t (getD c 1 0) (suc at))))
+pub push-over : (g : Geometry) (m : Mem) (c q t : List ℕ) (at : ℕ) → push g (over m c q t) (some at) ≡ pick (eqb (marked g m at) 1) (over m c q t) (pick (eqb (bitAt q (bitOf g m at)) 1) (over m c q t) (over m (set c 1 (getD c 1 0 + 1)) (setBit q (bitOf g m at)) (set t (getD c 1 0) (suc at))))
 unfolding push setTrace setControl setQueued
-push-over m c q t at = refl
+push-over g m c q t at = refl
 
 pub mutator-over : (m : Mem) (c q t : List ℕ) (i v : ℕ) → setMutator (over m c q t) i v ≡ over (setMutator m i v) c q t
 unfolding setMutator
@@ -35,4 +35,4 @@ heap-over m c q t i v = refl
 
 -- every segment is in order
 abbrev pub Segments : Geometry → Mem → Type 0
-Segments g m = (s : ℕ) → s < g .segments → SegmentOk m s
+Segments g m = (s : ℕ) → s < g .segments → SegmentOk g m s

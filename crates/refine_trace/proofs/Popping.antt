@@ -13,15 +13,16 @@ use Rattle.layout.specs.Mem.{Mem, setControl}
 use Rattle.model.specs.Records.{bitOf, setMarked, clearQueued}
 use Rattle.model.specs.Tracing.{popped}
 use Rattle.model.specs.Fields.{traceCount}
-use Rattle.refine_view.proofs.Blocks.{bit-below, same-bit}
+use Rattle.layout.proofs.Sizes.{marks-are}
+use Rattle.model.proofs.Blocks.{bit-below, same-bit}
 use Rattle.words.proofs.Counts.{among-change}
 use Rattle.refine_view.proofs.Apart.{class-of}
 use Rattle.refine_trace.proofs.Over.{over, Segments}
 use Rattle.refine_trace.proofs.Entered.{Entered}
 
-pub popped-over : (m : Mem) (at : ℕ) → popped m at ≡ over (setMarked m at) (set (m .control) 1 (traceCount m - 1)) (clearBit (m .queued) (bitOf m at)) (m .trace)
+pub popped-over : (g : Geometry) (m : Mem) (at : ℕ) → popped g m at ≡ over (setMarked g m at) (set (m .control) 1 (traceCount m - 1)) (clearBit (m .queued) (bitOf g m at)) (m .trace)
 unfolding setControl setMarked clearQueued
-popped-over m at = refl
+popped-over g m at = refl
 
 module _ (g : Geometry) (m : Mem) (f : Segments g m) (c q t : List ℕ) (e : Entered g m c q t) (n : ℕ) (is : getD c 1 0 ≡ suc n) where
   abbrev at : ℕ
@@ -31,16 +32,16 @@ module _ (g : Geometry) (m : Mem) (f : Segments g m) (c q t : List ℕ) (e : Ent
   c′ = set c 1 (getD c 1 0 - 1)
 
   abbrev q′ : List ℕ
-  q′ = clearBit q (bitOf m at)
+  q′ = clearBit q (bitOf g m at)
 
   last : n < getD c 1 0
   last = omega arith
 
-  below : bitOf m at < g .segments * mostBlocks
-  below = let r = e .records n last in bit-below m at (class-of g m f at r) g (r .inside)
+  below : bitOf g m at < g .segments * mostBlocks g
+  below = let r = e .records n last in bit-below g m at (class-of g m f at r) (r .inside)
 
-  in-words : bitOf m at / 32 < length q
-  in-words = let b = below in let l = e .lengthQueued in omega arith
+  in-words : bitOf g m at / 32 < length q
+  in-words = let b = below in let l = e .lengthQueued in let w = marks-are g (g .segments) in omega arith
 
   pub count-after : getD c′ 1 0 ≡ n
   count-after = let l = e .lengthControl in getD-set-same c 1 (getD c 1 0 - 1) 0 (omega arith) ∙ omega arith
@@ -51,20 +52,20 @@ module _ (g : Geometry) (m : Mem) (f : Segments g m) (c q t : List ℕ) (e : Ent
   before : (i : ℕ) → i < getD c′ 1 0 → i < getD c 1 0
   before i l = let z = still i l in omega arith
 
-  less : onesAmong (bitAt q′) (g .segments * mostBlocks) ≡ n
+  less : onesAmong (bitAt q′) (g .segments * mostBlocks g) ≡ n
   less =
-      let z = among-change (bitAt q) (bitAt q′) (g .segments * mostBlocks) (bitOf m at) below (λ i l d. clear-elsewhere q (bitOf m at) in-words i d) in
+      let z = among-change (bitAt q) (bitAt q′) (g .segments * mostBlocks g) (bitOf g m at) below (λ i l d. clear-elsewhere q (bitOf g m at) in-words i d) in
       let a = e .bits n last in
-      let b = clear-there q (bitOf m at) in-words in
+      let b = clear-there q (bitOf g m at) in-words in
       let k = e .number in
       omega arith
 
-  other-bit : (i : ℕ) → i < getD c′ 1 0 → bitOf m (getD t i 0 - 1) ≡ bitOf m at → ⊥
+  other-bit : (i : ℕ) → i < getD c′ 1 0 → bitOf g m (getD t i 0 - 1) ≡ bitOf g m at → ⊥
   other-bit i l z =
       let j = before i l in
       let o = e .records i j in
       let r = e .records n last in
-      let y = same-bit m (getD t i 0 - 1) at (class-of g m f _ o) (class-of g m f at r) (o .aligned) (r .aligned) z in
+      let y = same-bit g m (getD t i 0 - 1) at (class-of g m f _ o) (class-of g m f at r) (o .aligned) (r .aligned) z in
       let a = e .named i j in
       let b = e .named n last in
       e .once i n (still i l) last (omega arith)
@@ -72,12 +73,12 @@ module _ (g : Geometry) (m : Mem) (f : Segments g m) (c q t : List ℕ) (e : Ent
   pub entered-less : Entered g m c′ q′ t
   entered-less = record {
     lengthControl = length-set c 1 (getD c 1 0 - 1) ∙ e .lengthControl;
-    lengthQueued = length-clearBit q (bitOf m at) ∙ e .lengthQueued;
+    lengthQueued = length-clearBit q (bitOf g m at) ∙ e .lengthQueued;
     lengthTrace = e .lengthTrace;
     phase = getD-set-other c 1 0 (getD c 1 0 - 1) 0 (λ z. omega arith) ∙ e .phase;
     named = λ i l. e .named i (before i l);
     records = λ i l. e .records i (before i l);
-    bits = λ i l. clear-elsewhere q (bitOf m at) in-words (bitOf m (getD t i 0 - 1)) (other-bit i l) ∙ e .bits i (before i l);
+    bits = λ i l. clear-elsewhere q (bitOf g m at) in-words (bitOf g m (getD t i 0 - 1)) (other-bit i l) ∙ e .bits i (before i l);
     once = λ i j l h. e .once i j l (before j h);
     number = count-after ∙ sym less;
   }

@@ -36,9 +36,9 @@ push-nil : (f : ℕ → Bool) (l : List ℕ) → push f none l ≡ l
 unfolding push
 push-nil f l = refl
 
-pushed-nil : (m : Mem) → tracing.push m none ≡ m
+pushed-nil : (g : Geometry) (m : Mem) → tracing.push g m none ≡ m
 unfolding tracing.push
-pushed-nil m = refl
+pushed-nil g m = refl
 
 module _ (g : Geometry) (m : Mem) (f : Segments g m) where
   module _ (m′ : Mem) (l : List ℕ) (p : Pushed g m m′ l) where
@@ -46,18 +46,18 @@ module _ (g : Geometry) (m : Mem) (f : Segments g m) where
     now = over m (p .control) (p .queued) (p .trace)
 
     abbrev next : ℕ → Mem
-    next at = over m (set (p .control) 1 (getD (p .control) 1 0 + 1)) (setBit (p .queued) (bitOf m at)) (set (p .trace) (getD (p .control) 1 0) (suc at))
+    next at = over m (set (p .control) 1 (getD (p .control) 1 0 + 1)) (setBit (p .queued) (bitOf g m at)) (set (p .trace) (getD (p .control) 1 0) (suc at))
 
-    push-one : (at : ℕ) → RecordOk g m at → Pushed g m (tracing.push m′ (some at)) (push (view m .marked) (some at) l)
+    push-one : (at : ℕ) → RecordOk g m at → Pushed g m (tracing.push g m′ (some at)) (push (view g m .marked) (some at) l)
     push-one at r =
-        subst (λ z. Pushed g m z (push (view m .marked) (some at) l)) (sym (ap (λ z. tracing.push z (some at)) (p .is) ∙ push-over m (p .control) (p .queued) (p .trace) at))
-        (subst (λ z. Pushed g m (pick (eqb (marked m at) 1) now (pick (eqb (bitAt (p .queued) (bitOf m at)) 1) now (next at))) z) (sym (push-is (view m .marked) at l ∙ ap (λ b. pushIf (b && eqb (marked m at) 1) (mem? at l) at l) (eq-eqb _ _ (r .aligned))))
-        (go (eqb (marked m at) 1) (eqb (bitAt (p .queued) (bitOf m at)) 1) refl (mem? at l)))
+        subst (λ z. Pushed g m z (push (view g m .marked) (some at) l)) (sym (ap (λ z. tracing.push g z (some at)) (p .is) ∙ push-over g m (p .control) (p .queued) (p .trace) at))
+        (subst (λ z. Pushed g m (pick (eqb (marked g m at) 1) now (pick (eqb (bitAt (p .queued) (bitOf g m at)) 1) now (next at))) z) (sym (push-is (view g m .marked) at l ∙ ap (λ b. pushIf (b && eqb (marked g m at) 1) (mem? at l) at l) (eq-eqb _ _ (r .aligned))))
+        (go (eqb (marked g m at) 1) (eqb (bitAt (p .queued) (bitOf g m at)) 1) refl (mem? at l)))
       where
         same : Pushed g m now l
         same = record { control = p .control; queued = p .queued; trace = p .trace; is = refl; entered = p .entered; stack = p .stack }
 
-        go : (b d : Bool) → eqb (bitAt (p .queued) (bitOf m at)) 1 ≡ d → (k : Dec (List·Memᴰ at l)) → Pushed g m (pick b now (pick d now (next at))) (pushIf b k at l)
+        go : (b d : Bool) → eqb (bitAt (p .queued) (bitOf g m at)) 1 ≡ d → (k : Dec (List·Memᴰ at l)) → Pushed g m (pick b now (pick d now (next at))) (pushIf b k at l)
         go true d e k = same
         go false true e (yes k) = same
         go false true e (no k) = absurd (bit-entry g m (p .control) (p .queued) (p .trace) (p .entered) f at r (eqb-true _ _ e) (λ h. k (subst (List·Memᴰ at) (p .stack) h)))
@@ -71,6 +71,6 @@ module _ (g : Geometry) (m : Mem) (f : Segments g m) where
           stack = stack-more g m (p .control) (p .queued) (p .trace) (p .entered) f at r (eqb-false _ _ e) ∙ ap (λ z. at ∷ z) (p .stack);
         }
 
-    pub push-pushed : (o : Option ℕ) → ((at : ℕ) → o ≡ some at → RecordOk g m at) → Pushed g m (tracing.push m′ o) (push (view m .marked) o l)
-    push-pushed none r = rw (pushed-nil m′, push-nil (view m .marked) l) p
+    pub push-pushed : (o : Option ℕ) → ((at : ℕ) → o ≡ some at → RecordOk g m at) → Pushed g m (tracing.push g m′ o) (push (view g m .marked) o l)
+    push-pushed none r = rw (pushed-nil g m′, push-nil (view g m .marked) l) p
     push-pushed (some at) r = push-one at (r at refl)

@@ -4,12 +4,11 @@ use mathlib.Core.Option.{Option}
 use Prim.Native.Nat.{ℕ}
 use native.Mathlib.Omega.{arith}
 use Rattle.layout.specs.declared.Geometry.{Geometry}
-use Rattle.layout.specs.Geometry.{mutatorCount}
+use Rattle.layout.specs.Geometry.{mutatorCount, segmentOf}
 use Rattle.layout.specs.Mem.{Mem}
 use Rattle.theory.specs.Phases.{sync1, sync2, mark}
 use Rattle.theory.specs.MachineCalls.{stepBy}
 use Rattle.model.specs.Fields.{phase, traceCount}
-use Rattle.model.specs.Records.{segmentOf}
 use Rattle.model.specs.Collector.{stepIn}
 use Rattle.model.specs.Consistent.{Consistent}
 use Rattle.refine_view.specs.View.{view}
@@ -18,11 +17,11 @@ use Rattle.refine_trace.proofs.TraceStep.{trace-by}
 use Rattle.refine_trace.proofs.Handshakes.{first-by, second-by}
 
 module _ (g : Geometry) (m : Mem) (s : Sizes g m) (c : Consistent g m) where
-  pub handshake1-moves : (v : Option ℕ) → phase m ≡ sync1 → Moves g m (stepIn sync1 g m .1) (stepBy segmentOf (λ _. v) sync1 (view m) .1)
+  pub handshake1-moves : (v : Option ℕ) → phase m ≡ sync1 → Moves g m (stepIn sync1 g m .1) (stepBy (segmentOf g) (λ _. v) sync1 (view g m) .1)
   handshake1-moves v e = first-by g m s c mutatorCount (omega arith) e
 
-  pub handshake2-moves : (v : Option ℕ) → phase m ≡ sync2 → Moves g m (stepIn sync2 g m .1) (stepBy segmentOf (λ _. v) sync2 (view m) .1)
+  pub handshake2-moves : (v : Option ℕ) → phase m ≡ sync2 → Moves g m (stepIn sync2 g m .1) (stepBy (segmentOf g) (λ _. v) sync2 (view g m) .1)
   handshake2-moves v e = second-by g m s c mutatorCount (omega arith) e
 
-  pub trace-moves : (v : Option ℕ) → phase m ≡ mark → Moves g m (stepIn mark g m .1) (stepBy segmentOf (λ _. v) mark (view m) .1)
+  pub trace-moves : (v : Option ℕ) → phase m ≡ mark → Moves g m (stepIn mark g m .1) (stepBy (segmentOf g) (λ _. v) mark (view g m) .1)
   trace-moves v e = trace-by g m s c e (traceCount m) refl

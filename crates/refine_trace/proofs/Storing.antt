@@ -5,6 +5,7 @@ use mathlib.Core.Option.{Option, some}
 use mathlib.Core.List.{List}
 use Prim.Native.Nat.{ℕ, _<_}
 use lib.ListN.{getD}
+use Rattle.layout.specs.Geometry.{segmentOf}
 use Rattle.layout.specs.declared.Geometry.{Geometry}
 use Rattle.layout.specs.Mem.{Mem, setHeap}
 use Rattle.theory.specs.Phases.{Duty, nothing, both, old, duty}
@@ -13,7 +14,7 @@ use Rattle.theory.specs.Machine.{State, Holds, store}
 use Rattle.theory.proofs.Agree.{Agree}
 use Rattle.model.specs.Rules.{phaseOf}
 use Rattle.model.specs.Fields.{phase, acks}
-use Rattle.model.specs.Records.{record?, pointers, values, pointer, setPointer, segmentOf}
+use Rattle.model.specs.Records.{record?, pointers, values, pointer, setPointer}
 use Rattle.model.specs.Consistent.{RecordOk, Consistent}
 use Rattle.refine_view.specs.View.{view, stackOf}
 use Rattle.refine_view.specs.Kept.{Sizes, Structure, Moves}
@@ -32,8 +33,8 @@ use Rattle.model.specs.Tracing as tracing
 
 module _ (g : Geometry) (m : Mem) (s : Sizes g m) (c : Consistent g m) where
   -- mutator k stores the word w of one of its roots into pointer f of the record at a word that another of its roots names
-  module _ (k at f w : ℕ) (holds : Holds (view m) k at) (few : f < pointers m at) (from : (x : ℕ) → record? w ≡ some x → Holds (view m) k x) where
-    at-live : machine.Live (view m) at
+  module _ (k at f w : ℕ) (holds : Holds (view g m) k at) (few : f < pointers m at) (from : (x : ℕ) → record? w ≡ some x → Holds (view g m) k x) where
+    at-live : machine.Live (view g m) at
     at-live = root (inl (k, holds))
 
     abbrev new : Option ℕ
@@ -48,7 +49,7 @@ module _ (g : Geometry) (m : Mem) (s : Sizes g m) (c : Consistent g m) where
     old-record : (x : ℕ) → old-value ≡ some x → RecordOk g m x
     old-record x e = to-record g m s c x (next at-live (f, few, e))
 
-    barrier-pushed : (d : Duty) → Pushed g m (tracing.barrier d m new old-value) (machine.barrier d (view m .marked) new old-value (view m .stack))
+    barrier-pushed : (d : Duty) → Pushed g m (tracing.barrier g d m new old-value) (machine.barrier d (view g m .marked) new old-value (view g m .stack))
     barrier-pushed nothing = pushed-self g m s c
     barrier-pushed both = push-pushed g m (c .segments) _ _ (push-pushed g m (c .segments) m _ (pushed-self g m s c) new new-record) old-value old-record
     barrier-pushed old = push-pushed g m (c .segments) m _ (pushed-self g m s c) old-value old-record
@@ -57,10 +58,10 @@ module _ (g : Geometry) (m : Mem) (s : Sizes g m) (c : Consistent g m) where
     base = setPointer m at f w
 
     abbrev next-state : State
-    next-state = store (view m) k at f new
+    next-state = store (view g m) k at f new
 
-    was-live : {x : ℕ} → machine.Live next-state x → machine.Live (view m) x
-    was-live p = storing.live-back segmentOf (view m) (to-inv g m s c) k at f new holds few from p
+    was-live : {x : ℕ} → machine.Live next-state x → machine.Live (view g m) x
+    was-live p = storing.live-back (segmentOf g) (view g m) (to-inv g m s c) k at f new holds few from p
 
     at-record : RecordOk g m at
     at-record = to-record g m s c at at-live
@@ -69,7 +70,7 @@ module _ (g : Geometry) (m : Mem) (s : Sizes g m) (c : Consistent g m) where
       abbrev next-memory : Mem
       next-memory = over base control q t
 
-      store-agree : Agree segmentOf next-state (view next-memory)
+      store-agree : Agree (segmentOf g) next-state (view g next-memory)
       unfolding setHeap
       store-agree = record {
         phase = ap phaseOf (e .phase);
@@ -92,14 +93,14 @@ module _ (g : Geometry) (m : Mem) (s : Sizes g m) (c : Consistent g m) where
       next-structure = structure-entered g m control q t e (m .mutators) (m .marks) (base .heap) (structure-of g m c)
           (held-self g m control (m .marks) q t (base .heap))
           (λ j l. mutator-beside g m control (m .marks) q t (base .heap) j (c .mutators j l))
-          (λ x p. let r = to-record g m s c x (was-live (agreeing.live-back segmentOf next-state (view next-memory) store-agree (live-on next-memory p))) in (r, header-kept g m s (c .segments) at f w at-record few x r))
+          (λ x p. let r = to-record g m s c x (was-live (agreeing.live-back (segmentOf g) next-state (view g next-memory) store-agree (live-on g next-memory p))) in (r, header-kept g m s (c .segments) at f w at-record few x r))
           (marks-beside g m control (m .mutators) q t (base .heap) (phase m) (structure-of g m c .marks))
 
       store-over : Moves g m next-memory next-state
       unfolding setHeap
       store-over = record { structure = next-structure; agree = store-agree; steady = λ x h z. (z, refl) }
 
-    pub store-moves : Moves g m (setPointer (tracing.barrier (duty (phase m) (acks m k)) m new old-value) at f w) next-state
+    pub store-moves : Moves g m (setPointer (tracing.barrier g (duty (phase m) (acks m k)) m new old-value) at f w) next-state
     store-moves =
         let p = barrier-pushed (duty (phase m) (acks m k)) in
         subst (λ z. Moves g m z next-state) (sym (ap (λ z. setPointer z at f w) (p .is) ∙ heap-over m (p .control) (p .queued) (p .trace) _ w)) (store-over (p .control) (p .queued) (p .trace) (p .entered) (p .stack))

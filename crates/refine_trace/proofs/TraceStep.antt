@@ -10,6 +10,7 @@ use lib.Dec.{eqb}
 use lib.ListN.{getD, set}
 use borrow.Author.Tests.{eqb-true}
 use Rattle.words.specs.Bits.{clearBit}
+use Rattle.layout.specs.Geometry.{segmentOf}
 use Rattle.layout.specs.declared.Geometry.{Geometry}
 use Rattle.layout.specs.Mem.{Mem, traceWord, setControl}
 use Rattle.theory.specs.Phases.{mark, sweep}
@@ -22,7 +23,7 @@ use Rattle.theory.proofs.Agree.{Agree}
 use Rattle.theory.proofs.Updates.{tab-inv}
 use Rattle.model.specs.Rules.{phaseOf}
 use Rattle.model.specs.Fields.{phase, traceCount, tag, class}
-use Rattle.model.specs.Records.{record?, pointers, pointer, segmentOf, bitOf, setMarked, clearQueued}
+use Rattle.model.specs.Records.{record?, pointers, pointer, bitOf, setMarked, clearQueued}
 use Rattle.model.specs.Tracing.{popped, traced}
 use Rattle.model.specs.Collector.{traces}
 use Rattle.model.specs.Consistent.{IsClass, RecordOk, Consistent}
@@ -46,6 +47,7 @@ use Rattle.refine_trace.proofs.Popping.{popped-over, count-after, enter
 use Rattle.theory.specs.Machine as machine
 use Rattle.theory.proofs.Agree as agreeing
 use Rattle.theory.proofs.CycleKeeps as cycle
+use Rattle.model.specs.Tag as Tag
 
 module _ (g : Geometry) (m : Mem) (s : Sizes g m) (c : Consistent g m) (marking : phase m ≡ mark) where
   marks-now : MarksIn mark g m
@@ -53,8 +55,8 @@ module _ (g : Geometry) (m : Mem) (s : Sizes g m) (c : Consistent g m) (marking 
 
   -- ---- the stack is empty
 
-  none-left : Moves g m (traces 0 m .1) (traceStep [] (view m) .1)
-  none-left = phase-moves g m m (view m) (moves-self g m c) s sweep (λ t. absurd t) (λ x b l u k e. marks-now x b l tt k e)
+  none-left : Moves g m (traces g 0 m .1) (traceStep [] (view g m) .1)
+  none-left = phase-moves g m m (view g m) (moves-self g m c) s sweep (λ t. absurd t) (λ x b l u k e. marks-now x b l tt k e)
 
   -- ---- the last entered record
 
@@ -62,55 +64,55 @@ module _ (g : Geometry) (m : Mem) (s : Sizes g m) (c : Consistent g m) (marking 
     abbrev at : ℕ
     at = traceWord m n - 1
 
-    at-live : machine.Live (view m) at
-    at-live = live-on m (root (inr (entry-at g m s c n (omega arith))))
+    at-live : machine.Live (view g m) at
+    at-live = live-on g m (root (inr (entry-at g m s c n (omega arith))))
 
     at-record : RecordOk g m at
     at-record = to-record g m s c at at-live
 
     abbrev base : Mem
-    base = setMarked m at
+    base = setMarked g m at
 
     abbrev next-state : State
-    next-state = trace (view m) at (stackOf m n)
+    next-state = trace (view g m) at (stackOf m n)
 
-    stack-is : view m .stack ≡ at ∷ stackOf m n
+    stack-is : view g m .stack ≡ at ∷ stackOf m n
     stack-is = ap (stackOf m) some-left
 
-    was-live : {x : ℕ} → machine.Live next-state x → machine.Live (view m) x
-    was-live p = cycle.live-back segmentOf (view m) (to-inv g m s c) at (stackOf m n) marking stack-is p
+    was-live : {x : ℕ} → machine.Live next-state x → machine.Live (view g m) x
+    was-live p = cycle.live-back (segmentOf g) (view g m) (to-inv g m s c) at (stackOf m n) marking stack-is p
 
-    popped-pushed : Pushed g base (popped m at) (stackOf m n)
+    popped-pushed : Pushed g base (popped g m at) (stackOf m n)
     popped-pushed = record {
       control = _;
       queued = _;
       trace = _;
-      is = popped-over m at;
+      is = popped-over g m at;
       entered = entered-marked g m s (c .segments) at at-record _ _ _ (entered-less g m (c .segments) (m .control) (m .queued) (m .trace) (entered-self g m s c) n some-left);
-      stack = ap (stackOf (over base (set (m .control) 1 (traceCount m - 1)) (clearBit (m .queued) (bitOf m at)) (m .trace))) (count-after g m (c .segments) (m .control) (m .queued) (m .trace) (entered-self g m s c) n some-left) ∙ entries-same m (over base (set (m .control) 1 (traceCount m - 1)) (clearBit (m .queued) (bitOf m at)) (m .trace)) n (λ i h. refl);
+      stack = ap (stackOf (over base (set (m .control) 1 (traceCount m - 1)) (clearBit (m .queued) (bitOf g m at)) (m .trace))) (count-after g m (c .segments) (m .control) (m .queued) (m .trace) (entered-self g m s c) n some-left) ∙ entries-same m (over base (set (m .control) 1 (traceCount m - 1)) (clearBit (m .queued) (bitOf g m at)) (m .trace)) n (λ i h. refl);
     }
 
-    pointer-live : (i x : ℕ) → i < pointers m at → record? (pointer m at i) ≡ some x → machine.Live (view m) x
+    pointer-live : (i x : ℕ) → i < pointers m at → record? (pointer m at i) ≡ some x → machine.Live (view g m) x
     pointer-live i x l e = next at-live (i, l, e)
 
-    pointers-in : Pushed g base (traced m at) (pushes (view base .marked) (tab (pointers m at) (λ i. record? (pointer m at i))) (stackOf m n))
+    pointers-in : Pushed g base (traced g m at) (pushes (view g base .marked) (tab (pointers m at) (λ i. record? (pointer m at i))) (stackOf m n))
     unfolding setControl setMarked clearQueued
-    pointers-in = pointers-pushed g base (segments-marked g m s (c .segments) at at-record) (popped m at) (stackOf m n) popped-pushed at (pointers m at) (λ i x l e. record-marked g m s (c .segments) at at-record x (to-record g m s c x (pointer-live i x l e)))
+    pointers-in = pointers-pushed g base (segments-marked g m s (c .segments) at at-record) (popped g m at) (stackOf m n) popped-pushed at (pointers m at) (λ i x l e. record-marked g m s (c .segments) at at-record x (to-record g m s c x (pointer-live i x l e)))
 
-    same-marks : (x : ℕ) → machine.Live (view m) x → view base .marked x ≡ upd (view m .marked) at true x
+    same-marks : (x : ℕ) → machine.Live (view g m) x → view g base .marked x ≡ upd (view g m .marked) at true x
     same-marks x p = marked-view g m s (c .segments) at at-record x (class-of g m (c .segments) x (to-record g m s c x p))
 
-    all-pushed : Pushed g base (traced m at) (next-state .stack)
-    all-pushed = subst (Pushed g base (traced m at)) (pushes-alike (view base .marked) (upd (view m .marked) at true) (tab (pointers m at) (λ i. record? (pointer m at i))) (stackOf m n) (λ x h. let z = tab-inv (pointers m at) (λ i. record? (pointer m at i)) h in same-marks x (pointer-live (z .0) x (z .1) (z .2)))) pointers-in
+    all-pushed : Pushed g base (traced g m at) (next-state .stack)
+    all-pushed = subst (Pushed g base (traced g m at)) (pushes-alike (view g base .marked) (upd (view g m .marked) at true) (tab (pointers m at) (λ i. record? (pointer m at i))) (stackOf m n) (λ x h. let z = tab-inv (pointers m at) (λ i. record? (pointer m at i)) h in same-marks x (pointer-live (z .0) x (z .1) (z .2)))) pointers-in
 
-    condemned-class : (x : ℕ) → eqb (tag m (segmentOf x)) 4 ≡ true → IsClass (class m (segmentOf x))
-    condemned-class x e = let u : tag m (segmentOf x) ≡ 4 = eqb-true _ _ e in c .segments (segmentOf x) (in-range g m s (segmentOf x) (λ z. omega arith)) .classes (λ z. omega arith)
+    condemned-class : (x : ℕ) → eqb (tag m (segmentOf g x)) Tag.condemned ≡ true → IsClass (class m (segmentOf g x))
+    condemned-class x e = let u : tag m (segmentOf g x) ≡ Tag.condemned = eqb-true _ _ e in c .segments (segmentOf g x) (in-range g m s (segmentOf g x) (λ z. omega arith)) .classes (λ z. omega arith)
 
     module _ (control q t : List ℕ) (e : Entered g base control q t) (is : stackOf (over base control q t) (getD control 1 0) ≡ next-state .stack) where
       abbrev next-memory : Mem
       next-memory = over base control q t
 
-      trace-agree : Agree segmentOf next-state (view next-memory)
+      trace-agree : Agree (segmentOf g) next-state (view g next-memory)
       unfolding setMarked
       trace-agree = record {
         phase = ap phaseOf (e .phase);
@@ -141,7 +143,7 @@ module _ (g : Geometry) (m : Mem) (s : Sizes g m) (c : Consistent g m) (marking 
       next-structure = structure-beside g m control (m .mutators) (base .marks) q t (m .heap) (structure-of g m c) phase-small
           (held-self g m control (base .marks) q t (m .heap))
           (λ j l. mutator-beside g m control (base .marks) q t (m .heap) j (c .mutators j l))
-          (λ x p. (to-record g m s c x (was-live (agreeing.live-back segmentOf next-state (view next-memory) trace-agree (live-on next-memory p))), refl))
+          (λ x p. (to-record g m s c x (was-live (agreeing.live-back (segmentOf g) next-state (view g next-memory) trace-agree (live-on g next-memory p))), refl))
           (queued-over g base control q t e (m .mutators) (base .marks) (m .heap))
           (subst (λ p. MarksIn p g next-memory) (sym phase-is) (λ x b l u k z. let y = marks-marked g m s (c .segments) at at-record marks-now x b l u k z in record { used = y .used; within = y .within; block = y .block }))
 
@@ -149,9 +151,9 @@ module _ (g : Geometry) (m : Mem) (s : Sizes g m) (c : Consistent g m) (marking 
       unfolding setMarked
       trace-over = record { structure = next-structure; agree = trace-agree; steady = λ x h z. (z, refl) }
 
-    one-traced : Moves g m (traces (suc n) m .1) (traceStep (stackOf m (suc n)) (view m) .1)
+    one-traced : Moves g m (traces g (suc n) m .1) (traceStep (stackOf m (suc n)) (view g m) .1)
     one-traced = let p = all-pushed in subst (λ z. Moves g m z next-state) (sym (p .is)) (trace-over (p .control) (p .queued) (p .trace) (p .entered) (p .stack))
 
-  pub trace-by : (n : ℕ) → traceCount m ≡ n → Moves g m (traces n m .1) (traceStep (stackOf m n) (view m) .1)
+  pub trace-by : (n : ℕ) → traceCount m ≡ n → Moves g m (traces g n m .1) (traceStep (stackOf m n) (view g m) .1)
   trace-by zero e = none-left
   trace-by (suc n) e = one-traced n e

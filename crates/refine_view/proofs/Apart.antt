@@ -7,52 +7,55 @@ use Rattle.classes.specs.Class.{firstClass, classCount, classOf, recordBytes}
 use Rattle.classes.specs.declared.SizeClass.the-variants.{Class}
 use Rattle.classes.proofs.Smallest.{is-smallest}
 use Rattle.layout.specs.declared.Geometry.{Geometry}
-use Rattle.layout.specs.Geometry.{segmentWords}
+use Rattle.layout.specs.Geometry.{segmentWords, segmentOf}
 use Rattle.layout.specs.Mem.{Mem}
 use Rattle.model.specs.Fields.{class}
-use Rattle.model.specs.Records.{pointers, values, segmentOf, blockWords, blockOf}
+use Rattle.model.specs.Records.{pointers, values, blockWords, blockOf}
 use Rattle.model.specs.Consistent.{IsClass, SegmentOk, RecordOk}
-use Rattle.refine_view.proofs.Words.{one-way}
-use Rattle.refine_view.proofs.Blocks.{of-block, block-within}
+use Rattle.layout.proofs.Sizes.{one-way, within, segment-below}
+use Rattle.model.proofs.Blocks.{of-block, block-within}
 
 -- a record's words are as many as its block's at most
 pub fits : (n c : ℕ) → classOf n ≡ Class c → n < blockWords c
 fits n c e = let h : recordBytes n ≤ 2 ^ c = is-smallest classCount firstClass (recordBytes n) c e .1 .holds in omega arith
 
-module _ (m : Mem) where
+module _ (g : Geometry) (m : Mem) where
   -- the words of a block are words of its segment
-  pub head-within : (at : ℕ) → IsClass (class m (segmentOf at)) → at % segmentWords % blockWords (class m (segmentOf at)) ≡ 0 → (i : ℕ) → i < blockWords (class m (segmentOf at)) → at % segmentWords + i < segmentWords
+  pub head-within : (at : ℕ) → IsClass (class m (segmentOf g at)) → at % segmentWords g % blockWords (class m (segmentOf g at)) ≡ 0 → (i : ℕ) → i < blockWords (class m (segmentOf g at)) → at % segmentWords g + i < segmentWords g
   head-within at k a i l =
-      let e = div-add-mod' (at % segmentWords) (blockWords (class m (segmentOf at))) in
-      let b = block-within (class m (segmentOf at)) k (blockOf m at) (of-block m at k) in
+      let e = div-add-mod' (at % segmentWords g) (blockWords (class m (segmentOf g at))) in
+      let b = block-within g (class m (segmentOf g at)) k (blockOf g m at) (of-block g m at k) in
       omega arith
 
-  pub heads-apart : (x y : ℕ) → IsClass (class m (segmentOf x)) → IsClass (class m (segmentOf y)) → x % segmentWords % blockWords (class m (segmentOf x)) ≡ 0 → y % segmentWords % blockWords (class m (segmentOf y)) ≡ 0
-      → (i j : ℕ) → i < blockWords (class m (segmentOf x)) → j < blockWords (class m (segmentOf y)) → x + i ≡ y + j → x ≡ y
+  pub heads-apart : (x y : ℕ) → IsClass (class m (segmentOf g x)) → IsClass (class m (segmentOf g y)) → x % segmentWords g % blockWords (class m (segmentOf g x)) ≡ 0 → y % segmentWords g % blockWords (class m (segmentOf g y)) ≡ 0
+      → (i j : ℕ) → i < blockWords (class m (segmentOf g x)) → j < blockWords (class m (segmentOf g y)) → x + i ≡ y + j → x ≡ y
   heads-apart x y k n r q i j l h e =
       let a = head-within x k r i l in
       let b = head-within y n q j h in
-      let s : segmentOf x ≡ segmentOf y = omega arith in
-      let w : x % segmentWords + i ≡ y % segmentWords + j = omega arith in
-      let u = div-add-mod' (x % segmentWords) (blockWords (class m (segmentOf x))) in
-      let v = div-add-mod' (y % segmentWords) (blockWords (class m (segmentOf y))) in
-      let c : class m (segmentOf y) ≡ class m (segmentOf x) = ap (class m) (sym s) in
-      let h′ : j < blockWords (class m (segmentOf x)) = subst (λ z. j < blockWords z) c h in
-      let v′ : blockOf m y * blockWords (class m (segmentOf x)) ≡ y % segmentWords = subst (λ z. blockOf m y * blockWords z ≡ y % segmentWords) c (omega arith) in
-      let o = one-way (blockWords (class m (segmentOf x))) (blockOf m x) i (blockOf m y) j l h′ (omega arith) in
+      let dx = div-add-mod' x (segmentWords g) in
+      let dy = div-add-mod' y (segmentWords g) in
+      let p = one-way (segmentWords g) (segmentOf g x) (x % segmentWords g + i) (segmentOf g y) (y % segmentWords g + j) a b (omega arith) in
+      let s : segmentOf g x ≡ segmentOf g y = p .0 in
+      let w : x % segmentWords g + i ≡ y % segmentWords g + j = p .1 in
+      let u = div-add-mod' (x % segmentWords g) (blockWords (class m (segmentOf g x))) in
+      let v = div-add-mod' (y % segmentWords g) (blockWords (class m (segmentOf g y))) in
+      let c : class m (segmentOf g y) ≡ class m (segmentOf g x) = ap (class m) (sym s) in
+      let h′ : j < blockWords (class m (segmentOf g x)) = subst (λ z. j < blockWords z) c h in
+      let v′ : blockOf g m y * blockWords (class m (segmentOf g x)) ≡ y % segmentWords g = subst (λ z. blockOf g m y * blockWords z ≡ y % segmentWords g) c (omega arith) in
+      let o = one-way (blockWords (class m (segmentOf g x))) (blockOf g m x) i (blockOf g m y) j l h′ (omega arith) in
       let t : i ≡ j = o .1 in
       omega arith
 
-module _ (g : Geometry) (m : Mem) (ok : (s : ℕ) → s < g .segments → SegmentOk m s) where
-  pub class-of : (at : ℕ) → RecordOk g m at → IsClass (class m (segmentOf at))
-  class-of at r = let i = r .inside in ok (segmentOf at) (omega arith) .classes (r .used)
+module _ (g : Geometry) (m : Mem) (ok : (s : ℕ) → s < g .segments → SegmentOk g m s) where
+  pub class-of : (at : ℕ) → RecordOk g m at → IsClass (class m (segmentOf g at))
+  class-of at r = ok (segmentOf g at) (segment-below g at (r .inside)) .classes (r .used)
 
   -- header and fields of a record are words of its block
-  field-in : (at : ℕ) → RecordOk g m at → (i : ℕ) → i ≤ pointers m at + values m at → i < blockWords (class m (segmentOf at))
-  field-in at r i l = let z = fits (pointers m at + values m at) (class m (segmentOf at)) (r .sized) in omega arith
+  field-in : (at : ℕ) → RecordOk g m at → (i : ℕ) → i ≤ pointers m at + values m at → i < blockWords (class m (segmentOf g at))
+  field-in at r i l = let z = fits (pointers m at + values m at) (class m (segmentOf g at)) (r .sized) in omega arith
 
   pub fields-apart : (x y : ℕ) → RecordOk g m x → RecordOk g m y → (i j : ℕ) → i ≤ pointers m x + values m x → j ≤ pointers m y + values m y → x + i ≡ y + j → x ≡ y
-  fields-apart x y r q i j l h e = heads-apart m x y (class-of x r) (class-of y q) (r .aligned) (q .aligned) i j (field-in x r i l) (field-in y q j h) e
+  fields-apart x y r q i j l h e = heads-apart g m x y (class-of x r) (class-of y q) (r .aligned) (q .aligned) i j (field-in x r i l) (field-in y q j h) e
 
-  pub field-inside : (at : ℕ) → RecordOk g m at → (i : ℕ) → i ≤ pointers m at + values m at → at + i < g .segments * segmentWords
-  field-inside at r i l = let a = head-within m at (class-of at r) (r .aligned) i (field-in at r i l) in let b = r .inside in omega arith
+  pub field-inside : (at : ℕ) → RecordOk g m at → (i : ℕ) → i ≤ pointers m at + values m at → at + i < g .segments * segmentWords g
+  field-inside at r i l = let a = head-within g m at (class-of at r) (r .aligned) i (field-in at r i l) in let d = div-add-mod' at (segmentWords g) in let w = within (segmentWords g) (segmentOf g at) (g .segments) (at % segmentWords g + i) (segment-below g at (r .inside)) a in omega arith

@@ -9,35 +9,24 @@ use lib.Seq.{sets}
 use Rattle.rules.proofs.Order.{same-or-not, le-or-lt}
 use Rattle.classes.specs.Class.{firstClass}
 use Rattle.layout.specs.declared.Geometry.{Geometry}
-use Rattle.layout.specs.Geometry.{mutatorCount, mutatorWords, rootCount}
+use Rattle.layout.specs.Geometry.{mutatorCount, mutatorWords, entryWords, rootCount}
 use Rattle.layout.specs.Mem.{Mem, mutatorWord, setMutator}
-use Rattle.model.specs.Fields.{absent, rootsFrom, heldFrom, state, acks, root, holding, setHolding, tag, class, place, owner}
+use Rattle.model.specs.Fields.{absent, stateAt, acksAt, heldFrom, state, acks, root, holding, setHolding, tag, class, place, owner}
 use Rattle.model.specs.Consistent.{IsClass, MutatorOk}
 use Rattle.refine_view.specs.Kept.{Sizes}
 use Rattle.refine_view.proofs.Words.{Recorded, mutator-there, mutator-other}
 use Rattle.refine_view.proofs.Windows.{sets-in, sets-out}
+use Rattle.model.specs.Tag as Tag
 
 -- ---- each word of an entry by its offset
 
-pub state-word : (m : Mem) (k : ℕ) → state m k ≡ mutatorWord m (k * mutatorWords + 0)
-state-word m k = ap (mutatorWord m) (let e : k * 28 ≡ k * 28 + 0 = omega arith in e)
-
-pub root-word : (m : Mem) (k i : ℕ) → root m k i ≡ mutatorWord m (k * mutatorWords + (rootsFrom + i))
-root-word m k i = ap (mutatorWord m) (let e : k * 28 + 2 + i ≡ k * 28 + (2 + i) = omega arith in e)
-
 pub holding-word : (m : Mem) (k c : ℕ) → holding m k c ≡ mutatorWord m (k * mutatorWords + (heldFrom + (c - firstClass)))
-holding-word m k c = ap (mutatorWord m) (let e : k * 28 + 18 + (c - 3) ≡ k * 28 + (18 + (c - 3)) = omega arith in e)
+holding-word m k c = ap (mutatorWord m) (let e : k * mutatorWords + heldFrom + (c - firstClass) ≡ k * mutatorWords + (heldFrom + (c - firstClass)) = omega arith in e)
 
 -- and where that word stays
 module _ (m m′ : Mem) (k : ℕ) where
   abbrev Stays : ℕ → Type 0
   Stays o = mutatorWord m′ (k * mutatorWords + o) ≡ mutatorWord m (k * mutatorWords + o)
-
-  pub state-by : Stays 0 → state m′ k ≡ state m k
-  state-by e = state-word m′ k ∙ e ∙ sym (state-word m k)
-
-  pub root-by : (i : ℕ) → Stays (rootsFrom + i) → root m′ k i ≡ root m k i
-  root-by i e = root-word m′ k i ∙ e ∙ sym (root-word m k i)
 
   pub holding-by : (c : ℕ) → Stays (heldFrom + (c - firstClass)) → holding m′ k c ≡ holding m k c
   holding-by c e = holding-word m′ k c ∙ e ∙ sym (holding-word m k c)
@@ -54,7 +43,7 @@ module _ (g : Geometry) (m : Mem) (s : Sizes g m) (k : ℕ) (l : k < mutatorCoun
   pub entry-out : (j o : ℕ) → o < mutatorWords → (j ≡ k → ⊥) → getD (sets (m .mutators) (k * mutatorWords) vs) (j * mutatorWords + o) 0 ≡ mutatorWord m (j * mutatorWords + o)
   entry-out j o h f = sets-out vs (m .mutators) (k * mutatorWords) (j * mutatorWords + o) (side (le-or-lt j k))
     where
-      side : (j ≤ k) ⊎ (k < j) → (j * 28 + o < k * 28) ⊎ (k * 28 + length vs ≤ j * 28 + o)
+      side : (j ≤ k) ⊎ (k < j) → (j * mutatorWords + o < k * mutatorWords) ⊎ (k * mutatorWords + length vs ≤ j * mutatorWords + o)
       side (inl q) = inl (⊎-elim (λ x. absurd (f (omega arith))) (λ x. omega arith) (le-or-lt k j))
       side (inr q) = inr (omega arith)
 
@@ -64,14 +53,14 @@ module _ (g : Geometry) (m : Mem) (s : Sizes g m) (k o v : ℕ) (l : k < mutator
   abbrev now : Mem
   now = setMutator m (k * mutatorWords + o) v
 
-  pub state-set : (j : ℕ) → (j ≡ k → 0 ≡ o → ⊥) → state now j ≡ state m j
-  state-set j f = state-by m now j (mutator-other g m s k o v l h j 0 (omega arith) f)
+  pub state-set : (j : ℕ) → (j ≡ k → stateAt ≡ o → ⊥) → state now j ≡ state m j
+  state-set j f = mutator-other g m s k o v l h j stateAt (omega arith) f
 
-  pub acks-set : (j : ℕ) → (j ≡ k → 1 ≡ o → ⊥) → acks now j ≡ acks m j
-  acks-set j f = mutator-other g m s k o v l h j 1 (omega arith) f
+  pub acks-set : (j : ℕ) → (j ≡ k → acksAt ≡ o → ⊥) → acks now j ≡ acks m j
+  acks-set j f = mutator-other g m s k o v l h j acksAt (omega arith) f
 
-  pub root-set : (j i : ℕ) → i < rootCount → (j ≡ k → rootsFrom + i ≡ o → ⊥) → root now j i ≡ root m j i
-  root-set j i q f = root-by m now j i (mutator-other g m s k o v l h j (rootsFrom + i) (omega arith) f)
+  pub root-set : (j i : ℕ) → i < rootCount → (j ≡ k → i ≡ o → ⊥) → root now j i ≡ root m j i
+  root-set j i q f = mutator-other g m s k o v l h j i (omega arith) f
 
   pub holding-set : (j c : ℕ) → IsClass c → (j ≡ k → heldFrom + (c - firstClass) ≡ o → ⊥) → holding now j c ≡ holding m j c
   holding-set j c q f = holding-by m now j c (mutator-other g m s k o v l h j (heldFrom + (c - firstClass)) (table-below c q) f)
@@ -90,7 +79,7 @@ module _ (g : Geometry) (m : Mem) (s : Sizes g m) (k c v : ℕ) (l : k < mutator
 -- ---- the state, the acknowledgements or a root of an attached mutator set: the mutators stay in order, and hold what they held
 
 module _ (g : Geometry) (m : Mem) (s : Sizes g m) (ok : (j : ℕ) → j < mutatorCount → MutatorOk g m j) (k o v : ℕ) (l : k < mutatorCount) (h : o < heldFrom) (there : state m k ≡ absent → ⊥)
-    (side : o ≡ 0 → (1 ≤ v) × (v ≤ 2)) (answers : o ≡ 1 → v ≤ 2) where
+    (side : o ≡ stateAt → (1 ≤ v) × (v ≤ 2)) (answers : o ≡ acksAt → v ≤ 2) where
   abbrev after : Mem
   after = setMutator m (k * mutatorWords + o) v
 
@@ -107,18 +96,18 @@ module _ (g : Geometry) (m : Mem) (s : Sizes g m) (ok : (j : ℕ) → j < mutato
       go (inr e) f = inr (mutator-other g m s k o v l low j i q (λ x y. e x))
 
   absent-before : (j : ℕ) → state after j ≡ absent → (state m j ≡ absent) × (j ≡ k → ⊥)
-  absent-before j e = go (word j 0 (omega arith))
+  absent-before j e = go (word j stateAt (omega arith))
     where
-      go : ((0 ≡ o) × (mutatorWord after (j * mutatorWords + 0) ≡ v)) ⊎ (mutatorWord after (j * mutatorWords + 0) ≡ mutatorWord m (j * mutatorWords + 0)) → (state m j ≡ absent) × (j ≡ k → ⊥)
-      go (inl z) = absurd (let y = side (sym (z .0)) .0 in let w : v ≡ 0 = sym (z .1) ∙ sym (state-word after j) ∙ e in omega arith)
-      go (inr z) = let q = sym (state-by m after j z) ∙ e in (q, λ x. there (ap (state m) (sym x) ∙ q))
+      go : ((stateAt ≡ o) × (state after j ≡ v)) ⊎ (state after j ≡ state m j) → (state m j ≡ absent) × (j ≡ k → ⊥)
+      go (inl z) = absurd (let y = side (sym (z .0)) .0 in let w : v ≡ 0 = sym (z .1) ∙ e in omega arith)
+      go (inr z) = let q = sym z ∙ e in (q, λ x. there (ap (state m) (sym x) ∙ q))
 
   pub mutators-set : (j : ℕ) → j < mutatorCount → MutatorOk g after j
   unfolding setMutator
   mutators-set j q = record {
-    states = ⊎-elim (λ z. subst (λ y. y ≤ 2) (sym (state-word after j ∙ z .1)) (side (sym (z .0)) .1)) (λ z. subst (λ y. y ≤ 2) (sym (state-by m after j z)) (ok j q .states)) (word j 0 (omega arith));
-    acknowledged = ⊎-elim (λ z. subst (λ y. y ≤ 2) (sym (z .1)) (answers (sym (z .0)))) (λ z. subst (λ y. y ≤ 2) (sym z) (ok j q .acknowledged)) (word j 1 (omega arith));
-    gone = λ e i w. let z = absent-before j e in mutator-other g m s k o v l low j i w (λ x y. z .1 x) ∙ ok j q .gone (z .0) i w;
+    states = ⊎-elim (λ z. subst (λ y. y ≤ 2) (sym (z .1)) (side (sym (z .0)) .1)) (λ z. subst (λ y. y ≤ 2) (sym z) (ok j q .states)) (word j stateAt (omega arith));
+    acknowledged = ⊎-elim (λ z. subst (λ y. y ≤ 2) (sym (z .1)) (answers (sym (z .0)))) (λ z. subst (λ y. y ≤ 2) (sym z) (ok j q .acknowledged)) (word j acksAt (omega arith));
+    gone = λ e i w. let z = absent-before j e in mutator-other g m s k o v l low j i (omega arith) (λ x y. z .1 x) ∙ ok j q .gone (z .0) i w;
     holds = λ c r i e. ok j q .holds c r i (sym (holding-set g m s k o v l low j c i (λ x y. omega arith)) ∙ e);
   }
 
@@ -128,10 +117,10 @@ module _ (g : Geometry) (m : Mem) (s : Sizes g m) (ok : (j : ℕ) → j < mutato
 -- ---- the table's word of class cl of mutator k changes, and perhaps the segment that it names: the mutators stay in order
 
 module _ (g : Geometry) (m m₁ : Mem) (ok : (j : ℕ) → j < mutatorCount → MutatorOk g m j) (k cl : ℕ) (states : (j : ℕ) → state m₁ j ≡ state m j) (answers : (j : ℕ) → acks m₁ j ≡ acks m j)
-    (absents : (j : ℕ) → state m j ≡ absent → (i : ℕ) → i < mutatorWords → mutatorWord m₁ (j * mutatorWords + i) ≡ mutatorWord m (j * mutatorWords + i))
+    (absents : (j : ℕ) → state m j ≡ absent → (i : ℕ) → i < entryWords → mutatorWord m₁ (j * mutatorWords + i) ≡ mutatorWord m (j * mutatorWords + i))
     (tables : (j c : ℕ) → IsClass c → (j ≡ k → c ≡ cl → ⊥) → holding m₁ j c ≡ holding m j c)
-    (kept : (j c q : ℕ) → (j ≡ k → c ≡ cl → ⊥) → tag m q ≡ 2 → class m q ≡ c → owner m q ≡ j → Recorded m₁ q (tag m q) (class m q) (place m q) (owner m q))
-    (new : (q : ℕ) → holding m₁ k cl ≡ suc q → (q < g .segments) × (tag m₁ q ≡ 2) × (class m₁ q ≡ cl) × (owner m₁ q ≡ k)) where
+    (kept : (j c q : ℕ) → (j ≡ k → c ≡ cl → ⊥) → tag m q ≡ Tag.held → class m q ≡ c → owner m q ≡ j → Recorded m₁ q (tag m q) (class m q) (place m q) (owner m q))
+    (new : (q : ℕ) → holding m₁ k cl ≡ suc q → (q < g .segments) × (tag m₁ q ≡ Tag.held) × (class m₁ q ≡ cl) × (owner m₁ q ≡ k)) where
   pub mutators-table : (j : ℕ) → j < mutatorCount → MutatorOk g m₁ j
   mutators-table j l = record {
     states = subst (λ z. z ≤ 2) (sym (states j)) (ok j l .states);
@@ -140,13 +129,13 @@ module _ (g : Geometry) (m m₁ : Mem) (ok : (j : ℕ) → j < mutatorCount → 
     holds = λ c q i e. holder c q i e (same-or-not j k) (same-or-not c cl);
   }
     where
-      old : (c q : ℕ) → IsClass c → holding m₁ j c ≡ suc q → (j ≡ k → c ≡ cl → ⊥) → (q < g .segments) × (tag m₁ q ≡ 2) × (class m₁ q ≡ c) × (owner m₁ q ≡ j)
+      old : (c q : ℕ) → IsClass c → holding m₁ j c ≡ suc q → (j ≡ k → c ≡ cl → ⊥) → (q < g .segments) × (tag m₁ q ≡ Tag.held) × (class m₁ q ≡ c) × (owner m₁ q ≡ j)
       old c q i e f =
           let y = ok j l .holds c q i (sym (tables j c i f) ∙ e) in
           let x = kept j c q f (y .1) (y .2) (y .3) in
           (y .0, x .tag ∙ y .1, x .class ∙ y .2, x .owner ∙ y .3)
 
-      holder : (c q : ℕ) → IsClass c → holding m₁ j c ≡ suc q → (j ≡ k) ⊎ (j ≡ k → ⊥) → (c ≡ cl) ⊎ (c ≡ cl → ⊥) → (q < g .segments) × (tag m₁ q ≡ 2) × (class m₁ q ≡ c) × (owner m₁ q ≡ j)
+      holder : (c q : ℕ) → IsClass c → holding m₁ j c ≡ suc q → (j ≡ k) ⊎ (j ≡ k → ⊥) → (c ≡ cl) ⊎ (c ≡ cl → ⊥) → (q < g .segments) × (tag m₁ q ≡ Tag.held) × (class m₁ q ≡ c) × (owner m₁ q ≡ j)
       holder c q i e (inl a) (inl b) = let y = new q (ap (λ z. holding m₁ z cl) (sym a) ∙ ap (holding m₁ j) (sym b) ∙ e) in (y .0, y .1, y .2 ∙ sym b, y .3 ∙ sym a)
       holder c q i e (inl a) (inr b) = old c q i e (λ x y. b y)
       holder c q i e (inr a) y = old c q i e (λ x w. a x)

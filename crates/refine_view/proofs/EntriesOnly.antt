@@ -5,11 +5,11 @@ use mathlib.Core.Option.{Option}
 use mathlib.Core.List.{List}
 use Prim.Native.Nat.{ℕ, _<_}
 use Rattle.layout.specs.declared.Geometry.{Geometry}
-use Rattle.layout.specs.Geometry.{mutatorCount, rootCount}
+use Rattle.layout.specs.Geometry.{mutatorCount, rootCount, segmentOf}
 use Rattle.layout.specs.Mem.{Mem}
 use Rattle.theory.proofs.Agree.{Agree}
 use Rattle.model.specs.Fields.{phase, traceCount, acks, root}
-use Rattle.model.specs.Records.{record?, segmentOf}
+use Rattle.model.specs.Records.{record?}
 use Rattle.model.specs.Calls.{isAttached, isInside}
 use Rattle.model.specs.Reaching.{Live}
 use Rattle.model.specs.Consistent.{MutatorOk}
@@ -27,7 +27,7 @@ module _ (g : Geometry) (m : Mem) (l : List ℕ) (A I : ℕ → Bool) (K : ℕ �
   now = beside m (m .control) l (m .marks) (m .queued) (m .trace) (m .heap)
 
   abbrev after : machine.State
-  after = record { pointers = view m .pointers; values = view m .values; pointer = view m .pointer; used = view m .used; collect = view m .collect; marked = view m .marked; stack = view m .stack; attached = A; inside = I; acks = K; root = R; phase = view m .phase }
+  after = record { pointers = view g m .pointers; values = view g m .values; pointer = view g m .pointer; used = view g m .used; collect = view g m .collect; marked = view g m .marked; stack = view g m .stack; attached = A; inside = I; acks = K; root = R; phase = view g m .phase }
 
   pub record Shows : Type 0 where
     pub mutators : (k : ℕ) → k < mutatorCount → MutatorOk g now k
@@ -36,10 +36,10 @@ module _ (g : Geometry) (m : Mem) (l : List ℕ) (A I : ℕ → Bool) (K : ℕ �
     pub inside : (j : ℕ) → isInside now j ≡ I j
     pub acks : (j : ℕ) → acks now j ≡ K j
     pub root : (j i : ℕ) → A j ≡ true → i < rootCount → record? (root now j i) ≡ R j i
-    pub live : (x : ℕ) → machine.Live after x → machine.Live (view m) x
+    pub live : (x : ℕ) → machine.Live after x → machine.Live (view g m) x
 
   module _ (s : Sizes g m) (o : Structure g m) (e : Shows) where
-    agree : Agree segmentOf after (view now)
+    agree : Agree (segmentOf g) after (view g now)
     agree = record {
       phase = refl;
       stack = entries-same m now (traceCount m) (λ i q. refl);
@@ -57,7 +57,7 @@ module _ (g : Geometry) (m : Mem) (l : List ℕ) (A I : ℕ → Bool) (K : ℕ �
     }
 
     was-live : (x : ℕ) → Live now x → Live m x
-    was-live x p = live-back m g s (o .trace .named) (e .live x (agreeing.live-back segmentOf after (view now) agree (live-on now p)))
+    was-live x p = live-back g m s (o .trace .named) (e .live x (agreeing.live-back (segmentOf g) after (view g now) agree (live-on g now p)))
 
     pub entries-moves : Moves g m now after
     entries-moves = record {

@@ -38,7 +38,7 @@ module _ (g : Geometry) (m : Mem) (co mu ma qu tr he : List ℕ) where
   abbrev pub Held : Type 0
   Held = (k c : ℕ) → k < mutatorCount → IsClass c → (state m k ≡ absent → ⊥) → (state now k ≡ absent → ⊥) × (holding now k c ≡ holding m k c)
 
-  pub segment-beside : Held → (s : ℕ) → SegmentOk m s → SegmentOk now s
+  pub segment-beside : Held → (s : ℕ) → SegmentOk g m s → SegmentOk g now s
   segment-beside h s o = record {
     tags = o .tags;
     free = o .free;
@@ -56,7 +56,7 @@ module _ (g : Geometry) (m : Mem) (co mu ma qu tr he : List ℕ) where
   pub record-beside : (at : ℕ) → heapWord now at ≡ heapWord m at → RecordOk g m at → RecordOk g now at
   record-beside at e r = record { inside = r .inside; used = r .used; aligned = r .aligned; block = r .block; sized = ap (λ (w : ℕ). classOf (w / 65536 + w % 65536)) e ∙ r .sized }
 
-  pub use-beside : (s b : ℕ) → BlockInUse m s b → BlockInUse now s b
+  pub use-beside : (s b : ℕ) → BlockInUse g m s b → BlockInUse g now s b
   use-beside s b u = record { used = u .used; within = u .within; block = u .block }
 
   pub structure-beside : Structure g m → getD co 0 0 ≤ 4 → Held → ((k : ℕ) → k < mutatorCount → MutatorOk g now k) → ((at : ℕ) → Live now at → RecordOk g m at × (heapWord now at ≡ heapWord m at)) → QueuedOk g now → MarksIn (phaseOf (getD co 0 0)) g now → Structure g now

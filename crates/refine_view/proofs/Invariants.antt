@@ -10,6 +10,7 @@ use borrow.Author.Tests.{eq-eqb, ne-eqb, eqb-true, eqb-false}
 use Rattle.rules.proofs.Order.{le-or-lt, same-or-not}
 use Rattle.words.proofs.Word.{one-of-not-zero}
 use Rattle.words.proofs.Lists.{at-lt}
+use Rattle.layout.specs.Geometry.{segmentOf}
 use Rattle.layout.specs.declared.Geometry.{Geometry}
 use Rattle.layout.specs.Mem.{Mem, traceWord}
 use Rattle.theory.specs.Phases.{Phase, idle, sync1, sync2, mark, sweep}
@@ -17,8 +18,8 @@ use Rattle.theory.specs.Reach.{root, next}
 use Rattle.theory.proofs.Invariant.{Inv, Core, Tracing, Quiet}
 use Rattle.theory.proofs.Updates.{Nodup}
 use Rattle.theory.proofs.Graph.{reach-map}
-use Rattle.model.specs.Fields.{phase, traceCount, absent, state, acks}
-use Rattle.model.specs.Records.{segmentOf, bitOf, marked}
+use Rattle.model.specs.Fields.{phase, traceCount, absent, acksAt, state, acks}
+use Rattle.model.specs.Records.{bitOf, marked}
 use Rattle.model.specs.Calls.{isAttached}
 use Rattle.model.specs.Reaching.{IsRoot, IsEntry, Live, Reached, Covered, isMarked}
 use Rattle.model.specs.Consistent.{Consistent, InPhase, AcksIn, Tricolour, RecordOk}
@@ -26,7 +27,8 @@ use Rattle.refine_view.specs.View.{view, stackOf, isHead, isUsed}
 use Rattle.refine_view.specs.Kept.{Sizes, Structure, MarksIn}
 use Rattle.words.proofs.Counts.{lt-of}
 use Rattle.refine_view.proofs.Bools.{not-eq, ne-not, and-both, and-right, and-not, and-false}
-use Rattle.refine_view.proofs.Blocks.{bit-below}
+use Rattle.layout.proofs.Sizes.{segment-below}
+use Rattle.model.proofs.Blocks.{bit-below}
 use Rattle.refine_view.proofs.Seeing.{entry-of, entry-in, live-on, live-back, reached-on, reached-back, entry-on, entry-back, edge-on, edge-back, named, naming, covered-on, covered-back, head-of, few-mutators}
 use Rattle.theory.specs.Machine as machine
 
@@ -73,66 +75,66 @@ once-of m (suc n) h d i j l k e = go (same-or-not j n) (λ q. once-of m n (λ i 
 
 -- ---- from consistency to the machine's invariant
 
-marked-1 : (m : Mem) (at : ℕ) → isMarked m at ≡ true → marked m at ≡ 1
-marked-1 m at e = eqb-true _ _ e
+marked-1 : (g : Geometry) (m : Mem) (at : ℕ) → isMarked g m at ≡ true → marked g m at ≡ 1
+marked-1 g m at e = eqb-true _ _ e
 
-unmarked : (m : Mem) (at : ℕ) → isMarked m at ≡ false → marked m at ≡ 0
-unmarked m at e = go (same-or-not (marked m at) 0)
+unmarked : (g : Geometry) (m : Mem) (at : ℕ) → isMarked g m at ≡ false → marked g m at ≡ 0
+unmarked g m at e = go (same-or-not (marked g m at) 0)
   where
-    go : (marked m at ≡ 0) ⊎ (marked m at ≡ 0 → ⊥) → marked m at ≡ 0
+    go : (marked g m at ≡ 0) ⊎ (marked g m at ≡ 0 → ⊥) → marked g m at ≡ 0
     go (inl q) = q
-    go (inr f) = absurd (eqb-false _ _ e (one-of-not-zero (marked m at) (at-lt (m .marks) (bitOf m at)) f))
+    go (inr f) = absurd (eqb-false _ _ e (one-of-not-zero (marked g m at) (at-lt (m .marks) (bitOf g m at)) f))
 
-not-marked : (m : Mem) (at : ℕ) → marked m at ≡ 0 → isMarked m at ≡ false
-not-marked m at e = ne-eqb (marked m at) 1 (λ q. omega arith)
+not-marked : (g : Geometry) (m : Mem) (at : ℕ) → marked g m at ≡ 0 → isMarked g m at ≡ false
+not-marked g m at e = ne-eqb (marked g m at) 1 (λ q. omega arith)
 
-pub used-record : (g : Geometry) (m : Mem) (at : ℕ) → RecordOk g m at → isUsed m at ≡ true
+pub used-record : (g : Geometry) (m : Mem) (at : ℕ) → RecordOk g m at → isUsed g m at ≡ true
 used-record g m at r = and-both _ _ (ne-not _ _ (r .used)) (eq-eqb _ _ (r .block))
 
 module _ (g : Geometry) (m : Mem) (s : Sizes g m) (c : Consistent g m) where
-  pub to-live : {at : ℕ} → machine.Live (view m) at → Live m at
-  to-live p = live-back m g s (c .trace .named) p
+  pub to-live : {at : ℕ} → machine.Live (view g m) at → Live m at
+  to-live p = live-back g m s (c .trace .named) p
 
   -- what is live for the machine is a record in order
-  pub to-record : (at : ℕ) → machine.Live (view m) at → RecordOk g m at
+  pub to-record : (at : ℕ) → machine.Live (view g m) at → RecordOk g m at
   to-record at p = c .records at (to-live p)
 
-  to-reached : {at : ℕ} → machine.Reached (view m) at → Reached m at
-  to-reached p = reached-back m g s p
+  to-reached : {at : ℕ} → machine.Reached (view g m) at → Reached m at
+  to-reached p = reached-back g m s p
 
-  pub used-of : (at : ℕ) → Live m at → isUsed m at ≡ true
+  pub used-of : (at : ℕ) → Live m at → isUsed g m at ≡ true
   used-of at l = used-record g m at (c .records at l)
 
   acks-in : (k : ℕ) → isAttached m k ≡ true → AcksIn (phase m) (acks m k)
-  acks-in k a = c .acknowledgements k (few-mutators m g s k a) (not-eq _ _ a)
+  acks-in k a = c .acknowledgements k (few-mutators g m s k a) (not-eq _ _ a)
 
   acks-gone : (k : ℕ) → (isAttached m k ≡ true → ⊥) → acks m k ≡ 0
   acks-gone k f = go (le-or-lt 32 k)
     where
       inside? : (state m k ≡ 0) ⊎ (state m k ≡ 0 → ⊥) → k < 32 → acks m k ≡ 0
-      inside? (inl e) l = c .mutators k l .gone e 1 (omega arith)
+      inside? (inl e) l = c .mutators k l .gone e acksAt (omega arith)
       inside? (inr n) l = absurd (f (ne-not _ _ n))
 
       go : (32 ≤ k) ⊎ (k < 32) → acks m k ≡ 0
       go (inl l) = let z = s .mutators in List·getD-eq-default (m .mutators) 0 (omega arith)
       go (inr l) = inside? (same-or-not (state m k) 0) l
 
-  to-covered : Tricolour m → (t : Unit {0}) → Core (view m)
+  to-covered : Tricolour g m → (t : Unit {0}) → Core (view g m)
   to-covered t u = record {
-    m1 = λ k b a h. let r : IsRoot m b = record { mutator = k; index = h .0; few = few-mutators m g s k (h .1); within = h .2; attached = not-eq _ _ (h .1); names = named _ _ (h .3) } in covered-on m g s (c .trace .named) (c .records) b (root (inl r)) (t .roots b r a);
-    m2 = λ x y p e q. covered-on m g s (c .trace .named) (c .records) y (next (to-live p) (edge-back m x y q)) (t .edges x y (to-live p) (marked-1 m x (and-right (isHead m x) _ e)) (edge-back m x y q));
+    m1 = λ k b a h. let r : IsRoot m b = record { mutator = k; index = h .0; few = few-mutators g m s k (h .1); within = h .2; attached = not-eq _ _ (h .1); names = named _ _ (h .3) } in covered-on g m s (c .trace .named) (c .records) b (root (inl r)) (t .roots b r a);
+    m2 = λ x y p e q. covered-on g m s (c .trace .named) (c .records) y (next (to-live p) (edge-back g m x y q)) (t .edges x y (to-live p) (marked-1 g m x (and-right (isHead g m x) _ e)) (edge-back g m x y q));
   }
 
   -- before anything is marked, nothing can hide
-  to-core : (p : Phase) → phase m ≡ p → InPhase p g m → Tracing p → Core (view m)
+  to-core : (p : Phase) → phase m ≡ p → InPhase p g m → Tracing p → Core (view g m)
   to-core idle e h t = absurd t
   to-core sync1 e h t = record {
     m1 = λ k b a q. absurd (let z = subst (λ p. AcksIn p (acks m k)) e (acks-in k (q .1)) in omega arith);
-    m2 = λ x y p k q. absurd (let z : marked m x ≡ 0 = blank-bit x (to-live p) in let u : marked m x ≡ 1 = marked-1 m x (and-right (isHead m x) (isMarked m x) k) in omega arith);
+    m2 = λ x y p k q. absurd (let z : marked g m x ≡ 0 = blank-bit x (to-live p) in let u : marked g m x ≡ 1 = marked-1 g m x (and-right (isHead g m x) (isMarked g m x) k) in omega arith);
   }
     where
-      blank-bit : (x : ℕ) → Live m x → marked m x ≡ 0
-      blank-bit x l = let r = c .records x l in let i = r .inside in h (bitOf m x) (bit-below m x (c .segments (segmentOf x) (omega arith) .classes (r .used)) g i)
+      blank-bit : (x : ℕ) → Live m x → marked g m x ≡ 0
+      blank-bit x l = let r = c .records x l in let i = r .inside in h (bitOf g m x) (bit-below g m x (c .segments (segmentOf g x) (segment-below g x i) .classes (r .used)) i)
   to-core sync2 e h t = to-covered (h .1) tt
   to-core mark e h t = to-covered (h .1) tt
   to-core sweep e h t = absurd t
@@ -154,11 +156,11 @@ module _ (g : Geometry) (m : Mem) (s : Sizes g m) (c : Consistent g m) where
       go true e = inl e
       go false e = inr (λ q. true≢false (sym q ∙ e))
 
-  pub to-inv : Inv segmentOf (view m)
+  pub to-inv : Inv (segmentOf g) (view g m)
   to-inv = record {
     valid = λ b p. used-of b (to-live p);
     stack = record {
-      white = λ x h. ap (λ b. isHead m x && b) (not-marked m x (c .trace .unmarked x (entry-back m g s (c .trace .named) x h))) ∙ and-false (isHead m x);
+      white = λ x h. ap (λ b. isHead g m x && b) (not-marked g m x (c .trace .unmarked x (entry-back g m s (c .trace .named) x h))) ∙ and-false (isHead g m x);
       nodup = nodup-of m (traceCount m) (c .trace .named) (c .trace .once);
     };
     quiet = λ q. ap (stackOf m) (to-quiet (phase m) (c .cycle) q);
@@ -167,32 +169,32 @@ module _ (g : Geometry) (m : Mem) (s : Sizes g m) (c : Consistent g m) where
     second = λ e k a. subst (λ p. AcksIn p (acks m k)) e (acks-in k a);
     all = λ e k a. subst (λ p. AcksIn p (acks m k)) e (acks-in k a);
     core = λ t. to-core (phase m) refl (c .cycle) t;
-    kept = λ e b p d. let r = to-reached p in let l = live-of r in and-both _ _ (head-of m g s (c .trace .named) (c .records) b l) (eq-eqb _ _ (in-phase sweep e .2 b r (eqb-true _ _ d)));
+    kept = λ e b p d. let r = to-reached p in let l = live-of r in and-both _ _ (head-of g m s (c .trace .named) (c .records) b l) (eq-eqb _ _ (in-phase sweep e .2 b r (eqb-true _ _ d)));
   }
     where
       live-of : {x : ℕ} → Reached m x → Live m x
       live-of p = reach-map {R = IsRoot m} {R′ = λ at. IsRoot m at ⊎ IsEntry m at} (λ x r. root (inl r)) (λ x y q e. inl e) p
 
-      white-bit : phase m ≡ sync1 → (x : ℕ) → Live m x → (isHead m x && isMarked m x) ≡ false
+      white-bit : phase m ≡ sync1 → (x : ℕ) → Live m x → (isHead g m x && isMarked g m x) ≡ false
       white-bit e x l =
           let r = c .records x l in
           let i = r .inside in
-          let z = in-phase sync1 e (bitOf m x) (bit-below m x (c .segments (segmentOf x) (omega arith) .classes (r .used)) g i) in
-          ap (λ b. isHead m x && b) (not-marked m x z) ∙ and-false (isHead m x)
+          let z = in-phase sync1 e (bitOf g m x) (bit-below g m x (c .segments (segmentOf g x) (segment-below g x i) .classes (r .used)) i) in
+          ap (λ b. isHead g m x && b) (not-marked g m x z) ∙ and-false (isHead g m x)
 
 -- ---- and back: the words in order and the machine's invariant are consistency
 
-module _ (g : Geometry) (m : Mem) (s : Sizes g m) (o : Structure g m) (inv : Inv segmentOf (view m)) where
-  from-live : {at : ℕ} → Live m at → machine.Live (view m) at
-  from-live p = live-on m p
+module _ (g : Geometry) (m : Mem) (s : Sizes g m) (o : Structure g m) (inv : Inv (segmentOf g) (view g m)) where
+  from-live : {at : ℕ} → Live m at → machine.Live (view g m) at
+  from-live p = live-on g m p
 
-  from-covered : {b : ℕ} → Live m b → machine.Covered (view m) b → Covered m b
-  from-covered l h = covered-back m g s (o .trace .named) (o .records) _ l h
+  from-covered : {b : ℕ} → Live m b → machine.Covered (view g m) b → Covered g m b
+  from-covered l h = covered-back g m s (o .trace .named) (o .records) _ l h
 
-  from-core : Core (view m) → Tricolour m
+  from-core : Core (view g m) → Tricolour g m
   from-core t = record {
     roots = λ at r a. from-covered (root (inl r)) (t .m1 (r .mutator) at a (r .index, ne-not _ _ (r .attached), r .within, naming _ _ (r .names)));
-    edges = λ x y l e p. from-covered (next l p) (t .m2 x y (from-live l) (and-both _ _ (head-of m g s (o .trace .named) (o .records) x l) (eq-eqb _ _ e)) (edge-on m x y p));
+    edges = λ x y l e p. from-covered (next l p) (t .m2 x y (from-live l) (and-both _ _ (head-of g m s (o .trace .named) (o .records) x l) (eq-eqb _ _ e)) (edge-on g m x y p));
   }
 
   no-entries : stackOf m (traceCount m) ≡ [] → traceCount m ≡ 0
@@ -208,7 +210,7 @@ module _ (g : Geometry) (m : Mem) (s : Sizes g m) (o : Structure g m) (inv : Inv
   from-phase sync2 e h = (h, from-core (inv .core (subst Tracing (sym e) tt)))
   from-phase mark e h = (h, from-core (inv .core (subst Tracing (sym e) tt)))
   from-phase sweep e h =
-      (no-entries (inv .quiet (subst Quiet (sym e) tt)), h, λ at r d. eqb-true _ _ (and-right (isHead m at) (isMarked m at) (inv .kept e at (reached-on m r) (eq-eqb _ _ d))))
+      (no-entries (inv .quiet (subst Quiet (sym e) tt)), h, λ at r d. eqb-true _ _ (and-right (isHead g m at) (isMarked g m at) (inv .kept e at (reached-on g m r) (eq-eqb _ _ d))))
 
   from-acks : (p : Phase) → phase m ≡ p → (k : ℕ) → (state m k ≡ absent → ⊥) → AcksIn p (acks m k)
   from-acks idle e k a = tt
@@ -229,7 +231,7 @@ module _ (g : Geometry) (m : Mem) (s : Sizes g m) (o : Structure g m) (inv : Inv
     trace = record {
       named = o .trace .named;
       once = once-of m (traceCount m) (o .trace .named) (inv .stack .nodup);
-      unmarked = λ at e. unmarked m at (and-not _ _ (head-of m g s (o .trace .named) (o .records) at (root (inr e))) (inv .stack .white at (entry-on m at e)));
+      unmarked = λ at e. unmarked g m at (and-not _ _ (head-of g m s (o .trace .named) (o .records) at (root (inr e))) (inv .stack .white at (entry-on g m at e)));
       bits = o .trace .bits;
       number = o .trace .number;
     };

@@ -9,7 +9,7 @@ use lib.Dec.{ltb}
 use borrow.Author.Tests.{lt-ltb, ltb-true}
 use Rattle.rules.specs.Pick.{pick}
 use Rattle.layout.specs.declared.Geometry.{Geometry}
-use Rattle.layout.specs.Geometry.{rootCount, segmentWords, mutatorCount}
+use Rattle.layout.specs.Geometry.{rootCount, segmentWords, mutatorCount, segmentOf}
 use Rattle.layout.specs.Mem.{Mem}
 use Rattle.theory.specs.Reach.{root, next}
 use Rattle.theory.specs.Calls.{Call, Answer, a-no, shapeIf, refusal, refuse, ifRecord, onRecord}
@@ -19,7 +19,7 @@ use Rattle.theory.proofs.CallKeeps.{Good, Alloc}
 use Rattle.theory.proofs.Agree.{Agree}
 use Rattle.theory.proofs.Invariant.{none-some}
 use Rattle.model.specs.Fields.{phase, acks}
-use Rattle.model.specs.Records.{record?, pointers, values, pointer, segmentOf}
+use Rattle.model.specs.Records.{record?, pointers, values, pointer}
 use Rattle.model.specs.Calls.{isAttached, isInside, face, act, exec}
 use Rattle.model.specs.Reaching.{Live, IsRoot}
 use Rattle.model.specs.Consistent.{Consistent}
@@ -35,20 +35,20 @@ use Rattle.model.specs.Fields as fields
 
 -- ---- what both show of themselves
 
-pub face-same : (m : Mem) → calls.face (view m) ≡ face m
-face-same m = λ i. record { attached = isAttached m; inside = isInside m; shape = fun-ext (λ k. fun-ext (λ j. shape k j)) i }
+pub face-same : (g : Geometry) (m : Mem) → calls.face (view g m) ≡ face m
+face-same g m = λ i. record { attached = isAttached m; inside = isInside m; shape = fun-ext (λ k. fun-ext (λ j. shape k j)) i }
   where
-    of : (o : Option ℕ) → Option·map (calls.shapeAt (view m)) o ≡ Option·map (λ at. (pointers m at, values m at)) o
+    of : (o : Option ℕ) → Option·map (calls.shapeAt (view g m)) o ≡ Option·map (λ at. (pointers m at, values m at)) o
     of none = refl
     of (some at) = ap (λ n. some (pointers m at, n)) (length-tab (values m at) _)
 
-    shape : (k j : ℕ) → calls.face (view m) .shape k j ≡ face m .shape k j
+    shape : (k j : ℕ) → calls.face (view g m) .shape k j ≡ face m .shape k j
     shape k j = ap (shapeIf (isAttached m k) (ltb j rootCount)) (of (record? (fields.root m k j)))
 
 -- ---- the memory agrees with itself
 
-pub agree-self : (m : Mem) → Agree segmentOf (view m) (view m)
-agree-self m = record {
+pub agree-self : (g : Geometry) (m : Mem) → Agree (segmentOf g) (view g m) (view g m)
+agree-self g m = record {
   phase = refl;
   stack = refl;
   attached = λ i. refl;
@@ -64,21 +64,21 @@ agree-self m = record {
   used = λ b l. refl;
 }
 
-pub moves-self : (g : Geometry) (m : Mem) → Consistent g m → Moves g m m (view m)
-moves-self g m c = record { structure = structure-of g m c; agree = agree-self m; steady = λ s l e. (e, refl) }
+pub moves-self : (g : Geometry) (m : Mem) → Consistent g m → Moves g m m (view g m)
+moves-self g m c = record { structure = structure-of g m c; agree = agree-self g m; steady = λ s l e. (e, refl) }
 
-no-block : (m : Mem) → Alloc segmentOf (λ _ _ _ _. none) (view m)
-no-block m = record { free = λ i p n b e. cc; sound = λ i p n b e. cc }
+no-block : (g : Geometry) (m : Mem) → Alloc (segmentOf g) (λ _ _ _ _. none) (view g m)
+no-block g m = record { free = λ i p n b e. cc; sound = λ i p n b e. cc }
 
 -- a call that begins on the memory as it is, and is handed no block
 pub matches-by : (g : Geometry) (m : Mem) (r : Answer × Mem) (by : (machine.State → ℕ → ℕ → ℕ → Option ℕ) → machine.State → Answer × machine.State)
-    → r .0 ≡ by (λ _ _ _ _. none) (view m) .0 → Moves g m (r .1) (by (λ _ _ _ _. none) (view m) .1) → Matches g m r by
-matches-by g m r by e v = record { ready = m; prepared = agree-self m; shows = refl; block = none; alloc = no-block m; answer = e; moves = v }
+    → r .0 ≡ by (λ _ _ _ _. none) (view g m) .0 → Moves g m (r .1) (by (λ _ _ _ _. none) (view g m) .1) → Matches g m r by
+matches-by g m r by e v = record { ready = m; prepared = agree-self g m; shows = refl; block = none; alloc = no-block g m; answer = e; moves = v }
 
 -- nothing changes
 pub matches-self : (g : Geometry) (m : Mem) → Consistent g m → (r : Answer × Mem) (by : (machine.State → ℕ → ℕ → ℕ → Option ℕ) → machine.State → Answer × machine.State)
-    → r .0 ≡ by (λ _ _ _ _. none) (view m) .0 → r .1 ≡ m → by (λ _ _ _ _. none) (view m) .1 ≡ view m → Matches g m r by
-matches-self g m c r by e h k = matches-by g m r by e (subst (λ z. Moves g m z (by (λ _ _ _ _. none) (view m) .1)) (sym h) (subst (λ z. Moves g m m z) (sym k) (moves-self g m c)))
+    → r .0 ≡ by (λ _ _ _ _. none) (view g m) .0 → r .1 ≡ m → by (λ _ _ _ _. none) (view g m) .1 ≡ view g m → Matches g m r by
+matches-self g m c r by e h k = matches-by g m r by e (subst (λ z. Moves g m z (by (λ _ _ _ _. none) (view g m) .1)) (sym h) (subst (λ z. Moves g m m z) (sym k) (moves-self g m c)))
 
 -- ---- a call on the record in a root
 
@@ -90,8 +90,8 @@ wanted (some at) f rest a b p q e = (at, refl, rw (p, q) at e)
 
 -- both sides go on with the same record
 pub on-record : (g : Geometry) (m : Mem) (o : Option ℕ) (at : ℕ) → o ≡ some at → (K : ℕ → Answer × Mem) (L : ℕ → Answer × machine.State) → K at .0 ≡ L at .0 → Moves g m (K at .1) (L at .1)
-    → (onRecord o m K .0 ≡ onRecord o (view m) L .0) × Moves g m (onRecord o m K .1) (onRecord o (view m) L .1)
-on-record g m o at e K L h v = subst (λ o. (onRecord o m K .0 ≡ onRecord o (view m) L .0) × Moves g m (onRecord o m K .1) (onRecord o (view m) L .1)) (sym e) (h, v)
+    → (onRecord o m K .0 ≡ onRecord o (view g m) L .0) × Moves g m (onRecord o m K .1) (onRecord o (view g m) L .1)
+on-record g m o at e K L h v = subst (λ o. (onRecord o m K .0 ≡ onRecord o (view g m) L .0) × Moves g m (onRecord o m K .1) (onRecord o (view g m) L .1)) (sym e) (h, v)
 
 module _ (g : Geometry) (m : Mem) where
   -- an inside mutator's root
@@ -113,26 +113,26 @@ pub call-kept : (g : Geometry) (m : Mem) (c : Call) → Consistent g m → (refu
 unfolding exec
 call-kept g m c ok k = go (refusal (face m) c) refl
   where
-    shown : (n : ℕ) → refusal (face m) c ≡ n → refusal (calls.face (view m)) c ≡ n
-    shown n e = ap (λ F. refusal F c) (face-same m) ∙ e
+    shown : (n : ℕ) → refusal (face m) c ≡ n → refusal (calls.face (view g m)) c ≡ n
+    shown n e = ap (λ F. refusal F c) (face-same g m) ∙ e
 
     acted : ActKept g m c → refusal (face m) c ≡ 0 → Matches g m (act g m c) (λ alloc st. calls.exec alloc st c)
     acted a e =
-        let z : refusal (calls.face (view (a .ready))) c ≡ 0 = ap (λ F. refusal F c) (a .shows) ∙ shown 0 e in
+        let z : refusal (calls.face (view g (a .ready))) c ≡ 0 = ap (λ F. refusal F c) (a .shows) ∙ shown 0 e in
         record {
           ready = a .ready;
           prepared = a .prepared;
           shows = a .shows;
           block = a .block;
           alloc = a .alloc;
-          answer = subst (λ n. act g m c .0 ≡ refuse n (view (a .ready)) (calls.act (λ _ _ _ _. a .block) (view (a .ready)) c) .0) (sym z) (a .answer);
-          moves = subst (λ n. Moves g m (act g m c .1) (refuse n (view (a .ready)) (calls.act (λ _ _ _ _. a .block) (view (a .ready)) c) .1)) (sym z) (a .moves);
+          answer = subst (λ n. act g m c .0 ≡ refuse n (view g (a .ready)) (calls.act (λ _ _ _ _. a .block) (view g (a .ready)) c) .0) (sym z) (a .answer);
+          moves = subst (λ n. Moves g m (act g m c .1) (refuse n (view g (a .ready)) (calls.act (λ _ _ _ _. a .block) (view g (a .ready)) c) .1)) (sym z) (a .moves);
         }
 
     refused : (n : ℕ) → refusal (face m) c ≡ suc n → Matches g m (a-no (suc n), m) (λ alloc st. calls.exec alloc st c)
     refused n e =
         let z = shown (suc n) e in
-        matches-self g m ok _ _ (subst (λ x. a-no (suc n) ≡ refuse x (view m) (calls.act (λ _ _ _ _. none) (view m) c) .0) (sym z) refl) refl (subst (λ x. refuse x (view m) (calls.act (λ _ _ _ _. none) (view m) c) .1 ≡ view m) (sym z) refl)
+        matches-self g m ok _ _ (subst (λ x. a-no (suc n) ≡ refuse x (view g m) (calls.act (λ _ _ _ _. none) (view g m) c) .0) (sym z) refl) refl (subst (λ x. refuse x (view g m) (calls.act (λ _ _ _ _. none) (view g m) c) .1 ≡ view g m) (sym z) refl)
 
     go : (n : ℕ) → refusal (face m) c ≡ n → Matches g m (refuse n m (act g m c)) (λ alloc st. calls.exec alloc st c)
     go zero e = acted (k e) e
@@ -143,7 +143,7 @@ call-kept g m c ok k = go (refusal (face m) c) refl
 module _ (g : Geometry) (m : Mem) where
   abbrev pub self : Unbounded
   self = record {
-    count = g .segments * segmentWords;
+    count = g .segments * segmentWords g;
     pointers = pointers m;
     values = valuesOf m;
     pointer = λ at f. record? (pointer m at f);
@@ -153,12 +153,12 @@ module _ (g : Geometry) (m : Mem) where
   }
 
   abbrev pub selfPut : ℕ → Option ℕ
-  selfPut at = pick (ltb at (g .segments * segmentWords)) (some at) none
+  selfPut at = pick (ltb at (g .segments * segmentWords g)) (some at) none
 
-  put-some : (b r : ℕ) → selfPut b ≡ some r → (b ≡ r) × (b < g .segments * segmentWords)
-  put-some b r e = go (ltb b (g .segments * segmentWords)) refl e
+  put-some : (b r : ℕ) → selfPut b ≡ some r → (b ≡ r) × (b < g .segments * segmentWords g)
+  put-some b r e = go (ltb b (g .segments * segmentWords g)) refl e
     where
-      go : (t : Bool) → ltb b (g .segments * segmentWords) ≡ t → pick t (some b) none ≡ some r → (b ≡ r) × (b < g .segments * segmentWords)
+      go : (t : Bool) → ltb b (g .segments * segmentWords g) ≡ t → pick t (some b) none ≡ some r → (b ≡ r) × (b < g .segments * segmentWords g)
       go true h q = (Option·some-injective b r q, ltb-true _ _ h)
       go false h q = none-some q
 
@@ -170,7 +170,7 @@ module _ (g : Geometry) (m : Mem) where
     same-self none h = refl
     same-self (some b) h = ap some (put-live b (h b refl))
 
-    pub self-good : Good segmentOf (λ _. Unit {0}) selfPut (view m) self
+    pub self-good : Good (segmentOf g) (λ _. Unit {0}) selfPut (view g m) self
     self-good = record {
       inv = to-inv g m s c;
       sim = record {
@@ -185,8 +185,8 @@ module _ (g : Geometry) (m : Mem) where
           pointer = λ f l. same-self (record? (pointer m b f)) (λ y e. to-live g m s c (next p (f, l, e)));
         };
         inj = λ b d r e h. put-some b r e .0 ∙ sym (put-some d r h .0);
-        old = λ b r e. subst (λ z. z < g .segments * segmentWords) (put-some b r e .0) (put-some b r e .1);
+        old = λ b r e. subst (λ z. z < g .segments * segmentWords g) (put-some b r e .0) (put-some b r e .1);
       };
-      few = λ i a. few-mutators m g s i a;
+      few = λ i a. few-mutators g m s i a;
       comp = record { live = λ b p k. tt; black = λ b p k. tt };
     }

@@ -15,19 +15,20 @@ use Rattle.model.specs.Segments.{setState}
 use Rattle.model.specs.Records.{setMarked, setQueued, clearQueued, bitOf}
 use Rattle.refine_view.specs.Kept.{Sizes}
 use Rattle.refine_view.proofs.Words.{state-is}
+use Rattle.layout.specs.Region as Region
 
 -- the memory of a slice of its length
 pub sizes-of : (g : Geometry) (l : List ℕ) → Sized g (length l) → Sizes g (memOf g l)
 sizes-of g l s = record {
-  control = length-region g l 0 (s .is) (omega arith);
-  mutators = length-region g l 1 (s .is) (omega arith);
-  segments = length-region g l 2 (s .is) (omega arith);
-  stacks = length-region g l 3 (s .is) (omega arith);
-  bitmaps = length-region g l 4 (s .is) (omega arith);
-  marks = length-region g l 5 (s .is) (omega arith);
-  queued = length-region g l 6 (s .is) (omega arith);
-  trace = length-region g l 7 (s .is) (omega arith);
-  heap = length-region g l 8 (s .is) (omega arith);
+  control = length-region g l Region.control (s .is) (omega arith);
+  mutators = length-region g l Region.mutators (s .is) (omega arith);
+  segments = length-region g l Region.segments (s .is) (omega arith);
+  stacks = length-region g l Region.stacks (s .is) (omega arith);
+  bitmaps = length-region g l Region.bitmaps (s .is) (omega arith);
+  marks = length-region g l Region.marks (s .is) (omega arith);
+  queued = length-region g l Region.queued (s .is) (omega arith);
+  trace = length-region g l Region.trace (s .is) (omega arith);
+  heap = length-region g l Region.heap (s .is) (omega arith);
 }
 
 module _ (g : Geometry) (m : Mem) (s : Sizes g m) where
@@ -39,7 +40,7 @@ module _ (g : Geometry) (m : Mem) (s : Sizes g m) where
   unfolding setMutator
   sizes-mutator i v = record { control = s .control; mutators = length-set (m .mutators) i v ∙ s .mutators; segments = s .segments; stacks = s .stacks; bitmaps = s .bitmaps; marks = s .marks; queued = s .queued; trace = s .trace; heap = s .heap }
 
-  pub sizes-entry : (i : ℕ) (vs : List ℕ) → Sizes g (setRun m 1 i vs)
+  pub sizes-entry : (i : ℕ) (vs : List ℕ) → Sizes g (setRun m Region.mutators i vs)
   unfolding setRun
   sizes-entry i vs = record { control = s .control; mutators = length-sets (m .mutators) i vs ∙ s .mutators; segments = s .segments; stacks = s .stacks; bitmaps = s .bitmaps; marks = s .marks; queued = s .queued; trace = s .trace; heap = s .heap }
 
@@ -51,21 +52,21 @@ module _ (g : Geometry) (m : Mem) (s : Sizes g m) where
   unfolding setStack
   sizes-stack i v = record { control = s .control; mutators = s .mutators; segments = s .segments; stacks = length-set (m .stacks) i v ∙ s .stacks; bitmaps = s .bitmaps; marks = s .marks; queued = s .queued; trace = s .trace; heap = s .heap }
 
-  pub sizes-bitmap : (i : ℕ) (vs : List ℕ) → Sizes g (setRun m 4 i vs)
+  pub sizes-bitmap : (i : ℕ) (vs : List ℕ) → Sizes g (setRun m Region.bitmaps i vs)
   unfolding setRun
   sizes-bitmap i vs = record { control = s .control; mutators = s .mutators; segments = s .segments; stacks = s .stacks; bitmaps = length-sets (m .bitmaps) i vs ∙ s .bitmaps; marks = s .marks; queued = s .queued; trace = s .trace; heap = s .heap }
 
-  pub sizes-marked : (at : ℕ) → Sizes g (setMarked m at)
+  pub sizes-marked : (at : ℕ) → Sizes g (setMarked g m at)
   unfolding setMarked
-  sizes-marked at = record { control = s .control; mutators = s .mutators; segments = s .segments; stacks = s .stacks; bitmaps = s .bitmaps; marks = length-setBit (m .marks) (bitOf m at) ∙ s .marks; queued = s .queued; trace = s .trace; heap = s .heap }
+  sizes-marked at = record { control = s .control; mutators = s .mutators; segments = s .segments; stacks = s .stacks; bitmaps = s .bitmaps; marks = length-setBit (m .marks) (bitOf g m at) ∙ s .marks; queued = s .queued; trace = s .trace; heap = s .heap }
 
-  pub sizes-queued : (at : ℕ) → Sizes g (setQueued m at)
+  pub sizes-queued : (at : ℕ) → Sizes g (setQueued g m at)
   unfolding setQueued
-  sizes-queued at = record { control = s .control; mutators = s .mutators; segments = s .segments; stacks = s .stacks; bitmaps = s .bitmaps; marks = s .marks; queued = length-setBit (m .queued) (bitOf m at) ∙ s .queued; trace = s .trace; heap = s .heap }
+  sizes-queued at = record { control = s .control; mutators = s .mutators; segments = s .segments; stacks = s .stacks; bitmaps = s .bitmaps; marks = s .marks; queued = length-setBit (m .queued) (bitOf g m at) ∙ s .queued; trace = s .trace; heap = s .heap }
 
-  pub sizes-unqueued : (at : ℕ) → Sizes g (clearQueued m at)
+  pub sizes-unqueued : (at : ℕ) → Sizes g (clearQueued g m at)
   unfolding clearQueued
-  sizes-unqueued at = record { control = s .control; mutators = s .mutators; segments = s .segments; stacks = s .stacks; bitmaps = s .bitmaps; marks = s .marks; queued = length-clearBit (m .queued) (bitOf m at) ∙ s .queued; trace = s .trace; heap = s .heap }
+  sizes-unqueued at = record { control = s .control; mutators = s .mutators; segments = s .segments; stacks = s .stacks; bitmaps = s .bitmaps; marks = s .marks; queued = length-clearBit (m .queued) (bitOf g m at) ∙ s .queued; trace = s .trace; heap = s .heap }
 
   pub sizes-trace : (i v : ℕ) → Sizes g (setTrace m i v)
   unfolding setTrace
@@ -75,9 +76,9 @@ module _ (g : Geometry) (m : Mem) (s : Sizes g m) where
   unfolding setHeap
   sizes-heap i v = record { control = s .control; mutators = s .mutators; segments = s .segments; stacks = s .stacks; bitmaps = s .bitmaps; marks = s .marks; queued = s .queued; trace = s .trace; heap = length-set (m .heap) i v ∙ s .heap }
 
-  pub sizes-heap-run : (i : ℕ) (vs : List ℕ) → Sizes g (setRun m 8 i vs)
+  pub sizes-heap-run : (i : ℕ) (vs : List ℕ) → Sizes g (setRun m Region.heap i vs)
   unfolding setRun
   sizes-heap-run i vs = record { control = s .control; mutators = s .mutators; segments = s .segments; stacks = s .stacks; bitmaps = s .bitmaps; marks = s .marks; queued = s .queued; trace = s .trace; heap = length-sets (m .heap) i vs ∙ s .heap }
 
-pub sizes-state : (g : Geometry) (m : Mem) → Sizes g m → (r : ℕ) (x : SegmentState) → Sizes g (setState m r x)
-sizes-state g m s r x = rw (state-is m r x) (sizes-segment g _ (sizes-segment g _ (sizes-segment g _ (sizes-segment g m s _ _) _ _) _ _) _ _)
+pub sizes-state : (g : Geometry) (m : Mem) → Sizes g m → (r : ℕ) (x : SegmentState) → Sizes g (setState g m r x)
+sizes-state g m s r x = rw (state-is g m r x) (sizes-segment g _ (sizes-segment g _ (sizes-segment g _ (sizes-segment g m s _ _) _ _) _ _) _ _)

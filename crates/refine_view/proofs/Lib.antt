@@ -10,7 +10,6 @@ pub mod Stacks
 pub mod OtherStacks
 pub mod Segments
 pub mod Parted
-pub mod Blocks
 pub mod Bitmaps
 pub mod Apart
 pub mod Contents

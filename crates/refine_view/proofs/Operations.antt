@@ -11,7 +11,7 @@ use Rattle.layout.specs.Geometry.{mutatorCount, mutatorWords, rootCount}
 use Rattle.layout.specs.Mem.{Mem, setTrace, setStack}
 use Rattle.theory.specs.Phases.{Phase, idle, sync1, sync2, mark, sweep, Duty, nothing, both, old, owes}
 use Rattle.model.specs.Rules.{phaseNumber}
-use Rattle.model.specs.Fields.{phase, traceCount, setTraceCount, acks, root, class}
+use Rattle.model.specs.Fields.{phase, traceCount, setTraceCount, acksAt, acks, root, class}
 use Rattle.model.specs.Segments.{setState, stacked, count}
 use Rattle.model.specs.Records.{record?, pointers, pointer, marked, queued, setQueued, clearQueued}
 use Rattle.model.specs.Tracing.{push, barrier, pushRoots, pushPointers, popped, traced, onTop}
@@ -27,55 +27,55 @@ module _ (g : Geometry) where
   sizes-pick true m m′ s s′ = s
   sizes-pick false m m′ s s′ = s′
 
-  sizes-onTop : (m : Mem) → Sizes g m → (at : ℕ) → Sizes g (onTop m at)
+  sizes-onTop : (m : Mem) → Sizes g m → (at : ℕ) → Sizes g (onTop g m at)
   sizes-onTop m s at =
       let a = sizes-queued g m s at in
-      let b = sizes-trace g (setQueued m at) a (traceCount m) (suc at) in
-      sizes-control g (setTrace (setQueued m at) (traceCount m) (suc at)) b 1 (traceCount m + 1)
+      let b = sizes-trace g (setQueued g m at) a (traceCount m) (suc at) in
+      sizes-control g (setTrace (setQueued g m at) (traceCount m) (suc at)) b 1 (traceCount m + 1)
 
-  pub sizes-push : (m : Mem) → Sizes g m → (o : Option ℕ) → Sizes g (push m o)
+  pub sizes-push : (m : Mem) → Sizes g m → (o : Option ℕ) → Sizes g (push g m o)
   unfolding push
   sizes-push m s none = s
   sizes-push m s (some at) =
-      sizes-pick (eqb (marked m at) 1) m (pick (eqb (queued m at) 1) m (onTop m at)) s
-      (sizes-pick (eqb (queued m at) 1) m (onTop m at) s (sizes-onTop m s at))
+      sizes-pick (eqb (marked g m at) 1) m (pick (eqb (queued g m at) 1) m (onTop g m at)) s
+      (sizes-pick (eqb (queued g m at) 1) m (onTop g m at) s (sizes-onTop m s at))
 
-  pub sizes-barrier : (d : Duty) (m : Mem) → Sizes g m → (new o : Option ℕ) → Sizes g (barrier d m new o)
+  pub sizes-barrier : (d : Duty) (m : Mem) → Sizes g m → (new o : Option ℕ) → Sizes g (barrier g d m new o)
   sizes-barrier nothing m s new o = s
-  sizes-barrier both m s new o = sizes-push (push m new) (sizes-push m s new) o
+  sizes-barrier both m s new o = sizes-push (push g m new) (sizes-push m s new) o
   sizes-barrier old m s new o = sizes-push m s o
 
-  pub sizes-roots : (m : Mem) → Sizes g m → (k n : ℕ) → Sizes g (pushRoots m k n)
+  pub sizes-roots : (m : Mem) → Sizes g m → (k n : ℕ) → Sizes g (pushRoots g m k n)
   unfolding pushRoots
   sizes-roots m s k zero = s
-  sizes-roots m s k (suc n) = sizes-push (pushRoots m k n) (sizes-roots m s k n) (record? (root m k n))
+  sizes-roots m s k (suc n) = sizes-push (pushRoots g m k n) (sizes-roots m s k n) (record? (root m k n))
 
-  pub sizes-pointers : (m : Mem) → Sizes g m → (at n : ℕ) → Sizes g (pushPointers m at n)
+  pub sizes-pointers : (m : Mem) → Sizes g m → (at n : ℕ) → Sizes g (pushPointers g m at n)
   unfolding pushPointers
   sizes-pointers m s at zero = s
-  sizes-pointers m s at (suc n) = sizes-push (pushPointers m at n) (sizes-pointers m s at n) (record? (pointer m at n))
+  sizes-pointers m s at (suc n) = sizes-push (pushPointers g m at n) (sizes-pointers m s at n) (record? (pointer m at n))
 
-  sizes-popped : (m : Mem) → Sizes g m → (at : ℕ) → Sizes g (popped m at)
+  sizes-popped : (m : Mem) → Sizes g m → (at : ℕ) → Sizes g (popped g m at)
   sizes-popped m s at =
       let a = sizes-control g m s 1 (traceCount m - 1) in
       let b = sizes-unqueued g (setTraceCount m (traceCount m - 1)) a at in
-      sizes-marked g (clearQueued (setTraceCount m (traceCount m - 1)) at) b at
+      sizes-marked g (clearQueued g (setTraceCount m (traceCount m - 1)) at) b at
 
-  pub sizes-traced : (m : Mem) → Sizes g m → (at : ℕ) → Sizes g (traced m at)
-  sizes-traced m s at = sizes-pointers (popped m at) (sizes-popped m s at) at (pointers m at)
+  pub sizes-traced : (m : Mem) → Sizes g m → (at : ℕ) → Sizes g (traced g m at)
+  sizes-traced m s at = sizes-pointers (popped g m at) (sizes-popped m s at) at (pointers m at)
 
   -- ---- acknowledgements, and stacks of segments
 
-  given-sizes : (p : Phase) (m : Mem) → Sizes g m → (k : ℕ) → Sizes g (given p m k)
+  given-sizes : (p : Phase) (m : Mem) → Sizes g m → (k : ℕ) → Sizes g (given g p m k)
   given-sizes idle m s k = s
-  given-sizes sync1 m s k = sizes-mutator g m s (k * mutatorWords + 1) 1
-  given-sizes sync2 m s k = sizes-mutator g (pushRoots m k rootCount) (sizes-roots m s k rootCount) (k * mutatorWords + 1) 2
+  given-sizes sync1 m s k = sizes-mutator g m s (k * mutatorWords + acksAt) 1
+  given-sizes sync2 m s k = sizes-mutator g (pushRoots g m k rootCount) (sizes-roots m s k rootCount) (k * mutatorWords + acksAt) 2
   given-sizes mark m s k = s
   given-sizes sweep m s k = s
 
-  pub sizes-acknowledged : (m : Mem) → Sizes g m → (k : ℕ) → Sizes g (acknowledged m k)
+  pub sizes-acknowledged : (m : Mem) → Sizes g m → (k : ℕ) → Sizes g (acknowledged g m k)
   unfolding acknowledged
-  sizes-acknowledged m s k = sizes-pick (owes (phase m) (acks m k)) (given (phase m) m k) m (given-sizes (phase m) m s k) s
+  sizes-acknowledged m s k = sizes-pick (owes (phase m) (acks m k)) (given g (phase m) m k) m (given-sizes (phase m) m s k) s
 
   pub sizes-stacked : (m : Mem) → Sizes g m → (t s : ℕ) → Sizes g (stacked g m t s)
   sizes-stacked m z t s =
@@ -83,17 +83,17 @@ module _ (g : Geometry) where
 
   -- ---- a start
 
-  pub sizes-condemned : (m : Mem) → Sizes g m → (n : ℕ) → Sizes g (condemned m n)
+  pub sizes-condemned : (m : Mem) → Sizes g m → (n : ℕ) → Sizes g (condemned g m n)
   unfolding condemned
   sizes-condemned m z zero = z
   sizes-condemned m z (suc s) =
-      let y : Sizes g (condemned m s) = sizes-condemned m z s in
-      sizes-pick (isFull m s) (setState (condemned m s) s (segment.Condemned (class m s))) (condemned m s) (sizes-state g (condemned m s) y s (segment.Condemned (class m s))) y
+      let y : Sizes g (condemned g m s) = sizes-condemned m z s in
+      sizes-pick (isFull m s) (setState g (condemned g m s) s (segment.Condemned (class m s))) (condemned g m s) (sizes-state g (condemned g m s) y s (segment.Condemned (class m s))) y
 
   pub sizes-reset : (m : Mem) → Sizes g m → (n : ℕ) → Sizes g (acksReset m n)
   unfolding acksReset
   sizes-reset m z zero = z
-  sizes-reset m z (suc k) = sizes-mutator g (acksReset m k) (sizes-reset m z k) (k * mutatorWords + 1) 0
+  sizes-reset m z (suc k) = sizes-mutator g (acksReset m k) (sizes-reset m z k) (k * mutatorWords + acksAt) 0
 
   sizes-cleared : (m : Mem) → Sizes g m → Sizes g (marksCleared m)
   sizes-cleared m z = record {
@@ -111,6 +111,6 @@ module _ (g : Geometry) where
   pub sizes-started : (m : Mem) → Sizes g m → Sizes g (started g m)
   unfolding started
   sizes-started m z =
-      let m₁ : Mem = condemned m (g .segments) in
+      let m₁ : Mem = condemned g m (g .segments) in
       let m₂ : Mem = acksReset m₁ mutatorCount in
       sizes-control g (marksCleared m₂) (sizes-cleared m₂ (sizes-reset m₁ (sizes-condemned m z (g .segments)) mutatorCount)) 0 (phaseNumber sync1)

@@ -15,14 +15,15 @@ use Rattle.refine_view.proofs.Words.{Recorded}
 use Rattle.refine_view.proofs.Stacks.{push-ok}
 use Rattle.refine_view.proofs.OtherStacks.{part-few, part-apart, stack-by, push-left}
 use Rattle.refine_view.proofs.Segments.{is-part, not-part, part-other, free-left, part-left}
+use Rattle.model.specs.Tag as Tag
 
 abbrev pub Stacks : Geometry → Mem → Type 0
 Stacks g m = StackOk g m freeStack (isFree m) × ((d : ℕ) → IsClass d → StackOk g m (partStack d) (isPart m d))
 
 -- m before, m₁ with the segment's state set, m₂ with the segment on its stack
-module _ (g : Geometry) (m m₁ : Mem) (s : Sizes g m₁) (same : m₁ .stacks ≡ m .stacks) (d r : ℕ) (k : IsClass d) (l : r < g .segments) (busy : 2 ≤ tag m r)
+module _ (g : Geometry) (m m₁ : Mem) (s : Sizes g m₁) (same : m₁ .stacks ≡ m .stacks) (d r : ℕ) (k : IsClass d) (l : r < g .segments) (busy : Tag.held ≤ tag m r)
     (other : (i : ℕ) → (i ≡ r → ⊥) → Recorded (stacked g m₁ (partStack d) r) i (tag m i) (class m i) (place m i) (owner m i))
-    (t : tag (stacked g m₁ (partStack d) r) r ≡ 1) (c : class (stacked g m₁ (partStack d) r) r ≡ d) (o : Stacks g m) where
+    (t : tag (stacked g m₁ (partStack d) r) r ≡ Tag.part) (c : class (stacked g m₁ (partStack d) r) r ≡ d) (o : Stacks g m) where
   abbrev m₂ : Mem
   m₂ = stacked g m₁ (partStack d) r
 

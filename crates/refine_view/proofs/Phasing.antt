@@ -5,6 +5,7 @@ use Prim.Native.Nat.{ℕ, _≤_}
 use native.Mathlib.Omega.{arith}
 use lib.ListN.{getD, set}
 use lib.Seq.{getD-set-same, getD-set-other}
+use Rattle.layout.specs.Geometry.{segmentOf}
 use Rattle.layout.specs.declared.Geometry.{Geometry}
 use Rattle.layout.specs.Mem.{Mem, setControl}
 use Rattle.theory.specs.Phases.{Phase, idle, sync1, sync2, mark, sweep}
@@ -13,7 +14,6 @@ use Rattle.theory.proofs.Agree.{Agree}
 use Rattle.theory.proofs.Invariant.{Tracing}
 use Rattle.model.specs.Rules.{phaseOf, phaseNumber}
 use Rattle.model.specs.Fields.{setPhase, traceCount}
-use Rattle.model.specs.Records.{segmentOf}
 use Rattle.model.specs.Reaching.{Live}
 use Rattle.refine_view.specs.View.{view, stackOf}
 use Rattle.refine_view.specs.Kept.{Sizes, Structure, Moves, MarksIn}
@@ -63,7 +63,7 @@ module _ (g : Geometry) (m m′ : Mem) (st : State) (v : Moves g m m′ st) (s :
       (queued-by g m′ now (o .trace) count-same (λ i. refl) refl (λ x e. refl))
       (subst (λ z. MarksIn z g now) (sym (ap phaseOf phase-word ∙ numbered p)) (marks-beside g m′ words (m′ .mutators) (m′ .queued) (m′ .trace) (m′ .heap) p marks))
 
-  next-agree : Agree segmentOf (machine.setPhase st p) (view now)
+  next-agree : Agree (segmentOf g) (machine.setPhase st p) (view g now)
   next-agree = let a = v .agree in record {
     phase = ap phaseOf phase-word ∙ numbered p;
     stack = ap (stackOf now) count-same ∙ entries-same m′ now (traceCount m′) (λ i h. refl) ∙ a .stack;

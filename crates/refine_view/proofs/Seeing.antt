@@ -63,81 +63,81 @@ entries-same m m′ (suc n) h = λ i. (h n (omega arith) i - 1) ∷ entries-same
 
 -- ---- from the memory to the machine
 
-module _ (m : Mem) where
-  pub root-on : (at : ℕ) → IsRoot m at → machine.Root (view m) at
+module _ (g : Geometry) (m : Mem) where
+  pub root-on : (at : ℕ) → IsRoot m at → machine.Root (view g m) at
   root-on at r = (r .mutator, (r .index, ne-not _ _ (r .attached), r .within, naming _ _ (r .names)))
 
-  pub entry-on : (at : ℕ) → IsEntry m at → Grey (view m) at
+  pub entry-on : (at : ℕ) → IsEntry m at → Grey (view g m) at
   entry-on at e = entry-in m (traceCount m) (e .index) at (e .within) (e .names)
 
-  pub edge-on : (x y : ℕ) → PointsTo m x y → Points (view m) x y
+  pub edge-on : (x y : ℕ) → PointsTo m x y → Points (view g m) x y
   edge-on x y p = (p .field, p .within, naming _ _ (p .names))
 
-  pub live-on : {at : ℕ} → Live m at → machine.Live (view m) at
-  live-on p = reach-map {R = λ at. IsRoot m at ⊎ IsEntry m at} {R′ = LiveRoot (view m)} base (λ x y q e. inl (edge-on x y e)) p
+  pub live-on : {at : ℕ} → Live m at → machine.Live (view g m) at
+  live-on p = reach-map {R = λ at. IsRoot m at ⊎ IsEntry m at} {R′ = LiveRoot (view g m)} base (λ x y q e. inl (edge-on x y e)) p
     where
-      base : (x : ℕ) → IsRoot m x ⊎ IsEntry m x → machine.Live (view m) x
+      base : (x : ℕ) → IsRoot m x ⊎ IsEntry m x → machine.Live (view g m) x
       base x (inl r) = root (inl (root-on x r))
       base x (inr e) = root (inr (entry-on x e))
 
-  pub reached-on : {at : ℕ} → Reached m at → machine.Reached (view m) at
-  reached-on p = reach-map {R = IsRoot m} {R′ = machine.Root (view m)} (λ x r. root (root-on x r)) (λ x y q e. inl (edge-on x y e)) p
+  pub reached-on : {at : ℕ} → Reached m at → machine.Reached (view g m) at
+  reached-on p = reach-map {R = IsRoot m} {R′ = machine.Root (view g m)} (λ x r. root (root-on x r)) (λ x y q e. inl (edge-on x y e)) p
 
   -- ---- and back, where the regions have their lengths and no entry is nil
 
-  pub few-mutators : (g : Geometry) → Sizes g m → (k : ℕ) → isAttached m k ≡ true → k < mutatorCount
-  few-mutators g s k a = go (le-or-lt 32 k)
+  pub few-mutators : Sizes g m → (k : ℕ) → isAttached m k ≡ true → k < mutatorCount
+  few-mutators s k a = go (le-or-lt 32 k)
     where
       go : (32 ≤ k) ⊎ (k < 32) → k < mutatorCount
       go (inr l) = l
       go (inl l) = let z = s .mutators in absurd (not-eq (state m k) absent a (List·getD-eq-default (m .mutators) 0 (omega arith)))
 
-  pub edge-back : (x y : ℕ) → Points (view m) x y → PointsTo m x y
+  pub edge-back : (x y : ℕ) → Points (view g m) x y → PointsTo m x y
   edge-back x y e = record { field = e .0; within = e .1; names = named _ _ (e .2) }
 
-  module _ (g : Geometry) (s : Sizes g m) where
-    pub root-back : (at : ℕ) → machine.Root (view m) at → IsRoot m at
+  module _ (s : Sizes g m) where
+    pub root-back : (at : ℕ) → machine.Root (view g m) at → IsRoot m at
     root-back at r = record {
       mutator = r .0;
       index = r .1 .0;
-      few = few-mutators g s (r .0) (r .1 .1);
+      few = few-mutators s (r .0) (r .1 .1);
       within = r .1 .2;
       attached = not-eq _ _ (r .1 .1);
       names = named _ _ (r .1 .3);
     }
 
-    pub reached-back : {at : ℕ} → machine.Reached (view m) at → Reached m at
-    reached-back p = reach-map {R = machine.Root (view m)} {R′ = IsRoot m} (λ x r. root (root-back x r)) (λ x y q e. inl (edge-back x y e)) p
+    pub reached-back : {at : ℕ} → machine.Reached (view g m) at → Reached m at
+    reached-back p = reach-map {R = machine.Root (view g m)} {R′ = IsRoot m} (λ x r. root (root-back x r)) (λ x y q e. inl (edge-back x y e)) p
 
     module _ (n : (i : ℕ) → i < traceCount m → 1 ≤ traceWord m i) where
-      pub entry-back : (at : ℕ) → Grey (view m) at → IsEntry m at
+      pub entry-back : (at : ℕ) → Grey (view g m) at → IsEntry m at
       entry-back at h = let q = entry-of m (traceCount m) at h in let z = n (q .0) (q .1) in let y = q .2 in record { index = q .0; within = q .1; names = omega arith }
 
-      pub live-back : {at : ℕ} → machine.Live (view m) at → Live m at
-      live-back p = reach-map {R = LiveRoot (view m)} {R′ = λ at. IsRoot m at ⊎ IsEntry m at} base (λ x y q e. inl (edge-back x y e)) p
+      pub live-back : {at : ℕ} → machine.Live (view g m) at → Live m at
+      live-back p = reach-map {R = LiveRoot (view g m)} {R′ = λ at. IsRoot m at ⊎ IsEntry m at} base (λ x y q e. inl (edge-back x y e)) p
         where
-          base : (x : ℕ) → LiveRoot (view m) x → Live m x
+          base : (x : ℕ) → LiveRoot (view g m) x → Live m x
           base x (inl r) = root (inl (root-back x r))
           base x (inr e) = root (inr (entry-back x e))
 
       -- ---- covered: a live record lies at the head of its block, so that both have its mark
       module _ (ok : (at : ℕ) → Live m at → RecordOk g m at) where
-        pub head-of : (at : ℕ) → Live m at → isHead m at ≡ true
+        pub head-of : (at : ℕ) → Live m at → isHead g m at ≡ true
         head-of at l = eq-eqb _ _ (ok at l .aligned)
 
-        pub mark-same : (at : ℕ) → Live m at → (isHead m at && isMarked m at) ≡ isMarked m at
+        pub mark-same : (at : ℕ) → Live m at → (isHead g m at && isMarked g m at) ≡ isMarked g m at
         mark-same at l = rw (head-of at l) refl
 
-        prot-on : {at : ℕ} → Protected (IsEntry m) (isMarked m) (PointsTo m) at → Live m at
+        prot-on : {at : ℕ} → Protected (IsEntry m) (isMarked g m) (PointsTo m) at → Live m at
         prot-on p = reach-map {R = IsEntry m} {R′ = λ at. IsRoot m at ⊎ IsEntry m at} (λ x e. root (inr e)) (λ x y q e. inl (e .1)) p
 
-        pub covered-on : (at : ℕ) → Live m at → Covered m at → machine.Covered (view m) at
+        pub covered-on : (at : ℕ) → Live m at → Covered g m at → machine.Covered (view g m) at
         covered-on at l (inl e) = inl (mark-same at l ∙ e)
         covered-on at l (inr p) = prot-map (λ x e. inr (root (entry-on x e))) (λ x y q w e. inl (mark-same x (prot-on q) ∙ w, edge-on x y e)) p
 
-        pub covered-back : (at : ℕ) → Live m at → machine.Covered (view m) at → Covered m at
+        pub covered-back : (at : ℕ) → Live m at → machine.Covered (view g m) at → Covered g m at
         covered-back at l (inl e) = inl (sym (mark-same at l) ∙ e)
-        covered-back at l (inr p) = prot-map (λ x e. inr (root (entry-back x e))) (λ x y q w e. inl (sym (mark-same x (live-back (prot-live (view m) q))) ∙ w, edge-back x y e)) p
+        covered-back at l (inr p) = prot-map (λ x e. inr (root (entry-back x e))) (λ x y q w e. inl (sym (mark-same x (live-back (prot-live (view g m) q))) ∙ w, edge-back x y e)) p
 
 -- ---- what is live after a change of words was live before
 

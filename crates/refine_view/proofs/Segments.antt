@@ -11,9 +11,8 @@ use Rattle.rules.specs.Pick.{pick}
 use Rattle.rules.proofs.Order.{same-or-not, le-or-lt}
 use Rattle.words.specs.Bits.{bitAt}
 use Rattle.words.specs.Tree.{Tree}
-use Rattle.classes.specs.Shape.{blocksIn}
 use Rattle.layout.specs.declared.Geometry.{Geometry}
-use Rattle.layout.specs.Geometry.{mutatorCount}
+use Rattle.layout.specs.Geometry.{mutatorCount, blocksIn}
 use Rattle.layout.specs.Mem.{Mem}
 use Rattle.model.specs.Fields.{absent, state, holding, tag, class, place, owner}
 use Rattle.model.specs.Segments.{above, bitmap, usedBit}
@@ -21,49 +20,50 @@ use Rattle.model.specs.Consistent.{IsClass, SegmentOk, isFree, isPart}
 use Rattle.refine_view.specs.Kept.{Sizes}
 use Rattle.refine_view.proofs.Bools.{and-both}
 use Rattle.refine_view.proofs.Words.{Recorded}
+use Rattle.model.specs.Tag as Tag
 
 -- only a segment of the memory has a tag that is not 0
-pub in-range : (g : Geometry) (m : Mem) → Sizes g m → (q : ℕ) → (tag m q ≡ 0 → ⊥) → q < g .segments
+pub in-range : (g : Geometry) (m : Mem) → Sizes g m → (q : ℕ) → (tag m q ≡ Tag.free → ⊥) → q < g .segments
 in-range g m s q f = ⊎-elim (λ l. let z = s .segments in absurd (f (List·getD-eq-default (m .segments) 0 (omega arith)))) (λ l. l) (le-or-lt (g .segments) q)
 
-pub used-same : (m m′ : Mem) (q b : ℕ) → place m′ q ≡ place m q → bitmap m′ q ≡ bitmap m q → usedBit m′ q b ≡ usedBit m q b
-used-same m m′ q b p e = ap (λ z. pick (ltb b z) 1 (bitAt (bitmap m′ q) b)) p ∙ ap (λ l. pick (ltb b (place m q)) 1 (bitAt l b)) e
+pub used-same : (g : Geometry) (m m′ : Mem) (q b : ℕ) → place m′ q ≡ place m q → bitmap g m′ q ≡ bitmap g m q → usedBit g m′ q b ≡ usedBit g m q b
+used-same g m m′ q b p e = ap (λ z. pick (ltb b z) 1 (bitAt (bitmap g m′ q) b)) p ∙ ap (λ l. pick (ltb b (place m q)) 1 (bitAt l b)) e
 
 -- a segment whose record and bitmap stay is in order as before, once its mutator still holds it
-pub segment-same : (m m₁ : Mem) (q : ℕ) → SegmentOk m q → Recorded m₁ q (tag m q) (class m q) (place m q) (owner m q) → bitmap m₁ q ≡ bitmap m q
-    → (tag m q ≡ 2 → (state m₁ (owner m q) ≡ absent → ⊥) × (holding m₁ (owner m q) (class m q) ≡ suc q)) → SegmentOk m₁ q
-segment-same m m₁ q o x e h = record {
+pub segment-same : (g : Geometry) (m m₁ : Mem) (q : ℕ) → SegmentOk g m q → Recorded m₁ q (tag m q) (class m q) (place m q) (owner m q) → bitmap g m₁ q ≡ bitmap g m q
+    → (tag m q ≡ Tag.held → (state m₁ (owner m q) ≡ absent → ⊥) × (holding m₁ (owner m q) (class m q) ≡ suc q)) → SegmentOk g m₁ q
+segment-same g m m₁ q o x e h = record {
   tags = let y = x .tag in let z = o .tags in omega arith;
   free = λ f. let y = o .free (sym (x .tag) ∙ f) in (x .class ∙ y .0, x .place ∙ y .1, x .owner ∙ y .2);
   unowned = λ f. x .owner ∙ o .unowned (λ y. f (x .tag ∙ y));
   classes = λ f. subst IsClass (sym (x .class)) (o .classes (λ y. f (x .tag ∙ y)));
-  tree = λ f. subst (λ z. Tree (above z) (blocksIn z) (bitmap m₁ q)) (sym (x .class)) (subst (Tree (above (class m q)) (blocksIn (class m q))) (sym e) (o .tree (λ y. f (x .tag ∙ y))));
+  tree = λ f. subst (λ z. Tree (above g z) (blocksIn g z) (bitmap g m₁ q)) (sym (x .class)) (subst (Tree (above g (class m q)) (blocksIn g (class m q))) (sym e) (o .tree (λ y. f (x .tag ∙ y))));
   remains = λ a b. let y = x .tag in remain (o .remains (omega arith) (omega arith));
-  whole = λ a. let y = x .tag in x .place ∙ o .whole (omega arith) ∙ ap blocksIn (sym (x .class));
-  held = λ f. let y : tag m q ≡ 2 = sym (x .tag) ∙ f in
+  whole = λ a. let y = x .tag in x .place ∙ o .whole (omega arith) ∙ ap (blocksIn g) (sym (x .class));
+  held = λ f. let y : tag m q ≡ Tag.held = sym (x .tag) ∙ f in
       (subst (λ z. z < mutatorCount) (sym (x .owner)) (o .held y .0), λ z. h y .0 (ap (state m₁) (sym (x .owner)) ∙ z), ap (λ z. holding m₁ z (class m₁ q)) (x .owner) ∙ ap (holding m₁ (owner m q)) (x .class) ∙ h y .1);
 }
   where
-    remain : (b : ℕ) × (place m q ≤ b) × (b < blocksIn (class m q)) × (bitAt (bitmap m q) b ≡ 0) → (b : ℕ) × (place m₁ q ≤ b) × (b < blocksIn (class m₁ q)) × (bitAt (bitmap m₁ q) b ≡ 0)
-    remain (b, l, k, z) = (b, subst (λ w. w ≤ b) (sym (x .place)) l, subst (λ w. b < blocksIn w) (sym (x .class)) k, ap (λ w. bitAt w b) e ∙ z)
+    remain : (b : ℕ) × (place m q ≤ b) × (b < blocksIn g (class m q)) × (bitAt (bitmap g m q) b ≡ 0) → (b : ℕ) × (place m₁ q ≤ b) × (b < blocksIn g (class m₁ q)) × (bitAt (bitmap g m₁ q) b ≡ 0)
+    remain (b, l, k, z) = (b, subst (λ w. w ≤ b) (sym (x .place)) l, subst (λ w. b < blocksIn g w) (sym (x .class)) k, ap (λ w. bitAt w b) e ∙ z)
 
 -- ---- free and part
 
-pub is-part : (m : Mem) (d r : ℕ) → tag m r ≡ 1 → class m r ≡ d → isPart m d r ≡ true
+pub is-part : (m : Mem) (d r : ℕ) → tag m r ≡ Tag.part → class m r ≡ d → isPart m d r ≡ true
 is-part m d r t c = and-both _ _ (eq-eqb _ _ t) (eq-eqb _ _ c)
 
-pub not-free : (m : Mem) (r : ℕ) → (tag m r ≡ 0 → ⊥) → isFree m r ≡ false
+pub not-free : (m : Mem) (r : ℕ) → (tag m r ≡ Tag.free → ⊥) → isFree m r ≡ false
 not-free m r f = ne-eqb _ _ f
 
-pub not-part : (m : Mem) (d r : ℕ) → (tag m r ≡ 1 → class m r ≡ d → ⊥) → isPart m d r ≡ false
+pub not-part : (m : Mem) (d r : ℕ) → (tag m r ≡ Tag.part → class m r ≡ d → ⊥) → isPart m d r ≡ false
 not-part m d r f = go (same-or-not (tag m r) 1)
   where
-    go : (tag m r ≡ 1) ⊎ (tag m r ≡ 1 → ⊥) → isPart m d r ≡ false
+    go : (tag m r ≡ Tag.part) ⊎ (tag m r ≡ Tag.part → ⊥) → isPart m d r ≡ false
     go (inl e) = ap (λ z. z && eqb (class m r) d) (eq-eqb _ _ e) ∙ ne-eqb _ _ (f e)
     go (inr n) = ap (λ z. z && eqb (class m r) d) (ne-eqb _ _ n)
 
-pub part-same : (m m′ : Mem) (d i : ℕ) → eqb (tag m′ i) 1 ≡ eqb (tag m i) 1 → class m′ i ≡ class m i → isPart m′ d i ≡ isPart m d i
-part-same m m′ d i t c = ap (λ z. z && eqb (class m′ i) d) t ∙ ap (λ z. eqb (tag m i) 1 && eqb z d) c
+pub part-same : (m m′ : Mem) (d i : ℕ) → eqb (tag m′ i) Tag.part ≡ eqb (tag m i) Tag.part → class m′ i ≡ class m i → isPart m′ d i ≡ isPart m d i
+part-same m m′ d i t c = ap (λ z. z && eqb (class m′ i) d) t ∙ ap (λ z. eqb (tag m i) Tag.part && eqb z d) c
 
 module _ (m m′ : Mem) (r : ℕ) (other : (i : ℕ) → (i ≡ r → ⊥) → Recorded m′ i (tag m i) (class m i) (place m i) (owner m i)) where
   pub free-other : (i : ℕ) → (i ≡ r → ⊥) → isFree m′ i ≡ isFree m i
@@ -73,9 +73,9 @@ module _ (m m′ : Mem) (r : ℕ) (other : (i : ℕ) → (i ≡ r → ⊥) → R
   part-other d i n = part-same m m′ d i (ap (λ z. eqb z 1) (other i n .tag)) (other i n .class)
 
   -- a segment that is not freed, and was not free, leaves the free ones as they were
-  pub free-left : (tag m r ≡ 0 → ⊥) → (tag m′ r ≡ 0 → ⊥) → (i : ℕ) → isFree m′ i ≡ isFree m i
+  pub free-left : (tag m r ≡ Tag.free → ⊥) → (tag m′ r ≡ Tag.free → ⊥) → (i : ℕ) → isFree m′ i ≡ isFree m i
   free-left f h i = ⊎-elim (λ e. ap (isFree m′) e ∙ not-free m′ r h ∙ sym (not-free m r f) ∙ sym (ap (isFree m) e)) (free-other i) (same-or-not i r)
 
   -- and one that is not made part of a class, and was not, those of the class
-  pub part-left : (d : ℕ) → (tag m r ≡ 1 → class m r ≡ d → ⊥) → (tag m′ r ≡ 1 → class m′ r ≡ d → ⊥) → (i : ℕ) → isPart m′ d i ≡ isPart m d i
+  pub part-left : (d : ℕ) → (tag m r ≡ Tag.part → class m r ≡ d → ⊥) → (tag m′ r ≡ Tag.part → class m′ r ≡ d → ⊥) → (i : ℕ) → isPart m′ d i ≡ isPart m d i
   part-left d f h i = ⊎-elim (λ e. ap (isPart m′ d) e ∙ not-part m′ d r h ∙ sym (not-part m d r f) ∙ sym (ap (isPart m d) e)) (part-other d i) (same-or-not i r)

@@ -1,31 +1,18 @@
 -- One word of a mutator's entry, of a segment's record or of a stack, set and read. Assumes nothing.
-use mathlib.Core.Path.{_≡_, refl, sym, _∙_, ap}
-use Prim.Native.Nat.{ℕ, suc, _+_, _-_, _*_, _/_, _%_, _≤_, _<_}
-use native.Mathlib.Nat.{mul-add-div-right, mul-add-mod-self-right, div-eq-of-lt, mod-eq-of-lt, mul-le-mul-right, suc-mul}
+use mathlib.Core.Path.{_≡_, refl, _∙_, ap}
+use Prim.Native.Nat.{ℕ, _+_, _*_, _/_, _<_}
 use native.Mathlib.Omega.{arith}
 use lib.ListN.{length, getD, length-set}
 use lib.Seq.{getD-set-same, getD-set-other}
-use Rattle.classes.specs.Shape.{blocksIn}
 use Rattle.layout.specs.declared.Geometry.{Geometry}
-use Rattle.layout.specs.Geometry.{mutatorCount, mutatorWords, recordWords, stackCount}
+use Rattle.layout.specs.Geometry.{mutatorCount, mutatorWords, recordWords, stackCount, blocksIn}
 use Rattle.layout.specs.Mem.{Mem, mutatorWord, segmentWord, stackWord, setMutator, setSegment, setStack}
+use Rattle.layout.proofs.Sizes.{one-way, within}
 use Rattle.model.specs.declared.SegmentState.{SegmentState}
 use Rattle.model.specs.Fields.{tag, class, place, owner}
 use Rattle.model.specs.Segments.{setState, setRecord}
 use Rattle.refine_view.specs.Kept.{Sizes}
 use Rattle.model.specs.declared.SegmentState.the-variants as state
-
--- ---- a number is a quotient and a rest in one way
-
-pub one-way : (w a i b j : ℕ) → i < w → j < w → a * w + i ≡ b * w + j → (a ≡ b) × (i ≡ j)
-one-way w a i b j l h e =
-    let p : 0 < w = omega arith in
-    let q : (x r : ℕ) → r < w → (x * w + r) / w ≡ x = λ x r k. mul-add-div-right p x r ∙ ap (λ z. x + z) (div-eq-of-lt k) ∙ omega arith in
-    let u : (x r : ℕ) → r < w → (x * w + r) % w ≡ r = λ x r k. mul-add-mod-self-right x w r ∙ mod-eq-of-lt k in
-    (sym (q a i l) ∙ ap (λ z. z / w) e ∙ q b j h, sym (u a i l) ∙ ap (λ z. z % w) e ∙ u b j h)
-
-pub within : (w a n i : ℕ) → a < n → i < w → a * w + i < n * w
-within w a n i l h = let e : suc a * w ≤ n * w = mul-le-mul-right w l in let f = suc-mul a w in omega arith
 
 -- ---- mutators' entries: word o of entry k
 
@@ -109,12 +96,12 @@ classIn (state.Held c p k) = c
 classIn (state.Full c) = c
 classIn (state.Condemned c) = c
 
-abbrev pub placeIn : SegmentState → ℕ
-placeIn state.Free = 0
-placeIn (state.Part c p) = p
-placeIn (state.Held c p k) = p
-placeIn (state.Full c) = blocksIn c
-placeIn (state.Condemned c) = blocksIn c
+abbrev pub placeIn : (g : Geometry) → SegmentState → ℕ
+placeIn g state.Free = 0
+placeIn g (state.Part c p) = p
+placeIn g (state.Held c p k) = p
+placeIn g (state.Full c) = blocksIn g c
+placeIn g (state.Condemned c) = blocksIn g c
 
 abbrev pub ownerIn : SegmentState → ℕ
 ownerIn state.Free = 0
@@ -123,20 +110,20 @@ ownerIn (state.Held c p k) = k
 ownerIn (state.Full c) = 0
 ownerIn (state.Condemned c) = 0
 
-pub state-is : (m : Mem) (s : ℕ) (x : SegmentState) → setState m s x ≡ setRecord m s (tagOf x) (classIn x) (placeIn x) (ownerIn x)
+pub state-is : (g : Geometry) (m : Mem) (s : ℕ) (x : SegmentState) → setState g m s x ≡ setRecord m s (tagOf x) (classIn x) (placeIn g x) (ownerIn x)
 unfolding setState
-state-is m s state.Free = refl
-state-is m s (state.Part c p) = refl
-state-is m s (state.Held c p k) = refl
-state-is m s (state.Full c) = refl
-state-is m s (state.Condemned c) = refl
+state-is g m s state.Free = refl
+state-is g m s (state.Part c p) = refl
+state-is g m s (state.Held c p k) = refl
+state-is g m s (state.Full c) = refl
+state-is g m s (state.Condemned c) = refl
 
 -- the record of a segment whose state is set, and of another
-pub state-there : (m : Mem) (s : ℕ) (x : SegmentState) → s * recordWords + 3 < length (m .segments) → Recorded (setState m s x) s (tagOf x) (classIn x) (placeIn x) (ownerIn x)
-state-there m s x h = rw (state-is m s x) (record-there m s (tagOf x) (classIn x) (placeIn x) (ownerIn x) h)
+pub state-there : (g : Geometry) (m : Mem) (s : ℕ) (x : SegmentState) → s * recordWords + 3 < length (m .segments) → Recorded (setState g m s x) s (tagOf x) (classIn x) (placeIn g x) (ownerIn x)
+state-there g m s x h = rw (state-is g m s x) (record-there m s (tagOf x) (classIn x) (placeIn g x) (ownerIn x) h)
 
-pub state-other : (m : Mem) (s : ℕ) (x : SegmentState) (r : ℕ) → (r ≡ s → ⊥) → Recorded (setState m s x) r (tag m r) (class m r) (place m r) (owner m r)
-state-other m s x r f = rw (state-is m s x) (record-other m s (tagOf x) (classIn x) (placeIn x) (ownerIn x) r f)
+pub state-other : (g : Geometry) (m : Mem) (s : ℕ) (x : SegmentState) (r : ℕ) → (r ≡ s → ⊥) → Recorded (setState g m s x) r (tag m r) (class m r) (place m r) (owner m r)
+state-other g m s x r f = rw (state-is g m s x) (record-other m s (tagOf x) (classIn x) (placeIn g x) (ownerIn x) r f)
 
 -- the other regions stay
 pub record OtherRegions (m m′ : Mem) : Type 0 where
@@ -153,8 +140,8 @@ record-others : (m : Mem) (s t c p k : ℕ) → OtherRegions m (setRecord m s t 
 unfolding setSegment
 record-others m s t c p k = record { control = refl; mutators = refl; stacks = refl; bitmaps = refl; marks = refl; queued = refl; trace = refl; heap = refl }
 
-pub state-others : (m : Mem) (s : ℕ) (x : SegmentState) → OtherRegions m (setState m s x)
-state-others m s x = rw (state-is m s x) (record-others m s (tagOf x) (classIn x) (placeIn x) (ownerIn x))
+pub state-others : (g : Geometry) (m : Mem) (s : ℕ) (x : SegmentState) → OtherRegions m (setState g m s x)
+state-others g m s x = rw (state-is g m s x) (record-others m s (tagOf x) (classIn x) (placeIn g x) (ownerIn x))
 
 -- ---- stacks: word j of stack t
 

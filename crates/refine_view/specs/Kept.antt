@@ -6,7 +6,7 @@ use Prim.Native.Nat.{ℕ, _*_, _≤_, _<_}
 use lib.ListN.{length}
 use Rattle.words.specs.Bits.{bitAt, onesAmong}
 use Rattle.layout.specs.declared.Geometry.{Geometry}
-use Rattle.layout.specs.Geometry.{len, mutatorCount, mostBlocks}
+use Rattle.layout.specs.Geometry.{len, mutatorCount, mostBlocks, segmentOf}
 use Rattle.layout.specs.Mem.{Mem, controlWord, traceWord}
 use Rattle.theory.specs.Phases.{Phase, idle, sync1, sync2, mark, sweep}
 use Rattle.theory.specs.Calls.{Call, Answer}
@@ -16,43 +16,45 @@ use Rattle.theory.proofs.CallKeeps.{Alloc}
 use Rattle.theory.proofs.CollectorKeeps.{Pick}
 use Rattle.model.specs.Fields.{phase, traceCount, tag, class}
 use Rattle.model.specs.Segments.{freeStack, partStack}
-use Rattle.model.specs.Records.{segmentOf, queued}
+use Rattle.model.specs.Records.{queued}
 use Rattle.model.specs.Collector.{isFull, started, lowest, stepOf}
 use Rattle.model.specs.Reaching.{IsEntry, Live}
 use Rattle.model.specs.Consistent.{Consistent, IsClass, SegmentOk, MutatorOk, StackOk, isFree, isPart, RecordOk, MarksOf}
 use Rattle.refine_view.specs.View.{view}
 use Rattle.model.specs.Calls as model
 use Rattle.theory.specs.MachineCalls as machine
+use Rattle.layout.specs.Region as Region
+use Rattle.model.specs.Tag as Tag
 
 -- every region has its length
 pub record Sizes (g : Geometry) (m : Mem) : Type 0 where
-  pub control : length (m .control) ≡ len g 0
-  pub mutators : length (m .mutators) ≡ len g 1
-  pub segments : length (m .segments) ≡ len g 2
-  pub stacks : length (m .stacks) ≡ len g 3
-  pub bitmaps : length (m .bitmaps) ≡ len g 4
-  pub marks : length (m .marks) ≡ len g 5
-  pub queued : length (m .queued) ≡ len g 6
-  pub trace : length (m .trace) ≡ len g 7
-  pub heap : length (m .heap) ≡ len g 8
+  pub control : length (m .control) ≡ len g Region.control
+  pub mutators : length (m .mutators) ≡ len g Region.mutators
+  pub segments : length (m .segments) ≡ len g Region.segments
+  pub stacks : length (m .stacks) ≡ len g Region.stacks
+  pub bitmaps : length (m .bitmaps) ≡ len g Region.bitmaps
+  pub marks : length (m .marks) ≡ len g Region.marks
+  pub queued : length (m .queued) ≡ len g Region.queued
+  pub trace : length (m .trace) ≡ len g Region.trace
+  pub heap : length (m .heap) ≡ len g Region.heap
 
 -- ---- the parts of consistency that the abstract machine does not see
 
 pub record QueuedOk (g : Geometry) (m : Mem) : Type 0 where
   pub named : (i : ℕ) → i < traceCount m → 1 ≤ traceWord m i
-  pub bits : (at : ℕ) → IsEntry m at → queued m at ≡ 1
-  pub number : traceCount m ≡ onesAmong (bitAt (m .queued)) (g .segments * mostBlocks)
+  pub bits : (at : ℕ) → IsEntry m at → queued g m at ≡ 1
+  pub number : traceCount m ≡ onesAmong (bitAt (m .queued)) (g .segments * mostBlocks g)
 
 abbrev pub MarksIn : Phase → Geometry → Mem → Type 0
-MarksIn idle g m = (s : ℕ) → s < g .segments → tag m s ≡ 4 → ⊥
-MarksIn sync1 g m = (k : ℕ) → k < g .segments * mostBlocks → bitAt (m .marks) k ≡ 0
+MarksIn idle g m = (s : ℕ) → s < g .segments → tag m s ≡ Tag.condemned → ⊥
+MarksIn sync1 g m = (k : ℕ) → k < g .segments * mostBlocks g → bitAt (m .marks) k ≡ 0
 MarksIn sync2 g m = MarksOf g m (λ s. Unit {0})
 MarksIn mark g m = MarksOf g m (λ s. Unit {0})
-MarksIn sweep g m = MarksOf g m (λ s. tag m s ≡ 4)
+MarksIn sweep g m = MarksOf g m (λ s. tag m s ≡ Tag.condemned)
 
 pub record Structure (g : Geometry) (m : Mem) : Type 0 where
   pub phases : controlWord m 0 ≤ 4
-  pub segments : (s : ℕ) → s < g .segments → SegmentOk m s
+  pub segments : (s : ℕ) → s < g .segments → SegmentOk g m s
   pub mutators : (k : ℕ) → k < mutatorCount → MutatorOk g m k
   pub freeSegments : StackOk g m freeStack (isFree m)
   pub partSegments : (c : ℕ) → IsClass c → StackOk g m (partStack c) (isPart m c)
@@ -64,24 +66,24 @@ pub record Structure (g : Geometry) (m : Mem) : Type 0 where
 
 -- a segment in the collect set was there before, with its class
 abbrev pub Steady : Geometry → Mem → Mem → Type 0
-Steady g m m′ = (s : ℕ) → s < g .segments → tag m′ s ≡ 4 → (tag m s ≡ 4) × (class m′ s ≡ class m s)
+Steady g m m′ = (s : ℕ) → s < g .segments → tag m′ s ≡ Tag.condemned → (tag m s ≡ Tag.condemned) × (class m′ s ≡ class m s)
 
 -- the memory afterwards, beside the machine's state afterwards
 pub record Moves (g : Geometry) (m m′ : Mem) (st : State) : Type 0 where
   pub structure : Structure g m′
-  pub agree : Agree segmentOf st (view m′)
+  pub agree : Agree (segmentOf g) st (view g m′)
   pub steady : Steady g m m′
 
 -- a mutator's call, by an answer and a memory afterwards. `ready` is the memory that the call begins on: the one it was lent, or, where a make
 -- first takes a segment, that memory with the segment taken, which the machine cannot tell from it. `block` is what a make is handed.
 pub record Matches (g : Geometry) (m : Mem) (r : Answer × Mem) (by : (State → ℕ → ℕ → ℕ → Option ℕ) → State → Answer × State) : Type 0 where
   pub ready : Mem
-  pub prepared : Agree segmentOf (view m) (view ready)
-  pub shows : machine.face (view ready) ≡ machine.face (view m)
+  pub prepared : Agree (segmentOf g) (view g m) (view g ready)
+  pub shows : machine.face (view g ready) ≡ machine.face (view g m)
   pub block : Option ℕ
-  pub alloc : Alloc segmentOf (λ _ _ _ _. block) (view ready)
-  pub answer : r .0 ≡ by (λ _ _ _ _. block) (view ready) .0
-  pub moves : Moves g m (r .1) (by (λ _ _ _ _. block) (view ready) .1)
+  pub alloc : Alloc (segmentOf g) (λ _ _ _ _. block) (view g ready)
+  pub answer : r .0 ≡ by (λ _ _ _ _. block) (view g ready) .0
+  pub moves : Moves g m (r .1) (by (λ _ _ _ _. block) (view g ready) .1)
 
 -- once no number from 2 to 9 refuses it, and in all
 abbrev pub ActKept : Geometry → Mem → Call → Type 0
@@ -93,13 +95,13 @@ CallKept g m c = Matches g m (model.exec g m c) (λ alloc st. machine.exec alloc
 -- a start that is not refused: the full segments, with their classes, are the collect set
 pub record StartKept (g : Geometry) (m : Mem) : Type 0 where
   pub structure : Structure g (started g m)
-  pub agree : Agree segmentOf (start (view m) (isFull m)) (view (started g m))
-  pub full : (s : ℕ) → s < g .segments → tag (started g m) s ≡ 4 → (tag m s ≡ 3) × (class (started g m) s ≡ class m s)
+  pub agree : Agree (segmentOf g) (start (view g m) (isFull m)) (view g (started g m))
+  pub full : (s : ℕ) → s < g .segments → tag (started g m) s ≡ Tag.condemned → (tag m s ≡ Tag.full) × (class (started g m) s ≡ class m s)
 
 -- a step; in sweep it takes the lowest segment of the collect set
 pub record StepKept (g : Geometry) (m : Mem) : Type 0 where
-  pub picked : Pick (λ _. lowest m (g .segments)) (view m)
-  pub moves : Moves g m (stepOf g m .1) (machine.step segmentOf (λ _. lowest m (g .segments)) (view m) .1)
+  pub picked : Pick (λ _. lowest m (g .segments)) (view g m)
+  pub moves : Moves g m (stepOf g m .1) (machine.step (segmentOf g) (λ _. lowest m (g .segments)) (view g m) .1)
 
 -- all of it, of every call of the model
 pub record AllKept : Type 0 where

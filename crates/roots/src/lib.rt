@@ -17,7 +17,11 @@ pub fn standing(g: Geometry, mem: &[u32], k: u32) -> u32
     if layout::MUTATORS <= k {
         return 2;
     }
-    let state = layout::mutator(g, mem, k as usize * layout::MUTATOR_WORDS);
+    let state = layout::mutator(
+        g,
+        mem,
+        k as usize * layout::MUTATOR_WORDS + layout::STATE_AT,
+    );
     if state == 0 {
         return 4;
     }
@@ -65,21 +69,12 @@ pub fn root(g: Geometry, mem: &[u32], k: u32, i: u32) -> u32
     requires { ⌜ (Sized g (length (now mem))) × (k < mutatorCount) × (i < rootCount) ⌝ }
     ensures { λ r. ⌜ r ≡ root (memOf g (now (mem .entry))) k i ⌝ }
 {
-    layout::mutator(
-        g,
-        mem,
-        k as usize * layout::MUTATOR_WORDS + layout::ROOTS_FROM + i as usize,
-    )
+    layout::mutator(g, mem, k as usize * layout::MUTATOR_WORDS + i as usize)
 }
 
 pub fn set_root(g: Geometry, mem: &mut [u32], k: u32, i: u32, v: u32)
     requires { ⌜ (Sized g (length (now mem))) × (k < mutatorCount) × (i < rootCount) ⌝ }
     ensures { λ _. ⌜ memOf g (now (mem .exit)) ≡ setRoot (memOf g (now (mem .entry))) k i v ⌝ }
 {
-    layout::set_mutator(
-        g,
-        mem,
-        k as usize * layout::MUTATOR_WORDS + layout::ROOTS_FROM + i as usize,
-        v,
-    );
+    layout::set_mutator(g, mem, k as usize * layout::MUTATOR_WORDS + i as usize, v);
 }

@@ -7,7 +7,7 @@ use Prim.Native.Nat.{ℕ, suc, _+_, _*_, _<_}
 use native.Mathlib.Omega.{arith}
 use lib.ListN.{length}
 use Rattle.layout.specs.declared.Geometry.{Geometry}
-use Rattle.layout.specs.Geometry.{wrongSize, rootCount}
+use Rattle.layout.specs.Geometry.{markWords, wrongSize, rootCount}
 use Rattle.layout.specs.Mem.{Mem, memOf, controlWord, heapWord, setHeap}
 use Rattle.layout.proofs.Regions.{sized, length-region}
 use Rattle.theory.specs.Phases.{duty}
@@ -36,6 +36,7 @@ use Rattle.tracing.proofs.Unhindered.{unhindered, unhindered-next}
 use Rattle.storing.specs.Stored.{stored, Hinders, Stores}
 use Rattle.theory.specs.Phases as phases
 use Rattle.model.specs.Fields as fields
+use Rattle.layout.specs.Region as Region
 
 -- ---- to a word
 
@@ -54,8 +55,8 @@ module _ (g : Geometry) (m : Mem) (k p new : ℕ) (n a o : ℕ) (d : Duty) (r : 
     either = inl (
       refl,
       e ∙ ap (λ z. setHeap z p new) (b .done t
-          ∙ ap (λ z. barrier z m (record? new) (record? o)) is-duty
-          ∙ ap (λ z. barrier (duty (phase m) (acks m k)) m (record? new) (record? z)) eo),
+          ∙ ap (λ z. barrier g z m (record? new) (record? o)) is-duty
+          ∙ ap (λ z. barrier g (duty (phase m) (acks m k)) m (record? new) (record? z)) eo),
     );
   }
 
@@ -90,7 +91,7 @@ module _ (g : Geometry) (xs : List ℕ) (k i f j at : ℕ) (q : Reaches (c-store
   abbrev m : Mem
   m = memOf g xs
 
-  acts : act g m (c-store k i f j) ≡ (a-ok, stored m k (at + 1 + f) (fields.root m k j))
+  acts : act g m (c-store k i f j) ≡ (a-ok, stored g m k (at + 1 + f) (fields.root m k j))
   unfolding act
   acts = rw (w .word) refl
 
@@ -106,18 +107,18 @@ module _ (g : Geometry) (xs : List ℕ) (k i f j at : ℕ) (q : Reaches (c-store
     free (inr (inl x)) = unhindered g m c (pointer m at f) old-ok x
     free (inr (inr x)) =
         let z = sized g (length xs) (q .size) in
-        let lc : length (m .control) ≡ 2 = length-region g xs 0 (z .is) (omega arith) in
-        let lq : length (m .queued) ≡ g .segments * 64 = length-region g xs 6 (z .is) (omega arith) in
+        let lc : length (m .control) ≡ 2 = length-region g xs Region.control (z .is) (omega arith) in
+        let lq : length (m .queued) ≡ g .segments * markWords g = length-region g xs Region.queued (z .is) (omega arith) in
         unhindered-next g m c (omega arith) lq (fields.root m k j) (pointer m at f) new-ok old-ok x
 
   pub store-by : (p v : ℕ) (r : Answer) (ys : List ℕ) → At p ≡ pointerPlace g m at f → v ≡ fields.root m k j → Stores g m k p v r (memOf g ys) → Promise (c-store k i f j) g xs r ys
   store-by p v r ys a e s =
       let t = pointer-stands g m at f p a in
-      go t (subst (λ y. ((r ≡ Ok) × (memOf g ys ≡ stored m k y (fields.root m k j))) ⊎ ((r ≡ Refused 13) × Hinders g m (fields.root m k j) (heapWord m y))) (t .is)
-      (subst (λ y. ((r ≡ Ok) × (memOf g ys ≡ stored m k p y)) ⊎ ((r ≡ Refused 13) × Hinders g m y (heapWord m p))) e (s .either)))
+      go t (subst (λ y. ((r ≡ Ok) × (memOf g ys ≡ stored g m k y (fields.root m k j))) ⊎ ((r ≡ Refused 13) × Hinders g m (fields.root m k j) (heapWord m y))) (t .is)
+      (subst (λ y. ((r ≡ Ok) × (memOf g ys ≡ stored g m k p y)) ⊎ ((r ≡ Refused 13) × Hinders g m y (heapWord m p))) e (s .either)))
     where
       go : Stands g at (pointers m at) f (at + 1 + f) p
-          → ((r ≡ Ok) × (memOf g ys ≡ stored m k (at + 1 + f) (fields.root m k j))) ⊎ ((r ≡ Refused 13) × Hinders g m (fields.root m k j) (heapWord m (at + 1 + f)))
+          → ((r ≡ Ok) × (memOf g ys ≡ stored g m k (at + 1 + f) (fields.root m k j))) ⊎ ((r ≡ Refused 13) × Hinders g m (fields.root m k j) (heapWord m (at + 1 + f)))
           → Promise (c-store k i f j) g xs r ys
       go t (inl (u, y)) =
           subst (λ r. Promise (c-store k i f j) g xs r ys) (sym u)

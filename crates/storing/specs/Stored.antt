@@ -13,13 +13,13 @@ use Rattle.model.specs.Tracing.{push, barrier}
 use Rattle.tracing.specs.Pushing.{Hindered}
 
 -- the barrier of mutator k, then the word
-abbrev pub stored : Mem → ℕ → ℕ → ℕ → Mem
-stored m k p new = setHeap (barrier (duty (phase m) (acks m k)) m (record? new) (record? (heapWord m p))) p new
+abbrev pub stored : Geometry → Mem → ℕ → ℕ → ℕ → Mem
+stored g m k p new = setHeap (barrier g (duty (phase m) (acks m k)) m (record? new) (record? (heapWord m p))) p new
 
 -- one of its pushes is hindered
 abbrev pub Hinders : Geometry → Mem → ℕ → ℕ → Type 0
-Hinders g m new o = Hindered g m new ⊎ (Hindered g m o ⊎ Hindered g (push m (record? new)) o)
+Hinders g m new o = Hindered g m new ⊎ (Hindered g m o ⊎ Hindered g (push g m (record? new)) o)
 
 -- Ok and the memory stored to, or 13 where a push is hindered
 pub record Stores (g : Geometry) (m : Mem) (k p new : ℕ) (r : Answer) (after : Mem) : Type 0 where
-  pub either : ((r ≡ Ok) × (after ≡ stored m k p new)) ⊎ ((r ≡ Refused 13) × Hinders g m new (heapWord m p))
+  pub either : ((r ≡ Ok) × (after ≡ stored g m k p new)) ⊎ ((r ≡ Refused 13) × Hinders g m new (heapWord m p))

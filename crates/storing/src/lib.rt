@@ -13,16 +13,21 @@ ghost use Rattle.layout.specs.Mem.{memOf};
 ghost use Rattle.theory.specs.Calls.{c-store};
 ghost use Rattle.model.specs.Promise.{Promise};
 ghost use Rattle.storing.specs.Stored.{Stores};
+ghost use Rattle.layout.specs.Region as Region;
 
 // A word of the heap gets a value, after the barrier of mutator k.
 fn store_at(g: Geometry, mem: &mut [u32], k: u32, place: usize, new: u32) -> Answer
-    requires { ⌜ (Sized g (length (now mem))) × (k < mutatorCount) × (place < len g 8) ⌝ }
+    requires { ⌜ (Sized g (length (now mem))) × (k < mutatorCount) × (place < len g Region.heap) ⌝ }
     ensures { λ r. ⌜ Stores g (memOf g (now (mem .entry))) k place new r (memOf g (now (mem .exit))) ⌝ }
 {
     let phase = Phase {
         number: layout::control(g, mem, 0),
     };
-    let duty = phase.duty(layout::mutator(g, mem, k as usize * layout::MUTATOR_WORDS + 1));
+    let duty = phase.duty(layout::mutator(
+        g,
+        mem,
+        k as usize * layout::MUTATOR_WORDS + layout::ACKS_AT,
+    ));
     let old = layout::word(g, mem, place);
     if tracing::barrier(g, mem, duty, new, old) {
         layout::set_word(g, mem, place, new);

@@ -6,7 +6,7 @@ use mathlib.Core.Logic.{inl, inr}
 use mathlib.Core.List.{List, [], _∷_}
 use Prim.Native.Nat.{ℕ, suc, _+_, _-_, _*_, _/_, _%_, _≤_, _<_}
 use native.Mathlib.Omega.{arith}
-use native.Mathlib.Nat.{pos-of-ne-zero, div-lt-iff-lt-mul}
+use native.Mathlib.Nat.{pos-of-ne-zero, mod-lt, lt-of-lt-of-le}
 use lib.Dec.{T, eqb, ltb, eqb→eq, ltb→lt}
 use lib.ListN.{getD}
 use borrow.Author.Tests.{lt-ltb, le-ltb, eq-eqb, ne-eqb, ltb-true, ltb-false}
@@ -14,11 +14,14 @@ use Rattle.rules.proofs.Table.{and-left, and-right, every-at}
 use Rattle.rules.specs.Pick.{pick}
 use Rattle.words.specs.Bits.{bitAt, withBit, setBit}
 use Rattle.layout.specs.declared.Geometry.{Geometry}
-use Rattle.layout.specs.Geometry.{len}
+use Rattle.layout.specs.Geometry.{segmentWords, blocksIn, mostBlocks, len, segmentOf, bitIn}
 use Rattle.layout.specs.Mem.{Mem, markWord, queuedWord, setQueued, setTrace, setControl}
+use Rattle.layout.proofs.Sizes.{words-some, segment-below}
 use Rattle.model.specs.Fields.{class, traceCount}
-use Rattle.model.specs.Records.{record?, segmentOf, blockWords, bitOf}
+use Rattle.model.specs.Records.{record?, blockWords, bitOf}
 use Rattle.model.specs.Tracing.{push}
+use Rattle.model.specs.Consistent.{IsClass}
+use Rattle.model.proofs.Blocks.{blocks-most, block-below, bit-below}
 use Rattle.model.specs.declared.Duty.{Duty}
 use Rattle.tracing.specs.declared.Bit.{Bit}
 use Rattle.tracing.specs.declared.Bit.the-variants.{At, Torn}
@@ -26,6 +29,7 @@ use Rattle.tracing.specs.Pushing.{bitPlace, pushedBit, PushesBit, Hinder
 use Rattle.words.specs.Bits as bits
 use Rattle.model.specs.Records as records
 use Rattle.model.specs.declared.Duty.the-variants as duty
+use Rattle.layout.specs.Region as Region
 
 abbrev pub table : List ℕ
 table = 2 ∷ 4 ∷ 8 ∷ 16 ∷ 32 ∷ 64 ∷ 128 ∷ 256 ∷ 512 ∷ 1024 ∷ []
@@ -48,23 +52,43 @@ module _ (c : ℕ) (l : 3 ≤ c) (h : c ≤ 12) where
   unfolding right
   words-pos = ltb→lt _ _ (and-right (eqb (getD table (c - 3) 0) (blockWords (3 + (c - 3)))) _ tested)
 
-module _ (g : Geometry) (m : Mem) (at : ℕ) where
-  pub off-torn : len g 8 ≤ at → Torn ≡ bitPlace g m at
-  unfolding bitPlace
-  off-torn l = rw (le-ltb _ _ l)
+-- d is the number of the heap's words, s the segment, c its class, o the word's place in it
+pub has-segment : (g : Geometry) (at d s : ℕ) → d ≡ len g Region.heap → at < d → s ≡ segmentOf g at → s < g .segments
+has-segment g at d s z l e = subst (λ x. x < g .segments) (sym e) (segment-below g at (subst (λ x. at < x) z l))
 
-  module _ (c : ℕ) (e : c ≡ class m (segmentOf at)) (l : at < len g 8) where
+module _ (g : Geometry) (at c o : ℕ) (h : 3 ≤ c) (i : c ≤ 12) (eo : o ≡ at % segmentWords g) where
+  pub has-block : o / getD table (c - 3) 0 < mostBlocks g
+  has-block =
+      let k : IsClass c = (h, omega arith) in
+      let b : at % segmentWords g / blockWords c < blocksIn g c = block-below g c k (at % segmentWords g) (mod-lt at (words-some g)) in
+      let q : blocksIn g c ≤ mostBlocks g = blocks-most g c k in
+      rw (eo, words-of c h i) (lt-of-lt-of-le b q)
+
+module _ (g : Geometry) (m : Mem) (at d : ℕ) (z : d ≡ len g Region.heap) where
+  pub off-torn : d ≤ at → Torn ≡ bitPlace g m at
+  unfolding bitPlace
+  off-torn l = rw (← z, le-ltb _ _ l)
+
+  module _ (l : at < d) (s : ℕ) (es : s ≡ segmentOf g at) (c : ℕ) (e : c ≡ class m s) where
+    class-is : c ≡ class m (segmentOf g at)
+    class-is = e ∙ ap (class m) es
+
     pub low-torn : c < 3 → Torn ≡ bitPlace g m at
     unfolding bitPlace
-    low-torn h = rw (lt-ltb _ _ l, ← e, lt-ltb _ _ h)
+    low-torn h = rw (← z, lt-ltb _ _ l, ← class-is, lt-ltb _ _ h)
 
     pub high-torn : 3 ≤ c → 12 < c → Torn ≡ bitPlace g m at
     unfolding bitPlace
-    high-torn h i = rw (lt-ltb _ _ l, ← e, le-ltb _ _ h, lt-ltb _ _ i)
+    high-torn h i = rw (← z, lt-ltb _ _ l, ← class-is, le-ltb _ _ h, lt-ltb _ _ i)
 
-    pub bit-at : 3 ≤ c → c ≤ 12 → At (at / 4096 * 2048 + at % 4096 / getD table (c - 3) 0) ≡ bitPlace g m at
+    pub bit-at : (h : 3 ≤ c) (i : c ≤ 12) (o : ℕ) → o ≡ at % segmentWords g → (k : ℕ) → k ≡ bitIn g s (o / getD table (c - 3) 0) → At k ≡ bitPlace g m at
     unfolding bitPlace
-    bit-at h i = rw (lt-ltb _ _ l, ← e, le-ltb _ _ h, le-ltb _ _ i, words-of c h i) refl
+    bit-at h i o eo k u =
+        ap At (u ∙ ap (λ x. bitIn g x (o / getD table (c - 3) 0)) es
+        ∙ ap (λ x. bitIn g (segmentOf g at) (x / getD table (c - 3) 0)) eo
+        ∙ ap (λ x. bitIn g (segmentOf g at) (at % segmentWords g / x)) (words-of c h i)
+        ∙ ap (λ x. bitIn g (segmentOf g at) (at % segmentWords g / blockWords x)) class-is)
+        ∙ sym (rw (← z, lt-ltb _ _ l, ← class-is, le-ltb _ _ h, le-ltb _ _ i) refl)
 
 module _ (g : Geometry) (m : Mem) (w k : ℕ) where
   pub push-marked : (x b : ℕ) → x ≡ markWord m (k / 32) → b ≡ bits.bitOf x (k % 32) → b ≡ 1 → PushesBit g m w k true m
@@ -90,10 +114,10 @@ module _ (g : Geometry) (m : Mem) (w k : ℕ) where
     }
 
     module _ (i : d ≡ 1 → ⊥) (n : ℕ) (j : n ≡ traceCount m) where
-      pub push-full : len g 7 ≤ n → PushesBit g m w k false m
-      push-full o = record {
-        done = λ t. absurd (true≢false (sym t));
-        full = λ _. ((λ q. i (is-queued ∙ q)), subst (λ z. len g 7 ≤ z) j o);
+      pub push-full : (d : ℕ) → d ≡ len g Region.trace → d ≤ n → PushesBit g m w k false m
+      push-full d t o = record {
+        done = λ y. absurd (true≢false (sym y));
+        full = λ _. ((λ q. i (is-queued ∙ q)), subst (λ z. len g Region.trace ≤ z) j (subst (λ z. z ≤ n) t o));
       }
 
       pub push-done : (z : ℕ) (m₁ m₂ m₃ : Mem) → z ≡ withBit y (k % 32) → m₁ ≡ setQueued m (k / 32) z → m₂ ≡ setTrace m₁ n w → m₃ ≡ setControl m₂ 1 (n + 1)
@@ -115,33 +139,27 @@ isAt (At k) = true
 isAt Torn = false
 
 module _ (g : Geometry) (m : Mem) (at : ℕ) where
-  pub within : 3 ≤ class m (segmentOf at) → class m (segmentOf at) ≤ 12 → at < len g 8 → bitOf m at < g .segments * 2048
-  within h i l =
-      let p = words-pos (class m (segmentOf at)) h i in
-      let e = words-of (class m (segmentOf at)) h i in
-      let b = blockWords (class m (segmentOf at)) in
-      let q : 1 < b = subst (λ z. 1 < z) e p in
-      let d : at % 4096 / b < 2048 = div-lt-iff-lt-mul {k = b} {x = at % 4096} {y = 2048} (omega arith) .1 (omega arith) in
-      omega arith
+  pub bit-of-class : 3 ≤ class m (segmentOf g at) → class m (segmentOf g at) ≤ 12 → at < len g Region.heap → bitOf g m at < g .segments * mostBlocks g
+  bit-of-class h i l = bit-below g m at (h, (omega arith)) l
 
-  pub bit-within : (k : ℕ) → At k ≡ bitPlace g m at → (k ≡ bitOf m at) × (k < g .segments * 2048)
+  pub bit-within : (k : ℕ) → At k ≡ bitPlace g m at → (k ≡ bitOf g m at) × (k < g .segments * mostBlocks g)
   unfolding bitPlace
-  bit-within k e = go (ltb at (len g 8)) (ltb (class m (segmentOf at)) 3) (ltb 12 (class m (segmentOf at))) refl refl refl e
+  bit-within k e = go (ltb at (len g Region.heap)) (ltb (class m (segmentOf g at)) 3) (ltb 12 (class m (segmentOf g at))) refl refl refl e
     where
-      go : (a b c : Bool) → ltb at (len g 8) ≡ a → ltb (class m (segmentOf at)) 3 ≡ b → ltb 12 (class m (segmentOf at)) ≡ c
-          → At k ≡ pick a (pick b Torn (pick c Torn (At (bitOf m at)))) Torn → (k ≡ bitOf m at) × (k < g .segments * 2048)
+      go : (a b c : Bool) → ltb at (len g Region.heap) ≡ a → ltb (class m (segmentOf g at)) 3 ≡ b → ltb 12 (class m (segmentOf g at)) ≡ c
+          → At k ≡ pick a (pick b Torn (pick c Torn (At (bitOf g m at)))) Torn → (k ≡ bitOf g m at) × (k < g .segments * mostBlocks g)
       go true false false q r s e =
-          let z : k ≡ bitOf m at = ap at-of e in
-          (z, subst (λ y. y < g .segments * 2048) (sym z) (within (ltb-false _ _ r) (ltb-false _ _ s) (ltb-true _ _ q)))
+          let z : k ≡ bitOf g m at = ap at-of e in
+          (z, subst (λ y. y < g .segments * mostBlocks g) (sym z) (bit-of-class (ltb-false _ _ r) (ltb-false _ _ s) (ltb-true _ _ q)))
       go true false true q r s e = absurd (true≢false (ap isAt e))
       go true true c q r s e = absurd (true≢false (ap isAt e))
       go false b c q r s e = absurd (true≢false (ap isAt e))
 
 -- ---- a push of a word
 
-pushed-is : (m : Mem) (at k : ℕ) → k ≡ bitOf m at → pushedBit m (suc at) k ≡ push m (some at)
+pushed-is : (g : Geometry) (m : Mem) (at k : ℕ) → k ≡ bitOf g m at → pushedBit m (suc at) k ≡ push g m (some at)
 unfolding push pushedBit records.setQueued
-pushed-is m at k e = rw e refl
+pushed-is g m at k e = rw e refl
 
 module _ (g : Geometry) (m : Mem) (w : ℕ) where
   pub push-nil : w ≡ 0 → Pushes g m w true m
@@ -158,7 +176,7 @@ module _ (g : Geometry) (m : Mem) (w : ℕ) where
   push-by k r after f e p =
       let z = bit-within g m (w - 1) k e .0 in
       record {
-        done = λ t. p .done t ∙ subst (λ v. pushedBit m v k ≡ push m (record? v)) (sym (named f)) (pushed-is m (w - 1) k z);
+        done = λ t. p .done t ∙ subst (λ v. pushedBit m v k ≡ push g m (record? v)) (sym (named f)) (pushed-is g m (w - 1) k z);
         hindered = λ t. let h = p .full t in record { at = w - 1; names = named f; why = inr ((λ q. h .0 (ap (bitAt (m .queued)) z ∙ q)), h .1) };
       }
 
@@ -182,6 +200,6 @@ module _ (g : Geometry) (m : Mem) (d : Duty) (new o : ℕ) where
       let e = p .done t in
       subst (λ z. Bars g m z new o q after) (sym k)
       (record {
-        done = λ v. u .done v ∙ ap (λ z. push z (record? o)) e;
+        done = λ v. u .done v ∙ ap (λ z. push g z (record? o)) e;
         hindered = λ v. inr (inr (subst (λ z. Hindered g z o) e (u .hindered v)));
       })

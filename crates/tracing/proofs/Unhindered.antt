@@ -16,15 +16,17 @@ use Rattle.words.proofs.Ones.{among-le}
 use Rattle.words.proofs.Counts.{lt-of}
 use Rattle.words.proofs.Lists.{at-lt, set-there, set-elsewhere}
 use Rattle.layout.specs.declared.Geometry.{Geometry}
-use Rattle.layout.specs.Geometry.{len}
+use Rattle.layout.specs.Geometry.{mostBlocks, markWords, len, segmentOf}
 use Rattle.layout.specs.Mem.{Mem, setTrace, setControl}
+use Rattle.layout.proofs.Sizes.{marks-are, segment-below}
 use Rattle.model.specs.Fields.{class, traceCount}
-use Rattle.model.specs.Records.{record?, segmentOf, bitOf, marked, queued, setQueued}
+use Rattle.model.specs.Records.{record?, bitOf, marked, queued, setQueued}
 use Rattle.model.specs.Tracing.{push, onTop}
 use Rattle.model.specs.Consistent.{RecordOk, Consistent}
 use Rattle.tracing.specs.declared.Bit.the-variants.{At, Torn}
 use Rattle.tracing.specs.Pushing.{bitPlace, Hindered}
-use Rattle.tracing.proofs.Bits.{within, isAt}
+use Rattle.tracing.proofs.Bits.{bit-of-class, isAt}
+use Rattle.layout.specs.Region as Region
 
 -- ---- counting
 
@@ -63,25 +65,25 @@ zero-of b l f = go (same-or-not b 0)
 
 module _ (g : Geometry) (m : Mem) (c : Consistent g m) where
   module _ (at : ℕ) (r : RecordOk g m at) where
-    of-class : (3 ≤ class m (segmentOf at)) × (class m (segmentOf at) ≤ 12)
+    of-class : (3 ≤ class m (segmentOf g at)) × (class m (segmentOf g at) ≤ 12)
     of-class =
         let i = r .inside in
-        let p = c .segments (segmentOf at) (omega arith) .classes (r .used) in
+        let p = c .segments (segmentOf g at) (segment-below g at i) .classes (r .used) in
         (p .0, omega arith)
 
     has-bit : bitPlace g m at ≡ Torn → ⊥
     unfolding bitPlace
-    has-bit e = let z : At (bitOf m at) ≡ Torn = sym (placed) ∙ e in true≢false (ap isAt z)
+    has-bit e = let z : At (bitOf g m at) ≡ Torn = sym (placed) ∙ e in true≢false (ap isAt z)
       where
-        placed : bitPlace g m at ≡ At (bitOf m at)
+        placed : bitPlace g m at ≡ At (bitOf g m at)
         placed = rw (lt-ltb _ _ (r .inside), le-ltb _ _ (of-class .0), le-ltb _ _ (of-class .1)) refl
 
-    bit-below : bitOf m at < g .segments * 2048
-    bit-below = within g m at (of-class .0) (of-class .1) (r .inside)
+    bit-below : bitOf g m at < g .segments * mostBlocks g
+    bit-below = bit-of-class g m at (of-class .0) (of-class .1) (r .inside)
 
-    pub room : (queued m at ≡ 1 → ⊥) → traceCount m < len g 7
+    pub room : (queued g m at ≡ 1 → ⊥) → traceCount m < len g Region.trace
     room f =
-        let h = zero-less (bitAt (m .queued)) (at-lt (m .queued)) (g .segments * 2048) (bitOf m at) bit-below (zero-of _ (at-lt (m .queued) (bitOf m at)) f) in
+        let h = zero-less (bitAt (m .queued)) (at-lt (m .queued)) (g .segments * mostBlocks g) (bitOf g m at) bit-below (zero-of _ (at-lt (m .queued) (bitOf g m at)) f) in
         let e = c .trace .number in
         omega arith
 
@@ -91,52 +93,52 @@ module _ (g : Geometry) (m : Mem) (c : Consistent g m) where
       ok : RecordOk g m (h .at)
       ok = r (h .at) (h .names)
 
-      go : (bitPlace g m (h .at) ≡ Torn) ⊎ ((queued m (h .at) ≡ 1 → ⊥) × (len g 7 ≤ traceCount m)) → ⊥
+      go : (bitPlace g m (h .at) ≡ Torn) ⊎ ((queued g m (h .at) ≡ 1 → ⊥) × (len g Region.trace ≤ traceCount m)) → ⊥
       go (inl e) = has-bit (h .at) ok e
       go (inr p) = let l = room (h .at) ok (p .0) in let q = p .1 in omega arith
 
   -- ---- a second push
 
-  module _ (lc : 1 < length (m .control)) (lq : length (m .queued) ≡ g .segments * 64) where
-    module _ (a : ℕ) (ra : RecordOk g m a) (ua : queued m a ≡ 1 → ⊥) (at : ℕ) (r : RecordOk g m at) where
-      count-more : traceCount (onTop m a) ≡ traceCount m + 1
+  module _ (lc : 1 < length (m .control)) (lq : length (m .queued) ≡ g .segments * markWords g) where
+    module _ (a : ℕ) (ra : RecordOk g m a) (ua : queued g m a ≡ 1 → ⊥) (at : ℕ) (r : RecordOk g m at) where
+      count-more : traceCount (onTop g m a) ≡ traceCount m + 1
       unfolding setTrace setControl setQueued
       count-more = getD-set-same (m .control) 1 (traceCount m + 1) 0 lc
 
-      same-place : bitPlace g (onTop m a) at ≡ bitPlace g m at
+      same-place : bitPlace g (onTop g m a) at ≡ bitPlace g m at
       unfolding bitPlace setTrace setControl setQueued
       same-place = refl
 
-      bits-after : queued (onTop m a) at ≡ bitAt (setBit (m .queued) (bitOf m a)) (bitOf m at)
+      bits-after : queued g (onTop g m a) at ≡ bitAt (setBit (m .queued) (bitOf g m a)) (bitOf g m at)
       unfolding setTrace setControl setQueued
       bits-after = refl
 
-      in-words : bitOf m a / 32 < length (m .queued)
-      in-words = let l = bit-below a ra in omega arith
+      in-words : bitOf g m a / 32 < length (m .queued)
+      in-words = let l = bit-below a ra in let z = marks-are g (g .segments) in omega arith
 
-      room-after : (queued (onTop m a) at ≡ 1 → ⊥) → traceCount (onTop m a) < len g 7
+      room-after : (queued g (onTop g m a) at ≡ 1 → ⊥) → traceCount (onTop g m a) < len g Region.trace
       room-after f =
-          let d : bitOf m at ≡ bitOf m a → ⊥ = λ e. f (bits-after ∙ ap (bitAt (setBit (m .queued) (bitOf m a))) e ∙ set-there (m .queued) (bitOf m a) in-words) in
-          let u : bitAt (m .queued) (bitOf m at) ≡ 1 → ⊥ = λ e. f (bits-after ∙ set-elsewhere (m .queued) (bitOf m a) in-words (bitOf m at) d ∙ e) in
-          let h = two-less (bitAt (m .queued)) (at-lt (m .queued)) (g .segments * 2048) (bitOf m a) (bitOf m at) (bit-below a ra) (bit-below at r) d
-          (zero-of _ (at-lt (m .queued) (bitOf m a)) ua) (zero-of _ (at-lt (m .queued) (bitOf m at)) u) in
+          let d : bitOf g m at ≡ bitOf g m a → ⊥ = λ e. f (bits-after ∙ ap (bitAt (setBit (m .queued) (bitOf g m a))) e ∙ set-there (m .queued) (bitOf g m a) in-words) in
+          let u : bitAt (m .queued) (bitOf g m at) ≡ 1 → ⊥ = λ e. f (bits-after ∙ set-elsewhere (m .queued) (bitOf g m a) in-words (bitOf g m at) d ∙ e) in
+          let h = two-less (bitAt (m .queued)) (at-lt (m .queued)) (g .segments * mostBlocks g) (bitOf g m a) (bitOf g m at) (bit-below a ra) (bit-below at r) d
+          (zero-of _ (at-lt (m .queued) (bitOf g m a)) ua) (zero-of _ (at-lt (m .queued) (bitOf g m at)) u) in
           let e = c .trace .number in
           let z = count-more in
           omega arith
 
-      unhindered-on : (w : ℕ) → w ≡ suc at → Hindered g (onTop m a) w → ⊥
-      unhindered-on w e h = go (subst (λ y. (bitPlace g (onTop m a) y ≡ Torn) ⊎ ((queued (onTop m a) y ≡ 1 → ⊥) × (len g 7 ≤ traceCount (onTop m a)))) (same-at (sym (h .names) ∙ e)) (h .why))
+      unhindered-on : (w : ℕ) → w ≡ suc at → Hindered g (onTop g m a) w → ⊥
+      unhindered-on w e h = go (subst (λ y. (bitPlace g (onTop g m a) y ≡ Torn) ⊎ ((queued g (onTop g m a) y ≡ 1 → ⊥) × (len g Region.trace ≤ traceCount (onTop g m a)))) (same-at (sym (h .names) ∙ e)) (h .why))
         where
-          go : (bitPlace g (onTop m a) at ≡ Torn) ⊎ ((queued (onTop m a) at ≡ 1 → ⊥) × (len g 7 ≤ traceCount (onTop m a))) → ⊥
+          go : (bitPlace g (onTop g m a) at ≡ Torn) ⊎ ((queued g (onTop g m a) at ≡ 1 → ⊥) × (len g Region.trace ≤ traceCount (onTop g m a))) → ⊥
           go (inl q) = has-bit at r (sym same-place ∙ q)
           go (inr p) = let l = room-after (p .0) in let q = p .1 in omega arith
 
-    pub unhindered-next : (v w : ℕ) → ((at : ℕ) → v ≡ suc at → RecordOk g m at) → ((at : ℕ) → w ≡ suc at → RecordOk g m at) → Hindered g (push m (record? v)) w → ⊥
+    pub unhindered-next : (v w : ℕ) → ((at : ℕ) → v ≡ suc at → RecordOk g m at) → ((at : ℕ) → w ≡ suc at → RecordOk g m at) → Hindered g (push g m (record? v)) w → ⊥
     unfolding push
     unhindered-next zero w rv rw′ h = unhindered w rw′ h
-    unhindered-next (suc a) w rv rw′ h = go (eqb (marked m a) 1) (eqb (queued m a) 1) refl h
+    unhindered-next (suc a) w rv rw′ h = go (eqb (marked g m a) 1) (eqb (queued g m a) 1) refl h
       where
-        go : (x y : Bool) → eqb (queued m a) 1 ≡ y → Hindered g (pick x m (pick y m (onTop m a))) w → ⊥
+        go : (x y : Bool) → eqb (queued g m a) 1 ≡ y → Hindered g (pick x m (pick y m (onTop g m a))) w → ⊥
         go true y q h = unhindered w rw′ h
         go false true q h = unhindered w rw′ h
         go false false q h = unhindered-on a (rv a refl) (eqb-false _ _ q) (h .at) (rw′ (h .at) (h .names)) w (h .names) h

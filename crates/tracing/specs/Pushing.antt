@@ -7,42 +7,43 @@ use lib.Dec.{eqb, ltb}
 use Rattle.rules.specs.Pick.{pick}
 use Rattle.words.specs.Bits.{bitAt, setBit}
 use Rattle.layout.specs.declared.Geometry.{Geometry}
-use Rattle.layout.specs.Geometry.{len}
+use Rattle.layout.specs.Geometry.{len, segmentOf}
 use Rattle.layout.specs.Mem.{Mem, setTrace, withRegion}
 use Rattle.model.specs.Fields.{class, traceCount, setTraceCount}
 use Rattle.model.specs.declared.Duty.{Duty}
-use Rattle.model.specs.Records.{record?, segmentOf, bitOf, queued}
+use Rattle.model.specs.Records.{record?, bitOf, queued}
 use Rattle.model.specs.Tracing.{push, barrier}
 use Rattle.tracing.specs.declared.Bit.{Bit}
 use Rattle.tracing.specs.declared.Bit.the-variants.{At, Torn}
 use Rattle.theory.specs.Phases as theory
 use Rattle.model.specs.declared.Duty.the-variants as duty
+use Rattle.layout.specs.Region as Region
 
 -- the bit of the record at a word; none off the heap, or in a segment of no class
 unfoldable pub bitPlace : Geometry → Mem → ℕ → Bit
 bitPlace g m at =
-    pick (ltb at (len g 8)) (pick (ltb (class m (segmentOf at)) 3) Torn (pick (ltb 12 (class m (segmentOf at))) Torn (At (bitOf m at)))) Torn
+    pick (ltb at (len g Region.heap)) (pick (ltb (class m (segmentOf g at)) 3) Torn (pick (ltb 12 (class m (segmentOf g at))) Torn (At (bitOf g m at)))) Torn
 
 -- the word w on top of the stack, with bit k, unless the bit is marked or queued
 unfoldable pub pushedBit : Mem → ℕ → ℕ → Mem
 pushedBit m w k =
     pick (eqb (bitAt (m .marks) k) 1) m
     (pick (eqb (bitAt (m .queued) k) 1) m
-    (setTraceCount (setTrace (withRegion m 6 (setBit (m .queued) k)) (traceCount m) w) (traceCount m + 1)))
+    (setTraceCount (setTrace (withRegion m Region.queued (setBit (m .queued) k)) (traceCount m) w) (traceCount m + 1)))
 
 -- what a push of word w and bit k answers: true and the memory with it, or false where it is not queued and the stack has no room
 pub record PushesBit (g : Geometry) (m : Mem) (w k : ℕ) (r : Bool) (after : Mem) : Type 0 where
   pub done : r ≡ true → after ≡ pushedBit m w k
-  pub full : r ≡ false → (bitAt (m .queued) k ≡ 1 → ⊥) × (len g 7 ≤ traceCount m)
+  pub full : r ≡ false → (bitAt (m .queued) k ≡ 1 → ⊥) × (len g Region.trace ≤ traceCount m)
 
 -- what hinders a push of word w: its record has no bit, or is not queued while the stack has no room
 pub record Hindered (g : Geometry) (m : Mem) (w : ℕ) : Type 0 where
   pub at : ℕ
   pub names : w ≡ suc at
-  pub why : (bitPlace g m at ≡ Torn) ⊎ ((queued m at ≡ 1 → ⊥) × (len g 7 ≤ traceCount m))
+  pub why : (bitPlace g m at ≡ Torn) ⊎ ((queued g m at ≡ 1 → ⊥) × (len g Region.trace ≤ traceCount m))
 
 pub record Pushes (g : Geometry) (m : Mem) (w : ℕ) (r : Bool) (after : Mem) : Type 0 where
-  pub done : r ≡ true → after ≡ push m (record? w)
+  pub done : r ≡ true → after ≡ push g m (record? w)
   pub hindered : r ≡ false → Hindered g m w
 
 -- the barrier's duty as theory has it
@@ -52,5 +53,5 @@ ruleOf duty.Both = theory.both
 ruleOf duty.Old = theory.old
 
 pub record Bars (g : Geometry) (m : Mem) (d : Duty) (new old : ℕ) (r : Bool) (after : Mem) : Type 0 where
-  pub done : r ≡ true → after ≡ barrier (ruleOf d) m (record? new) (record? old)
-  pub hindered : r ≡ false → Hindered g m new ⊎ (Hindered g m old ⊎ Hindered g (push m (record? new)) old)
+  pub done : r ≡ true → after ≡ barrier g (ruleOf d) m (record? new) (record? old)
+  pub hindered : r ≡ false → Hindered g m new ⊎ (Hindered g m old ⊎ Hindered g (push g m (record? new)) old)

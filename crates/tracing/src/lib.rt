@@ -23,10 +23,10 @@ pub fn bit_of(g: Geometry, mem: &[u32], at: usize) -> Bit
     requires { ⌜ Sized g (length (now mem)) ⌝ }
     ensures { λ r. ⌜ r ≡ bitPlace g (memOf g (now (mem .entry))) at ⌝ }
 {
-    if g.segments * layout::SEGMENT_WORDS <= at {
+    if layout::heap_words(g) <= at {
         return Bit::Torn;
     }
-    let s = at / layout::SEGMENT_WORDS;
+    let s = layout::segment_of(g, at);
     let class = layout::segment(g, mem, s * layout::RECORD_WORDS + 1) as usize;
     if class < 3 {
         return Bit::Torn;
@@ -35,12 +35,13 @@ pub fn bit_of(g: Geometry, mem: &[u32], at: usize) -> Bit
         return Bit::Torn;
     }
     let words = BLOCK_WORDS[class - 3];
-    Bit::At(s * layout::MOST_BLOCKS + at % layout::SEGMENT_WORDS / words)
+    let b = layout::offset_of(g, at) / words;
+    Bit::At(layout::bit_in(g, s, b))
 }
 
 // Pushes the record of a word and a bit, unless it is marked or queued; false where the stack has no room.
 fn push_bit(g: Geometry, mem: &mut [u32], w: u32, k: usize) -> bool
-    requires { ⌜ (Sized g (length (now mem))) × (k < g .segments * mostBlocks) ⌝ }
+    requires { ⌜ (Sized g (length (now mem))) × (k < g .segments * mostBlocks g) ⌝ }
     ensures { λ r. ⌜ PushesBit g (memOf g (now (mem .entry))) w k r (memOf g (now (mem .exit))) ⌝ }
 {
     let q = k / 32;
@@ -53,7 +54,7 @@ fn push_bit(g: Geometry, mem: &mut [u32], w: u32, k: usize) -> bool
         return true;
     }
     let count = layout::control(g, mem, 1);
-    if g.segments * layout::MOST_BLOCKS <= count as usize {
+    if layout::trace_words(g) <= count as usize {
         return false;
     }
     layout::set_queued(g, mem, q, words::with_bit(bits, b));

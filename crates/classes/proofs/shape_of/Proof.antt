@@ -14,7 +14,7 @@ use Rattle.rules.proofs.Table.{and-left, and-right, every-at}
 use Rattle.classes.specs.declared.Shape.{Shape}
 use Rattle.classes.specs.declared.ClassShape.the-variants.{Of}
 use Rattle.classes.specs.Class.{firstClass, classCount}
-use Rattle.classes.specs.Shape.{blocksIn, shapeFor, shapeOf}
+use Rattle.classes.specs.Shape.{segmentSize, blocksOf, shapeFor, shapeOf}
 use Rattle.classes.proofs.shape_of.Tie as tie
 use Rattle.classes.proofs.shape_of.Statement.{statement}
 
@@ -54,14 +54,14 @@ same-eq x y t =
 -- the rule at entry k: it is the shape of class k + 3
 right : ℕ → Shape → Bool
 unfolding same
-right k x = same x (shapeFor (blocksIn (firstClass + k)))
+right k x = same x (shapeFor (blocksOf segmentSize (firstClass + k)))
 
-in-table : (class : ℕ) → firstClass ≤ class → class - firstClass < classCount → Of (getD table (class - firstClass) past) ≡ shapeOf class
+in-table : (class : ℕ) → firstClass ≤ class → class - firstClass < classCount → Of (getD table (class - firstClass) past) ≡ shapeOf segmentSize class
 unfolding table past right
 in-table class l h =
     let e : firstClass + (class - firstClass) ≡ class = omega arith in
-    ap Of (same-eq (getD table (class - firstClass) past) (shapeFor (blocksIn (firstClass + (class - firstClass)))) (every-at right past table tt (class - firstClass) h)
-    ∙ ap (λ (n : ℕ). shapeFor (blocksIn n)) e)
+    ap Of (same-eq (getD table (class - firstClass) past) (shapeFor (blocksOf segmentSize (firstClass + (class - firstClass)))) (every-at right past table tt (class - firstClass) h)
+    ∙ ap (λ (n : ℕ). shapeFor (blocksOf segmentSize n)) e)
     ∙ sym (rw (le-ltb class firstClass l, lt-ltb class (firstClass + classCount) (omega arith)))
 
 returns : tie.Need-returns

@@ -1,5 +1,6 @@
 -- `field_calls::shape` meets its contract. Assumes nothing.
 use mathlib.Core.Path.{sym, _∙_}
+use native.Mathlib.Omega.{arith}
 use borrow.Author.Needs.{needs}
 use Rattle.layout.proofs.Regions.{sized}
 use Rattle.theory.specs.Calls.{c-shape}
@@ -44,10 +45,8 @@ returns-3 c =
     (c .before .before .before .root .ensures)
     (sym (c .enum-told .given .1) ∙ c .before .before .held-of .ensures)
 
-mul-end : tie.Need-mul-end
-mul-end c =
-    let s = sized _ _ (sym (c .before .before .before .before .before .before .before .before .before .wrong-size .ensures) ∙ c .before .before .before .before .before .before .before .before .if1 .left) in
-    search needs
+heap-words-requires : tie.Need-heap-words-requires
+heap-words-requires c κs = sized _ _ (sym (c .before .before .before .before .before .before .before .before .wrong-size .ensures) ∙ c .before .before .before .before .before .before .before .if1 .left) .few
 
 returns-4 : tie.Need-returns-4
 returns-4 c =
@@ -55,10 +54,10 @@ returns-4 c =
     (shape-reaches _ _ _ _ _ (sym (c .before .before .before .before .before .before .before .before .before .before .wrong-size .ensures) ∙ c .before .before .before .before .before .before .before .before .before .if1 .left) (c .before .before .before .before .before .before .before .before .standing-at .ensures) (c .before .before .before .before .before .before .before .if2 .left))
     _
     (names _ _ _ _ _ _ (c .before .before .before .before .before .before .root .ensures) (sym (c .before .before .before .slot .given .1) ∙ c .before .before .before .before .before .held-of .ensures))
-    (c .if3 .taken)
+    (omega (arith, c .before .heap-words .ensures, c .if3 .taken))
 
 word-requires : tie.Need-word-requires
-word-requires c κs = (sized _ _ (sym (c .before .before .before .before .before .before .before .before .before .before .wrong-size .ensures) ∙ c .before .before .before .before .before .before .before .before .before .if1 .left), c .if3 .left)
+word-requires c κs = (sized _ _ (sym (c .before .before .before .before .before .before .before .before .before .before .wrong-size .ensures) ∙ c .before .before .before .before .before .before .before .before .before .if1 .left), omega (arith, c .before .heap-words .ensures, c .if3 .left))
 
 returns-5 : tie.Need-returns-5
 returns-5 c =
@@ -80,7 +79,7 @@ shape-spec =
     enum-known-slot
     enum-told
     returns-3
-    mul-end
+    heap-words-requires
     returns-4
     word-requires
     returns-5)

@@ -2,6 +2,7 @@
 use Prim.Native.Nat.{_+_, _*_}
 use native.Mathlib.Omega.{arith}
 use borrow.Author.Needs.{needs}
+use Rattle.layout.specs.Geometry.{segmentBytes}
 use Rattle.layout.proofs.Regions.{cleared-at}
 use Rattle.layout.proofs.clear_queued.Tie as tie
 use Rattle.layout.proofs.clear_queued.Statement.{statement}
@@ -25,9 +26,11 @@ sub-zero : tie.Need-sub-zero
 sub-zero c = search needs
 
 part-zero-start : tie.Need-part-zero-start
+unfolding segmentBytes
 part-zero-start c = search needs
 
 part-zero-end : tie.Need-part-zero-end
+unfolding segmentBytes
 part-zero-end c = search needs
 
 zero-requires : tie.Need-zero-requires
@@ -37,8 +40,9 @@ same-length : tie.Need-same-length
 same-length c = search needs
 
 returns : tie.Need-returns
+unfolding segmentBytes
 returns c =
-    cleared-at (c .before .before .before .before .before .args .g) (c .before .before .before .before .before .args .mem .now) 6 (c .before .before .before .before .before .args .g .segments * 146 + 909) (c .before .before .before .before .before .args .g .segments * 146 + 909 + c .before .before .before .before .before .args .g .segments * 64) _ (c .before .before .zero .ensures) (omega arith) (c .before .before .before .before .before .pre .is) (omega arith)
+    cleared-at (c .before .before .before .before .before .args .g) (c .before .before .before .before .before .args .mem .now) 7 (c .before .before .before .before .before .args .g .segments * 4242 + 1037) (c .before .before .before .before .before .args .g .segments * 4242 + 1037 + c .before .before .before .before .before .args .g .segments * 64) _ (c .before .before .zero .ensures) (omega arith) (c .before .before .before .before .before .pre .is) (omega arith)
 
 pub clear-queued-spec : {M : Type 1} → statement M
 clear-queued-spec =

@@ -2,9 +2,16 @@
 use Prim.Native.Nat.{_+_, _*_}
 use native.Mathlib.Omega.{arith}
 use borrow.Author.Needs.{needs}
+use Rattle.layout.specs.Geometry.{segmentBytes}
 use Rattle.layout.proofs.Regions.{cleared-at}
 use Rattle.layout.proofs.clear_segments.Tie as tie
 use Rattle.layout.proofs.clear_segments.Statement.{statement}
+
+mul-a : tie.Need-mul-a
+mul-a c = search needs
+
+add-a : tie.Need-add-a
+add-a c = search needs
 
 mul-end : tie.Need-mul-end
 mul-end c = search needs
@@ -12,13 +19,18 @@ mul-end c = search needs
 add-end : tie.Need-add-end
 add-end c = search needs
 
+mul-zero : tie.Need-mul-zero
+mul-zero c = search needs
+
 sub-zero : tie.Need-sub-zero
 sub-zero c = search needs
 
 part-zero-start : tie.Need-part-zero-start
+unfolding segmentBytes
 part-zero-start c = search needs
 
 part-zero-end : tie.Need-part-zero-end
+unfolding segmentBytes
 part-zero-end c = search needs
 
 zero-requires : tie.Need-zero-requires
@@ -28,15 +40,19 @@ same-length : tie.Need-same-length
 same-length c = search needs
 
 returns : tie.Need-returns
+unfolding segmentBytes
 returns c =
-    cleared-at (c .before .before .before .before .before .args .g) (c .before .before .before .before .before .args .mem .now) 2 898 (898 + c .before .before .before .before .before .args .g .segments * 4) _ (c .before .before .zero .ensures) (omega arith) (c .before .before .before .before .before .pre .is) (omega arith)
+    cleared-at (c .before .before .before .before .before .args .g) (c .before .before .before .before .before .args .mem .now) 3 (c .before .before .before .before .before .args .g .segments * 4096 + 1026) (c .before .before .before .before .before .args .g .segments * 4096 + 1026 + c .before .before .before .before .before .args .g .segments * 4) _ (c .before .before .zero .ensures) (omega arith) (c .before .before .before .before .before .pre .is) (omega arith)
 
 pub clear-segments-spec : {M : Type 1} → statement M
 clear-segments-spec =
     tie.close
     (tie.spec
+    mul-a
+    add-a
     mul-end
     add-end
+    mul-zero
     sub-zero
     part-zero-start
     part-zero-end

@@ -1,6 +1,7 @@
 -- `layout::mark` meets its contract. Assumes nothing.
 use native.Mathlib.Omega.{arith}
 use borrow.Author.Needs.{needs}
+use Rattle.layout.specs.Geometry.{segmentBytes}
 use Rattle.layout.proofs.Regions.{get-at}
 use Rattle.layout.proofs.mark.Tie as tie
 use Rattle.layout.proofs.mark.Statement.{statement}
@@ -18,10 +19,12 @@ mul-result-2 : tie.Need-mul-result-2
 mul-result-2 c = search needs
 
 shared-slice-read-result : tie.Need-shared-slice-read-result
+unfolding segmentBytes
 shared-slice-read-result c = search needs
 
 returns : tie.Need-returns
-returns c = get-at _ _ 5 _ _ (omega arith)
+unfolding segmentBytes
+returns c = get-at _ _ 6 _ _ (omega arith)
 
 pub mark-spec : {M : Type 1} → statement M
 mark-spec =

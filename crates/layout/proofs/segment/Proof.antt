@@ -1,21 +1,32 @@
 -- `layout::segment` meets its contract. Assumes nothing.
 use native.Mathlib.Omega.{arith}
 use borrow.Author.Needs.{needs}
+use Rattle.layout.specs.Geometry.{segmentBytes}
 use Rattle.layout.proofs.Regions.{get-at}
 use Rattle.layout.proofs.segment.Tie as tie
 use Rattle.layout.proofs.segment.Statement.{statement}
 
-add-result : tie.Need-add-result
-add-result c = search needs
-
 mul-result : tie.Need-mul-result
 mul-result c = search needs
 
+add-result : tie.Need-add-result
+add-result c = search needs
+
+add-result-2 : tie.Need-add-result-2
+add-result-2 c = search needs
+
+mul-result-2 : tie.Need-mul-result-2
+mul-result-2 c = search needs
+
 shared-slice-read-result : tie.Need-shared-slice-read-result
+unfolding segmentBytes
 shared-slice-read-result c = search needs
 
 returns : tie.Need-returns
-returns c = get-at _ _ 2 _ _ (omega arith)
+unfolding segmentBytes
+returns c = get-at _ _ 3 _ _ (omega arith)
 
 pub segment-spec : {M : Type 1} → statement M
-segment-spec = tie.close (tie.spec add-result mul-result shared-slice-read-result returns)
+segment-spec =
+    tie.close
+    (tie.spec mul-result add-result add-result-2 mul-result-2 shared-slice-read-result returns)

@@ -1,6 +1,7 @@
 -- `layout::set_mark` meets its contract. Assumes nothing.
 use native.Mathlib.Omega.{arith}
 use borrow.Author.Needs.{needs}
+use Rattle.layout.specs.Geometry.{segmentBytes}
 use Rattle.layout.specs.Mem.{setMark}
 use Rattle.layout.proofs.Regions.{set-at}
 use Rattle.layout.proofs.set_mark.Tie as tie
@@ -19,14 +20,15 @@ mul-mem-2 : tie.Need-mul-mem-2
 mul-mem-2 c = search needs
 
 slice-write-mem : tie.Need-slice-write-mem
+unfolding segmentBytes
 slice-write-mem c = search needs
 
 same-length : tie.Need-same-length
 same-length c = search needs
 
 returns : tie.Need-returns
-unfolding setMark
-returns c = set-at _ _ 5 _ _ _ (omega arith)
+unfolding segmentBytes setMark
+returns c = set-at _ _ 6 _ _ _ (omega arith)
 
 pub set-mark-spec : {M : Type 1} → statement M
 set-mark-spec =

@@ -1,6 +1,7 @@
 -- `layout::set_queued` meets its contract. Assumes nothing.
 use native.Mathlib.Omega.{arith}
 use borrow.Author.Needs.{needs}
+use Rattle.layout.specs.Geometry.{segmentBytes}
 use Rattle.layout.specs.Mem.{setQueued}
 use Rattle.layout.proofs.Regions.{set-at}
 use Rattle.layout.proofs.set_queued.Tie as tie
@@ -19,14 +20,15 @@ mul-mem-2 : tie.Need-mul-mem-2
 mul-mem-2 c = search needs
 
 slice-write-mem : tie.Need-slice-write-mem
+unfolding segmentBytes
 slice-write-mem c = search needs
 
 same-length : tie.Need-same-length
 same-length c = search needs
 
 returns : tie.Need-returns
-unfolding setQueued
-returns c = set-at _ _ 6 _ _ _ (omega arith)
+unfolding segmentBytes setQueued
+returns c = set-at _ _ 7 _ _ _ (omega arith)
 
 pub set-queued-spec : {M : Type 1} → statement M
 set-queued-spec =

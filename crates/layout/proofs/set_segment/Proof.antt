@@ -1,26 +1,35 @@
 -- `layout::set_segment` meets its contract. Assumes nothing.
 use native.Mathlib.Omega.{arith}
 use borrow.Author.Needs.{needs}
+use Rattle.layout.specs.Geometry.{segmentBytes}
 use Rattle.layout.specs.Mem.{setSegment}
 use Rattle.layout.proofs.Regions.{set-at}
 use Rattle.layout.proofs.set_segment.Tie as tie
 use Rattle.layout.proofs.set_segment.Statement.{statement}
 
-add-mem : tie.Need-add-mem
-add-mem c = search needs
-
 mul-mem : tie.Need-mul-mem
 mul-mem c = search needs
 
+add-mem : tie.Need-add-mem
+add-mem c = search needs
+
+add-mem-2 : tie.Need-add-mem-2
+add-mem-2 c = search needs
+
+mul-mem-2 : tie.Need-mul-mem-2
+mul-mem-2 c = search needs
+
 slice-write-mem : tie.Need-slice-write-mem
+unfolding segmentBytes
 slice-write-mem c = search needs
 
 same-length : tie.Need-same-length
 same-length c = search needs
 
 returns : tie.Need-returns
-unfolding setSegment
-returns c = set-at _ _ 2 _ _ _ (omega arith)
+unfolding segmentBytes setSegment
+returns c = set-at _ _ 3 _ _ _ (omega arith)
 
 pub set-segment-spec : {M : Type 1} → statement M
-set-segment-spec = tie.close (tie.spec add-mem mul-mem slice-write-mem same-length returns)
+set-segment-spec =
+    tie.close (tie.spec mul-mem add-mem add-mem-2 mul-mem-2 slice-write-mem same-length returns)

@@ -1,6 +1,7 @@
 -- `layout::set_trace` meets its contract. Assumes nothing.
 use native.Mathlib.Omega.{arith}
 use borrow.Author.Needs.{needs}
+use Rattle.layout.specs.Geometry.{segmentBytes}
 use Rattle.layout.specs.Mem.{setTrace}
 use Rattle.layout.proofs.Regions.{set-at}
 use Rattle.layout.proofs.set_trace.Tie as tie
@@ -19,14 +20,15 @@ mul-mem-2 : tie.Need-mul-mem-2
 mul-mem-2 c = search needs
 
 slice-write-mem : tie.Need-slice-write-mem
+unfolding segmentBytes
 slice-write-mem c = search needs
 
 same-length : tie.Need-same-length
 same-length c = search needs
 
 returns : tie.Need-returns
-unfolding setTrace
-returns c = set-at _ _ 7 _ _ _ (omega arith)
+unfolding segmentBytes setTrace
+returns c = set-at _ _ 8 _ _ _ (omega arith)
 
 pub set-trace-spec : {M : Type 1} → statement M
 set-trace-spec =

@@ -6,17 +6,11 @@ use Rattle.layout.proofs.Regions.{set-at}
 use Rattle.layout.proofs.set_word.Tie as tie
 use Rattle.layout.proofs.set_word.Statement.{statement}
 
-mul-mem : tie.Need-mul-mem
-mul-mem c = search needs
-
 add-mem : tie.Need-add-mem
 add-mem c = search needs
 
-add-mem-2 : tie.Need-add-mem-2
-add-mem-2 c = search needs
-
-mul-mem-2 : tie.Need-mul-mem-2
-mul-mem-2 c = search needs
+mul-mem : tie.Need-mul-mem
+mul-mem c = search needs
 
 slice-write-mem : tie.Need-slice-write-mem
 slice-write-mem c = search needs
@@ -26,8 +20,7 @@ same-length c = search needs
 
 returns : tie.Need-returns
 unfolding setHeap
-returns c = set-at _ _ 8 _ _ _ (omega arith)
+returns c = set-at _ _ 2 _ _ _ (omega arith)
 
 pub set-word-spec : {M : Type 1} → statement M
-set-word-spec =
-    tie.close (tie.spec mul-mem add-mem add-mem-2 mul-mem-2 slice-write-mem same-length returns)
+set-word-spec = tie.close (tie.spec add-mem mul-mem slice-write-mem same-length returns)

@@ -5,25 +5,17 @@ use Rattle.layout.proofs.Regions.{get-at}
 use Rattle.layout.proofs.word.Tie as tie
 use Rattle.layout.proofs.word.Statement.{statement}
 
-mul-result : tie.Need-mul-result
-mul-result c = search needs
-
 add-result : tie.Need-add-result
 add-result c = search needs
 
-add-result-2 : tie.Need-add-result-2
-add-result-2 c = search needs
-
-mul-result-2 : tie.Need-mul-result-2
-mul-result-2 c = search needs
+mul-result : tie.Need-mul-result
+mul-result c = search needs
 
 shared-slice-read-result : tie.Need-shared-slice-read-result
 shared-slice-read-result c = search needs
 
 returns : tie.Need-returns
-returns c = get-at _ _ 8 _ _ (omega arith)
+returns c = get-at _ _ 2 _ _ (omega arith)
 
 pub word-spec : {M : Type 1} → statement M
-word-spec =
-    tie.close
-    (tie.spec mul-result add-result add-result-2 mul-result-2 shared-slice-read-result returns)
+word-spec = tie.close (tie.spec add-result mul-result shared-slice-read-result returns)

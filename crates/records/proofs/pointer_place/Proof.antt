@@ -4,17 +4,17 @@ use Rattle.records.proofs.Placing.{pointer-off, no-pointer, pointer-tor
 use Rattle.records.proofs.pointer_place.Tie as tie
 use Rattle.records.proofs.pointer_place.Statement.{statement}
 
-mul-end : tie.Need-mul-end
-mul-end c = search needs
+heap-words-requires : tie.Need-heap-words-requires
+heap-words-requires c κs = search needs
 
 returns : tie.Need-returns
-returns c = pointer-off _ _ _ _ (c .if1 .taken)
+returns c = pointer-off _ _ (c .before .heap-words .ensures) _ _ _ (c .if1 .taken)
 
 word-requires : tie.Need-word-requires
 word-requires c κs = search needs
 
 returns-2 : tie.Need-returns-2
-returns-2 c = no-pointer _ _ _ _ _ (c .before .word .ensures) (c .before .before .if1 .left) (c .if2 .taken)
+returns-2 c = no-pointer _ _ (c .before .before .before .heap-words .ensures) _ _ _ _ (c .before .word .ensures) (c .before .before .if1 .left) (c .if2 .taken)
 
 add-place : tie.Need-add-place
 add-place c = search needs
@@ -23,12 +23,20 @@ add-place-2 : tie.Need-add-place-2
 add-place-2 c = search needs
 
 returns-3 : tie.Need-returns-3
-returns-3 c = pointer-torn _ _ _ _ _ (c .before .before .word .ensures) (c .before .before .before .if1 .left) (c .before .if2 .left) (c .if3 .taken)
+returns-3 c = pointer-torn _ _ (c .before .before .before .before .heap-words .ensures) _ _ _ _ (c .before .before .word .ensures) (c .before .before .before .if1 .left) (c .before .if2 .left) (c .if3 .taken)
 
 returns-4 : tie.Need-returns-4
-returns-4 c = pointer-at _ _ _ _ _ (c .before .before .word .ensures) (c .before .before .before .if1 .left) (c .before .if2 .left) (c .if3 .left)
+returns-4 c = pointer-at _ _ (c .before .before .before .before .heap-words .ensures) _ _ _ _ (c .before .before .word .ensures) (c .before .before .before .if1 .left) (c .before .if2 .left) (c .if3 .left)
 
 pub pointer-place-spec : {M : Type 1} → statement M
 pointer-place-spec =
     tie.close
-    (tie.spec mul-end returns word-requires returns-2 add-place add-place-2 returns-3 returns-4)
+    (tie.spec
+    heap-words-requires
+    returns
+    word-requires
+    returns-2
+    add-place
+    add-place-2
+    returns-3
+    returns-4)

@@ -11,6 +11,9 @@ returns c = unknown-2 _ _ _ (c .if1 .taken)
 mul-mutator : tie.Need-mul-mutator
 mul-mutator c = search needs
 
+add-mutator : tie.Need-add-mutator
+add-mutator c = search needs
+
 mutator-requires : tie.Need-mutator-requires
 mutator-requires c κs = search needs
 
@@ -28,4 +31,4 @@ returns-4 c = inside-rest _ _ _ (c .before .before .before .if1 .left) (sym (c .
 
 pub standing-spec : {M : Type 1} → statement M
 standing-spec =
-    tie.close (tie.spec returns mul-mutator mutator-requires returns-2 returns-3 returns-4)
+    tie.close (tie.spec returns mul-mutator add-mutator mutator-requires returns-2 returns-3 returns-4)

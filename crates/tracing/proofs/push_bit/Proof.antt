@@ -1,5 +1,7 @@
 -- `tracing::push_bit` meets its contract. Assumes nothing.
+use native.Mathlib.Omega.{arith}
 use borrow.Author.Needs.{needs}
+use Rattle.layout.proofs.Sizes.{mark-word, trace-most}
 use Rattle.tracing.proofs.Bits.{push-marked, push-queued, push-full, push-done}
 use Rattle.tracing.proofs.push_bit.Tie as tie
 use Rattle.tracing.proofs.push_bit.Statement.{statement}
@@ -8,7 +10,7 @@ cast-b : tie.Need-cast-b
 cast-b c = search needs
 
 mark-requires : tie.Need-mark-requires
-mark-requires c κs = search needs
+mark-requires c κs = (c .before .before .pre .0, mark-word _ _ (c .before .before .pre .1))
 
 bit-of-requires : tie.Need-bit-of-requires
 bit-of-requires c κs = search needs
@@ -20,7 +22,7 @@ returns : tie.Need-returns
 returns c = push-marked _ _ _ _ _ _ (c .before .before .mark .ensures) (c .before .bit-of .ensures) (c .if1 .taken)
 
 queued-requires : tie.Need-queued-requires
-queued-requires c κs = search needs
+queued-requires c κs = (c .before .before .before .before .before .before .pre .0, mark-word _ _ (c .before .before .before .before .before .before .pre .1))
 
 bit-of-requires-2 : tie.Need-bit-of-requires-2
 bit-of-requires-2 c κs = search needs
@@ -34,8 +36,8 @@ returns-2 c = push-queued _ _ _ _ _ _ (c .before .before .before .before .before
 control-requires : tie.Need-control-requires
 control-requires c κs = search needs
 
-mul-if3 : tie.Need-mul-if3
-mul-if3 c = search needs
+trace-words-requires : tie.Need-trace-words-requires
+trace-words-requires c κs = search needs
 
 cast-if3 : tie.Need-cast-if3
 cast-if3 c = search needs
@@ -44,13 +46,13 @@ same-length-3 : tie.Need-same-length-3
 same-length-3 c = search needs
 
 returns-3 : tie.Need-returns-3
-returns-3 c = push-full _ _ _ _ _ _ (c .before .before .before .before .before .before .before .before .before .before .mark .ensures) (c .before .before .before .before .before .before .before .before .before .bit-of .ensures) (c .before .before .before .before .before .before .before .before .if1 .left) _ _ (c .before .before .before .before .before .before .queued .ensures) (c .before .before .before .before .before .bit-of2 .ensures) (c .before .before .before .before .if2 .left) _ (c .before .before .control .ensures) (c .if3 .taken)
+returns-3 c = push-full _ _ _ _ _ _ (c .before .before .before .before .before .before .before .before .before .before .mark .ensures) (c .before .before .before .before .before .before .before .before .before .bit-of .ensures) (c .before .before .before .before .before .before .before .before .if1 .left) _ _ (c .before .before .before .before .before .before .queued .ensures) (c .before .before .before .before .before .bit-of2 .ensures) (c .before .before .before .before .if2 .left) _ (c .before .before .control .ensures) _ (c .before .trace-words .ensures) (c .if3 .taken)
 
 with-bit-requires : tie.Need-with-bit-requires
 with-bit-requires c κs = search needs
 
 set-queued-requires : tie.Need-set-queued-requires
-set-queued-requires c κs = search needs
+set-queued-requires c κs = (c .before .before .before .before .before .before .before .before .before .before .before .before .before .before .before .pre .0, mark-word _ _ (c .before .before .before .before .before .before .before .before .before .before .before .before .before .before .before .pre .1))
 
 cast-set-trace : tie.Need-cast-set-trace
 cast-set-trace c = search needs
@@ -59,7 +61,11 @@ set-trace-requires : tie.Need-set-trace-requires
 set-trace-requires c κs = search needs
 
 add-set-control : tie.Need-add-set-control
-add-set-control c = search needs
+add-set-control c =
+    let m = trace-most _ (c .before .before .before .before .before .before .before .before .before .before .before .before .before .before .before .before .before .before .before .before .before .before .before .pre .0 .few) in
+    let e = c .before .before .before .before .before .before .before .before .before .before .before .trace-words .ensures in
+    let l = c .before .before .before .before .before .before .before .before .before .before .if3 .left in
+    omega arith
 
 set-control-requires : tie.Need-set-control-requires
 set-control-requires c κs = search needs
@@ -86,7 +92,7 @@ push-bit-spec =
     same-length-2
     returns-2
     control-requires
-    mul-if3
+    trace-words-requires
     cast-if3
     same-length-3
     returns-3

@@ -1,0 +1,15 @@
+-- `layout::trace_words` meets its contract. Assumes nothing.
+use borrow.Author.Needs.{needs}
+use Rattle.layout.specs.Geometry.{segmentBytes}
+use Rattle.layout.proofs.trace_words.Tie as tie
+use Rattle.layout.proofs.trace_words.Statement.{statement}
+
+mul-result : tie.Need-mul-result
+mul-result c = search needs
+
+returns : tie.Need-returns
+unfolding segmentBytes
+returns c = search needs
+
+pub trace-words-spec : {M : Type 1} → statement M
+trace-words-spec = tie.close (tie.spec mul-result returns)

@@ -1,0 +1,102 @@
+-- Blocks and the words of their headers: segment, block and bit of a header, and back. Assumes nothing.
+use mathlib.Core.Path.{_≡_, sym, _∙_, ap, subst}
+use Prim.Native.Nat.{ℕ, suc, _+_, _*_, _/_, _%_, _≤_, _<_}
+use native.Mathlib.Nat.{mod-lt, div-lt-iff-lt-mul, div-add-mod', mul-div-cancel, mul-mod-left, suc-mul, mul-le-mul-right}
+use native.Mathlib.Omega.{arith}
+use lib.Arith.{digits-div, digits-mod}
+use Rattle.layout.specs.declared.Geometry.{Geometry}
+use Rattle.layout.specs.Geometry.{segmentWords, mostBlocks, blocksIn, segmentOf, bitIn}
+use Rattle.layout.specs.Mem.{Mem}
+use Rattle.layout.proofs.Sizes.{one-way, within, whole, words-some}
+use Rattle.model.specs.Fields.{class}
+use Rattle.model.specs.Records.{blockWords, blockOf, headerOf, bitOf}
+use Rattle.model.specs.Consistent.{IsClass}
+
+module _ (g : Geometry) (c : ℕ) (k : IsClass c) where
+  pub blocks-words : blocksIn g c * blockWords c ≡ segmentWords g
+  blocks-words = whole g c (k .0) (k .1) .0
+
+  pub words-two : 2 ≤ blockWords c
+  words-two = whole g c (k .0) (k .1) .1
+
+  pub blocks-most : blocksIn g c ≤ mostBlocks g
+  blocks-most = whole g c (k .0) (k .1) .2
+
+  pub blocks-some : 1 ≤ blocksIn g c
+  blocks-some = whole g c (k .0) (k .1) .3
+
+  words-pos : 0 < blockWords c
+  words-pos = let l = words-two in omega arith
+
+  -- a word of a segment is of one of its blocks
+  pub block-below : (w : ℕ) → w < segmentWords g → w / blockWords c < blocksIn g c
+  block-below w l = div-lt-iff-lt-mul words-pos .1 (subst (λ z. w < z) (sym blocks-words) l)
+
+  -- a block begins in its segment, with all its words
+  pub block-within : (b : ℕ) → b < blocksIn g c → b * blockWords c + blockWords c ≤ segmentWords g
+  block-within b l =
+      let e : suc b * blockWords c ≤ blocksIn g c * blockWords c = mul-le-mul-right (blockWords c) l in
+      let f : suc b * blockWords c ≡ b * blockWords c + blockWords c = suc-mul b (blockWords c) in
+      let h = blocks-words in omega arith
+
+  module _ (s b : ℕ) (l : b < blocksIn g c) where
+    below : b * blockWords c < segmentWords g
+    below = let h = block-within b l in let p = words-pos in omega arith
+
+    pub header-segment : segmentOf g (headerOf g s c b) ≡ s
+    header-segment = digits-div s below
+
+    pub header-word : headerOf g s c b % segmentWords g ≡ b * blockWords c
+    header-word = digits-mod s below
+
+    pub header-block : (m : Mem) → class m s ≡ c → blockOf g m (headerOf g s c b) ≡ b
+    header-block m e =
+        let z : class m (segmentOf g (headerOf g s c b)) ≡ c = ap (class m) header-segment ∙ e in
+        ap (λ z. headerOf g s c b % segmentWords g / blockWords z) z ∙ ap (λ z. z / blockWords c) header-word ∙ mul-div-cancel b words-pos
+
+    pub header-bit : (m : Mem) → class m s ≡ c → bitOf g m (headerOf g s c b) ≡ bitIn g s b
+    header-bit m e = ap (λ z. bitIn g z (blockOf g m (headerOf g s c b))) header-segment ∙ ap (bitIn g s) (header-block m e)
+
+    pub header-aligned : headerOf g s c b % segmentWords g % blockWords c ≡ 0
+    header-aligned = ap (λ z. z % blockWords c) header-word ∙ mul-mod-left b (blockWords c)
+
+    -- by the memory's own class of the segment
+    pub header-class : (m : Mem) → class m s ≡ c → class m (segmentOf g (headerOf g s c b)) ≡ c
+    header-class m e = ap (class m) header-segment ∙ e
+
+    pub header-is-class : (m : Mem) → class m s ≡ c → IsClass (class m (segmentOf g (headerOf g s c b)))
+    header-is-class m e = subst IsClass (sym (header-class m e)) k
+
+    pub header-head : (m : Mem) → class m s ≡ c → headerOf g s c b % segmentWords g % blockWords (class m (segmentOf g (headerOf g s c b))) ≡ 0
+    header-head m e = ap (λ z. headerOf g s c b % segmentWords g % blockWords z) (header-class m e) ∙ header-aligned
+
+    -- the block's words are words of the heap
+    pub header-inside : s < g .segments → headerOf g s c b + blockWords c ≤ g .segments * segmentWords g
+    header-inside h = let i = block-within b l in let y : suc s * segmentWords g ≤ g .segments * segmentWords g = mul-le-mul-right (segmentWords g) h in let x = suc-mul s (segmentWords g) in omega arith
+
+-- ---- a word at the head of a block of its segment
+
+module _ (g : Geometry) (m : Mem) (at : ℕ) (k : IsClass (class m (segmentOf g at))) where
+  pub of-block : blockOf g m at < blocksIn g (class m (segmentOf g at))
+  of-block = block-below g (class m (segmentOf g at)) k (at % segmentWords g) (mod-lt at (words-some g))
+
+  pub bit-below : at < g .segments * segmentWords g → bitOf g m at < g .segments * mostBlocks g
+  bit-below l = let h = of-block in let q = blocks-most g (class m (segmentOf g at)) k in within (mostBlocks g) (segmentOf g at) (g .segments) (blockOf g m at) (div-lt-iff-lt-mul (words-some g) .1 l) (omega arith)
+
+  pub is-header : at % segmentWords g % blockWords (class m (segmentOf g at)) ≡ 0 → at ≡ headerOf g (segmentOf g at) (class m (segmentOf g at)) (blockOf g m at)
+  is-header a =
+      let e = div-add-mod' (at % segmentWords g) (blockWords (class m (segmentOf g at))) in
+      let f = div-add-mod' at (segmentWords g) in
+      omega arith
+
+-- two heads with one bit are one
+pub same-bit : (g : Geometry) (m : Mem) (x y : ℕ) → IsClass (class m (segmentOf g x)) → IsClass (class m (segmentOf g y)) → x % segmentWords g % blockWords (class m (segmentOf g x)) ≡ 0 → y % segmentWords g % blockWords (class m (segmentOf g y)) ≡ 0 → bitOf g m x ≡ bitOf g m y → x ≡ y
+same-bit g m x y k l a b e =
+    let p = of-block g m x k in
+    let q = of-block g m y l in
+    let u = blocks-most g (class m (segmentOf g x)) k in
+    let v = blocks-most g (class m (segmentOf g y)) l in
+    let w = one-way (mostBlocks g) (segmentOf g x) (blockOf g m x) (segmentOf g y) (blockOf g m y) (omega arith) (omega arith) e in
+    let s : segmentOf g x ≡ segmentOf g y = w .0 in
+    let t : blockOf g m x ≡ blockOf g m y = w .1 in
+    is-header g m x k a ∙ ap (λ z. headerOf g z (class m z) (blockOf g m x)) s ∙ ap (headerOf g (segmentOf g y) (class m (segmentOf g y))) t ∙ sym (is-header g m y l b)
