@@ -13,7 +13,7 @@ use Rattle.model.specs.Fields.{setRoot}
 use Rattle.model.specs.Records.{pointers, values, pointer, value, setValue}
 use Rattle.model.specs.Calls.{face, act}
 use Rattle.model.specs.Promise.{Promise}
-use Rattle.model.proofs.Promised.{refused, done}
+use Rattle.laws.proofs.Promised.{refused, done}
 use Rattle.roots.specs.Inside.{insideThen}
 use Rattle.roots.proofs.Inside.{passed, in-range, in-range-at, with-rest, with-refused, at-rest, at-refused}
 use Rattle.records.specs.declared.Place.the-variants.{At}

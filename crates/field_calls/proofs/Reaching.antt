@@ -20,7 +20,7 @@ use Rattle.model.specs.Records.{pointers, values}
 use Rattle.model.specs.Calls.{isAttached, face}
 use Rattle.model.specs.Consistent.{Consistent}
 use Rattle.model.specs.Promise.{Promise}
-use Rattle.model.proofs.Promised.{refused, torn-13}
+use Rattle.laws.proofs.Promised.{refused, torn-13}
 use Rattle.records.specs.declared.Place.the-variants.{At}
 use Rattle.records.specs.declared.Place.the-variants as place
 use Rattle.records.specs.Places.{heldOf, pointerPlace, valuePlace}

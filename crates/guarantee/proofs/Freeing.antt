@@ -30,9 +30,9 @@ use Rattle.model.specs.Consistent.{IsClass}
 use Rattle.model.specs.Lists.{Element, started, Meets, KeepsLength, Gets, wrongSized, onward, Chain, Beside, besideOne, beside, BlockReached}
 use Rattle.refine_view.specs.View.{view, isHead}
 use Rattle.refine_view.specs.Kept.{AllKept}
-use Rattle.refine_view.proofs.Bools.{and-both}
-use Rattle.model.proofs.Blocks.{header-segment, header-aligned, header-bit}
-use Rattle.refine_view.proofs.Lengths.{sizes-of}
+use Rattle.laws.proofs.Bools.{and-both}
+use Rattle.laws.proofs.Blocks.{header-segment, header-aligned, header-bit}
+use Rattle.laws.proofs.Lengths.{sizes-of}
 use Rattle.refine_sweep.proofs.Sweeping.{swept-free, lowest-condemned}
 use Rattle.guarantee.specs.Demand3.{struckOut, wordsAfter, BlockFree, Unreached}
 use Rattle.guarantee.proofs.Points.{Point, Any}

@@ -21,7 +21,7 @@ use Rattle.model.specs.Collector.{swept}
 use Rattle.model.specs.Consistent.{Consistent}
 use Rattle.model.specs.Lists.{started, stepped, Meets, KeepsLength, Gets, wrongSized, onward, Chain, Beside, beside}
 use Rattle.refine_view.specs.View.{view}
-use Rattle.refine_view.proofs.Lengths.{sizes-of}
+use Rattle.laws.proofs.Lengths.{sizes-of}
 use Rattle.refine_start.proofs.Opened.{opened-consistent, opened-good}
 use Rattle.guarantee.specs.Demand3.{struckOut, begun, wordsAfter, BlockFree, Unreached, Opened, GarbageFreed, Demand3}
 use Rattle.guarantee.proofs.Kept.{all-kept}

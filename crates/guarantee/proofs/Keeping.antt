@@ -14,7 +14,7 @@ use Rattle.classes.proofs.Smallest.{is-smallest}
 use Rattle.layout.specs.declared.Geometry.{Geometry}
 use Rattle.layout.specs.Geometry.{mutatorCount, wrongSize, Sized, total, len, scratchWords}
 use Rattle.layout.specs.Mem.{Mem, memOf, flat}
-use Rattle.layout.proofs.Regions.{sized, resized, flat-memOf, right-size}
+use Rattle.layout.proofs.Regions.{sized, resized, flat-memOf, right-size, memOf-flat, length-flat}
 use Rattle.theory.specs.Calls.{Call, c-make, a-no, refusal}
 use Rattle.theory.proofs.CallKeeps.{by-ok}
 use Rattle.theory.proofs.Invariant.{none-some}
@@ -26,12 +26,11 @@ use Rattle.model.specs.Opening.{opened}
 use Rattle.model.specs.Run.{Request, answered}
 use Rattle.model.specs.Consistent.{Consistent, IsClass}
 use Rattle.model.specs.Lists.{Element, called, stepped, openedBy, sawPhase, sawStates, examinedBy, Meets, KeepsLength, lent, left, wrongSized, numberOf, Beside, struck}
-use Rattle.refine_view.proofs.Lengths.{sizes-of}
+use Rattle.laws.proofs.Lengths.{sizes-of}
 use Rattle.refine_view.proofs.Keeping.{self, selfPut, self-good}
 use Rattle.refine_taking.proofs.Rooms.{room-source, source-room}
 use Rattle.refine_start.proofs.Opened.{sizes-opened, opened-consistent}
 use Rattle.refine_run.proofs.Answering.{step-answers}
-use Rattle.refine_run.proofs.Whole.{cut-again, length-flat}
 use Rattle.refine_run.proofs.Own.{fine, own-run}
 use Rattle.guarantee.specs.Demand3.{struckOut, begun}
 use Rattle.guarantee.specs.Keeping.{OpeningEstablishes, Applied, EveryCallKeeps, NeverTorn, AlwaysConsistent, RefusedUnchanged, RunsItself, NoRoomExactly}
@@ -209,10 +208,10 @@ runs-itself g content rs e =
     record {
       opening = record {
         sized = e;
-        opening = record { sizes = λ h. absurd (true≢false (sym h ∙ e)); exact = λ h. (refl, cut-again g (opened g (memOf g content)) z) };
+        opening = record { sizes = λ h. absurd (true≢false (sym h ∙ e)); exact = λ h. (refl, memOf-flat g (opened g (memOf g content)) z) };
         long = l ∙ sym (s .is);
       };
-      chain = own-run g (answer-keeps g) (flat (opened g (memOf g content))) (resized g (length content) _ s (l ∙ sym (s .is))) (subst (Consistent g) (sym (cut-again g (opened g (memOf g content)) z)) (opened-consistent g (memOf g content) (sizes-of g content s))) rs;
+      chain = own-run g (answer-keeps g) (flat (opened g (memOf g content))) (resized g (length content) _ s (l ∙ sym (s .is))) (subst (Consistent g) (sym (memOf-flat g (opened g (memOf g content)) z)) (opened-consistent g (memOf g content) (sizes-of g content s))) rs;
     }
 
 -- ---- "no room"

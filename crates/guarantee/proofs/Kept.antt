@@ -13,7 +13,7 @@ use Rattle.classes.specs.declared.SizeClass.the-variants.{Class, TooBig}
 use Rattle.classes.proofs.Smallest.{class-limit, is-smallest}
 use Rattle.layout.specs.declared.Geometry.{Geometry}
 use Rattle.layout.specs.Geometry.{mutatorCount, rootCount, segmentOf}
-use Rattle.layout.specs.Mem.{Mem}
+use Rattle.layout.specs.Mem.{Mem, Sizes}
 use Rattle.theory.specs.Phases.{Phase, idle, sync1, sync2, mark, sweep}
 use Rattle.theory.specs.Calls.{Call, c-attach, c-detach, c-check, c-leave, c-enter, c-spawn, c-make, c-load, c-store, c-copy, c-clear, c-put, c-get, c-same, c-shape, Answer, refusal}
 use Rattle.theory.proofs.CallKeeps.{by-ok, root-ok, require-ok}
@@ -26,7 +26,7 @@ use Rattle.model.specs.Calls.{isAttached, face, act, ofClass}
 use Rattle.model.specs.Collector.{lowest, stepOf, stepIn}
 use Rattle.model.specs.Consistent.{Consistent, IsClass}
 use Rattle.refine_view.specs.View.{view}
-use Rattle.refine_view.specs.Kept.{Sizes, Moves, Matches, ActKept, StepKept, AllKept}
+use Rattle.refine_view.specs.Kept.{Moves, Matches, ActKept, StepKept, AllKept}
 use Rattle.refine_view.proofs.Invariants.{to-inv, consistent-of}
 use Rattle.refine_view.proofs.Keeping.{agree-self, matches-by, moves-self, call-kept}
 use Rattle.refine_roots.proofs.Calls.{load-kept, copy-kept, clear-kept, get-kept, same-kept, shape-kept}

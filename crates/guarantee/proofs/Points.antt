@@ -10,7 +10,7 @@ use lib.ListN.{length}
 use Rattle.rules.specs.Pick.{pick}
 use Rattle.layout.specs.declared.Geometry.{Geometry}
 use Rattle.layout.specs.Geometry.{Sized, wrongSize, segmentOf}
-use Rattle.layout.specs.Mem.{Mem, memOf}
+use Rattle.layout.specs.Mem.{Mem, memOf, Sizes}
 use Rattle.layout.proofs.Regions.{resized, right-size}
 use Rattle.theory.specs.Phases.{Phase, idle, sync1, sync2, mark, sweep}
 use Rattle.theory.specs.Calls.{Call, a-ok, a-no}
@@ -30,8 +30,8 @@ use Rattle.model.specs.Consistent.{Consistent}
 use Rattle.model.specs.Promise.{Promise, StartPromise, StepPromise}
 use Rattle.model.specs.Lists.{Beside, struck, putIf}
 use Rattle.refine_view.specs.View.{view}
-use Rattle.refine_view.specs.Kept.{Sizes, AllKept, CallKept, Steady}
-use Rattle.refine_view.proofs.Lengths.{sizes-of}
+use Rattle.refine_view.specs.Kept.{AllKept, CallKept, Steady}
+use Rattle.laws.proofs.Lengths.{sizes-of}
 use Rattle.refine_view.proofs.Invariants.{consistent-of}
 use Rattle.theory.specs.Machine as machine
 use Rattle.theory.specs.Calls as theory

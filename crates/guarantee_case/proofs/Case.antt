@@ -8,7 +8,7 @@ use lib.ListN.{length, getD}
 use Rattle.layout.specs.declared.Geometry.{Geometry}
 use Rattle.layout.specs.Geometry.{wrongSize, Sized}
 use Rattle.layout.specs.Mem.{memOf, flat}
-use Rattle.layout.proofs.Regions.{sized}
+use Rattle.layout.proofs.Regions.{sized, memOf-flat}
 use Rattle.theory.specs.Calls.{c-check, c-clear, c-load, c-put, c-get, a-ok, a-num}
 use Rattle.model.specs.declared.Answer.the-variants.{Ok, Number}
 use Rattle.model.specs.declared.Step.{Step}
@@ -19,9 +19,8 @@ use Rattle.model.specs.Collector.{startOf, stepOf}
 use Rattle.model.specs.Opening.{opened}
 use Rattle.model.specs.Lists.{called, started, stepped, left, keepUnless, struck, remainingCalls, remainingAnswers}
 use Rattle.model.specs.Run.{Request, call, start, step, declared, answered, run}
-use Rattle.refine_view.proofs.Lengths.{sizes-of}
+use Rattle.laws.proofs.Lengths.{sizes-of}
 use Rattle.refine_start.proofs.Opened.{sizes-opened}
-use Rattle.refine_run.proofs.Whole.{cut-again}
 use Rattle.refine_run.proofs.Own.{afterRun, run-append}
 use Rattle.guarantee.specs.Demand3.{struckOut, SweptIn}
 use Rattle.guarantee.specs.Keeping.{OwnRun}
@@ -89,7 +88,7 @@ module _ (g : Geometry) (content : List ℕ) where
 
     -- the words after a part of the case stand for the memory after its events
     pub memory : (rs : List Request) → memOf g (afterRun g words rs) ≡ after g (memOf g content) (sinceOpening rs)
-    memory rs = memory-after g words long rs ∙ ap (λ m. after g m (events rs)) (cut-again g (opened g (memOf g content)) (sizes-opened g (memOf g content) (sizes-of g content (sized g (length content) right))))
+    memory rs = memory-after g words long rs ∙ ap (λ m. after g m (events rs)) (memOf-flat g (opened g (memOf g content)) (sizes-opened g (memOf g content) (sizes-of g content (sized g (length content) right))))
 
     module _ (told : replies g (memOf g content) (inputs whole) ≡ outputs whole) where
       reply : (xs : List Request) (r : Request) (ys : List Event) → sinceOpening xs ++ (eventOf r ∷ ys) ≡ inputs whole → does g (memOf g (afterRun g words xs)) (eventOf r) .0 ≡ getD (outputs whole) (length (sinceOpening xs)) ok

@@ -13,16 +13,15 @@ use Rattle.words.proofs.Lists.{at-lt}
 use Rattle.words.proofs.Ones.{among-le}
 use Rattle.layout.specs.Geometry.{blocksIn, segmentOf}
 use Rattle.layout.specs.declared.Geometry.{Geometry}
-use Rattle.layout.specs.Mem.{Mem}
+use Rattle.layout.specs.Mem.{Mem, Sizes}
 use Rattle.model.specs.Fields.{tag, class, place}
 use Rattle.model.specs.Segments.{bitmap, usedBit, inUse}
 use Rattle.model.specs.Records.{blockOf, headerOf}
 use Rattle.model.specs.Collector.{swept}
 use Rattle.model.specs.Consistent.{Consistent, IsClass, isFree}
 use Rattle.refine_view.specs.View.{isUsed}
-use Rattle.refine_view.specs.Kept.{Sizes}
-use Rattle.refine_view.proofs.Bools.{and-right, and-left, not-eq}
-use Rattle.model.proofs.Blocks.{header-segment, header-block}
+use Rattle.laws.proofs.Bools.{and-right, and-left, not-eq}
+use Rattle.laws.proofs.Blocks.{header-segment, header-block}
 use Rattle.words.proofs.Counts.{one-missing}
 use Rattle.refine_sweep.proofs.Outcome.{Outcome}
 use Rattle.refine_sweep.proofs.SweepStep.{swept-outcome}

@@ -27,7 +27,7 @@ use Rattle.model.specs.Collector.{isFull, stepOf, stepIn, sweeps, swept}
 use Rattle.model.specs.Consistent.{Consistent, IsClass}
 use Rattle.model.specs.Lists.{Element, started, stepped, Meets, KeepsLength, Gets, wrongSized, onward, Chain, Beside, beside, BlockReached}
 use Rattle.refine_view.specs.View.{view, isUsed}
-use Rattle.refine_view.proofs.Lengths.{sizes-of}
+use Rattle.laws.proofs.Lengths.{sizes-of}
 use Rattle.refine_sweep.proofs.Sweeping.{lowest-condemned}
 use Rattle.guarantee.specs.Demand3.{struckOut, begun, wordsAfter, Unreached, SweptIn, Opened}
 use Rattle.guarantee.proofs.Kept.{all-kept}

@@ -7,12 +7,10 @@ use native.Mathlib.Omega.{arith}
 use lib.ListN.{length, length-replicate}
 use Rattle.layout.specs.declared.Geometry.{Geometry}
 use Rattle.layout.specs.Geometry.{wrongSize, Sized, len, maxSegments}
-use Rattle.layout.specs.Mem.{Mem, memOf, flat}
-use Rattle.layout.proofs.Regions.{right-size}
+use Rattle.layout.specs.Mem.{Mem, memOf, flat, Sizes}
+use Rattle.layout.proofs.Regions.{right-size, length-flat, memOf-flat}
 use Rattle.model.specs.Lists.{beside}
 use Rattle.model.specs.Run.{run}
-use Rattle.refine_view.specs.Kept.{Sizes}
-use Rattle.refine_run.proofs.Whole.{length-flat, cut-again}
 use Rattle.guarantee.specs.Demand3.{struckOut, begun}
 use Rattle.guarantee.specs.Instance.{Instance}
 use Rattle.model_cases.specs.Events.{replies, inputs, outputs, geometry, sevens}
@@ -86,7 +84,7 @@ sizes-sevens g = record {
 -- a memory whose regions have their lengths, joined
 case-of : (g : Geometry) → 1 ≤ g .segments → g .segments ≤ maxSegments → (m : Mem) → Sizes g m → replies g m (inputs whole) ≡ outputs whole → Instance
 case-of g l h m z told =
-    let e : m ≡ memOf g (flat m) = sym (cut-again g m z) in
+    let e : m ≡ memOf g (flat m) = sym (memOf-flat g m z) in
     let x : Sized g (length (flat m)) = record { some = l; few = h; is = length-flat g m z } in
     case-from g (flat m) (right-size g (length (flat m)) x) (subst (λ u. replies g u (inputs whole) ≡ outputs whole) e told)
 

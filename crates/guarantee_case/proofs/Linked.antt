@@ -13,8 +13,8 @@ use Rattle.model.specs.Calls.{exec}
 use Rattle.model.specs.Collector.{startOf, stepOf}
 use Rattle.model.specs.Lists.{left}
 use Rattle.model.specs.Run.{Request, call, start, step, look, lookInto, examine, shown, examined, answered}
-use Rattle.refine_view.proofs.Lengths.{sizes-of}
-use Rattle.refine_run.proofs.Whole.{cut-again}
+use Rattle.laws.proofs.Lengths.{sizes-of}
+use Rattle.layout.proofs.Regions.{memOf-flat}
 use Rattle.refine_run.proofs.Sizing.{sizes-exec}
 use Rattle.refine_run.proofs.Collecting.{sizes-start, sizes-step}
 use Rattle.refine_run.proofs.Own.{afterRun, sized-left}
@@ -42,9 +42,9 @@ after g m (e ∷ es) = after g (does g m e .1) es
 module _ (g : Geometry) where
   -- the words that a request leaves
   memory-left : (words : List ℕ) → Sized g (length words) → (r : Request) → memOf g (left (answered g words r)) ≡ does g (memOf g words) (eventOf r) .1
-  memory-left words z (call c) = cut-again g (exec g (memOf g words) c .1) (sizes-exec g (memOf g words) (sizes-of g words z) c)
-  memory-left words z start = cut-again g (startOf g (memOf g words) .1) (sizes-start g (memOf g words) (sizes-of g words z))
-  memory-left words z step = cut-again g (stepOf g (memOf g words) .1) (sizes-step g (memOf g words) (sizes-of g words z))
+  memory-left words z (call c) = memOf-flat g (exec g (memOf g words) c .1) (sizes-exec g (memOf g words) (sizes-of g words z) c)
+  memory-left words z start = memOf-flat g (startOf g (memOf g words) .1) (sizes-start g (memOf g words) (sizes-of g words z))
+  memory-left words z step = memOf-flat g (stepOf g (memOf g words) .1) (sizes-step g (memOf g words) (sizes-of g words z))
   memory-left words z look = refl
   memory-left words z (lookInto output) = go (eqb (length output) (len g Region.segments))
     where

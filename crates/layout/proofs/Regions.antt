@@ -13,7 +13,7 @@ use Rattle.rules.specs.Pick.{pick}
 use Rattle.layout.specs.declared.Geometry.{Geometry}
 use Rattle.layout.specs.Parts.{parts, joined, start, lengths}
 use Rattle.layout.specs.Geometry.{lens, len, from, total, regionCount, maxSegments, Sized, wrongSize}
-use Rattle.layout.specs.Mem.{Mem, memOf, flat, ofParts, regions, region, run, withRegion, setRun, clearRegion, Fits}
+use Rattle.layout.specs.Mem.{Mem, memOf, flat, ofParts, regions, region, run, withRegion, setRun, clearRegion, Sizes}
 use Rattle.layout.proofs.Cut.{read, write, writes, lent, whole, apart, long-at}
 
 module _ (g : Geometry) (l : List ℕ) where
@@ -61,17 +61,21 @@ module _ (g : Geometry) (l : List ℕ) where
   unfolding memOf flat
   flat-memOf e = whole (lens g) l (omega arith)
 
-pub memOf-flat : (g : Geometry) (m : Mem) → Fits g m → memOf g (flat m) ≡ m
+same-lengths : (g : Geometry) (m : Mem) → Sizes g m → lengths (regions m) ≡ lens g
+same-lengths g m z = rw (z .control, z .mutators, z .heap, z .segments, z .stacks, z .bitmaps, z .marks, z .queued, z .trace) refl
+
+-- a memory with regions of their lengths, joined: a slice of the right length, cut into that memory again
+pub memOf-flat : (g : Geometry) (m : Mem) → Sizes g m → memOf g (flat m) ≡ m
 unfolding memOf flat
-memOf-flat g m f = ap (λ (ks : List ℕ). ofParts (parts ks (joined (regions m)))) (sym (f .same)) ∙ ap ofParts (apart (regions m))
+memOf-flat g m z = ap (λ (ks : List ℕ). ofParts (parts ks (joined (regions m)))) (sym (same-lengths g m z)) ∙ ap ofParts (apart (regions m))
 
 length-joined : (xs : List (List ℕ)) → length (joined xs) ≡ start (lengths xs) (length xs)
 length-joined [] = refl
 length-joined (x ∷ xs) = length-append x (joined xs) ∙ ap (λ n. length x + n) (length-joined xs)
 
-pub length-flat : (g : Geometry) (m : Mem) → Fits g m → length (flat m) ≡ total g
+pub length-flat : (g : Geometry) (m : Mem) → Sizes g m → length (flat m) ≡ total g
 unfolding flat
-length-flat g m f = length-joined (regions m) ∙ ap (λ (ks : List ℕ). start ks regionCount) (f .same)
+length-flat g m z = length-joined (regions m) ∙ ap (λ (ks : List ℕ). start ks regionCount) (same-lengths g m z)
 
 or-false : (b : Bool) {x : Bool} → pick b true x ≡ false → (b ≡ false) × (x ≡ false)
 or-false true e = absurd (true≢false e)

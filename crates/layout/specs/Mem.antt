@@ -2,7 +2,7 @@
 use Prim.Native.Nat.{ℕ}
 use mathlib.Core.Path.{_≡_}
 use mathlib.Core.List.{List, [], _∷_}
-use lib.ListN.{getD, take, drop, set, replicate}
+use lib.ListN.{length, getD, take, drop, set, replicate}
 use lib.Seq.{sets}
 use Rattle.layout.specs.declared.Geometry.{Geometry}
 use Rattle.layout.specs.Geometry.{lens, len}
@@ -43,8 +43,16 @@ unfoldable pub flat : Mem → List ℕ
 flat m = joined (regions m)
 
 -- every region has its length
-pub record Fits (g : Geometry) (m : Mem) : Type 0 where
-  pub same : lengths (regions m) ≡ lens g
+pub record Sizes (g : Geometry) (m : Mem) : Type 0 where
+  pub control : length (m .control) ≡ len g Region.control
+  pub mutators : length (m .mutators) ≡ len g Region.mutators
+  pub segments : length (m .segments) ≡ len g Region.segments
+  pub stacks : length (m .stacks) ≡ len g Region.stacks
+  pub bitmaps : length (m .bitmaps) ≡ len g Region.bitmaps
+  pub marks : length (m .marks) ≡ len g Region.marks
+  pub queued : length (m .queued) ≡ len g Region.queued
+  pub trace : length (m .trace) ≡ len g Region.trace
+  pub heap : length (m .heap) ≡ len g Region.heap
 
 -- region k, and the memory with another in its place
 abbrev pub region : Mem → ℕ → List ℕ

@@ -1,4 +1,2 @@
 -- Laws of the definitions.
 pub mod Phases
-pub mod Blocks
-pub mod Promised

@@ -18,7 +18,7 @@ use Rattle.model.specs.Records.{pointers, values, blockOf}
 use Rattle.model.specs.Calls.{isAttached}
 use Rattle.model.specs.Reaching.{Live}
 use Rattle.model.specs.Consistent.{IsClass, RecordOk, Consistent}
-use Rattle.model.proofs.Blocks.{header-inside, of-block, is-header}
+use Rattle.laws.proofs.Blocks.{header-inside, of-block, is-header}
 use Rattle.model.specs.Fields as fields
 use Rattle.layout.specs.Region as Region
 

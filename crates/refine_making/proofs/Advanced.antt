@@ -9,7 +9,7 @@ use Rattle.words.specs.Bits.{bitAt}
 use Rattle.classes.specs.Class.{firstClass}
 use Rattle.layout.specs.declared.Geometry.{Geometry}
 use Rattle.layout.specs.Geometry.{mutatorWords, recordWords, blocksIn}
-use Rattle.layout.specs.Mem.{Mem, setMutator}
+use Rattle.layout.specs.Mem.{Mem, setMutator, Sizes}
 use Rattle.bitmap_search.specs.declared.Found.{Found}
 use Rattle.bitmap_search.specs.declared.Found.the-variants.{Block, Nothing, Torn}
 use Rattle.bitmap_search.proofs.Scan.{IsNext, next-is}
@@ -17,10 +17,9 @@ use Rattle.model.specs.declared.SegmentState.the-variants.{Held, Full}
 use Rattle.model.specs.Fields.{heldFrom, setHolding}
 use Rattle.model.specs.Segments.{setState, bitmap, free}
 use Rattle.model.specs.Making.{advanced}
-use Rattle.refine_view.specs.Kept.{Sizes}
-use Rattle.refine_view.proofs.Words.{recorded-as, state-others, state-there, state-other}
-use Rattle.refine_view.proofs.Entries.{table-there, table-other}
-use Rattle.refine_view.proofs.Lengths.{sizes-state, sizes-mutator}
+use Rattle.laws.proofs.Words.{recorded-as, state-others, state-there, state-other}
+use Rattle.laws.proofs.Entries.{table-there, table-other}
+use Rattle.laws.proofs.Lengths.{sizes-state, sizes-mutator}
 use Rattle.refine_making.proofs.Request.{Request}
 use Rattle.refine_making.proofs.Result.{Moved}
 

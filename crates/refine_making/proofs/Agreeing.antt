@@ -10,7 +10,7 @@ use lib.ListN.{replicate}
 use borrow.Author.Tests.{eq-eqb, eqb-true}
 use Rattle.layout.specs.declared.Geometry.{Geometry}
 use Rattle.layout.specs.Geometry.{rootCount, segmentOf, bitIn}
-use Rattle.layout.specs.Mem.{Mem, heapWord}
+use Rattle.layout.specs.Mem.{Mem, heapWord, Sizes}
 use Rattle.theory.specs.Phases.{black}
 use Rattle.theory.specs.Update.{upd, upd2}
 use Rattle.theory.proofs.Updates.{upd-hit, upd-other, upd-hit₁, upd-miss₁}
@@ -21,11 +21,10 @@ use Rattle.model.specs.Records.{record?, pointers, values, pointer, marked, blo
 use Rattle.model.specs.Reaching.{Live, isMarked}
 use Rattle.model.specs.Consistent.{Consistent, IsClass, RecordOk}
 use Rattle.refine_view.specs.View.{view, valuesOf, isHead, isUsed}
-use Rattle.refine_view.specs.Kept.{Sizes}
-use Rattle.refine_view.proofs.Bools.{and-both, ne-not}
+use Rattle.laws.proofs.Bools.{and-both, ne-not}
 use Rattle.layout.proofs.Sizes.{segment-below}
-use Rattle.model.proofs.Blocks.{header-segment, header-bit, header-is-class, header-head, of-block, same-bit, blocks-most}
-use Rattle.refine_view.proofs.Segments.{in-range}
+use Rattle.laws.proofs.Blocks.{header-segment, header-bit, header-is-class, header-head, of-block, same-bit, blocks-most}
+use Rattle.laws.proofs.Segments.{in-range}
 use Rattle.theory.proofs.Updates.{upd2-by}
 use Rattle.refine_view.proofs.Invariants.{to-live, to-inv, used-of}
 use Rattle.refine_making.proofs.Request.{Request}

@@ -11,8 +11,8 @@ use Rattle.model.specs.Fields.{class}
 use Rattle.model.specs.Records.{pointers, values, pointer, headerOf, blockWords}
 use Rattle.model.specs.Consistent.{IsClass, RecordOk}
 use Rattle.refine_view.specs.View.{valuesOf}
-use Rattle.model.proofs.Blocks.{header-class, header-is-class, header-head}
-use Rattle.refine_view.proofs.Apart.{fits, heads-apart}
+use Rattle.laws.proofs.Blocks.{header-class, header-is-class, header-head}
+use Rattle.laws.proofs.Apart.{fits, heads-apart}
 use Rattle.refine_view.proofs.Contents.{pointers-by, pointer-by, fields-by}
 use Rattle.refine_making.proofs.Request.{Request}
 use Rattle.refine_making.proofs.Result.{Result}

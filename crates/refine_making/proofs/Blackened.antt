@@ -12,17 +12,16 @@ use Rattle.words.proofs.Lists.{set-there, set-elsewhere}
 use Rattle.classes.specs.Class.{firstClass}
 use Rattle.layout.specs.declared.Geometry.{Geometry}
 use Rattle.layout.specs.Geometry.{mutatorWords, mostBlocks, bitIn}
-use Rattle.layout.specs.Mem.{Mem, setMutator, setHeap, setRun}
+use Rattle.layout.specs.Mem.{Mem, setMutator, setHeap, setRun, Sizes}
 use Rattle.theory.specs.Phases.{black}
 use Rattle.model.specs.Fields.{phase, heldFrom, acks, setRoot, tag, class, place, owner}
 use Rattle.model.specs.Records.{headerOf, written, setMarked, bitOf}
 use Rattle.model.specs.Making.{blackened, handedOut}
-use Rattle.refine_view.specs.Kept.{Sizes}
 use Rattle.layout.proofs.Sizes.{within, marks-are}
-use Rattle.refine_view.proofs.Words.{Recorded, recorded-as}
-use Rattle.model.proofs.Blocks.{header-bit, blocks-most}
+use Rattle.laws.proofs.Words.{Recorded, recorded-as}
+use Rattle.laws.proofs.Blocks.{header-bit, blocks-most}
 use Rattle.refine_view.proofs.Frames.{beside}
-use Rattle.refine_view.proofs.Lengths.{sizes-mutator, sizes-heap, sizes-heap-run, sizes-marked}
+use Rattle.laws.proofs.Lengths.{sizes-mutator, sizes-heap, sizes-heap-run, sizes-marked}
 use Rattle.refine_making.proofs.Request.{Request}
 use Rattle.refine_making.proofs.Result.{Moved, StillHeld, NowFull, Result}
 use Rattle.refine_making.proofs.Advanced.{moved}

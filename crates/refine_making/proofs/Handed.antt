@@ -9,7 +9,7 @@ use Rattle.classes.specs.Class.{classOf}
 use Rattle.classes.specs.declared.SizeClass.the-variants.{Class}
 use Rattle.layout.specs.declared.Geometry.{Geometry}
 use Rattle.layout.specs.Geometry.{mutatorCount, rootCount, segmentOf}
-use Rattle.layout.specs.Mem.{Mem}
+use Rattle.layout.specs.Mem.{Mem, Sizes}
 use Rattle.bitmap_search.specs.declared.Found.the-variants.{Block}
 use Rattle.theory.specs.Machine.{make}
 use Rattle.theory.proofs.CallKeeps.{Alloc}
@@ -20,7 +20,7 @@ use Rattle.model.specs.Making.{handedOut}
 use Rattle.model.specs.Calls.{isAttached}
 use Rattle.model.specs.Consistent.{Consistent}
 use Rattle.refine_view.specs.View.{view}
-use Rattle.refine_view.specs.Kept.{Sizes, Moves}
+use Rattle.refine_view.specs.Kept.{Moves}
 use Rattle.refine_making.proofs.Request.{Request, requested}
 use Rattle.refine_making.proofs.Blackened.{result}
 use Rattle.refine_making.proofs.Agreeing.{agree}

@@ -18,10 +18,10 @@ use Rattle.model.specs.Records.{pointers, values, pointer, value, marked, block
 use Rattle.model.specs.Reaching.{isMarked}
 use Rattle.model.specs.Consistent.{Consistent}
 use Rattle.refine_view.specs.View.{valuesOf, isHead, isUsed}
-use Rattle.refine_view.proofs.Bools.{and-both, ne-not}
+use Rattle.laws.proofs.Bools.{and-both, ne-not}
 use Rattle.layout.proofs.Sizes.{bytes-are}
-use Rattle.model.proofs.Blocks.{header-segment, header-block, header-bit, header-class, header-head, block-within}
-use Rattle.refine_view.proofs.Tables.{tab-zeros}
+use Rattle.laws.proofs.Blocks.{header-segment, header-block, header-bit, header-class, header-head, block-within}
+use Rattle.laws.proofs.Tables.{tab-zeros}
 use Rattle.refine_making.proofs.Request.{Request}
 use Rattle.refine_making.proofs.Result.{Result}
 use Rattle.refine_making.proofs.Standing as standing

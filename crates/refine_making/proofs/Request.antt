@@ -18,8 +18,8 @@ use Rattle.model.specs.Segments.{bitmap, free}
 use Rattle.model.specs.Records.{blockWords}
 use Rattle.model.specs.Calls.{isAttached}
 use Rattle.model.specs.Consistent.{Consistent, IsClass}
-use Rattle.refine_view.proofs.Bools.{not-eq}
-use Rattle.refine_view.proofs.Apart.{fits}
+use Rattle.laws.proofs.Bools.{not-eq}
+use Rattle.laws.proofs.Apart.{fits}
 use Rattle.model.specs.Tag as Tag
 
 -- mutator k makes a record of p pointers and n values into its root d, out of block b of its segment r of class cl

@@ -7,13 +7,12 @@ use Rattle.words.specs.Bits.{bitAt}
 use Rattle.classes.specs.Class.{firstClass}
 use Rattle.layout.specs.declared.Geometry.{Geometry}
 use Rattle.layout.specs.Geometry.{mutatorWords, blocksIn, bitIn}
-use Rattle.layout.specs.Mem.{Mem, mutatorWord, heapWord}
+use Rattle.layout.specs.Mem.{Mem, mutatorWord, heapWord, Sizes}
 use Rattle.theory.specs.Phases.{black}
 use Rattle.model.specs.Fields.{phase, heldFrom, acks, root, holding, tag, class, place, owner}
 use Rattle.model.specs.Segments.{bitmap}
 use Rattle.model.specs.Records.{headerOf}
-use Rattle.refine_view.specs.Kept.{Sizes}
-use Rattle.refine_view.proofs.Words.{Recorded}
+use Rattle.laws.proofs.Words.{Recorded}
 
 -- the segment is still held, with a free block at or after its place
 pub record StillHeld (g : Geometry) (m m′ : Mem) (k cl r b : ℕ) : Type 0 where

@@ -13,7 +13,7 @@ use Rattle.layout.specs.Mem.{Mem}
 use Rattle.model.specs.Fields.{state, holding, tag, class, place, owner}
 use Rattle.model.specs.Segments.{bitmap, above}
 use Rattle.model.specs.Consistent.{Consistent, IsClass, SegmentOk}
-use Rattle.refine_view.proofs.Segments.{segment-same}
+use Rattle.laws.proofs.Segments.{segment-same}
 use Rattle.refine_making.proofs.Request.{Request}
 use Rattle.refine_making.proofs.Result.{StillHeld, NowFull, Result}
 use Rattle.refine_making.proofs.Standing as standing

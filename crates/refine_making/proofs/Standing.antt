@@ -22,11 +22,11 @@ use Rattle.model.specs.Reaching.{isMarked}
 use Rattle.model.specs.Consistent.{IsClass}
 use Rattle.model.specs.Rules.{phaseOf}
 use Rattle.refine_view.specs.View.{stackOf, isHead}
-use Rattle.model.proofs.Blocks.{blocks-most}
-use Rattle.refine_view.proofs.Bitmaps.{bitmap-by}
+use Rattle.laws.proofs.Blocks.{blocks-most}
+use Rattle.laws.proofs.Bitmaps.{bitmap-by}
 use Rattle.refine_view.proofs.Seeing.{entries-same}
-use Rattle.refine_view.proofs.Entries.{holding-by, table-below}
-use Rattle.refine_view.proofs.Segments.{used-same}
+use Rattle.laws.proofs.Entries.{holding-by, table-below}
+use Rattle.laws.proofs.Segments.{used-same}
 use Rattle.refine_making.proofs.Request.{Request}
 use Rattle.refine_making.proofs.Result.{StillHeld, NowFull, Result}
 use Rattle.layout.proofs.Sizes.{one-way}

@@ -9,7 +9,7 @@ use Rattle.classes.specs.Class.{classOf}
 use Rattle.classes.specs.declared.SizeClass.the-variants.{Class}
 use Rattle.layout.specs.declared.Geometry.{Geometry}
 use Rattle.layout.specs.Geometry.{mutatorCount, blocksIn, segmentOf, bitIn}
-use Rattle.layout.specs.Mem.{Mem}
+use Rattle.layout.specs.Mem.{Mem, Sizes}
 use Rattle.theory.specs.Phases.{sync1, black}
 use Rattle.theory.proofs.Agree.{live-back}
 use Rattle.model.specs.Fields.{phase, state, acks, holding, tag, class, owner}
@@ -18,11 +18,11 @@ use Rattle.model.specs.Records.{values, blockOf, headerOf}
 use Rattle.model.specs.Reaching.{Live}
 use Rattle.model.specs.Consistent.{Consistent, IsClass, MutatorOk, StackOk, isFree, isPart, RecordOk, BlockInUse, MarksOf}
 use Rattle.refine_view.specs.View.{view}
-use Rattle.refine_view.specs.Kept.{Sizes, QueuedOk, MarksIn, Structure}
-use Rattle.model.proofs.Blocks.{header-inside}
-use Rattle.refine_view.proofs.Entries.{mutators-table}
-use Rattle.refine_view.proofs.OtherStacks.{stack-by}
-use Rattle.refine_view.proofs.Segments.{part-same}
+use Rattle.refine_view.specs.Kept.{QueuedOk, MarksIn, Structure}
+use Rattle.laws.proofs.Blocks.{header-inside}
+use Rattle.laws.proofs.Entries.{mutators-table}
+use Rattle.laws.proofs.OtherStacks.{stack-by}
+use Rattle.laws.proofs.Segments.{part-same}
 use Rattle.refine_view.proofs.Carried.{record-by, use-by, queued-by, marks-by}
 use Rattle.refine_view.proofs.Seeing.{live-on}
 use Rattle.refine_view.proofs.Invariants.{structure-of}

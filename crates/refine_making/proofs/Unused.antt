@@ -23,8 +23,8 @@ use Rattle.model.specs.Records.{blockOf, headerOf}
 use Rattle.model.specs.Consistent.{Consistent, MarksOf}
 use Rattle.refine_view.specs.View.{view, isUsed}
 use Rattle.refine_view.specs.Kept.{MarksIn}
-use Rattle.refine_view.proofs.Bools.{and-false}
-use Rattle.model.proofs.Blocks.{header-segment, header-block, blocks-most}
+use Rattle.laws.proofs.Bools.{and-false}
+use Rattle.laws.proofs.Blocks.{header-segment, header-block, blocks-most}
 use Rattle.refine_view.proofs.Invariants.{structure-of}
 use Rattle.refine_making.proofs.Request.{Request}
 use Rattle.layout.proofs.Sizes.{within}

@@ -14,8 +14,8 @@ use Rattle.theory.specs.Phases.{black}
 use Rattle.model.specs.Fields.{phase, acksAt, heldFrom, acks, holding}
 use Rattle.model.specs.Records.{headerOf, written}
 use Rattle.model.specs.Rules.{phaseOf}
-use Rattle.refine_view.proofs.Windows.{sets-in, sets-out}
-use Rattle.model.proofs.Blocks.{header-inside}
+use Rattle.laws.proofs.Windows.{sets-in, sets-out}
+use Rattle.laws.proofs.Blocks.{header-inside}
 use Rattle.refine_making.proofs.Request.{Request}
 use Rattle.refine_making.proofs.Result.{Moved}
 

@@ -5,7 +5,7 @@ use native.Mathlib.Omega.{arith}
 use lib.Dec.{ltb}
 use lib.ListN.{length, getD}
 use Rattle.layout.specs.declared.Geometry.{Geometry}
-use Rattle.layout.specs.Mem.{Mem}
+use Rattle.layout.specs.Mem.{Mem, Sizes}
 use Rattle.theory.specs.Reach.{root, next}
 use Rattle.theory.specs.Calls.{c-load, c-copy, c-clear, c-get, c-same, c-shape, a-ok, a-num, a-shape, pointer?, value?, refusal}
 use Rattle.theory.proofs.CallKeeps.{by-ok, root-ok, require-ok, lt-of}
@@ -14,9 +14,9 @@ use Rattle.model.specs.Records.{record?, pointers, values, pointer, value}
 use Rattle.model.specs.Calls.{face, act}
 use Rattle.model.specs.Consistent.{Consistent}
 use Rattle.refine_view.specs.View.{view, valuesOf}
-use Rattle.refine_view.specs.Kept.{Sizes, ActKept}
+use Rattle.refine_view.specs.Kept.{ActKept}
 use Rattle.refine_view.proofs.Seeing.{named}
-use Rattle.refine_view.proofs.Tables.{getD-tab, length-tab}
+use Rattle.laws.proofs.Tables.{getD-tab, length-tab}
 use Rattle.refine_view.proofs.Keeping.{matches-by, moves-self, is-root, wanted-in, on-record}
 use Rattle.refine_roots.proofs.Roots.{root-moves}
 use Rattle.theory.specs.Machine as machine

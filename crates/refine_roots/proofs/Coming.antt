@@ -14,7 +14,7 @@ use Rattle.rules.proofs.Order.{same-or-not}
 use Rattle.classes.specs.Class.{firstClass}
 use Rattle.layout.specs.declared.Geometry.{Geometry}
 use Rattle.layout.specs.Geometry.{mutatorCount, mutatorWords, rootCount, segmentOf}
-use Rattle.layout.specs.Mem.{Mem, mutatorWord, setRun}
+use Rattle.layout.specs.Mem.{Mem, mutatorWord, setRun, Sizes}
 use Rattle.theory.specs.Phases.{Phase, idle, sync1, sync2, mark, sweep, newcomer, inHandshake}
 use Rattle.theory.specs.Calls.{c-attach, c-spawn, refusal, unless}
 use Rattle.theory.proofs.CallKeeps.{require-ok, root-ok, lt-of}
@@ -28,12 +28,12 @@ use Rattle.model.specs.Calls.{isAttached, isInside, face, act}
 use Rattle.model.specs.Reaching.{IsRoot}
 use Rattle.model.specs.Consistent.{Consistent, MutatorOk, IsClass}
 use Rattle.refine_view.specs.View.{view}
-use Rattle.refine_view.specs.Kept.{Sizes, Moves, ActKept}
+use Rattle.refine_view.specs.Kept.{Moves, ActKept}
 use Rattle.refine_view.proofs.Seeing.{root-on, named}
 use Rattle.refine_view.proofs.Invariants.{to-inv, structure-of}
 use Rattle.refine_view.proofs.Keeping.{matches-by, moves-self, is-root}
 use Rattle.theory.proofs.Updates.{upd-by}
-use Rattle.refine_view.proofs.Entries.{holding-word, holding-by, table-below, entry-in, entry-out}
+use Rattle.laws.proofs.Entries.{holding-word, holding-by, table-below, entry-in, entry-out}
 use Rattle.refine_view.proofs.EntriesOnly.{entries-moves}
 use Rattle.theory.specs.Machine as machine
 use Rattle.model.specs.Fields as fields

@@ -8,7 +8,7 @@ use lib.ListN.{set}
 use lib.Seq.{getD-set-same, getD-set-other}
 use Rattle.layout.specs.Geometry.{segmentOf}
 use Rattle.layout.specs.declared.Geometry.{Geometry}
-use Rattle.layout.specs.Mem.{Mem, heapWord, setHeap}
+use Rattle.layout.specs.Mem.{Mem, heapWord, setHeap, Sizes}
 use Rattle.theory.specs.Calls.{c-put, a-ok, value?, refusal}
 use Rattle.theory.proofs.CallKeeps.{by-ok, root-ok, require-ok, lt-of}
 use Rattle.theory.specs.Reach.{root}
@@ -21,16 +21,16 @@ use Rattle.model.specs.Calls.{face, act}
 use Rattle.model.specs.Reaching.{Live}
 use Rattle.model.specs.Consistent.{Consistent, RecordOk}
 use Rattle.refine_view.specs.View.{view, valuesOf}
-use Rattle.refine_view.specs.Kept.{Sizes, Structure, Moves, ActKept}
+use Rattle.refine_view.specs.Kept.{Structure, Moves, ActKept}
 use Rattle.refine_view.proofs.Seeing.{entries-same, live-on, named}
 use Rattle.refine_view.proofs.Carried.{queued-by}
 use Rattle.refine_view.proofs.Frames.{held-self, mutator-beside, marks-beside, structure-beside}
-use Rattle.refine_view.proofs.Tables.{tab-set}
+use Rattle.laws.proofs.Tables.{tab-set}
 use Rattle.theory.proofs.Updates.{upd-by}
 use Rattle.refine_view.proofs.Contents.{pointers-by, values-by, pointer-by, value-by, fields-by}
 use Rattle.refine_view.proofs.Invariants.{to-live, to-record, structure-of}
 use Rattle.refine_view.proofs.Keeping.{matches-by, is-root, wanted-in, on-record}
-use Rattle.refine_view.proofs.Apart.{fields-apart, field-inside}
+use Rattle.laws.proofs.Apart.{fields-apart, field-inside}
 use Rattle.theory.proofs.Agree as agreeing
 use Rattle.theory.specs.Machine as machine
 use Rattle.model.specs.Fields as fields

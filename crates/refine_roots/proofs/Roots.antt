@@ -6,7 +6,7 @@ use native.Mathlib.Omega.{arith}
 use lib.Dec.{eqb}
 use Rattle.layout.specs.declared.Geometry.{Geometry}
 use Rattle.layout.specs.Geometry.{mutatorCount, rootCount, segmentOf}
-use Rattle.layout.specs.Mem.{Mem, setMutator}
+use Rattle.layout.specs.Mem.{Mem, setMutator, Sizes}
 use Rattle.theory.specs.Update.{upd2}
 use Rattle.theory.proofs.Invariant.{root-live}
 use Rattle.model.specs.Fields.{absent, inside, state, setRoot, root}
@@ -15,13 +15,13 @@ use Rattle.model.specs.Calls.{isAttached}
 use Rattle.model.specs.Reaching.{Reached}
 use Rattle.model.specs.Consistent.{Consistent}
 use Rattle.refine_view.specs.View.{view}
-use Rattle.refine_view.specs.Kept.{Sizes, Moves}
-use Rattle.refine_view.proofs.Bools.{not-eq}
+use Rattle.refine_view.specs.Kept.{Moves}
+use Rattle.laws.proofs.Bools.{not-eq}
 use Rattle.refine_view.proofs.Seeing.{reached-on, named}
 use Rattle.refine_view.proofs.Invariants.{to-inv, structure-of}
-use Rattle.refine_view.proofs.Words.{mutator-there}
+use Rattle.laws.proofs.Words.{mutator-there}
 use Rattle.theory.proofs.Updates.{upd2-by}
-use Rattle.refine_view.proofs.Entries.{state-set, acks-set, root-set, mutators-set, held-set}
+use Rattle.laws.proofs.Entries.{state-set, acks-set, root-set, mutators-set, held-set}
 use Rattle.refine_view.proofs.EntriesOnly.{entries-moves}
 use Rattle.theory.specs.Machine as machine
 

@@ -5,14 +5,14 @@ use native.Mathlib.Omega.{arith}
 use lib.Dec.{ltb}
 use Rattle.layout.specs.declared.Geometry.{Geometry}
 use Rattle.layout.specs.Geometry.{mutatorCount}
-use Rattle.layout.specs.Mem.{Mem}
+use Rattle.layout.specs.Mem.{Mem, Sizes}
 use Rattle.theory.specs.Calls.{c-enter, refusal}
 use Rattle.theory.proofs.CallKeeps.{require-ok, lt-of}
 use Rattle.model.specs.Fields.{inside}
 use Rattle.model.specs.Calls.{isAttached, face, act}
 use Rattle.model.specs.Consistent.{Consistent}
-use Rattle.refine_view.specs.Kept.{Sizes, ActKept}
-use Rattle.refine_view.proofs.Bools.{not-eq}
+use Rattle.refine_view.specs.Kept.{ActKept}
+use Rattle.laws.proofs.Bools.{not-eq}
 use Rattle.refine_view.proofs.Invariants.{structure-of}
 use Rattle.refine_view.proofs.Keeping.{matches-by}
 use Rattle.refine_view.proofs.Sides.{side-moves}

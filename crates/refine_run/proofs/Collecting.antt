@@ -6,7 +6,7 @@ use lib.Dec.{eqb}
 use Rattle.rules.specs.Pick.{pick}
 use Rattle.layout.specs.declared.Geometry.{Geometry}
 use Rattle.layout.specs.Geometry.{mutatorCount, blocksIn, bitmapWords}
-use Rattle.layout.specs.Mem.{Mem, traceWord}
+use Rattle.layout.specs.Mem.{Mem, traceWord, Sizes}
 use Rattle.bitmap_write.specs.Ready.{adopted}
 use Rattle.theory.specs.Phases.{Phase, idle, sync1, sync2, mark, sweep}
 use Rattle.theory.specs.Calls.{Answer, a-ok, a-no}
@@ -15,9 +15,8 @@ use Rattle.model.specs.Fields.{phase, traceCount, outside, state, class}
 use Rattle.model.specs.Segments.{setState, freeStack, partStack, stacked, above, bitmap, marksOf}
 use Rattle.model.specs.Mutators.{acknowledged}
 use Rattle.model.specs.Collector.{anyFull, started, startIn, startOf, outsideAnswered, waiting, moves, traces, lowest, keptBy, rebuiltBy, swept, sweeps, stepIn, stepOf}
-use Rattle.refine_view.specs.Kept.{Sizes}
-use Rattle.refine_view.proofs.Lengths.{sizes-control, sizes-bitmap, sizes-state}
-use Rattle.refine_view.proofs.Operations.{sizes-pick, sizes-traced, sizes-acknowledged, sizes-stacked, sizes-started}
+use Rattle.laws.proofs.Lengths.{sizes-control, sizes-bitmap, sizes-state}
+use Rattle.laws.proofs.Operations.{sizes-pick, sizes-traced, sizes-acknowledged, sizes-stacked, sizes-started}
 use Rattle.model.specs.declared.SegmentState.the-variants as segment
 
 module _ (g : Geometry) where

@@ -1,7 +1,6 @@
 -- The model's own run.
 pub mod Sizing
 pub mod Collecting
-pub mod Whole
 pub mod Answering
 pub mod Meeting
 pub mod Own

@@ -8,8 +8,8 @@ use native.Mathlib.Omega.{arith}
 use lib.ListN.{length}
 use Rattle.layout.specs.declared.Geometry.{Geometry}
 use Rattle.layout.specs.Geometry.{wrongSize, Sized}
-use Rattle.layout.specs.Mem.{Mem, memOf, flat}
-use Rattle.layout.proofs.Regions.{right-size}
+use Rattle.layout.specs.Mem.{Mem, memOf, flat, Sizes}
+use Rattle.layout.proofs.Regions.{right-size, memOf-flat}
 use Rattle.theory.specs.Calls.{Call, refusal, refuse}
 use Rattle.model.specs.declared.Answer.{Answer}
 use Rattle.model.specs.declared.Answer.the-variants.{Refused}
@@ -18,10 +18,8 @@ use Rattle.model.specs.Promise.{Keeps, Promise, StartPromise, StepPromise}
 use Rattle.model.specs.Calls.{face, act, exec}
 use Rattle.model.specs.Collector.{startOf, stepOf}
 use Rattle.model.specs.Run.{declared}
-use Rattle.model.proofs.Promised.{refused}
-use Rattle.refine_view.specs.Kept.{Sizes}
-use Rattle.refine_view.proofs.Lengths.{sizes-of}
-use Rattle.refine_run.proofs.Whole.{cut-again}
+use Rattle.laws.proofs.Promised.{refused}
+use Rattle.laws.proofs.Lengths.{sizes-of}
 use Rattle.refine_run.proofs.Sizing.{sizes-exec}
 use Rattle.refine_run.proofs.Collecting.{sizes-start, sizes-step}
 use Rattle.refine_run.proofs.Answering.{Answers, refuses, act-answers, start-answers, step-answers}
@@ -39,7 +37,7 @@ module _ (g : Geometry) (words : List ℕ) (z : Sized g (length words)) where
       → Keeps answerOf result refusalOf (Refused 1) ns does g words (declared (does g (memOf g words) .0)) (flat (does g (memOf g words) .1))
   keeps result ns does a y = record {
     sizes = λ e. absurd (not-wrong e);
-    exact = λ _ _. (a .same, cut-again g (does g (memOf g words) .1) y);
+    exact = λ _ _. (a .same, memOf-flat g (does g (memOf g words) .1) y);
     kind = a .kind;
     allowed = a .allowed;
     onlySize = λ e. absurd (a .notSize e);
@@ -67,7 +65,7 @@ module _ (g : Geometry) (words : List ℕ) (z : Sized g (length words)) where
       let s = step-answers g (memOf g words) in
       record {
         sizes = λ e. absurd (not-wrong e);
-        exact = λ _ _. (refl, cut-again g (stepOf g (memOf g words) .1) (sizes-step g (memOf g words) (sizes-of g words z)));
+        exact = λ _ _. (refl, memOf-flat g (stepOf g (memOf g words) .1) (sizes-step g (memOf g words) (sizes-of g words z)));
         kind = λ _. refl;
         allowed = λ n q. absurd (Option·none-ne-some n (sym s ∙ q));
         onlySize = λ q. absurd (Option·none-ne-some 1 (sym s ∙ q));

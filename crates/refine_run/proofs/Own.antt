@@ -12,15 +12,14 @@ use Rattle.rules.specs.Pick.{pick}
 use Rattle.layout.specs.declared.Geometry.{Geometry}
 use Rattle.layout.specs.Geometry.{Sized, len, wrongSize, scratchWords}
 use Rattle.layout.specs.Mem.{memOf, flat}
-use Rattle.layout.proofs.Regions.{right-size, resized}
+use Rattle.layout.proofs.Regions.{right-size, resized, length-flat}
 use Rattle.theory.proofs.Invariant.{none-some}
 use Rattle.model.specs.Calls.{exec}
 use Rattle.model.specs.Collector.{startOf, stepOf}
 use Rattle.model.specs.Consistent.{Consistent}
 use Rattle.model.specs.Lists.{Element, Meets, Gets, KeepsLength, Chain, wrongSized, onward, left}
 use Rattle.model.specs.Run.{Request, call, start, step, look, lookInto, examine, shown, examined, answered, run}
-use Rattle.refine_view.proofs.Lengths.{sizes-of}
-use Rattle.refine_run.proofs.Whole.{length-flat}
+use Rattle.laws.proofs.Lengths.{sizes-of}
 use Rattle.refine_run.proofs.Sizing.{sizes-exec}
 use Rattle.refine_run.proofs.Collecting.{sizes-start, sizes-step}
 use Rattle.refine_run.proofs.Meeting.{meets-call, meets-start, meets-step}

@@ -10,7 +10,7 @@ use Rattle.classes.specs.declared.SizeClass.{SizeClass}
 use Rattle.classes.specs.declared.SizeClass.the-variants.{Class, TooBig}
 use Rattle.layout.specs.declared.Geometry.{Geometry}
 use Rattle.layout.specs.Geometry.{mutatorWords, rootCount, blocksIn, bitmapWords}
-use Rattle.layout.specs.Mem.{Mem, setHeap}
+use Rattle.layout.specs.Mem.{Mem, setHeap, Sizes}
 use Rattle.bitmap_search.specs.declared.Found.{Found}
 use Rattle.bitmap_search.specs.declared.Found.the-variants.{Block, Nothing, Torn}
 use Rattle.bitmap_write.specs.Ready.{fresh}
@@ -23,9 +23,8 @@ use Rattle.model.specs.Records.{record?, pointers, pointer, headerOf, written}
 use Rattle.model.specs.Mutators.{acknowledged, attached, detached, released, releasedOne}
 use Rattle.model.specs.Making.{Source, held, part, unused, noRoom, sourceOf, takes, freshened, advanced, blackened, handedOut, inBlock, fromSource, made}
 use Rattle.model.specs.Calls.{face, ofClass, act, exec}
-use Rattle.refine_view.specs.Kept.{Sizes}
-use Rattle.refine_view.proofs.Lengths.{sizes-mutator, sizes-entry, sizes-stack, sizes-bitmap, sizes-marked, sizes-heap, sizes-heap-run, sizes-state}
-use Rattle.refine_view.proofs.Operations.{sizes-pick, sizes-barrier, sizes-acknowledged, sizes-stacked}
+use Rattle.laws.proofs.Lengths.{sizes-mutator, sizes-entry, sizes-stack, sizes-bitmap, sizes-marked, sizes-heap, sizes-heap-run, sizes-state}
+use Rattle.laws.proofs.Operations.{sizes-pick, sizes-barrier, sizes-acknowledged, sizes-stacked}
 use Rattle.model.specs.Segments as segments
 
 module _ (g : Geometry) where

@@ -7,13 +7,12 @@ use lib.ListN.{List·getD-eq-default}
 use Rattle.rules.proofs.Order.{le-or-lt, same-or-not}
 use Rattle.layout.specs.declared.Geometry.{Geometry}
 use Rattle.layout.specs.Geometry.{mutatorCount, mutatorWords}
-use Rattle.layout.specs.Mem.{Mem, mutatorWord, setMutator}
+use Rattle.layout.specs.Mem.{Mem, mutatorWord, setMutator, Sizes}
 use Rattle.model.specs.Fields.{acksAt, acks, setAcks}
 use Rattle.model.specs.Collector.{acksReset}
-use Rattle.refine_view.specs.Kept.{Sizes}
-use Rattle.refine_view.proofs.Words.{mutator-there, mutator-other}
+use Rattle.laws.proofs.Words.{mutator-there, mutator-other}
 use Rattle.words.proofs.Counts.{lt-of}
-use Rattle.refine_view.proofs.Operations.{sizes-reset}
+use Rattle.laws.proofs.Operations.{sizes-reset}
 
 -- ---- the other regions
 

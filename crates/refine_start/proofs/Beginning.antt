@@ -7,13 +7,12 @@ use lib.Seq.{getD-set-same, getD-set-other}
 use Rattle.words.specs.Bits.{bitAt}
 use Rattle.layout.specs.declared.Geometry.{Geometry}
 use Rattle.layout.specs.Geometry.{mutatorCount, mutatorWords}
-use Rattle.layout.specs.Mem.{Mem, controlWord, mutatorWord, setControl}
+use Rattle.layout.specs.Mem.{Mem, controlWord, mutatorWord, setControl, Sizes}
 use Rattle.model.specs.Fields.{traceCount, acksAt, acks}
 use Rattle.model.specs.Collector.{condemned, acksReset, started}
 use Rattle.model.specs.Consistent.{SegmentOk}
-use Rattle.refine_view.specs.Kept.{Sizes}
-use Rattle.refine_view.proofs.Words.{recorded-as, OtherRegions}
-use Rattle.refine_view.proofs.Operations.{sizes-condemned, sizes-reset}
+use Rattle.laws.proofs.Words.{recorded-as, OtherRegions}
+use Rattle.laws.proofs.Operations.{sizes-condemned, sizes-reset}
 use Rattle.words.proofs.Zeros.{zeros-bit}
 use Rattle.refine_start.proofs.Condemned.{After, others-condemned, segments-condemned}
 use Rattle.refine_start.proofs.Acknowledgements.{BesideMutators, beside-reset, reset-kept, reset-acks}

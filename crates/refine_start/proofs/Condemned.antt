@@ -10,15 +10,14 @@ use Rattle.rules.specs.Pick.{pick}
 use Rattle.rules.proofs.Order.{le-or-lt, same-or-not}
 use Rattle.layout.specs.Geometry.{blocksIn}
 use Rattle.layout.specs.declared.Geometry.{Geometry}
-use Rattle.layout.specs.Mem.{Mem}
+use Rattle.layout.specs.Mem.{Mem, Sizes}
 use Rattle.model.specs.Fields.{tag, class, place, owner}
 use Rattle.model.specs.Segments.{setState}
 use Rattle.model.specs.Collector.{isFull, condemned}
 use Rattle.model.specs.Consistent.{SegmentOk}
-use Rattle.refine_view.specs.Kept.{Sizes}
-use Rattle.refine_view.proofs.Words.{Recorded, recorded-by, OtherRegions, state-others, state-there, state-other}
+use Rattle.laws.proofs.Words.{Recorded, recorded-by, OtherRegions, state-others, state-there, state-other}
 use Rattle.words.proofs.Counts.{lt-of}
-use Rattle.refine_view.proofs.Operations.{sizes-condemned}
+use Rattle.laws.proofs.Operations.{sizes-condemned}
 use Rattle.model.specs.declared.SegmentState.the-variants as segment
 use Rattle.model.specs.Tag as Tag
 

@@ -12,7 +12,7 @@ use Rattle.words.specs.Bits.{bitAt}
 use Rattle.classes.specs.Class.{firstClass}
 use Rattle.layout.specs.declared.Geometry.{Geometry}
 use Rattle.layout.specs.Geometry.{len, mutatorWords, recordWords, mostBlocks, segmentOf}
-use Rattle.layout.specs.Mem.{Mem, controlWord, mutatorWord, segmentWord}
+use Rattle.layout.specs.Mem.{Mem, controlWord, mutatorWord, segmentWord, Sizes}
 use Rattle.theory.specs.Phases.{idle}
 use Rattle.theory.specs.Unbounded.{empty}
 use Rattle.theory.proofs.Graph.{reach-empty}
@@ -25,7 +25,6 @@ use Rattle.model.specs.Opening.{openStacks, opened}
 use Rattle.model.specs.Reaching.{IsRoot, IsEntry, PointsTo, Live}
 use Rattle.model.specs.Consistent.{Consistent, SegmentOk, MutatorOk, TraceOk, InPhase, isFree, isPart}
 use Rattle.refine_view.specs.View.{view}
-use Rattle.refine_view.specs.Kept.{Sizes}
 use Rattle.refine_view.proofs.Seeing.{live-back}
 use Rattle.refine_view.proofs.Invariants.{to-inv}
 use Rattle.words.proofs.Counts.{no-ones}

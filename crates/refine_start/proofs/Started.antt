@@ -12,7 +12,7 @@ use Rattle.rules.specs.Pick.{pick}
 use Rattle.words.specs.Tree.{Tree}
 use Rattle.layout.specs.declared.Geometry.{Geometry}
 use Rattle.layout.specs.Geometry.{mutatorWords, entryWords, rootCount, blocksIn, segmentOf}
-use Rattle.layout.specs.Mem.{Mem, mutatorWord, heapWord}
+use Rattle.layout.specs.Mem.{Mem, mutatorWord, heapWord, Sizes}
 use Rattle.theory.specs.Phases.{idle, sync1}
 use Rattle.theory.specs.Machine.{start}
 use Rattle.theory.proofs.Agree.{Agree}
@@ -24,16 +24,16 @@ use Rattle.model.specs.Collector.{isFull, started}
 use Rattle.model.specs.Reaching.{Live, isMarked}
 use Rattle.model.specs.Consistent.{Consistent, InPhase, IsClass, SegmentOk, MutatorOk, RecordOk, isFree, isPart}
 use Rattle.refine_view.specs.View.{view, stackOf, isHead, isUsed}
-use Rattle.refine_view.specs.Kept.{Sizes, QueuedOk, MarksIn, Structure, StartKept}
-use Rattle.refine_view.proofs.Bools.{and-false, test-same}
+use Rattle.refine_view.specs.Kept.{QueuedOk, MarksIn, Structure, StartKept}
+use Rattle.laws.proofs.Bools.{and-false, test-same}
 use Rattle.refine_view.proofs.Contents.{pointers-by, fields-by}
 use Rattle.refine_view.proofs.Seeing.{root-was, edge-was, live-was}
-use Rattle.refine_view.proofs.OtherStacks.{stack-by}
+use Rattle.laws.proofs.OtherStacks.{stack-by}
 use Rattle.refine_view.proofs.Carried.{block-by, bit-by, record-by, queued-by}
 use Rattle.refine_view.proofs.Invariants.{structure-of}
-use Rattle.refine_view.proofs.Entries.{holding-by, table-below}
-use Rattle.refine_view.proofs.Segments.{segment-same, part-same, used-same, in-range}
-use Rattle.refine_view.proofs.Bitmaps.{bitmap-by}
+use Rattle.laws.proofs.Entries.{holding-by, table-below}
+use Rattle.laws.proofs.Segments.{segment-same, part-same, used-same, in-range}
+use Rattle.laws.proofs.Bitmaps.{bitmap-by}
 use Rattle.refine_start.proofs.Beginning.{Begun, begun}
 use Rattle.model.specs.Tag as Tag
 

@@ -10,7 +10,7 @@ use borrow.Author.Tests.{eq-eqb, ne-eqb}
 use Rattle.words.specs.Bits.{bitAt}
 use Rattle.layout.specs.declared.Geometry.{Geometry}
 use Rattle.layout.specs.Geometry.{segmentWords, segmentOf, bitIn}
-use Rattle.layout.specs.Mem.{Mem}
+use Rattle.layout.specs.Mem.{Mem, Sizes}
 use Rattle.theory.specs.Phases.{sweep}
 use Rattle.theory.specs.Update.{pick}
 use Rattle.theory.proofs.Updates.{upd-cases}
@@ -21,8 +21,8 @@ use Rattle.model.specs.Records.{blockWords, blockOf, record?}
 use Rattle.model.specs.Reaching.{Live, isMarked}
 use Rattle.model.specs.Consistent.{Consistent}
 use Rattle.refine_view.specs.View.{view, stackOf, isHead, isUsed}
-use Rattle.refine_view.specs.Kept.{Sizes, Moves}
-use Rattle.refine_view.proofs.Bools.{and-both}
+use Rattle.refine_view.specs.Kept.{Moves}
+use Rattle.laws.proofs.Bools.{and-both}
 use Rattle.refine_view.proofs.Seeing.{head-of}
 use Rattle.refine_view.proofs.Contents.{pointers-by, fields-by}
 use Rattle.refine_view.proofs.Invariants.{to-live, used-of, used-record}

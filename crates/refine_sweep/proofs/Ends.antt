@@ -10,16 +10,15 @@ use Rattle.words.specs.Tree.{Tree}
 use Rattle.words.proofs.Lists.{at-lt}
 use Rattle.layout.specs.Geometry.{blocksIn, bitIn}
 use Rattle.layout.specs.declared.Geometry.{Geometry}
-use Rattle.layout.specs.Mem.{Mem}
+use Rattle.layout.specs.Mem.{Mem, Sizes}
 use Rattle.model.specs.declared.SegmentState.{SegmentState}
 use Rattle.model.specs.Fields.{tag, class, place, owner}
 use Rattle.model.specs.Segments.{above, bitmap, marksOf}
 use Rattle.model.specs.Collector.{keptBy}
 use Rattle.model.specs.Consistent.{IsClass}
-use Rattle.refine_view.specs.Kept.{Sizes}
-use Rattle.refine_view.proofs.Words.{tagOf, classIn, placeIn, ownerIn}
-use Rattle.refine_view.proofs.Parted.{Stacks}
-use Rattle.model.proofs.Blocks.{blocks-most}
+use Rattle.laws.proofs.Words.{tagOf, classIn, placeIn, ownerIn}
+use Rattle.laws.proofs.Parted.{Stacks}
+use Rattle.laws.proofs.Blocks.{blocks-most}
 use Rattle.words.proofs.Counts.{none-one, all-one, one-missing}
 use Rattle.refine_sweep.proofs.Rebuilding.{mark-bit}
 use Rattle.refine_sweep.proofs.Settled.{Settled}

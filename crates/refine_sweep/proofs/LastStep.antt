@@ -2,12 +2,12 @@
 use mathlib.Core.Path.{_≡_}
 use Prim.Native.Nat.{ℕ, _<_}
 use Rattle.layout.specs.declared.Geometry.{Geometry}
-use Rattle.layout.specs.Mem.{Mem}
+use Rattle.layout.specs.Mem.{Mem, Sizes}
 use Rattle.theory.specs.Phases.{idle}
 use Rattle.model.specs.Fields.{setPhase, tag}
 use Rattle.model.specs.Consistent.{Consistent}
 use Rattle.refine_view.specs.View.{view}
-use Rattle.refine_view.specs.Kept.{Sizes, Moves}
+use Rattle.refine_view.specs.Kept.{Moves}
 use Rattle.refine_view.proofs.Keeping.{moves-self}
 use Rattle.refine_view.proofs.Phasing.{phase-moves}
 use Rattle.theory.specs.Machine as machine

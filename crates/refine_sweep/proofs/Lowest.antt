@@ -10,14 +10,13 @@ use borrow.Author.Tests.{eq-eqb, ne-eqb, eqb-true, eqb-false}
 use Rattle.rules.specs.Pick.{pick}
 use Rattle.rules.proofs.Order.{le-or-lt}
 use Rattle.layout.specs.declared.Geometry.{Geometry}
-use Rattle.layout.specs.Mem.{Mem}
+use Rattle.layout.specs.Mem.{Mem, Sizes}
 use Rattle.theory.proofs.Invariant.{none-some}
 use Rattle.theory.proofs.CollectorKeeps.{Pick}
 use Rattle.model.specs.Fields.{tag}
 use Rattle.model.specs.Collector.{lowest, orThen}
 use Rattle.refine_view.specs.View.{view}
-use Rattle.refine_view.specs.Kept.{Sizes}
-use Rattle.refine_view.proofs.Segments.{in-range}
+use Rattle.laws.proofs.Segments.{in-range}
 use Rattle.model.specs.Tag as Tag
 
 -- what the scan finds is in the collect set

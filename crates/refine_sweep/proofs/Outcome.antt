@@ -9,8 +9,8 @@ use Rattle.layout.specs.Mem.{Mem}
 use Rattle.model.specs.Fields.{tag, class, place, owner}
 use Rattle.model.specs.Segments.{bitmap, usedBit}
 use Rattle.model.specs.Consistent.{SegmentOk}
-use Rattle.refine_view.proofs.Words.{Recorded}
-use Rattle.refine_view.proofs.Parted.{Stacks}
+use Rattle.laws.proofs.Words.{Recorded}
+use Rattle.laws.proofs.Parted.{Stacks}
 use Rattle.model.specs.Tag as Tag
 
 -- what the sweep of segment r leaves alone: other regions, and other segments

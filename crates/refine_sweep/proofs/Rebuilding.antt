@@ -10,18 +10,17 @@ use Rattle.words.specs.Levels.{wordsFor, treeWords}
 use Rattle.words.specs.Tree.{Tree}
 use Rattle.layout.specs.declared.Geometry.{Geometry}
 use Rattle.layout.specs.Geometry.{mostBlocks, markWords, blocksIn, bitmapWords, bitIn}
-use Rattle.layout.specs.Mem.{Mem, setRun}
+use Rattle.layout.specs.Mem.{Mem, setRun, Sizes}
 use Rattle.bitmap_write.specs.Ready.{adopted}
 use Rattle.bitmap_write.proofs.Copied.{adopted-tree, adopted-bit, length-adopted}
 use Rattle.model.specs.Fields.{class}
 use Rattle.model.specs.Segments.{above, bitmap, marksOf}
 use Rattle.model.specs.Collector.{rebuiltBy}
 use Rattle.model.specs.Consistent.{IsClass}
-use Rattle.refine_view.specs.Kept.{Sizes}
 use Rattle.layout.proofs.Sizes.{marks-are, class-height}
-use Rattle.model.proofs.Blocks.{blocks-most}
-use Rattle.refine_view.proofs.Windows.{window-there, window-other, length-window, window-bit}
-use Rattle.refine_view.proofs.Bitmaps.{bitmap-ends, length-bitmap, tree-room}
+use Rattle.laws.proofs.Blocks.{blocks-most}
+use Rattle.laws.proofs.Windows.{window-there, window-other, length-window, window-bit}
+use Rattle.laws.proofs.Bitmaps.{bitmap-ends, length-bitmap, tree-room}
 
 module _ (g : Geometry) (m : Mem) (s : Sizes g m) (r : ℕ) (l : r < g .segments) (k : IsClass (class m r)) where
   abbrev words : List ℕ

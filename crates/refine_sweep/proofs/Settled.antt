@@ -7,16 +7,15 @@ use Rattle.words.specs.Bits.{bitAt}
 use Rattle.words.specs.Tree.{Tree}
 use Rattle.layout.specs.Geometry.{blocksIn, bitIn}
 use Rattle.layout.specs.declared.Geometry.{Geometry}
-use Rattle.layout.specs.Mem.{Mem, setStack, setRun}
+use Rattle.layout.specs.Mem.{Mem, setStack, setRun, Sizes}
 use Rattle.model.specs.declared.SegmentState.{SegmentState}
 use Rattle.model.specs.Fields.{class}
 use Rattle.model.specs.Segments.{setState, above, bitmap, stacked}
 use Rattle.model.specs.Collector.{rebuiltBy}
 use Rattle.model.specs.Consistent.{IsClass}
-use Rattle.refine_view.specs.Kept.{Sizes}
-use Rattle.refine_view.proofs.Words.{Recorded, recorded-as, tagOf, classIn, placeIn, ownerIn, OtherRegions, state-others, state-there, state-other}
-use Rattle.refine_view.proofs.Bitmaps.{bitmap-by}
-use Rattle.refine_view.proofs.Lengths.{sizes-bitmap, sizes-state}
+use Rattle.laws.proofs.Words.{Recorded, recorded-as, tagOf, classIn, placeIn, ownerIn, OtherRegions, state-others, state-there, state-other}
+use Rattle.laws.proofs.Bitmaps.{bitmap-by}
+use Rattle.laws.proofs.Lengths.{sizes-bitmap, sizes-state}
 use Rattle.refine_sweep.proofs.Outcome.{Left}
 use Rattle.refine_sweep.proofs.Rebuilding.{rebuilt-other, rebuilt-bit, rebuilt-tree}
 

@@ -9,13 +9,13 @@ use Rattle.rules.proofs.Order.{same-or-not}
 use Rattle.words.specs.Bits.{bitAt}
 use Rattle.layout.specs.declared.Geometry.{Geometry}
 use Rattle.layout.specs.Geometry.{mutatorCount, bitIn}
-use Rattle.layout.specs.Mem.{Mem}
+use Rattle.layout.specs.Mem.{Mem, Sizes}
 use Rattle.theory.specs.Phases.{sweep}
 use Rattle.model.specs.Fields.{phase, tag}
 use Rattle.model.specs.Reaching.{Live}
 use Rattle.model.specs.Consistent.{Consistent, InPhase, SegmentOk, MutatorOk, RecordOk, BlockInUse}
-use Rattle.refine_view.specs.Kept.{Sizes, Structure, MarksIn, Steady}
-use Rattle.refine_view.proofs.Segments.{segment-same}
+use Rattle.refine_view.specs.Kept.{Structure, MarksIn, Steady}
+use Rattle.laws.proofs.Segments.{segment-same}
 use Rattle.refine_view.proofs.Carried.{record-by, use-by, queued-by}
 use Rattle.refine_view.proofs.Invariants.{structure-of}
 use Rattle.refine_sweep.proofs.Frames.{mutator-same, heap-same}

@@ -9,7 +9,7 @@ use Rattle.rules.proofs.Order.{same-or-not}
 use Rattle.words.specs.Bits.{bitAt}
 use Rattle.layout.specs.Geometry.{blocksIn, segmentOf, bitIn}
 use Rattle.layout.specs.declared.Geometry.{Geometry}
-use Rattle.layout.specs.Mem.{Mem, controlWord}
+use Rattle.layout.specs.Mem.{Mem, controlWord, Sizes}
 use Rattle.theory.specs.Phases.{sweep}
 use Rattle.model.specs.Rules.{phaseOf}
 use Rattle.model.specs.Fields.{phase, traceCount, tag, class}
@@ -17,9 +17,8 @@ use Rattle.model.specs.Segments.{usedBit}
 use Rattle.model.specs.Records.{blockOf, marked}
 use Rattle.model.specs.Reaching.{Live}
 use Rattle.model.specs.Consistent.{Consistent, InPhase, IsClass}
-use Rattle.refine_view.specs.Kept.{Sizes}
-use Rattle.model.proofs.Blocks.{of-block}
-use Rattle.refine_view.proofs.Segments.{used-same}
+use Rattle.laws.proofs.Blocks.{of-block}
+use Rattle.laws.proofs.Segments.{used-same}
 use Rattle.refine_sweep.proofs.Frames.{live-reached, live-before}
 use Rattle.refine_sweep.proofs.Outcome.{Outcome}
 use Rattle.model.specs.Tag as Tag

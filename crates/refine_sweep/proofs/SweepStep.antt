@@ -8,12 +8,11 @@ use borrow.Author.Tests.{eqb-true, eqb-false}
 use Rattle.rules.specs.Pick.{pick}
 use Rattle.layout.specs.Geometry.{blocksIn}
 use Rattle.layout.specs.declared.Geometry.{Geometry}
-use Rattle.layout.specs.Mem.{Mem}
+use Rattle.layout.specs.Mem.{Mem, Sizes}
 use Rattle.model.specs.Fields.{tag, class}
 use Rattle.model.specs.Segments.{freeStack, partStack, stacked}
 use Rattle.model.specs.Collector.{keptBy, swept}
 use Rattle.model.specs.Consistent.{Consistent, IsClass}
-use Rattle.refine_view.specs.Kept.{Sizes}
 use Rattle.refine_sweep.proofs.Settled.{settledMem, settled-state}
 use Rattle.refine_sweep.proofs.SweptStacks.{full-stacks, free-state, free-stacks, part-state, part-stacks}
 use Rattle.refine_sweep.proofs.Ends.{free-end, full-end, part-end}

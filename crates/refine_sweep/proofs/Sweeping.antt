@@ -8,7 +8,7 @@ use Rattle.rules.proofs.Order.{same-or-not}
 use Rattle.words.specs.Bits.{bitAt}
 use Rattle.layout.specs.Geometry.{blocksIn, segmentOf, bitIn}
 use Rattle.layout.specs.declared.Geometry.{Geometry}
-use Rattle.layout.specs.Mem.{Mem}
+use Rattle.layout.specs.Mem.{Mem, Sizes}
 use Rattle.theory.specs.Phases.{sweep}
 use Rattle.theory.specs.MachineCalls.{sweepStep, stepBy}
 use Rattle.theory.proofs.CollectorKeeps.{Pick}
@@ -17,7 +17,7 @@ use Rattle.model.specs.Segments.{usedBit}
 use Rattle.model.specs.Collector.{lowest, swept, sweeps, stepIn}
 use Rattle.model.specs.Consistent.{Consistent}
 use Rattle.refine_view.specs.View.{view}
-use Rattle.refine_view.specs.Kept.{Sizes, Moves}
+use Rattle.refine_view.specs.Kept.{Moves}
 use Rattle.refine_sweep.proofs.Lowest.{found-condemned, none-condemned, pick-lowest}
 use Rattle.refine_sweep.proofs.SweepStep.{swept-outcome}
 use Rattle.refine_sweep.proofs.Agreeing.{moves-after}

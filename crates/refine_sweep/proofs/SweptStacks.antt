@@ -5,16 +5,15 @@ use Prim.Native.Nat.{ℕ, _<_}
 use native.Mathlib.Omega.{arith}
 use borrow.Author.Tests.{eq-eqb}
 use Rattle.layout.specs.declared.Geometry.{Geometry}
-use Rattle.layout.specs.Mem.{Mem}
+use Rattle.layout.specs.Mem.{Mem, Sizes}
 use Rattle.model.specs.declared.SegmentState.{SegmentState}
 use Rattle.model.specs.Fields.{tag, class}
 use Rattle.model.specs.Segments.{freeStack, partStack, stacked}
 use Rattle.model.specs.Consistent.{Consistent, IsClass, StackOk, isFree, isPart}
-use Rattle.refine_view.specs.Kept.{Sizes}
-use Rattle.refine_view.proofs.Stacks.{push-ok}
-use Rattle.refine_view.proofs.Parted.{Stacks, parted}
-use Rattle.refine_view.proofs.OtherStacks.{stack-by, push-left}
-use Rattle.refine_view.proofs.Segments.{not-free, free-other, free-left, part-left}
+use Rattle.laws.proofs.Stacks.{push-ok}
+use Rattle.laws.proofs.Parted.{Stacks, parted}
+use Rattle.laws.proofs.OtherStacks.{stack-by, push-left}
+use Rattle.laws.proofs.Segments.{not-free, free-other, free-left, part-left}
 use Rattle.refine_sweep.proofs.Settled.{Settled, settledMem, settled-sizes, settled-stacks, settled-state, settled-stacked}
 use Rattle.model.specs.declared.SegmentState.the-variants as segment
 use Rattle.model.specs.Tag as Tag

@@ -4,7 +4,7 @@ use mathlib.Core.Bool.{Bool, true, false}
 use Prim.Native.Nat.{ℕ, _<_}
 use Rattle.layout.specs.declared.Geometry.{Geometry}
 use Rattle.layout.specs.Geometry.{mutatorCount}
-use Rattle.layout.specs.Mem.{Mem}
+use Rattle.layout.specs.Mem.{Mem, Sizes}
 use Rattle.theory.specs.Phases.{inHandshake}
 use Rattle.theory.specs.Calls.{c-detach, a-ok, refusal, unless}
 use Rattle.theory.specs.Machine.{detach}
@@ -14,7 +14,7 @@ use Rattle.model.specs.Mutators.{detached}
 use Rattle.model.specs.Calls.{face, act}
 use Rattle.model.specs.Consistent.{Consistent}
 use Rattle.refine_view.specs.View.{view}
-use Rattle.refine_view.specs.Kept.{Sizes, Moves, Matches, ActKept}
+use Rattle.refine_view.specs.Kept.{Moves, Matches, ActKept}
 use Rattle.refine_view.proofs.Keeping.{matches-by, matches-self}
 use Rattle.refine_taking.proofs.Detached.{detached-moves}
 use Rattle.theory.specs.MachineCalls as machine

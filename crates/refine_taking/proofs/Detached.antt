@@ -14,7 +14,7 @@ use Rattle.words.specs.Tree.{Tree}
 use Rattle.classes.specs.Class.{classCount}
 use Rattle.layout.specs.declared.Geometry.{Geometry}
 use Rattle.layout.specs.Geometry.{mutatorCount, mutatorWords, rootCount, blocksIn, segmentOf}
-use Rattle.layout.specs.Mem.{Mem, mutatorWord, setRun}
+use Rattle.layout.specs.Mem.{Mem, mutatorWord, setRun, Sizes}
 use Rattle.theory.specs.Machine.{detach}
 use Rattle.theory.specs.Update.{upd}
 use Rattle.theory.proofs.Agree.{Agree}
@@ -28,12 +28,12 @@ use Rattle.model.specs.Calls.{isAttached, isInside}
 use Rattle.model.specs.Reaching.{IsRoot, Live}
 use Rattle.model.specs.Consistent.{Consistent, IsClass, SegmentOk, MutatorOk, isFree, isPart}
 use Rattle.refine_view.specs.View.{view}
-use Rattle.refine_view.specs.Kept.{Sizes, Structure, Moves}
-use Rattle.refine_view.proofs.Words.{Recorded, recorded-as}
+use Rattle.refine_view.specs.Kept.{Structure, Moves}
+use Rattle.laws.proofs.Words.{Recorded, recorded-as}
 use Rattle.theory.proofs.Updates.{upd-by}
-use Rattle.refine_view.proofs.Entries.{holding-word, holding-by, table-below, entry-in, entry-out}
-use Rattle.refine_view.proofs.Stacks.{stack-same}
-use Rattle.refine_view.proofs.Segments.{segment-same}
+use Rattle.laws.proofs.Entries.{holding-word, holding-by, table-below, entry-in, entry-out}
+use Rattle.laws.proofs.Stacks.{stack-same}
+use Rattle.laws.proofs.Segments.{segment-same}
 use Rattle.refine_view.proofs.Seeing.{entries-same}
 use Rattle.refine_view.proofs.Invariants.{to-live, to-inv}
 use Rattle.refine_taking.proofs.Standing.{over, Stood, Stands, marked-live, marked-fated, collect-same, used-live, steady, records-stand, trace-stands, marks-stand}

@@ -9,16 +9,15 @@ use Rattle.rules.proofs.Order.{same-or-not}
 use Rattle.classes.specs.Class.{firstClass, classCount}
 use Rattle.layout.specs.declared.Geometry.{Geometry}
 use Rattle.layout.specs.Geometry.{mutatorCount}
-use Rattle.layout.specs.Mem.{Mem, setSegment, setStack}
+use Rattle.layout.specs.Mem.{Mem, setSegment, setStack, Sizes}
 use Rattle.model.specs.declared.SegmentState.the-variants.{Part}
 use Rattle.model.specs.Fields.{holding, tag, class, place, owner}
 use Rattle.model.specs.Segments.{setState, partStack, stacked}
 use Rattle.model.specs.Mutators.{releasedOne}
 use Rattle.model.specs.Consistent.{Consistent, IsClass}
-use Rattle.refine_view.specs.Kept.{Sizes}
-use Rattle.refine_view.proofs.Words.{Recorded, recorded-as, recorded-by, state-there, state-other}
-use Rattle.refine_view.proofs.Parted.{Stacks, parted}
-use Rattle.refine_view.proofs.Lengths.{sizes-stack, sizes-state}
+use Rattle.laws.proofs.Words.{Recorded, recorded-as, recorded-by, state-there, state-other}
+use Rattle.laws.proofs.Parted.{Stacks, parted}
+use Rattle.laws.proofs.Lengths.{sizes-stack, sizes-state}
 use Rattle.refine_taking.proofs.Standing.{over}
 use Rattle.refine_taking.proofs.Releasing.{Gone, Releasing, gone-less, gone-other}
 use Rattle.model.specs.Tag as Tag

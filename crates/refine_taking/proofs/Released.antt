@@ -7,13 +7,12 @@ use Rattle.rules.specs.Pick.{pick}
 use Rattle.classes.specs.Class.{firstClass, classCount}
 use Rattle.layout.specs.declared.Geometry.{Geometry}
 use Rattle.layout.specs.Geometry.{mutatorCount}
-use Rattle.layout.specs.Mem.{Mem}
+use Rattle.layout.specs.Mem.{Mem, Sizes}
 use Rattle.model.specs.declared.SegmentState.the-variants.{Part}
 use Rattle.model.specs.Fields.{holding, place}
 use Rattle.model.specs.Segments.{setState, partStack, stacked}
 use Rattle.model.specs.Mutators.{releasedOne, released}
 use Rattle.model.specs.Consistent.{Consistent}
-use Rattle.refine_view.specs.Kept.{Sizes}
 use Rattle.refine_taking.proofs.Releasing.{Releasing, releasing-none, releasing-skip}
 use Rattle.refine_taking.proofs.ReleaseOne.{releasing-one}
 

@@ -7,14 +7,13 @@ use native.Mathlib.Omega.{arith}
 use Rattle.rules.proofs.Order.{same-or-not, le-or-lt}
 use Rattle.classes.specs.Class.{firstClass}
 use Rattle.layout.specs.declared.Geometry.{Geometry}
-use Rattle.layout.specs.Mem.{Mem}
+use Rattle.layout.specs.Mem.{Mem, Sizes}
 use Rattle.model.specs.Fields.{holding, tag, class, place, owner}
 use Rattle.model.specs.Segments.{freeStack, partStack}
 use Rattle.model.specs.Consistent.{Consistent, IsClass, StackOk, isFree, isPart}
-use Rattle.refine_view.specs.Kept.{Sizes}
-use Rattle.refine_view.proofs.Words.{Recorded}
+use Rattle.laws.proofs.Words.{Recorded}
 use Rattle.words.proofs.Counts.{lt-of}
-use Rattle.refine_view.proofs.Segments.{in-range}
+use Rattle.laws.proofs.Segments.{in-range}
 use Rattle.refine_taking.proofs.Standing.{over}
 use Rattle.model.specs.Tag as Tag
 

@@ -11,7 +11,7 @@ use borrow.Author.Tests.{eqb-true}
 use Rattle.words.specs.Bits.{bitAt}
 use Rattle.layout.specs.declared.Geometry.{Geometry}
 use Rattle.layout.specs.Geometry.{segmentWords, segmentOf}
-use Rattle.layout.specs.Mem.{Mem}
+use Rattle.layout.specs.Mem.{Mem, Sizes}
 use Rattle.theory.specs.Reach.{root}
 use Rattle.model.specs.Fields.{phase, tag, class, place}
 use Rattle.model.specs.Segments.{bitmap, usedBit}
@@ -19,10 +19,10 @@ use Rattle.model.specs.Records.{blockWords, blockOf, queued, marked}
 use Rattle.model.specs.Reaching.{IsRoot, Live, isMarked}
 use Rattle.model.specs.Consistent.{Consistent, RecordOk, MarksOf}
 use Rattle.refine_view.specs.View.{view, isHead}
-use Rattle.refine_view.specs.Kept.{Sizes, QueuedOk, MarksIn, Steady}
-use Rattle.refine_view.proofs.Bools.{ne-not, test-same}
+use Rattle.refine_view.specs.Kept.{QueuedOk, MarksIn, Steady}
+use Rattle.laws.proofs.Bools.{ne-not, test-same}
 use Rattle.refine_view.proofs.Seeing.{entry-was, edge-was, live-was}
-use Rattle.refine_view.proofs.Segments.{used-same}
+use Rattle.laws.proofs.Segments.{used-same}
 use Rattle.refine_view.proofs.Carried.{block-by, bit-by, record-by, use-by, queued-by, marks-by}
 use Rattle.refine_view.proofs.Invariants.{structure-of}
 use Rattle.model.specs.Tag as Tag

@@ -12,7 +12,7 @@ use Rattle.words.specs.Levels.{treeWords}
 use Rattle.words.specs.Tree.{Tree}
 use Rattle.layout.specs.declared.Geometry.{Geometry}
 use Rattle.layout.specs.Geometry.{mutatorCount, blocksIn, bitmapWords}
-use Rattle.layout.specs.Mem.{Mem, setStack, setSegment, setMutator, setRun}
+use Rattle.layout.specs.Mem.{Mem, setStack, setSegment, setMutator, setRun, Sizes}
 use Rattle.bitmap_write.specs.Ready.{fresh}
 use Rattle.bitmap_write.proofs.Copied.{fresh-tree, fresh-bit, length-fresh}
 use Rattle.model.specs.Fields.{holding, tag, class, place, owner}
@@ -20,16 +20,15 @@ use Rattle.model.specs.Segments.{setState, freeStack, partStack, count, top, po
 use Rattle.model.specs.Making.{takes, freshened}
 use Rattle.model.specs.Calls.{isAttached}
 use Rattle.model.specs.Consistent.{Consistent, IsClass, StackOk, isFree, isPart}
-use Rattle.refine_view.specs.Kept.{Sizes}
-use Rattle.refine_view.proofs.Words.{Recorded, recorded-as}
-use Rattle.refine_view.proofs.Segments.{not-free, free-other, part-left}
-use Rattle.refine_view.proofs.Windows.{window-there, window-other}
+use Rattle.laws.proofs.Words.{Recorded, recorded-as}
+use Rattle.laws.proofs.Segments.{not-free, free-other, part-left}
+use Rattle.laws.proofs.Windows.{window-there, window-other}
 use Rattle.layout.proofs.Sizes.{class-height}
-use Rattle.refine_view.proofs.Bitmaps.{bitmap-ends, length-bitmap, tree-room}
-use Rattle.model.proofs.Blocks.{blocks-some}
-use Rattle.refine_view.proofs.Lengths.{sizes-bitmap}
-use Rattle.refine_view.proofs.Stacks.{stack-same, pop-ok}
-use Rattle.refine_view.proofs.OtherStacks.{stack-apart}
+use Rattle.laws.proofs.Bitmaps.{bitmap-ends, length-bitmap, tree-room}
+use Rattle.laws.proofs.Blocks.{blocks-some}
+use Rattle.laws.proofs.Lengths.{sizes-bitmap}
+use Rattle.laws.proofs.Stacks.{stack-same, pop-ok}
+use Rattle.laws.proofs.OtherStacks.{stack-apart}
 use Rattle.refine_taking.proofs.Standing.{over}
 use Rattle.refine_taking.proofs.Takes.{popped, after, takes-sizes, takes-there, takes-other, takes-holds, takes-entries}
 use Rattle.refine_taking.proofs.Taken.{Taken}

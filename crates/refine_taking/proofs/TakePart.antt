@@ -10,18 +10,17 @@ use Rattle.rules.proofs.Order.{same-or-not}
 use Rattle.words.specs.Tree.{Tree}
 use Rattle.layout.specs.declared.Geometry.{Geometry}
 use Rattle.layout.specs.Geometry.{mutatorCount, blocksIn}
-use Rattle.layout.specs.Mem.{Mem}
+use Rattle.layout.specs.Mem.{Mem, Sizes}
 use Rattle.model.specs.Fields.{holding, tag, class, place, owner}
 use Rattle.model.specs.Segments.{freeStack, partStack, count, top, pop, above, bitmap}
 use Rattle.model.specs.Making.{takes}
 use Rattle.model.specs.Calls.{isAttached}
 use Rattle.model.specs.Consistent.{Consistent, IsClass, SegmentOk, StackOk, isFree, isPart}
-use Rattle.refine_view.specs.Kept.{Sizes}
-use Rattle.refine_view.proofs.Bools.{and-left, and-right}
-use Rattle.refine_view.proofs.Words.{Recorded}
-use Rattle.refine_view.proofs.Segments.{not-part, part-other, free-left, part-left}
-use Rattle.refine_view.proofs.Stacks.{stack-same, pop-ok}
-use Rattle.refine_view.proofs.OtherStacks.{part-few, part-apart, stack-apart}
+use Rattle.laws.proofs.Bools.{and-left, and-right}
+use Rattle.laws.proofs.Words.{Recorded}
+use Rattle.laws.proofs.Segments.{not-part, part-other, free-left, part-left}
+use Rattle.laws.proofs.Stacks.{stack-same, pop-ok}
+use Rattle.laws.proofs.OtherStacks.{part-few, part-apart, stack-apart}
 use Rattle.refine_taking.proofs.Standing.{over}
 use Rattle.refine_taking.proofs.Takes.{popped, after, takes-over, takes-sizes, takes-there, takes-other, takes-holds, takes-entries}
 use Rattle.refine_taking.proofs.Taken.{Taken}

@@ -4,12 +4,12 @@ use mathlib.Core.Bool.{true}
 use Prim.Native.Nat.{ℕ, suc}
 use Rattle.layout.specs.Geometry.{segmentOf}
 use Rattle.layout.specs.declared.Geometry.{Geometry}
-use Rattle.layout.specs.Mem.{Mem}
+use Rattle.layout.specs.Mem.{Mem, Sizes}
 use Rattle.theory.proofs.Agree.{Agree}
 use Rattle.model.specs.Fields.{holding}
 use Rattle.model.specs.Calls.{isAttached}
 use Rattle.refine_view.specs.View.{view}
-use Rattle.refine_view.specs.Kept.{Sizes, Structure, Steady}
+use Rattle.refine_view.specs.Kept.{Structure, Steady}
 use Rattle.theory.specs.MachineCalls as machine
 
 -- mutator k holds segment r of class cl

@@ -7,16 +7,15 @@ use lib.ListN.{getD}
 use Rattle.classes.specs.Class.{firstClass}
 use Rattle.layout.specs.declared.Geometry.{Geometry}
 use Rattle.layout.specs.Geometry.{mutatorCount, mutatorWords}
-use Rattle.layout.specs.Mem.{Mem, mutatorWord, setMutator, setSegment, setStack}
+use Rattle.layout.specs.Mem.{Mem, mutatorWord, setMutator, setSegment, setStack, Sizes}
 use Rattle.model.specs.declared.SegmentState.the-variants.{Held}
 use Rattle.model.specs.Fields.{holding, heldFrom, tag, class, place, owner}
 use Rattle.model.specs.Segments.{setState}
 use Rattle.model.specs.Making.{takes}
 use Rattle.model.specs.Consistent.{IsClass}
-use Rattle.refine_view.specs.Kept.{Sizes}
-use Rattle.refine_view.proofs.Words.{Recorded, recorded-as, state-there, state-other}
-use Rattle.refine_view.proofs.Entries.{table-there, table-other}
-use Rattle.refine_view.proofs.Lengths.{sizes-stack, sizes-state, sizes-mutator}
+use Rattle.laws.proofs.Words.{Recorded, recorded-as, state-there, state-other}
+use Rattle.laws.proofs.Entries.{table-there, table-other}
+use Rattle.laws.proofs.Lengths.{sizes-stack, sizes-state, sizes-mutator}
 use Rattle.refine_taking.proofs.Standing.{over}
 
 module _ (g : Geometry) (m : Mem) (s : Sizes g m) (n v k cl r p : ℕ) where

@@ -15,7 +15,7 @@ use Rattle.words.specs.Tree.{Tree}
 use Rattle.classes.specs.Class.{firstClass}
 use Rattle.layout.specs.declared.Geometry.{Geometry}
 use Rattle.layout.specs.Geometry.{mutatorCount, mutatorWords, rootCount, blocksIn, segmentOf}
-use Rattle.layout.specs.Mem.{Mem, mutatorWord}
+use Rattle.layout.specs.Mem.{Mem, mutatorWord, Sizes}
 use Rattle.theory.specs.Calls.{shapeIf}
 use Rattle.theory.proofs.Agree.{Agree}
 use Rattle.model.specs.Fields.{traceCount, absent, stateAt, acksAt, state, acks, root, holding, heldFrom, tag, class, place, owner}
@@ -25,11 +25,10 @@ use Rattle.model.specs.Calls.{isAttached, isInside}
 use Rattle.model.specs.Reaching.{IsRoot}
 use Rattle.model.specs.Consistent.{Consistent, IsClass, SegmentOk, MutatorOk, StackOk, isFree, isPart}
 use Rattle.refine_view.specs.View.{view}
-use Rattle.refine_view.specs.Kept.{Sizes}
-use Rattle.refine_view.proofs.Bools.{not-eq}
-use Rattle.refine_view.proofs.Words.{Recorded}
-use Rattle.refine_view.proofs.Entries.{holding-by, table-below, mutators-table}
-use Rattle.refine_view.proofs.Segments.{segment-same}
+use Rattle.laws.proofs.Bools.{not-eq}
+use Rattle.laws.proofs.Words.{Recorded}
+use Rattle.laws.proofs.Entries.{holding-by, table-below, mutators-table}
+use Rattle.laws.proofs.Segments.{segment-same}
 use Rattle.refine_view.proofs.Seeing.{entries-same, root-was}
 use Rattle.refine_view.proofs.Invariants.{to-live}
 use Rattle.refine_taking.proofs.Standing.{over, Stood, Stands, marked-live, marked-fated, collect-same, used-live, steady, records-stand, trace-stands, marks-stand}

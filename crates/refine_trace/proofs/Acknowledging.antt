@@ -11,7 +11,7 @@ use lib.ListN.{getD}
 use Rattle.rules.specs.Pick.{pick}
 use Rattle.layout.specs.declared.Geometry.{Geometry}
 use Rattle.layout.specs.Geometry.{mutatorCount, rootCount, segmentOf}
-use Rattle.layout.specs.Mem.{Mem, setMutator}
+use Rattle.layout.specs.Mem.{Mem, setMutator, Sizes}
 use Rattle.theory.specs.Phases.{Phase, idle, sync1, sync2, mark, sweep, owes}
 use Rattle.theory.specs.Reach.{root}
 use Rattle.theory.specs.TraceStack.{tab, pushes}
@@ -27,11 +27,11 @@ use Rattle.model.specs.Mutators.{given, acknowledged}
 use Rattle.model.specs.Reaching.{Live}
 use Rattle.model.specs.Consistent.{RecordOk, Consistent}
 use Rattle.refine_view.specs.View.{view, stackOf}
-use Rattle.refine_view.specs.Kept.{Sizes, Structure, Moves}
-use Rattle.refine_view.proofs.Bools.{ne-not}
-use Rattle.refine_view.proofs.Words.{mutator-there}
+use Rattle.refine_view.specs.Kept.{Structure, Moves}
+use Rattle.laws.proofs.Bools.{ne-not}
+use Rattle.laws.proofs.Words.{mutator-there}
 use Rattle.theory.proofs.Updates.{upd-by}
-use Rattle.refine_view.proofs.Entries.{state-set, acks-set, root-set, mutators-set, held-set}
+use Rattle.laws.proofs.Entries.{state-set, acks-set, root-set, mutators-set, held-set}
 use Rattle.refine_view.proofs.Seeing.{entries-same, live-on, live-back}
 use Rattle.refine_view.proofs.Frames.{mutator-beside, marks-beside}
 use Rattle.refine_view.proofs.Invariants.{to-record, structure-of}

@@ -5,7 +5,7 @@ use Prim.Native.Nat.{ℕ}
 use native.Mathlib.Omega.{arith}
 use lib.Dec.{ltb}
 use Rattle.layout.specs.declared.Geometry.{Geometry}
-use Rattle.layout.specs.Mem.{Mem}
+use Rattle.layout.specs.Mem.{Mem, Sizes}
 use Rattle.theory.specs.Phases.{duty}
 use Rattle.theory.specs.Calls.{Answer, a-ok, c-check, c-leave, c-store, refusal, pointer?}
 use Rattle.theory.specs.Machine.{check, store}
@@ -16,10 +16,10 @@ use Rattle.model.specs.Calls.{face, act, isAttached}
 use Rattle.model.specs.Mutators.{acknowledged}
 use Rattle.model.specs.Consistent.{Consistent}
 use Rattle.refine_view.specs.View.{view}
-use Rattle.refine_view.specs.Kept.{Sizes, ActKept}
-use Rattle.refine_view.proofs.Bools.{not-eq}
+use Rattle.refine_view.specs.Kept.{ActKept}
+use Rattle.laws.proofs.Bools.{not-eq}
 use Rattle.refine_view.proofs.Keeping.{matches-by, wanted-in, on-record}
-use Rattle.refine_view.proofs.Operations.{sizes-acknowledged}
+use Rattle.laws.proofs.Operations.{sizes-acknowledged}
 use Rattle.refine_trace.proofs.Acknowledging.{acknowledged-moves}
 use Rattle.refine_trace.proofs.Leaving.{check-attached, left-moves}
 use Rattle.refine_trace.proofs.Storing.{store-moves}

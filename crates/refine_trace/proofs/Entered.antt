@@ -22,10 +22,10 @@ use Rattle.model.specs.Consistent.{MutatorOk, RecordOk}
 use Rattle.refine_view.specs.View.{stackOf}
 use Rattle.refine_view.specs.Kept.{QueuedOk, MarksIn, Structure}
 use Rattle.layout.proofs.Sizes.{marks-are}
-use Rattle.model.proofs.Blocks.{bit-below, same-bit}
+use Rattle.laws.proofs.Blocks.{bit-below, same-bit}
 use Rattle.words.proofs.Counts.{among-change, places-all}
 use Rattle.refine_view.proofs.Seeing.{entry-in, entry-of, entries-same}
-use Rattle.refine_view.proofs.Apart.{class-of}
+use Rattle.laws.proofs.Apart.{class-of}
 use Rattle.refine_view.proofs.Frames.{beside, Held, structure-beside}
 use Rattle.refine_trace.proofs.Over.{over, Segments}
 use Rattle.layout.specs.Region as Region

@@ -10,7 +10,7 @@ use Rattle.rules.specs.Pick.{pick, oneIf}
 use Rattle.rules.proofs.Order.{same-or-not}
 use Rattle.layout.specs.declared.Geometry.{Geometry}
 use Rattle.layout.specs.Geometry.{mutatorCount, mostBlocks, segmentOf, bitIn}
-use Rattle.layout.specs.Mem.{Mem}
+use Rattle.layout.specs.Mem.{Mem, Sizes}
 use Rattle.theory.specs.Phases.{Phase, sync1, sync2, mark, owes}
 use Rattle.theory.specs.Machine.{State, check}
 use Rattle.theory.specs.MachineCalls.{outside, answerOutside, move}
@@ -23,12 +23,12 @@ use Rattle.model.specs.Mutators.{acknowledged}
 use Rattle.model.specs.Collector.{outsideAnswered, waiting, moves}
 use Rattle.model.specs.Consistent.{Consistent}
 use Rattle.refine_view.specs.View.{view}
-use Rattle.refine_view.specs.Kept.{Sizes, Moves, MarksIn, Steady}
-use Rattle.refine_view.proofs.Bools.{not-eq, and-false}
+use Rattle.refine_view.specs.Kept.{Moves, MarksIn, Steady}
+use Rattle.laws.proofs.Bools.{not-eq, and-false}
 use Rattle.layout.proofs.Sizes.{within}
 use Rattle.refine_view.proofs.Invariants.{to-inv, consistent-of, structure-of}
 use Rattle.refine_view.proofs.Keeping.{agree-self}
-use Rattle.refine_view.proofs.Operations.{sizes-acknowledged}
+use Rattle.laws.proofs.Operations.{sizes-acknowledged}
 use Rattle.refine_view.proofs.Phasing.{phase-moves}
 use Rattle.refine_trace.proofs.Acknowledging.{acknowledged-moves}
 use Rattle.theory.proofs.Agree.{agree-trans}

@@ -5,12 +5,12 @@ use Prim.Native.Nat.{ℕ, zero, suc, _<_}
 use native.Mathlib.Omega.{arith}
 use Rattle.layout.specs.declared.Geometry.{Geometry}
 use Rattle.layout.specs.Geometry.{mutatorCount, segmentOf}
-use Rattle.layout.specs.Mem.{Mem}
+use Rattle.layout.specs.Mem.{Mem, Sizes}
 use Rattle.theory.specs.Phases.{Phase, idle, sync1, sync2, mark, sweep}
 use Rattle.theory.specs.Machine.{State, setInside, acknowledge}
 use Rattle.model.specs.Fields.{absent, outside, state, setState}
 use Rattle.refine_view.specs.View.{view}
-use Rattle.refine_view.specs.Kept.{Sizes, Moves}
+use Rattle.refine_view.specs.Kept.{Moves}
 use Rattle.refine_view.proofs.Following.{moves-then}
 use Rattle.refine_view.proofs.Sides.{side-moves}
 use Rattle.theory.proofs.AgreeKeeps.{inside-agree}

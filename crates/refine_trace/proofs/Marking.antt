@@ -13,7 +13,7 @@ use Rattle.words.specs.Bits.{bitAt}
 use Rattle.words.proofs.Lists.{set-there, set-elsewhere}
 use Rattle.layout.specs.declared.Geometry.{Geometry}
 use Rattle.layout.specs.Geometry.{mostBlocks, segmentOf, bitIn}
-use Rattle.layout.specs.Mem.{Mem}
+use Rattle.layout.specs.Mem.{Mem, Sizes}
 use Rattle.theory.specs.Phases.{mark}
 use Rattle.theory.specs.Update.{upd}
 use Rattle.theory.proofs.Updates.{upd-cases}
@@ -22,10 +22,10 @@ use Rattle.model.specs.Records.{blockOf, bitOf, setMarked}
 use Rattle.model.specs.Reaching.{isMarked}
 use Rattle.model.specs.Consistent.{IsClass, RecordOk, BlockInUse}
 use Rattle.refine_view.specs.View.{view, isHead}
-use Rattle.refine_view.specs.Kept.{Sizes, MarksIn}
+use Rattle.refine_view.specs.Kept.{MarksIn}
 use Rattle.layout.proofs.Sizes.{one-way, marks-are}
-use Rattle.model.proofs.Blocks.{bit-below, same-bit, of-block, blocks-most}
-use Rattle.refine_view.proofs.Apart.{class-of}
+use Rattle.laws.proofs.Blocks.{bit-below, same-bit, of-block, blocks-most}
+use Rattle.laws.proofs.Apart.{class-of}
 use Rattle.refine_view.proofs.Frames.{held-self, segment-beside, record-beside}
 use Rattle.refine_trace.proofs.Over.{Segments}
 use Rattle.refine_trace.proofs.Entered.{Entered}

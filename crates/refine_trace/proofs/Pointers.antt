@@ -4,15 +4,14 @@ use Prim.Native.Nat.{ℕ, _+_, _<_}
 use native.Mathlib.Omega.{arith}
 use lib.Seq.{getD-set-same, getD-set-other}
 use Rattle.layout.specs.declared.Geometry.{Geometry}
-use Rattle.layout.specs.Mem.{Mem, heapWord, setHeap}
+use Rattle.layout.specs.Mem.{Mem, heapWord, setHeap, Sizes}
 use Rattle.theory.specs.Update.{upd2}
 use Rattle.model.specs.Records.{record?, pointers, pointer}
 use Rattle.model.specs.Consistent.{RecordOk}
 use Rattle.refine_view.specs.View.{valuesOf}
-use Rattle.refine_view.specs.Kept.{Sizes}
 use Rattle.theory.proofs.Updates.{upd2-by}
 use Rattle.refine_view.proofs.Contents.{pointers-by, fields-by}
-use Rattle.refine_view.proofs.Apart.{fields-apart, field-inside}
+use Rattle.laws.proofs.Apart.{fields-apart, field-inside}
 use Rattle.refine_trace.proofs.Over.{Segments}
 
 module _ (g : Geometry) (m : Mem) (s : Sizes g m) (f : Segments g m) (at p v : ℕ) (r : RecordOk g m at) (few : p < pointers m at) where

@@ -14,9 +14,9 @@ use Rattle.model.specs.Records.{bitOf, setMarked, clearQueued}
 use Rattle.model.specs.Tracing.{popped}
 use Rattle.model.specs.Fields.{traceCount}
 use Rattle.layout.proofs.Sizes.{marks-are}
-use Rattle.model.proofs.Blocks.{bit-below, same-bit}
+use Rattle.laws.proofs.Blocks.{bit-below, same-bit}
 use Rattle.words.proofs.Counts.{among-change}
-use Rattle.refine_view.proofs.Apart.{class-of}
+use Rattle.laws.proofs.Apart.{class-of}
 use Rattle.refine_trace.proofs.Over.{over, Segments}
 use Rattle.refine_trace.proofs.Entered.{Entered}
 

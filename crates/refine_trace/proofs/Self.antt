@@ -4,13 +4,12 @@ use mathlib.Core.Logic.{inr}
 use Prim.Native.Nat.{ℕ, _-_, _<_}
 use native.Mathlib.Omega.{arith}
 use Rattle.layout.specs.declared.Geometry.{Geometry}
-use Rattle.layout.specs.Mem.{Mem, traceWord}
+use Rattle.layout.specs.Mem.{Mem, traceWord, Sizes}
 use Rattle.theory.specs.Reach.{root}
 use Rattle.model.specs.Fields.{traceCount}
 use Rattle.model.specs.Reaching.{IsEntry}
 use Rattle.model.specs.Consistent.{Consistent}
 use Rattle.refine_view.specs.View.{stackOf}
-use Rattle.refine_view.specs.Kept.{Sizes}
 use Rattle.refine_trace.proofs.Over.{over-self}
 use Rattle.refine_trace.proofs.Entered.{Entered}
 use Rattle.refine_trace.proofs.Push.{Pushed}

@@ -5,14 +5,14 @@ use Prim.Native.Nat.{ℕ}
 use native.Mathlib.Omega.{arith}
 use Rattle.layout.specs.declared.Geometry.{Geometry}
 use Rattle.layout.specs.Geometry.{mutatorCount, segmentOf}
-use Rattle.layout.specs.Mem.{Mem}
+use Rattle.layout.specs.Mem.{Mem, Sizes}
 use Rattle.theory.specs.Phases.{sync1, sync2, mark}
 use Rattle.theory.specs.MachineCalls.{stepBy}
 use Rattle.model.specs.Fields.{phase, traceCount}
 use Rattle.model.specs.Collector.{stepIn}
 use Rattle.model.specs.Consistent.{Consistent}
 use Rattle.refine_view.specs.View.{view}
-use Rattle.refine_view.specs.Kept.{Sizes, Moves}
+use Rattle.refine_view.specs.Kept.{Moves}
 use Rattle.refine_trace.proofs.TraceStep.{trace-by}
 use Rattle.refine_trace.proofs.Handshakes.{first-by, second-by}
 

@@ -7,7 +7,7 @@ use Prim.Native.Nat.{ℕ, _<_}
 use lib.ListN.{getD}
 use Rattle.layout.specs.Geometry.{segmentOf}
 use Rattle.layout.specs.declared.Geometry.{Geometry}
-use Rattle.layout.specs.Mem.{Mem, setHeap}
+use Rattle.layout.specs.Mem.{Mem, setHeap, Sizes}
 use Rattle.theory.specs.Phases.{Duty, nothing, both, old, duty}
 use Rattle.theory.specs.Reach.{root, next}
 use Rattle.theory.specs.Machine.{State, Holds, store}
@@ -17,7 +17,7 @@ use Rattle.model.specs.Fields.{phase, acks}
 use Rattle.model.specs.Records.{record?, pointers, values, pointer, setPointer}
 use Rattle.model.specs.Consistent.{RecordOk, Consistent}
 use Rattle.refine_view.specs.View.{view, stackOf}
-use Rattle.refine_view.specs.Kept.{Sizes, Structure, Moves}
+use Rattle.refine_view.specs.Kept.{Structure, Moves}
 use Rattle.refine_view.proofs.Seeing.{entries-same, live-on, live-back}
 use Rattle.refine_view.proofs.Frames.{held-self, mutator-beside, marks-beside}
 use Rattle.refine_view.proofs.Invariants.{to-record, to-inv, structure-of}

@@ -12,7 +12,7 @@ use borrow.Author.Tests.{eqb-true}
 use Rattle.words.specs.Bits.{clearBit}
 use Rattle.layout.specs.Geometry.{segmentOf}
 use Rattle.layout.specs.declared.Geometry.{Geometry}
-use Rattle.layout.specs.Mem.{Mem, traceWord, setControl}
+use Rattle.layout.specs.Mem.{Mem, traceWord, setControl, Sizes}
 use Rattle.theory.specs.Phases.{mark, sweep}
 use Rattle.theory.specs.Reach.{root, next}
 use Rattle.theory.specs.TraceStack.{tab, pushes}
@@ -28,12 +28,12 @@ use Rattle.model.specs.Tracing.{popped, traced}
 use Rattle.model.specs.Collector.{traces}
 use Rattle.model.specs.Consistent.{IsClass, RecordOk, Consistent}
 use Rattle.refine_view.specs.View.{view, stackOf}
-use Rattle.refine_view.specs.Kept.{Sizes, Structure, Moves, MarksIn}
+use Rattle.refine_view.specs.Kept.{Structure, Moves, MarksIn}
 use Rattle.refine_view.proofs.Seeing.{entries-same, live-on, live-back}
 use Rattle.refine_view.proofs.Invariants.{to-record, to-inv, structure-of}
 use Rattle.refine_view.proofs.Keeping.{moves-self}
-use Rattle.refine_view.proofs.Segments.{in-range}
-use Rattle.refine_view.proofs.Apart.{class-of}
+use Rattle.laws.proofs.Segments.{in-range}
+use Rattle.laws.proofs.Apart.{class-of}
 use Rattle.refine_view.proofs.Frames.{held-self, mutator-beside, structure-beside}
 use Rattle.refine_view.proofs.Phasing.{phase-moves}
 use Rattle.refine_trace.proofs.Over.{over}

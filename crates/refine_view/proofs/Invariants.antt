@@ -12,7 +12,7 @@ use Rattle.words.proofs.Word.{one-of-not-zero}
 use Rattle.words.proofs.Lists.{at-lt}
 use Rattle.layout.specs.Geometry.{segmentOf}
 use Rattle.layout.specs.declared.Geometry.{Geometry}
-use Rattle.layout.specs.Mem.{Mem, traceWord}
+use Rattle.layout.specs.Mem.{Mem, traceWord, Sizes}
 use Rattle.theory.specs.Phases.{Phase, idle, sync1, sync2, mark, sweep}
 use Rattle.theory.specs.Reach.{root, next}
 use Rattle.theory.proofs.Invariant.{Inv, Core, Tracing, Quiet}
@@ -24,11 +24,11 @@ use Rattle.model.specs.Calls.{isAttached}
 use Rattle.model.specs.Reaching.{IsRoot, IsEntry, Live, Reached, Covered, isMarked}
 use Rattle.model.specs.Consistent.{Consistent, InPhase, AcksIn, Tricolour, RecordOk}
 use Rattle.refine_view.specs.View.{view, stackOf, isHead, isUsed}
-use Rattle.refine_view.specs.Kept.{Sizes, Structure, MarksIn}
+use Rattle.refine_view.specs.Kept.{Structure, MarksIn}
 use Rattle.words.proofs.Counts.{lt-of}
-use Rattle.refine_view.proofs.Bools.{not-eq, ne-not, and-both, and-right, and-not, and-false}
+use Rattle.laws.proofs.Bools.{not-eq, ne-not, and-both, and-right, and-not, and-false}
 use Rattle.layout.proofs.Sizes.{segment-below}
-use Rattle.model.proofs.Blocks.{bit-below}
+use Rattle.laws.proofs.Blocks.{bit-below}
 use Rattle.refine_view.proofs.Seeing.{entry-of, entry-in, live-on, live-back, reached-on, reached-back, entry-on, entry-back, edge-on, edge-back, named, naming, covered-on, covered-back, head-of, few-mutators}
 use Rattle.theory.specs.Machine as machine
 

@@ -10,7 +10,7 @@ use borrow.Author.Tests.{lt-ltb, ltb-true}
 use Rattle.rules.specs.Pick.{pick}
 use Rattle.layout.specs.declared.Geometry.{Geometry}
 use Rattle.layout.specs.Geometry.{rootCount, segmentWords, mutatorCount, segmentOf}
-use Rattle.layout.specs.Mem.{Mem}
+use Rattle.layout.specs.Mem.{Mem, Sizes}
 use Rattle.theory.specs.Reach.{root, next}
 use Rattle.theory.specs.Calls.{Call, Answer, a-no, shapeIf, refusal, refuse, ifRecord, onRecord}
 use Rattle.theory.specs.Unbounded.{Unbounded}
@@ -23,10 +23,10 @@ use Rattle.model.specs.Records.{record?, pointers, values, pointer}
 use Rattle.model.specs.Calls.{isAttached, isInside, face, act, exec}
 use Rattle.model.specs.Reaching.{Live, IsRoot}
 use Rattle.model.specs.Consistent.{Consistent}
-use Rattle.refine_view.proofs.Bools.{not-eq}
+use Rattle.laws.proofs.Bools.{not-eq}
 use Rattle.refine_view.specs.View.{view, valuesOf}
-use Rattle.refine_view.specs.Kept.{Sizes, Moves, Matches, ActKept, CallKept}
-use Rattle.refine_view.proofs.Tables.{length-tab}
+use Rattle.refine_view.specs.Kept.{Moves, Matches, ActKept, CallKept}
+use Rattle.laws.proofs.Tables.{length-tab}
 use Rattle.refine_view.proofs.Seeing.{few-mutators}
 use Rattle.refine_view.proofs.Invariants.{to-live, to-inv, structure-of}
 use Rattle.theory.specs.Machine as machine

@@ -1,17 +1,4 @@
 -- The correspondence of memory and machine.
-pub mod Bools
-pub mod Tables
-pub mod Words
-pub mod Windows
-pub mod Lengths
-pub mod Operations
-pub mod Entries
-pub mod Stacks
-pub mod OtherStacks
-pub mod Segments
-pub mod Parted
-pub mod Bitmaps
-pub mod Apart
 pub mod Contents
 pub mod Seeing
 pub mod Carried

@@ -7,7 +7,7 @@ use lib.ListN.{getD, set}
 use lib.Seq.{getD-set-same, getD-set-other}
 use Rattle.layout.specs.Geometry.{segmentOf}
 use Rattle.layout.specs.declared.Geometry.{Geometry}
-use Rattle.layout.specs.Mem.{Mem, setControl}
+use Rattle.layout.specs.Mem.{Mem, setControl, Sizes}
 use Rattle.theory.specs.Phases.{Phase, idle, sync1, sync2, mark, sweep}
 use Rattle.theory.specs.Machine.{State}
 use Rattle.theory.proofs.Agree.{Agree}
@@ -16,7 +16,7 @@ use Rattle.model.specs.Rules.{phaseOf, phaseNumber}
 use Rattle.model.specs.Fields.{setPhase, traceCount}
 use Rattle.model.specs.Reaching.{Live}
 use Rattle.refine_view.specs.View.{view, stackOf}
-use Rattle.refine_view.specs.Kept.{Sizes, Structure, Moves, MarksIn}
+use Rattle.refine_view.specs.Kept.{Structure, Moves, MarksIn}
 use Rattle.refine_view.proofs.Seeing.{entries-same, root-was, entry-was, edge-was, live-was}
 use Rattle.refine_view.proofs.Carried.{queued-by}
 use Rattle.refine_view.proofs.Frames.{beside, held-self, mutator-beside, marks-beside, structure-beside}

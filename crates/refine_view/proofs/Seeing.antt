@@ -11,7 +11,7 @@ use borrow.Author.Tests.{eq-eqb}
 use Rattle.rules.proofs.Order.{le-or-lt, same-or-not}
 use Rattle.layout.specs.declared.Geometry.{Geometry}
 use Rattle.layout.specs.Geometry.{mutatorCount, rootCount}
-use Rattle.layout.specs.Mem.{Mem, traceWord, heapWord}
+use Rattle.layout.specs.Mem.{Mem, traceWord, heapWord, Sizes}
 use Rattle.theory.specs.Reach.{Protected, root}
 use Rattle.theory.specs.Machine.{Points, Grey, LiveRoot}
 use Rattle.theory.proofs.Graph.{reach-map, prot-map}
@@ -22,9 +22,8 @@ use Rattle.model.specs.Calls.{isAttached}
 use Rattle.model.specs.Reaching.{IsRoot, IsEntry, PointsTo, Live, Reached, Covered, isMarked}
 use Rattle.model.specs.Consistent.{RecordOk}
 use Rattle.refine_view.specs.View.{view, stackOf, isHead}
-use Rattle.refine_view.specs.Kept.{Sizes}
 use Rattle.words.proofs.Counts.{lt-of}
-use Rattle.refine_view.proofs.Bools.{not-eq, ne-not}
+use Rattle.laws.proofs.Bools.{not-eq, ne-not}
 use Rattle.theory.specs.Machine as machine
 use Rattle.model.specs.Fields as fields
 

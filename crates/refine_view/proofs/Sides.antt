@@ -8,16 +8,16 @@ use lib.Dec.{eqb}
 use Rattle.rules.proofs.Order.{same-or-not}
 use Rattle.layout.specs.declared.Geometry.{Geometry}
 use Rattle.layout.specs.Geometry.{mutatorCount}
-use Rattle.layout.specs.Mem.{Mem, setMutator}
+use Rattle.layout.specs.Mem.{Mem, setMutator, Sizes}
 use Rattle.model.specs.Fields.{absent, inside, stateAt, state, setState}
 use Rattle.model.specs.Records.{record?}
 use Rattle.model.specs.Calls.{isAttached, isInside}
 use Rattle.refine_view.specs.View.{view}
-use Rattle.refine_view.specs.Kept.{Sizes, Structure, Moves}
-use Rattle.refine_view.proofs.Bools.{ne-not}
-use Rattle.refine_view.proofs.Words.{mutator-there}
+use Rattle.refine_view.specs.Kept.{Structure, Moves}
+use Rattle.laws.proofs.Bools.{ne-not}
+use Rattle.laws.proofs.Words.{mutator-there}
 use Rattle.theory.proofs.Updates.{upd-by}
-use Rattle.refine_view.proofs.Entries.{state-set, acks-set, root-set, mutators-set, held-set}
+use Rattle.laws.proofs.Entries.{state-set, acks-set, root-set, mutators-set, held-set}
 use Rattle.refine_view.proofs.EntriesOnly.{entries-moves}
 use Rattle.theory.specs.Machine as machine
 

@@ -7,7 +7,7 @@ use lib.ListN.{length}
 use Rattle.words.specs.Bits.{bitAt, onesAmong}
 use Rattle.layout.specs.declared.Geometry.{Geometry}
 use Rattle.layout.specs.Geometry.{len, mutatorCount, mostBlocks, segmentOf}
-use Rattle.layout.specs.Mem.{Mem, controlWord, traceWord}
+use Rattle.layout.specs.Mem.{Mem, Sizes, controlWord, traceWord}
 use Rattle.theory.specs.Phases.{Phase, idle, sync1, sync2, mark, sweep}
 use Rattle.theory.specs.Calls.{Call, Answer}
 use Rattle.theory.specs.Machine.{State, start}
@@ -25,18 +25,6 @@ use Rattle.model.specs.Calls as model
 use Rattle.theory.specs.MachineCalls as machine
 use Rattle.layout.specs.Region as Region
 use Rattle.model.specs.Tag as Tag
-
--- every region has its length
-pub record Sizes (g : Geometry) (m : Mem) : Type 0 where
-  pub control : length (m .control) ≡ len g Region.control
-  pub mutators : length (m .mutators) ≡ len g Region.mutators
-  pub segments : length (m .segments) ≡ len g Region.segments
-  pub stacks : length (m .stacks) ≡ len g Region.stacks
-  pub bitmaps : length (m .bitmaps) ≡ len g Region.bitmaps
-  pub marks : length (m .marks) ≡ len g Region.marks
-  pub queued : length (m .queued) ≡ len g Region.queued
-  pub trace : length (m .trace) ≡ len g Region.trace
-  pub heap : length (m .heap) ≡ len g Region.heap
 
 -- ---- the parts of consistency that the abstract machine does not see
 

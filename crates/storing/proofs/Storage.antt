@@ -23,7 +23,7 @@ use Rattle.model.specs.Tracing.{barrier}
 use Rattle.model.specs.Calls.{face, act}
 use Rattle.model.specs.Consistent.{RecordOk, Consistent}
 use Rattle.model.specs.Promise.{Promise}
-use Rattle.model.proofs.Promised.{refused, done, torn-13}
+use Rattle.laws.proofs.Promised.{refused, done, torn-13}
 use Rattle.roots.specs.Inside.{insideThen}
 use Rattle.roots.proofs.Inside.{passed, in-range, with-rest, with-refused}
 use Rattle.records.specs.declared.Place.the-variants.{At}

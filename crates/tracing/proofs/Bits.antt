@@ -21,7 +21,7 @@ use Rattle.model.specs.Fields.{class, traceCount}
 use Rattle.model.specs.Records.{record?, blockWords, bitOf}
 use Rattle.model.specs.Tracing.{push}
 use Rattle.model.specs.Consistent.{IsClass}
-use Rattle.model.proofs.Blocks.{blocks-most, block-below, bit-below}
+use Rattle.laws.proofs.Blocks.{blocks-most, block-below, bit-below}
 use Rattle.model.specs.declared.Duty.{Duty}
 use Rattle.tracing.specs.declared.Bit.{Bit}
 use Rattle.tracing.specs.declared.Bit.the-variants.{At, Torn}

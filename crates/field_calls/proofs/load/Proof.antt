@@ -3,7 +3,7 @@ use mathlib.Core.Path.{sym, _∙_}
 use borrow.Author.Needs.{needs}
 use Rattle.layout.proofs.Regions.{sized}
 use Rattle.theory.specs.Calls.{c-load}
-use Rattle.model.proofs.Promised.{size-1}
+use Rattle.laws.proofs.Promised.{size-1}
 use Rattle.roots.proofs.Inside.{in-range}
 use Rattle.records.proofs.Found.{pointer-stands}
 use Rattle.field_calls.proofs.Reaching.{names, nil-7, pointer-refused}

@@ -4,7 +4,7 @@ use native.Mathlib.Omega.{arith}
 use borrow.Author.Needs.{needs}
 use Rattle.layout.proofs.Regions.{sized}
 use Rattle.theory.specs.Calls.{c-shape}
-use Rattle.model.proofs.Promised.{size-1}
+use Rattle.laws.proofs.Promised.{size-1}
 use Rattle.roots.proofs.Inside.{in-range-at}
 use Rattle.field_calls.proofs.Reaching.{names, nil-7, header-13}
 use Rattle.field_calls.proofs.Answering.{shape-standing, shape-reaches, shape-done}

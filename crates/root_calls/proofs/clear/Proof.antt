@@ -4,7 +4,7 @@ use borrow.Author.Needs.{needs}
 use Rattle.layout.proofs.Regions.{sized}
 use Rattle.theory.specs.Calls.{c-clear}
 use Rattle.model.specs.Calls.{act}
-use Rattle.model.proofs.Promised.{size-1, refused, done}
+use Rattle.laws.proofs.Promised.{size-1, refused, done}
 use Rattle.roots.specs.Inside.{insideThen}
 use Rattle.roots.proofs.Inside.{in-range-at}
 use Rattle.root_calls.proofs.clear.Tie as tie

@@ -13,13 +13,12 @@ use Rattle.words.specs.Bits.{bitAt}
 use Rattle.words.specs.Tree.{Tree}
 use Rattle.layout.specs.declared.Geometry.{Geometry}
 use Rattle.layout.specs.Geometry.{mutatorCount, blocksIn}
-use Rattle.layout.specs.Mem.{Mem}
+use Rattle.layout.specs.Mem.{Mem, Sizes}
 use Rattle.model.specs.Fields.{absent, state, holding, tag, class, place, owner}
 use Rattle.model.specs.Segments.{above, bitmap, usedBit}
 use Rattle.model.specs.Consistent.{IsClass, SegmentOk, isFree, isPart}
-use Rattle.refine_view.specs.Kept.{Sizes}
-use Rattle.refine_view.proofs.Bools.{and-both}
-use Rattle.refine_view.proofs.Words.{Recorded}
+use Rattle.laws.proofs.Bools.{and-both}
+use Rattle.laws.proofs.Words.{Recorded}
 use Rattle.model.specs.Tag as Tag
 
 -- only a segment of the memory has a tag that is not 0

@@ -7,12 +7,11 @@ use native.Mathlib.Omega.{arith}
 use lib.ListN.{getD}
 use Rattle.layout.specs.declared.Geometry.{Geometry}
 use Rattle.layout.specs.Geometry.{stackCount}
-use Rattle.layout.specs.Mem.{Mem, stackWord, setStack}
+use Rattle.layout.specs.Mem.{Mem, stackWord, setStack, Sizes}
 use Rattle.model.specs.Segments.{count, entry, partStack, stacked}
 use Rattle.model.specs.Consistent.{StackOk, IsClass}
-use Rattle.refine_view.specs.Kept.{Sizes}
-use Rattle.refine_view.proofs.Words.{stack-other}
-use Rattle.refine_view.proofs.Stacks.{count-le, stack-same, push-other}
+use Rattle.laws.proofs.Words.{stack-other}
+use Rattle.laws.proofs.Stacks.{count-le, stack-same, push-other}
 
 pub part-few : (c : ℕ) → IsClass c → partStack c < stackCount
 part-few c i = let a = i .0 in let b = i .1 in omega arith

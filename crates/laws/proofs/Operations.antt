@@ -8,7 +8,7 @@ use lib.ListN.{length, length-replicate}
 use Rattle.rules.specs.Pick.{pick}
 use Rattle.layout.specs.declared.Geometry.{Geometry}
 use Rattle.layout.specs.Geometry.{mutatorCount, mutatorWords, rootCount}
-use Rattle.layout.specs.Mem.{Mem, setTrace, setStack}
+use Rattle.layout.specs.Mem.{Mem, setTrace, setStack, Sizes}
 use Rattle.theory.specs.Phases.{Phase, idle, sync1, sync2, mark, sweep, Duty, nothing, both, old, owes}
 use Rattle.model.specs.Rules.{phaseNumber}
 use Rattle.model.specs.Fields.{phase, traceCount, setTraceCount, acksAt, acks, root, class}
@@ -17,8 +17,7 @@ use Rattle.model.specs.Records.{record?, pointers, pointer, marked, queued, set
 use Rattle.model.specs.Tracing.{push, barrier, pushRoots, pushPointers, popped, traced, onTop}
 use Rattle.model.specs.Mutators.{given, acknowledged}
 use Rattle.model.specs.Collector.{isFull, condemned, acksReset, marksCleared, started}
-use Rattle.refine_view.specs.Kept.{Sizes}
-use Rattle.refine_view.proofs.Lengths.{sizes-control, sizes-mutator, sizes-stack, sizes-queued, sizes-unqueued, sizes-marked, sizes-trace, sizes-state}
+use Rattle.laws.proofs.Lengths.{sizes-control, sizes-mutator, sizes-stack, sizes-queued, sizes-unqueued, sizes-marked, sizes-trace, sizes-state}
 use Rattle.model.specs.declared.SegmentState.the-variants as segment
 
 module _ (g : Geometry) where

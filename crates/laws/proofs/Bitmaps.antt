@@ -9,11 +9,10 @@ use Rattle.words.specs.Levels.{treeWords}
 use Rattle.layout.specs.declared.Geometry.{Geometry}
 use Rattle.layout.specs.Geometry.{blocksIn, bitmapWords}
 use Rattle.layout.proofs.Sizes.{class-fits}
-use Rattle.layout.specs.Mem.{Mem}
+use Rattle.layout.specs.Mem.{Mem, Sizes}
 use Rattle.model.specs.Segments.{above, bitmap}
 use Rattle.model.specs.Consistent.{IsClass}
-use Rattle.refine_view.specs.Kept.{Sizes}
-use Rattle.refine_view.proofs.Windows.{length-window}
+use Rattle.laws.proofs.Windows.{length-window}
 
 pub bitmap-by : (g : Geometry) (m m′ : Mem) → m′ .bitmaps ≡ m .bitmaps → (r : ℕ) → bitmap g m′ r ≡ bitmap g m r
 bitmap-by g m m′ e r = ap (λ (l : List ℕ). take (bitmapWords g) (drop (r * bitmapWords g) l)) e

@@ -6,15 +6,14 @@ use Prim.Native.Nat.{ℕ, _≤_, _<_}
 use native.Mathlib.Omega.{arith}
 use Rattle.rules.proofs.Order.{same-or-not}
 use Rattle.layout.specs.declared.Geometry.{Geometry}
-use Rattle.layout.specs.Mem.{Mem}
+use Rattle.layout.specs.Mem.{Mem, Sizes}
 use Rattle.model.specs.Fields.{tag, class, place, owner}
 use Rattle.model.specs.Segments.{freeStack, partStack, stacked}
 use Rattle.model.specs.Consistent.{IsClass, StackOk, isFree, isPart}
-use Rattle.refine_view.specs.Kept.{Sizes}
-use Rattle.refine_view.proofs.Words.{Recorded}
-use Rattle.refine_view.proofs.Stacks.{push-ok}
-use Rattle.refine_view.proofs.OtherStacks.{part-few, part-apart, stack-by, push-left}
-use Rattle.refine_view.proofs.Segments.{is-part, not-part, part-other, free-left, part-left}
+use Rattle.laws.proofs.Words.{Recorded}
+use Rattle.laws.proofs.Stacks.{push-ok}
+use Rattle.laws.proofs.OtherStacks.{part-few, part-apart, stack-by, push-left}
+use Rattle.laws.proofs.Segments.{is-part, not-part, part-other, free-left, part-left}
 use Rattle.model.specs.Tag as Tag
 
 abbrev pub Stacks : Geometry → Mem → Type 0

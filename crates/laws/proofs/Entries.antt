@@ -10,12 +10,11 @@ use Rattle.rules.proofs.Order.{same-or-not, le-or-lt}
 use Rattle.classes.specs.Class.{firstClass}
 use Rattle.layout.specs.declared.Geometry.{Geometry}
 use Rattle.layout.specs.Geometry.{mutatorCount, mutatorWords, entryWords, rootCount}
-use Rattle.layout.specs.Mem.{Mem, mutatorWord, setMutator}
+use Rattle.layout.specs.Mem.{Mem, mutatorWord, setMutator, Sizes}
 use Rattle.model.specs.Fields.{absent, stateAt, acksAt, heldFrom, state, acks, root, holding, setHolding, tag, class, place, owner}
 use Rattle.model.specs.Consistent.{IsClass, MutatorOk}
-use Rattle.refine_view.specs.Kept.{Sizes}
-use Rattle.refine_view.proofs.Words.{Recorded, mutator-there, mutator-other}
-use Rattle.refine_view.proofs.Windows.{sets-in, sets-out}
+use Rattle.laws.proofs.Words.{Recorded, mutator-there, mutator-other}
+use Rattle.laws.proofs.Windows.{sets-in, sets-out}
 use Rattle.model.specs.Tag as Tag
 
 -- ---- each word of an entry by its offset

@@ -13,7 +13,7 @@ use Rattle.model.specs.Fields.{class}
 use Rattle.model.specs.Records.{pointers, values, blockWords, blockOf}
 use Rattle.model.specs.Consistent.{IsClass, SegmentOk, RecordOk}
 use Rattle.layout.proofs.Sizes.{one-way, within, segment-below}
-use Rattle.model.proofs.Blocks.{of-block, block-within}
+use Rattle.laws.proofs.Blocks.{of-block, block-within}
 
 -- a record's words are as many as its block's at most
 pub fits : (n c : ℕ) → classOf n ≡ Class c → n < blockWords c

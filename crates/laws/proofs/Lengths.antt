@@ -8,13 +8,12 @@ use lib.Seq.{length-sets}
 use Rattle.words.proofs.Lists.{length-setBit, length-clearBit}
 use Rattle.layout.specs.declared.Geometry.{Geometry}
 use Rattle.layout.specs.Geometry.{Sized}
-use Rattle.layout.specs.Mem.{Mem, memOf, setControl, setMutator, setSegment, setStack, setTrace, setHeap, setRun}
+use Rattle.layout.specs.Mem.{Mem, memOf, setControl, setMutator, setSegment, setStack, setTrace, setHeap, setRun, Sizes}
 use Rattle.layout.proofs.Regions.{length-region}
 use Rattle.model.specs.declared.SegmentState.{SegmentState}
 use Rattle.model.specs.Segments.{setState}
 use Rattle.model.specs.Records.{setMarked, setQueued, clearQueued, bitOf}
-use Rattle.refine_view.specs.Kept.{Sizes}
-use Rattle.refine_view.proofs.Words.{state-is}
+use Rattle.laws.proofs.Words.{state-is}
 use Rattle.layout.specs.Region as Region
 
 -- the memory of a slice of its length

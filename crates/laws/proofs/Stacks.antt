@@ -10,13 +10,12 @@ use Rattle.words.specs.Bits.{onesAmong}
 use Rattle.words.proofs.Ones.{among-same, among-le}
 use Rattle.layout.specs.declared.Geometry.{Geometry}
 use Rattle.layout.specs.Geometry.{stackCount}
-use Rattle.layout.specs.Mem.{Mem, stackWord, setStack}
+use Rattle.layout.specs.Mem.{Mem, stackWord, setStack, Sizes}
 use Rattle.model.specs.Segments.{count, entry, top, pop, stacked}
 use Rattle.model.specs.Consistent.{StackOk}
-use Rattle.refine_view.specs.Kept.{Sizes}
-use Rattle.refine_view.proofs.Words.{stack-there, stack-other}
+use Rattle.laws.proofs.Words.{stack-there, stack-other}
 use Rattle.words.proofs.Counts.{among-change}
-use Rattle.refine_view.proofs.Lengths.{sizes-stack}
+use Rattle.laws.proofs.Lengths.{sizes-stack}
 
 one-less : (b : Bool) → oneIf b < 2
 one-less true = omega arith
