@@ -11,7 +11,7 @@ use Rattle.theory.specs.Calls.{Call, c-load, c-get, c-put, c-shape, a-ok, a-num
 use Rattle.model.specs.declared.Answer.the-variants.{Ok, Number, Shape, Refused}
 use Rattle.model.specs.Fields.{setRoot}
 use Rattle.model.specs.Records.{pointers, values, pointer, value, setValue}
-use Rattle.model.specs.Calls.{face, act}
+use Rattle.model.specs.Calls.{observe, act}
 use Rattle.model.specs.Promise.{Promise}
 use Rattle.laws.proofs.Promised.{refused, done}
 use Rattle.roots.specs.Inside.{insideThen}
@@ -25,7 +25,7 @@ use Rattle.field_calls.proofs.Reaching.{Names, Reaches, by-test, pointe
 
 module _ (g : Geometry) (xs : List ℕ) (k d i f n : ℕ) (e : wrongSize g (length xs) ≡ false) (s : n ≡ insideThen (memOf g xs) k (ifRoot d (ifRoot i 0))) where
   abbrev load-rest : ℕ
-  load-rest = ifRecord (face (memOf g xs) .shape k i) (pointer? f)
+  load-rest = ifRecord (observe (memOf g xs) .shape k i) (pointer? f)
 
   pub load-standing : (n ≡ 0 → ⊥) → Promise (c-load k d i f) g xs (Refused n) xs
   unfolding insideThen
@@ -47,9 +47,9 @@ module _ (g : Geometry) (xs : List ℕ) (k d i f n : ℕ) (e : wrongSize g (leng
 
 module _ (g : Geometry) (xs : List ℕ) (k i n : ℕ) (e : wrongSize g (length xs) ≡ false) (s : n ≡ insideThen (memOf g xs) k (ifRoot i 0)) where
   abbrev one-rest : (ℕ × ℕ → ℕ) → ℕ
-  one-rest test = ifRecord (face (memOf g xs) .shape k i) test
+  one-rest test = ifRecord (observe (memOf g xs) .shape k i) test
 
-  module _ (c : Call) (test : ℕ × ℕ → ℕ) (is : insideThen (memOf g xs) k (ifRoot i (one-rest test)) ≡ refusal (face (memOf g xs)) c) where
+  module _ (c : Call) (test : ℕ × ℕ → ℕ) (is : insideThen (memOf g xs) k (ifRoot i (one-rest test)) ≡ refusal (observe (memOf g xs)) c) where
     one-standing : (n ≡ 0 → ⊥) → Promise c g xs (Refused n) xs
     one-standing z = refused c g xs e (at-refused (memOf g xs) k i n (one-rest test) s z ∙ is) z
 

@@ -17,7 +17,7 @@ use Rattle.model.specs.declared.Held.{Held}
 use Rattle.model.specs.declared.Held.the-variants.{Nil, Record}
 use Rattle.model.specs.Fields.{root}
 use Rattle.model.specs.Records.{pointers, values}
-use Rattle.model.specs.Calls.{isAttached, face}
+use Rattle.model.specs.Calls.{isAttached, observe}
 use Rattle.model.specs.Consistent.{Consistent}
 use Rattle.model.specs.Promise.{Promise}
 use Rattle.laws.proofs.Promised.{refused, torn-13}
@@ -60,13 +60,13 @@ pub record Reaches (c : Call) (g : Geometry) (xs : List ℕ) (k i : ℕ) (test :
   pub known : k < mutatorCount
   pub within : i < rootCount
   pub attached : isAttached (memOf g xs) k ≡ true
-  pub rest : ifRecord (face (memOf g xs) .shape k i) test ≡ refusal (face (memOf g xs)) c
+  pub rest : ifRecord (observe (memOf g xs) .shape k i) test ≡ refusal (observe (memOf g xs)) c
 
 module _ (c : Call) (g : Geometry) (xs : List ℕ) (k i : ℕ) (test : ℕ × ℕ → ℕ) (q : Reaches c g xs k i test) where
   abbrev m : Mem
   m = memOf g xs
 
-  shape-nil : root m k i ≡ 0 → face m .shape k i ≡ none
+  shape-nil : root m k i ≡ 0 → observe m .shape k i ≡ none
   shape-nil e = rw (q .attached, lt-ltb _ _ (q .within), e)
 
   -- "7, dark"
@@ -75,11 +75,11 @@ module _ (c : Call) (g : Geometry) (xs : List ℕ) (k i : ℕ) (test : ℕ × �
   nil-7 w r h = refused c g xs (q .size) (ap (λ o. ifRecord o test) (sym (shape-nil (sym r ∙ is-nil w h))) ∙ q .rest) (λ z. omega arith)
 
   module _ (at : ℕ) (p : Names g xs k i at) where
-    shape-at : face m .shape k i ≡ some (pointers m at, values m at)
+    shape-at : observe m .shape k i ≡ some (pointers m at, values m at)
     shape-at = rw (q .attached, lt-ltb _ _ (q .within), p .word)
 
     -- the refusal is what the test says of the record's shape
-    pub by-test : (x : ℕ) → x ≡ test (pointers m at, values m at) → x ≡ refusal (face m) c
+    pub by-test : (x : ℕ) → x ≡ test (pointers m at, values m at) → x ≡ refusal (observe m) c
     unfolding ifRecord
     by-test x t = t ∙ ap (λ o. ifRecord o test) (sym shape-at) ∙ q .rest
 
@@ -95,7 +95,7 @@ module _ (c : Call) (g : Geometry) (xs : List ℕ) (k i : ℕ) (test : ℕ × �
 
     -- field f of n at word u, y words behind the header, where the test asks for it
     module _ (n f u y : ℕ) (asks : test (pointers m at, values m at) ≡ require (ltb f n) 8 0) where
-      has-0 : f < n → 0 ≡ refusal (face m) c
+      has-0 : f < n → 0 ≡ refusal (observe m) c
       unfolding require
       has-0 l = by-test 0 (sym (asks ∙ rw (lt-ltb _ _ l) refl))
 
@@ -112,7 +112,7 @@ module _ (c : Call) (g : Geometry) (xs : List ℕ) (k i : ℕ) (test : ℕ × �
 -- ---- a call on a pointer, or on a value, of the record
 
 module _ (c : Call) (g : Geometry) (xs : List ℕ) (k i f at : ℕ) (p : Names g xs k i at) where
-  pub pointer-0 : Reaches c g xs k i (pointer? f) → (u : ℕ) → At u ≡ pointerPlace g (memOf g xs) at f → 0 ≡ refusal (face (memOf g xs)) c
+  pub pointer-0 : Reaches c g xs k i (pointer? f) → (u : ℕ) → At u ≡ pointerPlace g (memOf g xs) at f → 0 ≡ refusal (observe (memOf g xs)) c
   pointer-0 q u e =
       has-0 c g xs k i (pointer? f) q at p (pointers (memOf g xs) at) f (at + 1 + f) (1 + f) refl (pointer-stands g (memOf g xs) at f u e .has)
 
@@ -121,7 +121,7 @@ module _ (c : Call) (g : Geometry) (xs : List ℕ) (k i f at : ℕ) (p : Names g
       lacks c g xs k i (pointer? f) q at p (pointers (memOf g xs) at) f (at + 1 + f) (1 + f) refl (omega arith) (λ l. omega arith) x
       (pointer-lacks g (memOf g xs) at f x e)
 
-  pub value-0 : Reaches c g xs k i (value? f) → (u : ℕ) → At u ≡ valuePlace g (memOf g xs) at f → 0 ≡ refusal (face (memOf g xs)) c
+  pub value-0 : Reaches c g xs k i (value? f) → (u : ℕ) → At u ≡ valuePlace g (memOf g xs) at f → 0 ≡ refusal (observe (memOf g xs)) c
   value-0 q u e =
       has-0 c g xs k i (value? f) q at p (values (memOf g xs) at) f (at + 1 + pointers (memOf g xs) at + f) (1 + pointers (memOf g xs) at + f) refl
       (value-stands g (memOf g xs) at f u e .has)

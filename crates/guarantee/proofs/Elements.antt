@@ -17,23 +17,23 @@ use Rattle.model.specs.declared.Answer.{Answer}
 use Rattle.model.specs.declared.Answer.the-variants.{Ok}
 use Rattle.model.specs.declared.Step.{Step}
 use Rattle.model.specs.Answers.{answerOf}
-use Rattle.model.specs.Lists.{Element, called, started, stepped, openedBy, sawPhase, sawStates, examinedBy, Meets, KeepsLength, Gets, wrongSized, onward, Beside, struck, besideOne, putIf, left}
+use Rattle.model.specs.Lists.{Element, called, started, stepped, openedBy, sawPhase, sawStates, examinedBy, Meets, KeepsLength, Gets, wrongSized, onward, Ghost, struck, ghostStep, putIf, left}
 use Rattle.refine_view.specs.Kept.{AllKept, Steady}
-use Rattle.guarantee.proofs.Points.{Point, Called, out, kept, Begun, Started, refused, begun, Stepped, called-on, started-on, stepped-on}
+use Rattle.guarantee.proofs.Points.{Point, Called, out, kept, Begun, Started, refused, ghostStart, Stepped, called-on, started-on, stepped-on}
 use Rattle.guarantee.specs.Demand3.{struckOut}
 
-module _ (all : AllKept) (g : Geometry) (words : List ℕ) (w : Beside) (P : ℕ → Type 0) (p : Point g words w P) where
+module _ (all : AllKept) (g : Geometry) (words : List ℕ) (w : Ghost) (P : ℕ → Type 0) (p : Point g words w P) where
   -- the list goes on, or a cycle begins
   pub data Onward (e : Element) : Type 0 where
-    goes : Point g (onward words e) (besideOne struckOut w e) P → Steady g (memOf g words) (memOf g (onward words e)) → Onward e
+    goes : Point g (onward words e) (ghostStep struckOut w e) P → Steady g (memOf g words) (memOf g (onward words e)) → Onward e
     begins : (after : List ℕ) → e ≡ started g words Ok after → onward words e ≡ after → Begun all g words w P p after → Onward e
 
   still : Steady g (memOf g words) (memOf g words)
   still = λ s l e. (e, refl)
 
   -- what leaves words and heap as they were
-  stays-as : (e : Element) → onward words e ≡ words → besideOne struckOut w e ≡ w → Onward e
-  stays-as e h k = goes (subst (λ z. Point g z (besideOne struckOut w e) P) (sym h) (subst (λ z. Point g words z P) (sym k) p)) (subst (λ z. Steady g (memOf g words) (memOf g z)) (sym h) still)
+  stays-as : (e : Element) → onward words e ≡ words → ghostStep struckOut w e ≡ w → Onward e
+  stays-as e h k = goes (subst (λ z. Point g z (ghostStep struckOut w e) P) (sym h) (subst (λ z. Point g words z P) (sym k) p)) (subst (λ z. Steady g (memOf g words) (memOf g z)) (sym h) still)
 
   -- ---- refused 1: words of another count or length
 
@@ -58,7 +58,7 @@ module _ (all : AllKept) (g : Geometry) (words : List ℕ) (w : Beside) (P : ℕ
   ahead after = ap (λ (b : Bool). pick b words after) right
 
   module _ (c : Call) (r : Answer) (after : List ℕ) where
-    abbrev next : Beside
+    abbrev next : Ghost
     next = record { heap = uexec (w .heap) c .1; put = putIf r c g after (w .heap .count) (w .put) }
 
     called-by : Steady g (memOf g words) (memOf g after) → (b : Bool) → struck struckOut r ≡ b → Point g after (pick b w next) P → Onward (called c g words r after)
@@ -70,12 +70,12 @@ module _ (all : AllKept) (g : Geometry) (words : List ℕ) (w : Beside) (P : ℕ
 
   started-at : (r : Answer) (after : List ℕ) → Started all g words w P p r after → Onward (started g words r after)
   started-at r after (refused f h q) = goes (subst (λ z. Point g z w P) (sym (ahead after)) q) (subst (λ z. Steady g (memOf g words) (memOf g z)) (sym (ahead after)) (subst (Steady g (memOf g words)) (sym h) still))
-  started-at r after (begun h q) = begins after (ap (λ r. started g words r after) h) (ahead after) q
+  started-at r after (ghostStart h q) = begins after (ap (λ r. started g words r after) h) (ahead after) q
 
   stepped-at : (r : Step) (after : List ℕ) → Stepped all g words w P p r after → Onward (stepped g words r after)
   stepped-at r after q = goes (subst (λ z. Point g z w P) (sym (ahead after)) (q .point)) (subst (λ z. Steady g (memOf g words) (memOf g z)) (sym (ahead after)) (q .steady))
 
-  looked : (e : Element) → left e ≡ words → besideOne struckOut w e ≡ w → Onward e
+  looked : (e : Element) → left e ≡ words → ghostStep struckOut w e ≡ w → Onward e
   looked e h k = stays-as e (go (wrongSized e)) k
     where
       go : (b : Bool) → pick b words (left e) ≡ words

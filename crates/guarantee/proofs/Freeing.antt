@@ -27,7 +27,7 @@ use Rattle.model.specs.Records.{headerOf, blockWords}
 use Rattle.model.specs.Reaching.{isMarked}
 use Rattle.model.specs.Collector.{stepOf, stepIn, moves, traces, sweeps, swept, lowest, waiting, outsideAnswered}
 use Rattle.model.specs.Consistent.{IsClass}
-use Rattle.model.specs.Lists.{Element, started, Meets, KeepsLength, Gets, wrongSized, onward, Chain, Beside, besideOne, beside, BlockReached}
+use Rattle.model.specs.Lists.{Element, started, Meets, KeepsLength, Gets, wrongSized, onward, Chain, Ghost, ghostStep, ghostAfter, BlockReached}
 use Rattle.refine_view.specs.View.{view, isHead}
 use Rattle.refine_view.specs.Kept.{AllKept}
 use Rattle.laws.proofs.Bools.{and-both}
@@ -86,8 +86,8 @@ swept-by g m s f e = go (phase m) refl (ap sweptOf e)
 -- ---- in the cycle
 
 module _ (all : AllKept) (g : Geometry) (m₀ : Mem) where
-  -- the collect set are segments that were full at the start, and they keep their classes in it
-  pub record During (words : List ℕ) (w : Beside) (P : ℕ → Type 0) : Type 0 where
+  -- the condemned segments were full at the start, and they keep their classes
+  pub record During (words : List ℕ) (w : Ghost) (P : ℕ → Type 0) : Type 0 where
     pub point : Point g words w P
     pub full : (s : ℕ) → s < g .segments → tag (memOf g words) s ≡ Tag.condemned → (tag m₀ s ≡ Tag.full) × (class (memOf g words) s ≡ class m₀ s)
 
@@ -95,21 +95,21 @@ module _ (all : AllKept) (g : Geometry) (m₀ : Mem) where
   abbrev pub NoStart : List Element → Type 0
   NoStart ds = (xs ys : List Element) (u v : List ℕ) → ds ≡ xs ++ (started g u Ok v ∷ ys) → ⊥
 
-  during-on : (words : List ℕ) (w : Beside) (P : ℕ → Type 0) (e : Element) → During words w P → ((after : List ℕ) → e ≡ started g words Ok after → ⊥) → Meets e → KeepsLength e → (wrongSized e ≡ true) ⊎ Gets g words e → During (onward words e) (besideOne struckOut w e) P
+  during-on : (words : List ℕ) (w : Ghost) (P : ℕ → Type 0) (e : Element) → During words w P → ((after : List ℕ) → e ≡ started g words Ok after → ⊥) → Meets e → KeepsLength e → (wrongSized e ≡ true) ⊎ Gets g words e → During (onward words e) (ghostStep struckOut w e) P
   during-on words w P e d f q l h = go (element-on all g words w P (d .point) e q l h)
     where
-      go : Onward all g words w P (d .point) e → During (onward words e) (besideOne struckOut w e) P
+      go : Onward all g words w P (d .point) e → During (onward words e) (ghostStep struckOut w e) P
       go (goes z t) = record { point = z; full = λ s k i. let y = t s k i in let x = d .full s k (y .0) in (x .0, y .1 ∙ x .1) }
       go (begins after i o b) = absurd (f after i)
 
-  pub walk-during : (ds ys : List Element) (words : List ℕ) (w : Beside) (P : ℕ → Type 0) → During words w P → NoStart ds → Chain g words (ds ++ ys) → During (wordsAfter words ds) (beside struckOut w ds) P × Chain g (wordsAfter words ds) ys
+  pub walk-during : (ds ys : List Element) (words : List ℕ) (w : Ghost) (P : ℕ → Type 0) → During words w P → NoStart ds → Chain g words (ds ++ ys) → During (wordsAfter words ds) (ghostAfter struckOut w ds) P × Chain g (wordsAfter words ds) ys
   walk-during [] ys words w P d n c = (d, c)
   walk-during (e ∷ ds) ys words w P d n c =
-      walk-during ds ys (onward words e) (besideOne struckOut w e) P (during-on words w P e d (λ after i. n [] ds words after (ap (λ x. x ∷ ds) i)) (c .0) (c .1) (c .2)) (λ xs zs u v i. n (e ∷ xs) zs u v (ap (λ (l : List Element). e ∷ l) i)) (c .3)
+      walk-during ds ys (onward words e) (ghostStep struckOut w e) P (during-on words w P e d (λ after i. n [] ds words after (ap (λ x. x ∷ ds) i)) (c .0) (c .1) (c .2)) (λ xs zs u v i. n (e ∷ xs) zs u v (ap (λ (l : List Element). e ∷ l) i)) (c .3)
 
 -- ---- at the sweep
 
-module _ (all : AllKept) (g : Geometry) (words₀ : List ℕ) (w : Beside) (p : Point g words₀ w Any) (quiet : phase (memOf g words₀) ≡ idle) where
+module _ (all : AllKept) (g : Geometry) (words₀ : List ℕ) (w : Ghost) (p : Point g words₀ w Any) (quiet : phase (memOf g words₀) ≡ idle) where
   abbrev m₀ : Mem
   m₀ = memOf g words₀
 
@@ -119,7 +119,7 @@ module _ (all : AllKept) (g : Geometry) (words₀ : List ℕ) (w : Beside) (p : 
       let h = reach-up (w .put) (view g m₀) (w .heap) (p .good .sim) (quiet-reached (segmentOf g) (view g m₀) (p .good .inv) (subst Quiet (sym quiet) tt) l) in
       record { number = h .0; last = h .1; reached = h .2 }
 
-  module _ (words : List ℕ) (w′ : Beside) (q : Point g words w′ (machine.Live (view g m₀))) (s b : ℕ) where
+  module _ (words : List ℕ) (w′ : Ghost) (q : Point g words w′ (machine.Live (view g m₀))) (s b : ℕ) where
     abbrev m : Mem
     m = memOf g words
 

@@ -21,18 +21,18 @@ use Rattle.theory.proofs.Invariant.{none-some}
 use Rattle.model.specs.declared.Answer.{Answer}
 use Rattle.model.specs.declared.Answer.the-variants.{Ok, Number, Same, Shape, Refused}
 use Rattle.model.specs.Answers.{answerOf, refusalOf, stepRefusalOf, phaseRefusalOf, examinedRefusalOf}
-use Rattle.model.specs.Calls.{face}
+use Rattle.model.specs.Calls.{observe}
 use Rattle.model.specs.Opening.{opened}
 use Rattle.model.specs.Run.{Request, answered}
 use Rattle.model.specs.Consistent.{Consistent, IsClass}
-use Rattle.model.specs.Lists.{Element, called, stepped, openedBy, sawPhase, sawStates, examinedBy, Meets, KeepsLength, lent, left, wrongSized, numberOf, Beside, struck}
+use Rattle.model.specs.Lists.{Element, called, stepped, openedBy, sawPhase, sawStates, examinedBy, Meets, KeepsLength, lent, left, wrongSized, numberOf, Ghost, struck}
 use Rattle.laws.proofs.Lengths.{sizes-of}
 use Rattle.refine_view.proofs.Keeping.{self, selfPut, self-good}
 use Rattle.refine_taking.proofs.Rooms.{room-source, source-room}
 use Rattle.refine_start.proofs.Opened.{sizes-opened, opened-consistent}
 use Rattle.refine_run.proofs.Answering.{step-answers}
 use Rattle.refine_run.proofs.Own.{fine, own-run}
-use Rattle.guarantee.specs.Demand3.{struckOut, begun}
+use Rattle.guarantee.specs.Demand3.{struckOut, ghostStart}
 use Rattle.guarantee.specs.Keeping.{OpeningEstablishes, Applied, EveryCallKeeps, NeverTorn, AlwaysConsistent, RefusedUnchanged, RunsItself, NoRoomExactly}
 use Rattle.guarantee.proofs.Kept.{all-kept}
 use Rattle.guarantee.proofs.Striking.{kindOf, not-torn}
@@ -48,7 +48,7 @@ pub opening-establishes : OpeningEstablishes
 opening-establishes g content words o = first-point g content words o .consistent
 
 pub always-consistent : AlwaysConsistent
-always-consistent g content words xs ys o c = walk all-kept g xs ys words begun (first-point g content words o) c .0 .consistent
+always-consistent g content words xs ys o c = walk all-kept g xs ys words ghostStart (first-point g content words o) c .0 .consistent
 
 -- ---- a single call over memory that passes the examination: a point of its own list, with the memory itself as the unbounded heap
 
@@ -59,7 +59,7 @@ module _ (g : Geometry) (words : List ℕ) (right : wrongSize g (length words) �
   long : Sized g (length words)
   long = sized g (length words) right
 
-  abbrev alone : Beside
+  abbrev alone : Ghost
   alone = record { heap = self g m; put = selfPut g m }
 
   at-point : Point g words alone Any
@@ -77,7 +77,7 @@ module _ (g : Geometry) (words : List ℕ) (right : wrongSize g (length words) �
 
   started-consistent : (r : Answer) (after : List ℕ) → Started all-kept g words alone Any at-point r after → Consistent g (memOf g after)
   started-consistent r after (points.refused f h q) = q .consistent
-  started-consistent r after (points.begun h q) = q .point .consistent
+  started-consistent r after (points.ghostStart h q) = q .point .consistent
 
   -- ---- it is not refused 13
 
@@ -228,8 +228,8 @@ no-room-exactly = record {
       refused-by r 10 (q .0 ∙ roomless-is g (memOf g words) k d p n (record { lower = x .lower; class = x .class; sized = x .sized; source = s }));
 }
   where
-    known : (g : Geometry) (words : List ℕ) (k d p n : ℕ) → refusal (face (memOf g words)) (c-make k d p n) ≡ 0 → k < mutatorCount
-    known g words k d p n e = by-ok (face (memOf g words)) k _ e .0
+    known : (g : Geometry) (words : List ℕ) (k d p n : ℕ) → refusal (observe (memOf g words)) (c-make k d p n) ≡ 0 → k < mutatorCount
+    known g words k d p n e = by-ok (observe (memOf g words)) k _ e .0
 
     is-class : (x cl : ℕ) → classOf x ≡ Class cl → IsClass cl
     is-class x cl e = let q = is-smallest classCount firstClass (recordBytes x) cl e in (q .1 .from, q .0)

@@ -22,7 +22,7 @@ use Rattle.model.specs.Fields.{phase, holding}
 use Rattle.model.specs.Segments.{count, top, partStack, freeStack, free}
 use Rattle.model.specs.Records.{headerOf}
 use Rattle.model.specs.Making.{held, part, unused, noRoom, sourceOf, inBlock, inSegment, fromSource, made}
-use Rattle.model.specs.Calls.{isAttached, face, act, ofClass}
+use Rattle.model.specs.Calls.{isAttached, observe, act, ofClass}
 use Rattle.model.specs.Collector.{lowest, stepOf, stepIn}
 use Rattle.model.specs.Consistent.{Consistent, IsClass}
 use Rattle.refine_view.specs.View.{view}
@@ -89,10 +89,10 @@ module _ (g : Geometry) (m : Mem) (s : Sizes g m) (c : Consistent g m) (k d cl p
       go true true false q i j = from-held _ _ (taken-free g m s c k cl l a is-class (eqb-true _ _ q) (some-of _ j))
       go true true true q i j = matches-by g m _ _ refl (moves-self g m c)
 
-make-kept : (g : Geometry) (m : Mem) → Sizes g m → Consistent g m → (k d p n : ℕ) → refusal (face m) (c-make k d p n) ≡ 0 → ActKept g m (c-make k d p n)
+make-kept : (g : Geometry) (m : Mem) → Sizes g m → Consistent g m → (k d p n : ℕ) → refusal (observe m) (c-make k d p n) ≡ 0 → ActKept g m (c-make k d p n)
 unfolding act made
 make-kept g m s c k d p n e =
-    let x = by-ok (face m) k _ e in
+    let x = by-ok (observe m) k _ e in
     let y = root-ok d _ (x .3) in
     let z = require-ok (leb (p + n) maxFields) 9 0 (omega arith) (y .1) in
     go (classOf (p + n)) refl (x .0) (x .1) (y .0) (leb-true _ _ (z .0))
@@ -103,7 +103,7 @@ make-kept g m s c k d p n e =
 
 -- ---- all calls
 
-calls-kept : (g : Geometry) (m : Mem) → Sizes g m → Consistent g m → (c : Call) → refusal (face m) c ≡ 0 → ActKept g m c
+calls-kept : (g : Geometry) (m : Mem) → Sizes g m → Consistent g m → (c : Call) → refusal (observe m) c ≡ 0 → ActKept g m c
 calls-kept g m s c (c-attach k) = attach-kept g m s c k
 calls-kept g m s c (c-spawn k p i) = spawn-kept g m s c k p i
 calls-kept g m s c (c-detach k) = detach-kept g m s c k

@@ -15,7 +15,7 @@ use Rattle.layout.proofs.Regions.{resized, right-size}
 use Rattle.theory.specs.Phases.{Phase, idle, sync1, sync2, mark, sweep}
 use Rattle.theory.specs.Calls.{Call, a-ok, a-no}
 use Rattle.theory.specs.Unbounded.{Unbounded, uexec}
-use Rattle.theory.proofs.CallKeeps.{Good, Dropped, nextPut}
+use Rattle.theory.proofs.CallKeeps.{Coupled, Dropped, nextPut}
 use Rattle.theory.proofs.Bridge.{model-call, model-step, agree-ok}
 use Rattle.theory.proofs.CollectorKeeps.{start-ok}
 use Rattle.theory.proofs.Agree.{Agree}
@@ -28,7 +28,7 @@ use Rattle.model.specs.declared.Step.{Step}
 use Rattle.model.specs.Collector.{started, startOf, startIn, stepOf, lowest, isFull, anyFull}
 use Rattle.model.specs.Consistent.{Consistent}
 use Rattle.model.specs.Promise.{Promise, StartPromise, StepPromise}
-use Rattle.model.specs.Lists.{Beside, struck, putIf}
+use Rattle.model.specs.Lists.{Ghost, struck, putIf}
 use Rattle.refine_view.specs.View.{view}
 use Rattle.refine_view.specs.Kept.{AllKept, CallKept, Steady}
 use Rattle.laws.proofs.Lengths.{sizes-of}
@@ -40,28 +40,28 @@ use Rattle.guarantee.specs.Demand3.{struckOut}
 use Rattle.theory.specs.MachineCalls as calls
 use Rattle.model.specs.Tag as Tag
 
--- P: what may be marked in the collect set (theory: `Complete`)
-pub record Point (g : Geometry) (words : List ℕ) (w : Beside) (P : ℕ → Type 0) : Type 0 where
+-- P: which blocks of condemned segments may be marked (theory: `Complete`)
+pub record Point (g : Geometry) (words : List ℕ) (w : Ghost) (P : ℕ → Type 0) : Type 0 where
   pub long : Sized g (length words)
   pub consistent : Consistent g (memOf g words)
-  pub good : Good (segmentOf g) P (w .put) (view g (memOf g words)) (w .heap)
+  pub good : Coupled (segmentOf g) P (w .put) (view g (memOf g words)) (w .heap)
 
 abbrev pub Any : ℕ → Type 0
 Any at = Unit {0}
 
 -- whatever may be marked
-pub point-any : (g : Geometry) (words : List ℕ) (w : Beside) (P : ℕ → Type 0) → Point g words w P → Point g words w Any
+pub point-any : (g : Geometry) (words : List ℕ) (w : Ghost) (P : ℕ → Type 0) → Point g words w P → Point g words w Any
 point-any g words w P p = record { long = p .long; consistent = p .consistent; good = record { inv = p .good .inv; sim = p .good .sim; few = p .good .few; comp = record { live = λ b q k. tt; black = λ b q k. tt } } }
 
 module _ (all : AllKept) (g : Geometry) where
   -- ---- a mutator's call
 
   -- struck out, and then nothing changes beside; or answered as the unbounded heap does
-  pub data Called (c : Call) (r : Answer) (words after : List ℕ) (w : Beside) (P : ℕ → Type 0) : Type 0 where
+  pub data Called (c : Call) (r : Answer) (words after : List ℕ) (w : Ghost) (P : ℕ → Type 0) : Type 0 where
     out : Steady g (memOf g words) (memOf g after) → struck struckOut r ≡ true → Point g after w P → Called c r words after w P
     kept : Steady g (memOf g words) (memOf g after) → struck struckOut r ≡ false → answerOf r ≡ uexec (w .heap) c .0 → Point g after (record { heap = uexec (w .heap) c .1; put = putIf r c g after (w .heap .count) (w .put) }) P → Called c r words after w P
 
-  module _ (words : List ℕ) (w : Beside) (P : ℕ → Type 0) (p : Point g words w P) where
+  module _ (words : List ℕ) (w : Ghost) (P : ℕ → Type 0) (p : Point g words w P) where
     abbrev m : Mem
     m = memOf g words
 
@@ -72,8 +72,8 @@ module _ (all : AllKept) (g : Geometry) where
     right = right-size g (length words) (p .long)
 
     -- the memory that a definition says is the one that the words afterwards are
-    pub point-at : (m′ : Mem) (after : List ℕ) (w′ : Beside) (Q : ℕ → Type 0) → length after ≡ length words → memOf g after ≡ m′ → Consistent g m′ → Good (segmentOf g) Q (w′ .put) (view g m′) (w′ .heap) → Point g after w′ Q
-    point-at m′ after w′ Q e h c o = record { long = resized g (length words) (length after) (p .long) e; consistent = subst (Consistent g) (sym h) c; good = subst (λ z. Good (segmentOf g) Q (w′ .put) (view g z) (w′ .heap)) (sym h) o }
+    pub point-at : (m′ : Mem) (after : List ℕ) (w′ : Ghost) (Q : ℕ → Type 0) → length after ≡ length words → memOf g after ≡ m′ → Consistent g m′ → Coupled (segmentOf g) Q (w′ .put) (view g m′) (w′ .heap) → Point g after w′ Q
+    point-at m′ after w′ Q e h c o = record { long = resized g (length words) (length after) (p .long) e; consistent = subst (Consistent g) (sym h) c; good = subst (λ z. Coupled (segmentOf g) Q (w′ .put) (view g z) (w′ .heap)) (sym h) o }
 
     sizes-at : (m′ : Mem) (after : List ℕ) → length after ≡ length words → memOf g after ≡ m′ → Sizes g m′
     sizes-at m′ after e h = subst (Sizes g) h (sizes-of g after (resized g (length words) (length after) (p .long) e))
@@ -93,16 +93,16 @@ module _ (all : AllKept) (g : Geometry) where
         steady : Steady g m (memOf g after)
         steady = subst (Steady g m) (sym (told .1)) (k .moves .steady)
 
-        in-order : {Q : ℕ → Type 0} {put : ℕ → Option ℕ} {un : Unbounded} → Good (segmentOf g) Q put (view g (exec g m c .1)) un → Consistent g (exec g m c .1)
+        in-order : {Q : ℕ → Type 0} {put : ℕ → Option ℕ} {un : Unbounded} → Coupled (segmentOf g) Q put (view g (exec g m c .1)) un → Consistent g (exec g m c .1)
         in-order o = consistent-of g (exec g m c .1) (sizes-at (exec g m c .1) after e (told .1)) (k .moves .structure) (o .inv)
 
-        go : (Dropped (view g (k .ready)) (calls.exec (λ _ _ _ _. k .block) (view g (k .ready)) c) × Good (segmentOf g) P (w .put) (view g (exec g m c .1)) (w .heap))
-            ⊎ ((exec g m c .0 ≡ uexec (w .heap) c .0) × Good (segmentOf g) P (nextPut (λ _ _ _ _. k .block) (w .put) (view g (k .ready)) (w .heap .count) c) (view g (exec g m c .1)) (uexec (w .heap) c .1)) → Called c r words after w P
+        go : (Dropped (view g (k .ready)) (calls.exec (λ _ _ _ _. k .block) (view g (k .ready)) c) × Coupled (segmentOf g) P (w .put) (view g (exec g m c .1)) (w .heap))
+            ⊎ ((exec g m c .0 ≡ uexec (w .heap) c .0) × Coupled (segmentOf g) P (nextPut (λ _ _ _ _. k .block) (w .put) (view g (k .ready)) (w .heap .count) c) (view g (exec g m c .1)) (uexec (w .heap) c .1)) → Called c r words after w P
         go (inl d) = out steady (⊎-elim (λ z. struck-no r 10 (told .0 ∙ k .answer ∙ z) refl) (λ z. struck-no r 11 (told .0 ∙ k .answer ∙ z) refl) (d .0 .0)) (point-at (exec g m c .1) after w P e (told .1) (in-order (d .1)) (d .1))
         go (inr d) =
             let same = put-same g after (w .heap .count) (w .put) c r (view g (k .ready)) (k .block) (told .0 ∙ k .answer) (subst (λ z. Agree (segmentOf g) (calls.exec (λ _ _ _ _. k .block) (view g (k .ready)) c .1) (view g z)) (sym (told .1)) (k .moves .agree)) in
             kept steady (stays r (w .heap) c (told .0 ∙ d .0)) (told .0 ∙ d .0)
-            (point-at (exec g m c .1) after _ P e (told .1) (in-order (d .1)) (subst (λ (z : ℕ → Option ℕ). Good (segmentOf g) P z (view g (exec g m c .1)) (uexec (w .heap) c .1)) same (d .1)))
+            (point-at (exec g m c .1) after _ P e (told .1) (in-order (d .1)) (subst (λ (z : ℕ → Option ℕ). Coupled (segmentOf g) P z (view g (exec g m c .1)) (uexec (w .heap) c .1)) same (d .1)))
 
     -- ---- a start: refused, or a cycle begins
 
@@ -113,7 +113,7 @@ module _ (all : AllKept) (g : Geometry) where
 
     pub data Started (r : Answer) (after : List ℕ) : Type 0 where
       refused : (r ≡ Ok → ⊥) → memOf g after ≡ m → Point g after w P → Started r after
-      begun : r ≡ Ok → Begun after → Started r after
+      ghostStart : r ≡ Ok → Begun after → Started r after
 
     pub started-on : (r : Answer) (after : List ℕ) → StartPromise g words r after → length after ≡ length words → Started r after
     unfolding startOf
@@ -126,7 +126,7 @@ module _ (all : AllKept) (g : Geometry) where
         begins i x h =
             let k = all .starts g m here (p .consistent) i in
             let o = agree-ok (segmentOf g) (machine.Live (view g m)) (w .put) _ (view g (started g m)) (w .heap) (k .agree) (start-ok (segmentOf g) (λ _. none) (isFull m) P (w .put) (view g m) (w .heap) (p .good) idle) in
-            begun (is-ok r x) (record {
+            ghostStart (is-ok r x) (record {
               quiet = i;
               point = point-at (started g m) after w (machine.Live (view g m)) e h (consistent-of g (started g m) (sizes-at (started g m) after e h) (k .structure) (o .inv)) o;
               full = subst (λ z. (s : ℕ) → s < g .segments → tag z s ≡ Tag.condemned → (tag m s ≡ Tag.full) × (class z s ≡ class m s)) (sym h) (k .full);

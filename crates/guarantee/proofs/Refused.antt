@@ -19,7 +19,7 @@ use Rattle.model.specs.Fields.{phase, place, root}
 use Rattle.model.specs.Segments.{free, freeStack, partStack, pop}
 use Rattle.model.specs.Records.{record?}
 use Rattle.model.specs.Making.{Source, held, part, unused, noRoom, sourceOf, takes, freshened, inBlock, fromSource, made}
-use Rattle.model.specs.Calls.{face, act, exec, ofClass}
+use Rattle.model.specs.Calls.{observe, act, exec, ofClass}
 use Rattle.model.specs.Collector.{startIn, startOf, started, anyFull}
 use Rattle.guarantee.proofs.Striking.{kindOf, refusal-stays}
 
@@ -71,7 +71,7 @@ act-same g m (c-shape k i) n e = record-same (record? (root m k i)) m _ n (λ at
 
 pub exec-same : (g : Geometry) (m : Mem) (c : Call) (n : ℕ) → exec g m c .0 ≡ a-no n → exec g m c .1 ≡ m
 unfolding exec
-exec-same g m c n e = go (refusal (face m) c) e
+exec-same g m c n e = go (refusal (observe m) c) e
   where
     go : (x : ℕ) → refuse x m (act g m c) .0 ≡ a-no n → refuse x m (act g m c) .1 ≡ m
     go zero e = act-same g m c n e
@@ -101,31 +101,31 @@ other : {A : Type 0} (x y : ℕ) → (x ≡ y → ⊥) → a-no x ≡ a-no y →
 other x y f e = absurd (f (let z : suc (suc x) ≡ suc (suc y) = ap kindOf e in omega arith))
 
 pub record Roomless (g : Geometry) (m : Mem) (k d p q : ℕ) : Type 0 where
-  pub lower : refusal (face m) (c-make k d p q) ≡ 0
+  pub lower : refusal (observe m) (c-make k d p q) ≡ 0
   pub class : ℕ
   pub sized : classOf (p + q) ≡ Class class
   pub source : sourceOf g m k class ≡ noRoom
 
 pub roomless-of : (g : Geometry) (m : Mem) (k d p q : ℕ) → exec g m (c-make k d p q) .0 ≡ a-no 10 → Roomless g m k d p q
 unfolding exec act made
-roomless-of g m k d p q e = go (refusal (face m) (c-make k d p q)) refl (refusal-stays (face m) (c-make k d p q) .either) e
+roomless-of g m k d p q e = go (refusal (observe m) (c-make k d p q)) refl (refusal-stays (observe m) (c-make k d p q) .either) e
   where
     block : (m₁ : Mem) (f : Found) (c s : ℕ) → inBlock g m m₁ f k d c s p q .0 ≡ a-no 10 → ⊥
     block m₁ (Block b) c s e = result a-ok 10 (omega arith) e
     block m₁ Nothing c s e = other 13 10 (λ z. omega arith) e
     block m₁ Torn c s e = other 13 10 (λ z. omega arith) e
 
-    from : refusal (face m) (c-make k d p q) ≡ 0 → (c : ℕ) → classOf (p + q) ≡ Class c → (o : Source) → sourceOf g m k c ≡ o → fromSource g m k d c p q o .0 ≡ a-no 10 → Roomless g m k d p q
+    from : refusal (observe m) (c-make k d p q) ≡ 0 → (c : ℕ) → classOf (p + q) ≡ Class c → (o : Source) → sourceOf g m k c ≡ o → fromSource g m k d c p q o .0 ≡ a-no 10 → Roomless g m k d p q
     from z c h (held s) i e = absurd (block m (free g m s c (place m s)) c s e)
     from z c h (part s) i e = absurd (block (takes g (pop g m (partStack c)) k c s (place m s)) (free g (takes g (pop g m (partStack c)) k c s (place m s)) s c (place (takes g (pop g m (partStack c)) k c s (place m s)) s)) c s e)
     from z c h (unused s) i e = absurd (block (freshened g (takes g (pop g m freeStack) k c s 0) s c) (free g (freshened g (takes g (pop g m freeStack) k c s 0) s c) s c (place (freshened g (takes g (pop g m freeStack) k c s 0) s c) s)) c s e)
     from z c h noRoom i e = record { lower = z; class = c; sized = h; source = i }
 
-    classed : refusal (face m) (c-make k d p q) ≡ 0 → (o : SizeClass) → classOf (p + q) ≡ o → ofClass m o (λ c. fromSource g m k d c p q (sourceOf g m k c)) .0 ≡ a-no 10 → Roomless g m k d p q
+    classed : refusal (observe m) (c-make k d p q) ≡ 0 → (o : SizeClass) → classOf (p + q) ≡ o → ofClass m o (λ c. fromSource g m k d c p q (sourceOf g m k c)) .0 ≡ a-no 10 → Roomless g m k d p q
     classed z (Class c) h e = from z c h (sourceOf g m k c) refl e
     classed z TooBig h e = other 9 10 (λ y. omega arith) e
 
-    go : (x : ℕ) → refusal (face m) (c-make k d p q) ≡ x → (x ≡ 0) ⊎ ((2 ≤ x) × (x ≤ 9)) → refuse x m (ofClass m (classOf (p + q)) (λ c. fromSource g m k d c p q (sourceOf g m k c))) .0 ≡ a-no 10 → Roomless g m k d p q
+    go : (x : ℕ) → refusal (observe m) (c-make k d p q) ≡ x → (x ≡ 0) ⊎ ((2 ≤ x) × (x ≤ 9)) → refuse x m (ofClass m (classOf (p + q)) (λ c. fromSource g m k d c p q (sourceOf g m k c))) .0 ≡ a-no 10 → Roomless g m k d p q
     go zero z l e = classed z (classOf (p + q)) refl e
     go (suc x) z (inl y) e = absurd (omega arith)
     go (suc x) z (inr y) e = other (suc x) 10 (λ w. let l = y .1 in omega arith) e

@@ -12,10 +12,10 @@ use Rattle.layout.specs.declared.Geometry.{Geometry}
 use Rattle.layout.specs.Geometry.{rootCount, segmentOf}
 use Rattle.layout.specs.Mem.{memOf}
 use Rattle.theory.specs.Update.{upd}
-use Rattle.theory.specs.Calls.{Call, c-attach, c-detach, c-check, c-leave, c-enter, c-spawn, c-make, c-load, c-store, c-copy, c-clear, c-put, c-get, c-same, c-shape, Face, require, ifRecord, a-ok, a-moved, a-traced, a-done, a-idle, a-num, a-flag, a-shape, a-no, a-waiting, a-swept, refusal, refuse, onRecord}
+use Rattle.theory.specs.Calls.{Call, c-attach, c-detach, c-check, c-leave, c-enter, c-spawn, c-make, c-load, c-store, c-copy, c-clear, c-put, c-get, c-same, c-shape, Observation, require, ifRecord, a-ok, a-moved, a-traced, a-done, a-idle, a-num, a-flag, a-shape, a-no, a-waiting, a-swept, refusal, refuse, onRecord}
 use Rattle.theory.specs.Machine.{State, make}
-use Rattle.theory.specs.MachineCalls.{face, room}
-use Rattle.theory.specs.Unbounded.{Unbounded, uface, uact, uexec}
+use Rattle.theory.specs.MachineCalls.{observe, room}
+use Rattle.theory.specs.Unbounded.{Unbounded, uobserve, uact, uexec}
 use Rattle.theory.proofs.Agree.{Agree}
 use Rattle.theory.proofs.Updates.{upd2-same}
 use Rattle.theory.proofs.CallKeeps.{nextPut, refPut, madePut, by-ok, root-ok}
@@ -73,7 +73,7 @@ unfolding ifRecord
 record-stays none rest r = record { either = inr (omega arith, omega arith) }
 record-stays (some s) rest r = r s
 
-inside-stays : (F : Face) (k rest : ℕ) → Stays rest → Stays (theory.ifInside F k rest)
+inside-stays : (F : Observation) (k rest : ℕ) → Stays rest → Stays (theory.ifInside F k rest)
 inside-stays F k rest r = require-stays _ 2 _ (omega arith, omega arith) (require-stays _ 4 _ (omega arith, omega arith) (require-stays _ 5 _ (omega arith, omega arith) r))
 
 root-stays : (i rest : ℕ) → Stays rest → Stays (require (ltb i rootCount) 6 rest)
@@ -82,7 +82,7 @@ root-stays i rest r = require-stays _ 6 _ (omega arith, omega arith) r
 field-stays : (b : Bool) → Stays (require b 8 0)
 field-stays b = require-stays b 8 0 (omega arith, omega arith) none-stays
 
-pub refusal-stays : (F : Face) (c : Call) → Stays (refusal F c)
+pub refusal-stays : (F : Observation) (c : Call) → Stays (refusal F c)
 refusal-stays F (c-attach k) = require-stays _ 2 _ (omega arith, omega arith) (require-stays _ 3 _ (omega arith, omega arith) none-stays)
 refusal-stays F (c-spawn k p i) = require-stays _ 2 _ (omega arith, omega arith) (require-stays _ 2 _ (omega arith, omega arith) (require-stays _ 3 _ (omega arith, omega arith) (require-stays _ 4 _ (omega arith, omega arith) (require-stays _ 5 _ (omega arith, omega arith) (root-stays i 0 none-stays)))))
 refusal-stays F (c-detach k) = inside-stays F k 0 none-stays
@@ -161,7 +161,7 @@ act-lasting un (c-shape k i) = on-record (un .root k i) un _ (λ a. lasts _ refl
 
 -- the unbounded heap gives a result or a number from 2 to 9
 pub lasting : (un : Unbounded) (c : Call) → Lasting (uexec un c .0)
-lasting un c = go (refusal (uface un) c) (refusal-stays (uface un) c .either)
+lasting un c = go (refusal (uobserve un) c) (refusal-stays (uobserve un) c .either)
   where
     go : (n : ℕ) → (n ≡ 0) ⊎ ((2 ≤ n) × (n ≤ 9)) → Lasting (refuse n un (uact un c) .0)
     go zero h = act-lasting un c
@@ -217,16 +217,16 @@ module _ (g : Geometry) (after : List ℕ) (n : ℕ) (put : ℕ → Option ℕ) 
 
   put-make : (k d p q : ℕ) (r : Answer) (st : State) (block : Option ℕ) → answerOf r ≡ calls.exec (λ _ _ _ _. block) st (c-make k d p q) .0 → Agree (segmentOf g) (calls.exec (λ _ _ _ _. block) st (c-make k d p q) .1) (view g (memOf g after))
       → nextPut (λ _ _ _ _. block) put st n (c-make k d p q) ≡ putIf r (c-make k d p q) g after n put
-  put-make k d p q r st block e a = go (refusal (face st) (c-make k d p q)) refl block e a
+  put-make k d p q r st block e a = go (refusal (observe st) (c-make k d p q)) refl block e a
     where
-      handed : (b : ℕ) → refusal (face st) (c-make k d p q) ≡ 0 → Agree (segmentOf g) (make st k d b p (replicate q 0)) (view g (memOf g after)) → upd put b (some n) ≡ putBy (c-make k d p q) g after n put
+      handed : (b : ℕ) → refusal (observe st) (c-make k d p q) ≡ 0 → Agree (segmentOf g) (make st k d b p (replicate q 0)) (view g (memOf g after)) → upd put b (some n) ≡ putBy (c-make k d p q) g after n put
       handed b z a =
-          let i = by-ok (face st) k _ z in
+          let i = by-ok (observe st) k _ z in
           let j = root-ok d _ (i .3) in
           let w : root (memOf g after) k d ≡ suc b = named _ _ (a .root k d (i .1) (j .0) ∙ upd2-same (st .root) k d (some b)) in
           ap (λ x. upd put x (some n)) (let y : b ≡ root (memOf g after) k d - 1 = omega arith in y)
 
-      go : (x : ℕ) → refusal (face st) (c-make k d p q) ≡ x → (o : Option ℕ) → answerOf r ≡ refuse x st (room o st (λ b. make st k d b p (replicate q 0))) .0
+      go : (x : ℕ) → refusal (observe st) (c-make k d p q) ≡ x → (o : Option ℕ) → answerOf r ≡ refuse x st (room o st (λ b. make st k d b p (replicate q 0))) .0
           → Agree (segmentOf g) (refuse x st (room o st (λ b. make st k d b p (replicate q 0))) .1) (view g (memOf g after)) → refPut x put (madePut o put n) ≡ putIf r (c-make k d p q) g after n put
       go (suc x) z o e a = sym (put-refused r (c-make k d p q) (suc x) e)
       go zero z none e a = sym (put-refused r (c-make k d p q) 10 e)
@@ -235,18 +235,18 @@ module _ (g : Geometry) (after : List ℕ) (n : ℕ) (put : ℕ → Option ℕ) 
   -- on the memory's side and on the machine's
   pub put-same : (c : Call) (r : Answer) (st : State) (block : Option ℕ) → answerOf r ≡ calls.exec (λ _ _ _ _. block) st c .0 → Agree (segmentOf g) (calls.exec (λ _ _ _ _. block) st c .1) (view g (memOf g after))
       → nextPut (λ _ _ _ _. block) put st n c ≡ putIf r c g after n put
-  put-same (c-attach k) r st o e a = same-put (refusal (face st) (c-attach k)) ∙ sym (put-none r (c-attach k) refl)
-  put-same (c-spawn k p i) r st o e a = same-put (refusal (face st) (c-spawn k p i)) ∙ sym (put-none r (c-spawn k p i) refl)
-  put-same (c-detach k) r st o e a = same-put (refusal (face st) (c-detach k)) ∙ sym (put-none r (c-detach k) refl)
-  put-same (c-check k) r st o e a = same-put (refusal (face st) (c-check k)) ∙ sym (put-none r (c-check k) refl)
-  put-same (c-leave k) r st o e a = same-put (refusal (face st) (c-leave k)) ∙ sym (put-none r (c-leave k) refl)
-  put-same (c-enter k) r st o e a = same-put (refusal (face st) (c-enter k)) ∙ sym (put-none r (c-enter k) refl)
+  put-same (c-attach k) r st o e a = same-put (refusal (observe st) (c-attach k)) ∙ sym (put-none r (c-attach k) refl)
+  put-same (c-spawn k p i) r st o e a = same-put (refusal (observe st) (c-spawn k p i)) ∙ sym (put-none r (c-spawn k p i) refl)
+  put-same (c-detach k) r st o e a = same-put (refusal (observe st) (c-detach k)) ∙ sym (put-none r (c-detach k) refl)
+  put-same (c-check k) r st o e a = same-put (refusal (observe st) (c-check k)) ∙ sym (put-none r (c-check k) refl)
+  put-same (c-leave k) r st o e a = same-put (refusal (observe st) (c-leave k)) ∙ sym (put-none r (c-leave k) refl)
+  put-same (c-enter k) r st o e a = same-put (refusal (observe st) (c-enter k)) ∙ sym (put-none r (c-enter k) refl)
   put-same (c-make k d p q) r st o e a = put-make k d p q r st o e a
-  put-same (c-load k d i f) r st o e a = same-put (refusal (face st) (c-load k d i f)) ∙ sym (put-none r (c-load k d i f) refl)
-  put-same (c-store k i f j) r st o e a = same-put (refusal (face st) (c-store k i f j)) ∙ sym (put-none r (c-store k i f j) refl)
-  put-same (c-copy k d i) r st o e a = same-put (refusal (face st) (c-copy k d i)) ∙ sym (put-none r (c-copy k d i) refl)
-  put-same (c-clear k d) r st o e a = same-put (refusal (face st) (c-clear k d)) ∙ sym (put-none r (c-clear k d) refl)
-  put-same (c-put k i f v) r st o e a = same-put (refusal (face st) (c-put k i f v)) ∙ sym (put-none r (c-put k i f v) refl)
-  put-same (c-get k i f) r st o e a = same-put (refusal (face st) (c-get k i f)) ∙ sym (put-none r (c-get k i f) refl)
-  put-same (c-same k i j) r st o e a = same-put (refusal (face st) (c-same k i j)) ∙ sym (put-none r (c-same k i j) refl)
-  put-same (c-shape k i) r st o e a = same-put (refusal (face st) (c-shape k i)) ∙ sym (put-none r (c-shape k i) refl)
+  put-same (c-load k d i f) r st o e a = same-put (refusal (observe st) (c-load k d i f)) ∙ sym (put-none r (c-load k d i f) refl)
+  put-same (c-store k i f j) r st o e a = same-put (refusal (observe st) (c-store k i f j)) ∙ sym (put-none r (c-store k i f j) refl)
+  put-same (c-copy k d i) r st o e a = same-put (refusal (observe st) (c-copy k d i)) ∙ sym (put-none r (c-copy k d i) refl)
+  put-same (c-clear k d) r st o e a = same-put (refusal (observe st) (c-clear k d)) ∙ sym (put-none r (c-clear k d) refl)
+  put-same (c-put k i f v) r st o e a = same-put (refusal (observe st) (c-put k i f v)) ∙ sym (put-none r (c-put k i f v) refl)
+  put-same (c-get k i f) r st o e a = same-put (refusal (observe st) (c-get k i f)) ∙ sym (put-none r (c-get k i f) refl)
+  put-same (c-same k i j) r st o e a = same-put (refusal (observe st) (c-same k i j)) ∙ sym (put-none r (c-same k i j) refl)
+  put-same (c-shape k i) r st o e a = same-put (refusal (observe st) (c-shape k i)) ∙ sym (put-none r (c-shape k i) refl)

@@ -22,15 +22,15 @@ use Rattle.model.specs.Records.{headerOf}
 use Rattle.model.specs.Collector.{isFull}
 use Rattle.model.specs.Consistent.{isFree}
 use Rattle.model.specs.Promise.{OpenPromise}
-use Rattle.model.specs.Lists.{Element, started, stepped, Chain, onward, remainingCalls, remainingAnswers, Beside, beside, BlockReached}
+use Rattle.model.specs.Lists.{Element, started, stepped, Chain, onward, remainingCalls, remainingAnswers, Ghost, ghostAfter, BlockReached}
 
 -- "Strike out .. every call refused "size", "no room" or "not now""
 abbrev pub struckOut : ℕ → Bool
 struckOut n = pick (eqb n 1) true (pick (eqb n 10) true (eqb n 11))
 
 -- the unbounded heap at an opening: no record, and none put into a block
-abbrev pub begun : Beside
-begun = record { heap = empty; put = λ at. none }
+abbrev pub ghostStart : Ghost
+ghostStart = record { heap = empty; put = λ at. none }
 
 -- the memory after a list of calls
 abbrev pub wordsAfter : List ℕ → List Element → List ℕ
@@ -42,7 +42,7 @@ abbrev pub BlockFree : Geometry → Mem → ℕ → ℕ → Type 0
 BlockFree g m s b = (usedBit g m s b ≡ 0) ⊎ (isFree m s ≡ true)
 
 -- a block of a segment, not reached when the cycle began: "one without a record is not"
-pub record Unreached (g : Geometry) (atStart : Mem) (w : Beside) (s b : ℕ) : Type 0 where
+pub record Unreached (g : Geometry) (atStart : Mem) (w : Ghost) (s b : ℕ) : Type 0 where
   pub block : b < blocksIn g (class atStart s)
   pub unreached : BlockReached w (headerOf g s (class atStart s) b) → ⊥
 
@@ -77,7 +77,7 @@ SameAnswers =
 abbrev pub GarbageFreed : Type 0
 GarbageFreed =
     (g : Geometry) (content words : List ℕ) (es : List Element) → Opened g content words → Chain g words es → (c : SweptIn g es) (s b : ℕ)
-    → isFull (memOf g (c .startBefore)) s ≡ true → Unreached g (memOf g (c .startBefore)) (beside struckOut begun (c .before)) s b → s ≡ c .segment
+    → isFull (memOf g (c .startBefore)) s ≡ true → Unreached g (memOf g (c .startBefore)) (ghostAfter struckOut ghostStart (c .before)) s b → s ≡ c .segment
     → BlockFree g (memOf g (c .stepAfter)) s b
 
 pub record Demand3 : Type 0 where

@@ -10,8 +10,8 @@ use Rattle.theory.specs.Calls.{c-check, c-clear, c-load, c-put, c-get, a-ok}
 use Rattle.model.specs.declared.Answer.the-variants.{Ok, Number}
 use Rattle.model.specs.Segments.{usedBit}
 use Rattle.model.specs.Collector.{isFull}
-use Rattle.model.specs.Lists.{Element, called, Chain, remainingCalls, remainingAnswers, beside}
-use Rattle.guarantee.specs.Demand3.{struckOut, begun, Unreached, SweptIn, Opened}
+use Rattle.model.specs.Lists.{Element, called, Chain, remainingCalls, remainingAnswers, ghostAfter}
+use Rattle.guarantee.specs.Demand3.{struckOut, ghostStart, Unreached, SweptIn, Opened}
 
 pub record Instance : Type 0 where
   pub geometry : Geometry
@@ -24,7 +24,7 @@ pub record Instance : Type 0 where
   -- a block of the segment that was swept, which was full when the cycle began: in use then, and not reached
   pub full : isFull (memOf geometry (cycle .startBefore)) (cycle .segment) ≡ true
   pub block : ℕ
-  pub unreached : Unreached geometry (memOf geometry (cycle .startBefore)) (beside struckOut begun (cycle .before)) (cycle .segment) block
+  pub unreached : Unreached geometry (memOf geometry (cycle .startBefore)) (ghostAfter struckOut ghostStart (cycle .before)) (cycle .segment) block
   pub used : usedBit geometry (memOf geometry (cycle .startBefore)) (cycle .segment) block ≡ 1
   -- a number, not the 0 that a record begins with, put before the cycle and got after the sweep
   pub mutator : ℕ

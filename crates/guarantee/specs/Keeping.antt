@@ -15,7 +15,7 @@ use Rattle.layout.specs.Mem.{Mem, memOf, flat}
 use Rattle.theory.specs.Calls.{c-make, refusal}
 use Rattle.model.specs.declared.Answer.{Answer}
 use Rattle.model.specs.Answers.{refusalOf}
-use Rattle.model.specs.Calls.{face}
+use Rattle.model.specs.Calls.{observe}
 use Rattle.model.specs.Making.{NoRoom}
 use Rattle.model.specs.Opening.{opened}
 use Rattle.model.specs.Run.{Request, run}
@@ -56,7 +56,7 @@ RefusedUnchanged =
 -- "'No room' comes if and only if document 01's condition for it holds and no number that goes before it applies."
 pub record OutOfRoom (g : Geometry) (m : Mem) (k d p n : ℕ) : Type 0 where
   pub class : ℕ
-  pub lower : refusal (face m) (c-make k d p n) ≡ 0
+  pub lower : refusal (observe m) (c-make k d p n) ≡ 0
   pub sized : classOf (p + n) ≡ Class class
   pub noRoom : NoRoom g m k class
 

@@ -25,11 +25,11 @@ use Rattle.model.specs.Segments.{bitmap, usedBit, inUse}
 use Rattle.model.specs.Records.{headerOf}
 use Rattle.model.specs.Collector.{isFull, stepOf, stepIn, sweeps, swept}
 use Rattle.model.specs.Consistent.{Consistent, IsClass}
-use Rattle.model.specs.Lists.{Element, started, stepped, Meets, KeepsLength, Gets, wrongSized, onward, Chain, Beside, beside, BlockReached}
+use Rattle.model.specs.Lists.{Element, started, stepped, Meets, KeepsLength, Gets, wrongSized, onward, Chain, Ghost, ghostAfter, BlockReached}
 use Rattle.refine_view.specs.View.{view, isUsed}
 use Rattle.laws.proofs.Lengths.{sizes-of}
 use Rattle.refine_sweep.proofs.Sweeping.{lowest-condemned}
-use Rattle.guarantee.specs.Demand3.{struckOut, begun, wordsAfter, Unreached, SweptIn, Opened}
+use Rattle.guarantee.specs.Demand3.{struckOut, ghostStart, wordsAfter, Unreached, SweptIn, Opened}
 use Rattle.guarantee.proofs.Kept.{all-kept}
 use Rattle.guarantee.proofs.Points.{Point, Any, Stepped, stepped-on}
 use Rattle.guarantee.proofs.Walks.{walk}
@@ -40,7 +40,7 @@ use Rattle.theory.specs.Machine as machine
 use Rattle.model.specs.Tag as Tag
 
 -- what is reached is in use
-reached-used : (g : Geometry) (u : List ℕ) (w : Beside) (P : ℕ → Type 0) (at : ℕ) → Point g u w P → BlockReached w at → isUsed g (memOf g u) at ≡ true
+reached-used : (g : Geometry) (u : List ℕ) (w : Ghost) (P : ℕ → Type 0) (at : ℕ) → Point g u w P → BlockReached w at → isUsed g (memOf g u) at ≡ true
 reached-used g u w P at p r =
     let q = reach-down (w .put) (view g (memOf g u)) (w .heap) (p .good .sim) (r .reached) in
     subst (λ z. isUsed g (memOf g u) z ≡ true) (p .good .sim .inj (q .0) at (r .number) (q .1) (r .last)) (p .good .inv .valid (q .0) (reached-live (view g (memOf g u)) (q .2)))
@@ -65,7 +65,7 @@ freed-is : (g : Geometry) (m : Mem) (s f : ℕ) → Swept s f ≡ stepOf g m .0 
 unfolding stepOf
 freed-is g m s f e y = ap freedIn (e ∙ ap (λ p. stepIn p g m .0) (y .in-sweep) ∙ ap (λ o. sweeps g o m .0) (y .is-lowest))
 
-pub record Found (g : Geometry) (atStart : Mem) (w : Beside) (s : ℕ) : Type 0 where
+pub record Found (g : Geometry) (atStart : Mem) (w : Ghost) (s : ℕ) : Type 0 where
   pub block : ℕ
   pub full : isFull atStart s ≡ true
   pub unreached : Unreached g atStart w s block
@@ -73,7 +73,7 @@ pub record Found (g : Geometry) (atStart : Mem) (w : Beside) (s : ℕ) : Type 0 
 
 -- ---- at the sweep
 
-module _ (g : Geometry) (w₀ : List ℕ) (v : Beside) (p : Point g w₀ v Any) (w₁ : List ℕ) (v₁ : Beside) (d : During all-kept g (memOf g w₀) w₁ v₁ (machine.Live (view g (memOf g w₀)))) where
+module _ (g : Geometry) (w₀ : List ℕ) (v : Ghost) (p : Point g w₀ v Any) (w₁ : List ℕ) (v₁ : Ghost) (d : During all-kept g (memOf g w₀) w₁ v₁ (machine.Live (view g (memOf g w₀)))) where
   abbrev Then : ℕ → Type 0
   Then = machine.Live (view g (memOf g w₀))
 
@@ -112,7 +112,7 @@ module _ (g : Geometry) (w₀ : List ℕ) (v : Beside) (p : Point g w₀ v Any) 
 -- ---- from the opening on
 
 module _ (g : Geometry) (content words : List ℕ) (es : List Element) (o : Opened g content words) (ch : Chain g words es) (c : SweptIn g es) (n : ℕ) (f : c .freed ≡ suc n) where
-  at-start : (w₀ : List ℕ) (v : Beside) → Point g w₀ v Any → Chain g w₀ (started g (c .startBefore) Ok (c .startAfter) ∷ (c .during ++ (stepped g (c .stepBefore) (Swept (c .segment) (c .freed)) (c .stepAfter) ∷ c .rest))) → beside struckOut v (c .during) ≡ v
+  at-start : (w₀ : List ℕ) (v : Ghost) → Point g w₀ v Any → Chain g w₀ (started g (c .startBefore) Ok (c .startAfter) ∷ (c .during ++ (stepped g (c .stepBefore) (Swept (c .segment) (c .freed)) (c .stepAfter) ∷ c .rest))) → ghostAfter struckOut v (c .during) ≡ v
       → Found g (memOf g (c .startBefore)) v (c .segment)
   at-start w₀ v p ch still =
       let s = accepted g w₀ v p (c .startBefore) (c .startAfter) (ch .0) (ch .1) (ch .2) in
@@ -120,13 +120,13 @@ module _ (g : Geometry) (content words : List ℕ) (es : List Element) (o : Open
       let y = walk-during all-kept g (memOf g w₀) (c .during) (stepped g (c .stepBefore) (Swept (c .segment) (c .freed)) (c .stepAfter) ∷ c .rest) (c .startAfter) v (machine.Live (view g (memOf g w₀))) (record { point = s .1 .point; full = s .1 .full }) (c .oneStart)
       (subst (λ x. Chain g x (c .during ++ (stepped g (c .stepBefore) (Swept (c .segment) (c .freed)) (c .stepAfter) ∷ c .rest))) k (ch .3)) in
       let w₁ = wordsAfter (c .startAfter) (c .during) in
-      let v₁ = beside struckOut v (c .during) in
+      let v₁ = ghostAfter struckOut v (c .during) in
       let x = sweeping g w₀ v p w₁ v₁ (y .0) (c .segment) (c .freed) (c .stepBefore) (c .stepAfter) (y .1 .0) (y .1 .1) (y .1 .2) in
       let x′ = subst (λ i. Stepped all-kept g w₁ v₁ (machine.Live (view g (memOf g w₀))) (y .0 .point) (Swept (c .segment) i) (c .stepAfter)) f x in
       subst (λ u. Found g (memOf g u) v (c .segment)) (sym (s .0)) (found-at g w₀ v p w₁ v₁ (y .0) (c .segment) n (c .stepAfter) x′ still)
 
-  pub found : beside struckOut (beside struckOut begun (c .before)) (c .during) ≡ beside struckOut begun (c .before) → Found g (memOf g (c .startBefore)) (beside struckOut begun (c .before)) (c .segment)
+  pub found : ghostAfter struckOut (ghostAfter struckOut ghostStart (c .before)) (c .during) ≡ ghostAfter struckOut ghostStart (c .before) → Found g (memOf g (c .startBefore)) (ghostAfter struckOut ghostStart (c .before)) (c .segment)
   found still =
       let later = started g (c .startBefore) Ok (c .startAfter) ∷ (c .during ++ (stepped g (c .stepBefore) (Swept (c .segment) (c .freed)) (c .stepAfter) ∷ c .rest)) in
-      let a = walk all-kept g (c .before) later words begun (first-point g content words o) (subst (Chain g words) (c .whole) ch) in
-      at-start (wordsAfter words (c .before)) (beside struckOut begun (c .before)) (a .0) (a .1) still
+      let a = walk all-kept g (c .before) later words ghostStart (first-point g content words o) (subst (Chain g words) (c .whole) ch) in
+      at-start (wordsAfter words (c .before)) (ghostAfter struckOut ghostStart (c .before)) (a .0) (a .1) still

@@ -9,9 +9,9 @@ use Rattle.layout.specs.declared.Geometry.{Geometry}
 use Rattle.layout.specs.Geometry.{wrongSize, Sized, len, maxSegments}
 use Rattle.layout.specs.Mem.{Mem, memOf, flat, Sizes}
 use Rattle.layout.proofs.Regions.{right-size, length-flat, memOf-flat}
-use Rattle.model.specs.Lists.{beside}
+use Rattle.model.specs.Lists.{ghostAfter}
 use Rattle.model.specs.Run.{run}
-use Rattle.guarantee.specs.Demand3.{struckOut, begun}
+use Rattle.guarantee.specs.Demand3.{struckOut, ghostStart}
 use Rattle.guarantee.specs.Instance.{Instance}
 use Rattle.model_cases.specs.Events.{replies, inputs, outputs, geometry, sevens}
 use Rattle.model_cases.specs.Whole.{whole}
@@ -26,8 +26,8 @@ use Rattle.layout.specs.Region as Region
 
 module _ (g : Geometry) (content : List ℕ) (right : wrongSize g (length content) ≡ false) (told : replies g (memOf g content) (inputs whole) ≡ outputs whole) where
   -- the sweep freed one block: it was garbage
-  garbage : Found g (memOf g (startWords g content)) (beside struckOut begun (run g (words g content) beforeStart)) 0
-  garbage = found g content (words g content) (run g (words g content) asked) (own g content right .opening) (own g content right .chain) (swept-in g content right told) 0 refl (silent-beside (beside struckOut begun (run g (words g content) beforeStart)) g (startEnd g content) tracing)
+  garbage : Found g (memOf g (startWords g content)) (ghostAfter struckOut ghostStart (run g (words g content) beforeStart)) 0
+  garbage = found g content (words g content) (run g (words g content) asked) (own g content right .opening) (own g content right .chain) (swept-in g content right told) 0 refl (silent-beside (ghostAfter struckOut ghostStart (run g (words g content) beforeStart)) g (startEnd g content) tracing)
 
   case-from : Instance
   case-from = record {

@@ -7,10 +7,10 @@ use Rattle.rules.specs.Pick.{pick}
 use Rattle.layout.specs.declared.Geometry.{Geometry}
 use Rattle.layout.specs.Mem.{memOf, flat}
 use Rattle.theory.specs.Calls.{c-check, a-ok, refusal, refuse}
-use Rattle.theory.specs.Unbounded.{Unbounded, uexec, uface}
+use Rattle.theory.specs.Unbounded.{Unbounded, uexec, uobserve}
 use Rattle.model.specs.declared.Answer.{Answer}
 use Rattle.model.specs.declared.Answer.the-variants.{Ok, Number, Same, Shape, Refused}
-use Rattle.model.specs.Lists.{Element, called, started, stepped, openedBy, sawPhase, sawStates, examinedBy, Beside, besideOne, beside, left}
+use Rattle.model.specs.Lists.{Element, called, started, stepped, openedBy, sawPhase, sawStates, examinedBy, Ghost, ghostStep, ghostAfter, left}
 use Rattle.model.specs.Calls.{exec}
 use Rattle.model.specs.Run.{Request, call, step, declared, answered, run}
 use Rattle.guarantee.specs.Demand3.{struckOut}
@@ -31,36 +31,36 @@ requests (x ∷ xs) = request x ∷ requests xs
 -- ---- the unbounded heap
 
 check-heap : (un : Unbounded) (k : ℕ) → uexec un (c-check k) .1 ≡ un
-check-heap un k = go (refusal (uface un) (c-check k))
+check-heap un k = go (refusal (uobserve un) (c-check k))
   where
     go : (n : ℕ) → refuse n un (a-ok, un) .1 ≡ un
     go zero = refl
     go (suc n) = refl
 
-check-beside : (w : Beside) (k : ℕ) (g : Geometry) (u : List ℕ) (r : Answer) (v : List ℕ) → besideOne struckOut w (called (c-check k) g u r v) ≡ w
+check-beside : (w : Ghost) (k : ℕ) (g : Geometry) (u : List ℕ) (r : Answer) (v : List ℕ) → ghostStep struckOut w (called (c-check k) g u r v) ≡ w
 check-beside w k g u r v = go r
   where
-    same : _≡_ {A = Beside} (record { heap = uexec (w .heap) (c-check k) .1; put = w .put }) w
+    same : _≡_ {A = Ghost} (record { heap = uexec (w .heap) (c-check k) .1; put = w .put }) w
     same = λ i. record { heap = check-heap (w .heap) k i; put = w .put }
 
     either : (b : Bool) → pick b w (record { heap = uexec (w .heap) (c-check k) .1; put = w .put }) ≡ w
     either true = refl
     either false = same
 
-    go : (r : Answer) → besideOne struckOut w (called (c-check k) g u r v) ≡ w
+    go : (r : Answer) → ghostStep struckOut w (called (c-check k) g u r v) ≡ w
     go Ok = same
     go (Number x) = same
     go (Same x) = same
     go (Shape x y) = same
     go (Refused x) = either (struckOut x)
 
-silent-one : (w : Beside) (g : Geometry) (words : List ℕ) (x : Silent) → besideOne struckOut w (answered g words (request x)) ≡ w
+silent-one : (w : Ghost) (g : Geometry) (words : List ℕ) (x : Silent) → ghostStep struckOut w (answered g words (request x)) ≡ w
 silent-one w g words (checks k) = check-beside w k g words (declared (exec g (memOf g words) (c-check k) .0)) (flat (exec g (memOf g words) (c-check k) .1))
 silent-one w g words steps = refl
 
-pub silent-beside : (w : Beside) (g : Geometry) (words : List ℕ) (xs : List Silent) → beside struckOut w (run g words (requests xs)) ≡ w
+pub silent-beside : (w : Ghost) (g : Geometry) (words : List ℕ) (xs : List Silent) → ghostAfter struckOut w (run g words (requests xs)) ≡ w
 silent-beside w g words [] = refl
-silent-beside w g words (x ∷ xs) = ap (λ v. beside struckOut v (run g (left (answered g words (request x))) (requests xs))) (silent-one w g words x) ∙ silent-beside w g (left (answered g words (request x))) xs
+silent-beside w g words (x ∷ xs) = ap (λ v. ghostAfter struckOut v (run g (left (answered g words (request x))) (requests xs))) (silent-one w g words x) ∙ silent-beside w g (left (answered g words (request x))) xs
 
 -- ---- no start
 

@@ -9,7 +9,7 @@ use Rattle.layout.specs.Geometry.{segmentWords, mostBlocks, blocksIn, segmentOf
 use Rattle.layout.specs.Mem.{Mem}
 use Rattle.layout.proofs.Sizes.{one-way, within, whole, words-some}
 use Rattle.model.specs.Fields.{class}
-use Rattle.model.specs.Records.{blockWords, blockOf, headerOf, bitOf}
+use Rattle.model.specs.Records.{blockWords, blockOf, headerOf, recordBit}
 use Rattle.model.specs.Consistent.{IsClass}
 
 module _ (g : Geometry) (c : ℕ) (k : IsClass c) where
@@ -54,7 +54,7 @@ module _ (g : Geometry) (c : ℕ) (k : IsClass c) where
         let z : class m (segmentOf g (headerOf g s c b)) ≡ c = ap (class m) header-segment ∙ e in
         ap (λ z. headerOf g s c b % segmentWords g / blockWords z) z ∙ ap (λ z. z / blockWords c) header-word ∙ mul-div-cancel b words-pos
 
-    pub header-bit : (m : Mem) → class m s ≡ c → bitOf g m (headerOf g s c b) ≡ bitIn g s b
+    pub header-bit : (m : Mem) → class m s ≡ c → recordBit g m (headerOf g s c b) ≡ bitIn g s b
     header-bit m e = ap (λ z. bitIn g z (blockOf g m (headerOf g s c b))) header-segment ∙ ap (bitIn g s) (header-block m e)
 
     pub header-aligned : headerOf g s c b % segmentWords g % blockWords c ≡ 0
@@ -80,7 +80,7 @@ module _ (g : Geometry) (m : Mem) (at : ℕ) (k : IsClass (class m (segmentOf g 
   pub of-block : blockOf g m at < blocksIn g (class m (segmentOf g at))
   of-block = block-below g (class m (segmentOf g at)) k (at % segmentWords g) (mod-lt at (words-some g))
 
-  pub bit-below : at < g .segments * segmentWords g → bitOf g m at < g .segments * mostBlocks g
+  pub bit-below : at < g .segments * segmentWords g → recordBit g m at < g .segments * mostBlocks g
   bit-below l = let h = of-block in let q = blocks-most g (class m (segmentOf g at)) k in within (mostBlocks g) (segmentOf g at) (g .segments) (blockOf g m at) (div-lt-iff-lt-mul (words-some g) .1 l) (omega arith)
 
   pub is-header : at % segmentWords g % blockWords (class m (segmentOf g at)) ≡ 0 → at ≡ headerOf g (segmentOf g at) (class m (segmentOf g at)) (blockOf g m at)
@@ -90,7 +90,7 @@ module _ (g : Geometry) (m : Mem) (at : ℕ) (k : IsClass (class m (segmentOf g 
       omega arith
 
 -- two heads with one bit are one
-pub same-bit : (g : Geometry) (m : Mem) (x y : ℕ) → IsClass (class m (segmentOf g x)) → IsClass (class m (segmentOf g y)) → x % segmentWords g % blockWords (class m (segmentOf g x)) ≡ 0 → y % segmentWords g % blockWords (class m (segmentOf g y)) ≡ 0 → bitOf g m x ≡ bitOf g m y → x ≡ y
+pub same-bit : (g : Geometry) (m : Mem) (x y : ℕ) → IsClass (class m (segmentOf g x)) → IsClass (class m (segmentOf g y)) → x % segmentWords g % blockWords (class m (segmentOf g x)) ≡ 0 → y % segmentWords g % blockWords (class m (segmentOf g y)) ≡ 0 → recordBit g m x ≡ recordBit g m y → x ≡ y
 same-bit g m x y k l a b e =
     let p = of-block g m x k in
     let q = of-block g m y l in

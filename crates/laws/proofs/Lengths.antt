@@ -11,8 +11,8 @@ use Rattle.layout.specs.Geometry.{Sized}
 use Rattle.layout.specs.Mem.{Mem, memOf, setControl, setMutator, setSegment, setStack, setTrace, setHeap, setRun, Sizes}
 use Rattle.layout.proofs.Regions.{length-region}
 use Rattle.model.specs.declared.SegmentState.{SegmentState}
-use Rattle.model.specs.Segments.{setState}
-use Rattle.model.specs.Records.{setMarked, setQueued, clearQueued, bitOf}
+use Rattle.model.specs.Segments.{setSegmentState}
+use Rattle.model.specs.Records.{setMarked, setQueued, clearQueued, recordBit}
 use Rattle.laws.proofs.Words.{state-is}
 use Rattle.layout.specs.Region as Region
 
@@ -57,15 +57,15 @@ module _ (g : Geometry) (m : Mem) (s : Sizes g m) where
 
   pub sizes-marked : (at : ℕ) → Sizes g (setMarked g m at)
   unfolding setMarked
-  sizes-marked at = record { control = s .control; mutators = s .mutators; segments = s .segments; stacks = s .stacks; bitmaps = s .bitmaps; marks = length-setBit (m .marks) (bitOf g m at) ∙ s .marks; queued = s .queued; trace = s .trace; heap = s .heap }
+  sizes-marked at = record { control = s .control; mutators = s .mutators; segments = s .segments; stacks = s .stacks; bitmaps = s .bitmaps; marks = length-setBit (m .marks) (recordBit g m at) ∙ s .marks; queued = s .queued; trace = s .trace; heap = s .heap }
 
   pub sizes-queued : (at : ℕ) → Sizes g (setQueued g m at)
   unfolding setQueued
-  sizes-queued at = record { control = s .control; mutators = s .mutators; segments = s .segments; stacks = s .stacks; bitmaps = s .bitmaps; marks = s .marks; queued = length-setBit (m .queued) (bitOf g m at) ∙ s .queued; trace = s .trace; heap = s .heap }
+  sizes-queued at = record { control = s .control; mutators = s .mutators; segments = s .segments; stacks = s .stacks; bitmaps = s .bitmaps; marks = s .marks; queued = length-setBit (m .queued) (recordBit g m at) ∙ s .queued; trace = s .trace; heap = s .heap }
 
   pub sizes-unqueued : (at : ℕ) → Sizes g (clearQueued g m at)
   unfolding clearQueued
-  sizes-unqueued at = record { control = s .control; mutators = s .mutators; segments = s .segments; stacks = s .stacks; bitmaps = s .bitmaps; marks = s .marks; queued = length-clearBit (m .queued) (bitOf g m at) ∙ s .queued; trace = s .trace; heap = s .heap }
+  sizes-unqueued at = record { control = s .control; mutators = s .mutators; segments = s .segments; stacks = s .stacks; bitmaps = s .bitmaps; marks = s .marks; queued = length-clearBit (m .queued) (recordBit g m at) ∙ s .queued; trace = s .trace; heap = s .heap }
 
   pub sizes-trace : (i v : ℕ) → Sizes g (setTrace m i v)
   unfolding setTrace
@@ -79,5 +79,5 @@ module _ (g : Geometry) (m : Mem) (s : Sizes g m) where
   unfolding setRun
   sizes-heap-run i vs = record { control = s .control; mutators = s .mutators; segments = s .segments; stacks = s .stacks; bitmaps = s .bitmaps; marks = s .marks; queued = s .queued; trace = s .trace; heap = length-sets (m .heap) i vs ∙ s .heap }
 
-pub sizes-state : (g : Geometry) (m : Mem) → Sizes g m → (r : ℕ) (x : SegmentState) → Sizes g (setState g m r x)
+pub sizes-state : (g : Geometry) (m : Mem) → Sizes g m → (r : ℕ) (x : SegmentState) → Sizes g (setSegmentState g m r x)
 sizes-state g m s r x = rw (state-is g m r x) (sizes-segment g _ (sizes-segment g _ (sizes-segment g _ (sizes-segment g m s _ _) _ _) _ _) _ _)

@@ -12,7 +12,7 @@ use Rattle.layout.specs.Mem.{Mem, setTrace, setStack, Sizes}
 use Rattle.theory.specs.Phases.{Phase, idle, sync1, sync2, mark, sweep, Duty, nothing, both, old, owes}
 use Rattle.model.specs.Rules.{phaseNumber}
 use Rattle.model.specs.Fields.{phase, traceCount, setTraceCount, acksAt, acks, root, class}
-use Rattle.model.specs.Segments.{setState, stacked, count}
+use Rattle.model.specs.Segments.{setSegmentState, stacked, count}
 use Rattle.model.specs.Records.{record?, pointers, pointer, marked, queued, setQueued, clearQueued}
 use Rattle.model.specs.Tracing.{push, barrier, pushRoots, pushPointers, popped, traced, onTop}
 use Rattle.model.specs.Mutators.{given, acknowledged}
@@ -87,7 +87,7 @@ module _ (g : Geometry) where
   sizes-condemned m z zero = z
   sizes-condemned m z (suc s) =
       let y : Sizes g (condemned g m s) = sizes-condemned m z s in
-      sizes-pick (isFull m s) (setState g (condemned g m s) s (segment.Condemned (class m s))) (condemned g m s) (sizes-state g (condemned g m s) y s (segment.Condemned (class m s))) y
+      sizes-pick (isFull m s) (setSegmentState g (condemned g m s) s (segment.Condemned (class m s))) (condemned g m s) (sizes-state g (condemned g m s) y s (segment.Condemned (class m s))) y
 
   pub sizes-reset : (m : Mem) → Sizes g m → (n : ℕ) → Sizes g (acksReset m n)
   unfolding acksReset

@@ -10,11 +10,11 @@ use lib.ListN.{length}
 use Rattle.layout.specs.declared.Geometry.{Geometry}
 use Rattle.layout.specs.Geometry.{wrongSize}
 use Rattle.layout.specs.Mem.{Mem, memOf}
-use Rattle.theory.specs.Calls.{Call, c-attach, c-detach, c-check, c-leave, c-enter, c-spawn, c-make, c-load, c-store, c-copy, c-clear, c-put, c-get, c-same, c-shape, Face, require, ifRecord, refusal, refuse, a-no}
+use Rattle.theory.specs.Calls.{Call, c-attach, c-detach, c-check, c-leave, c-enter, c-spawn, c-make, c-load, c-store, c-copy, c-clear, c-put, c-get, c-same, c-shape, Observation, require, ifRecord, refusal, refuse, a-no}
 use Rattle.model.specs.declared.Answer.{Answer}
 use Rattle.model.specs.declared.Answer.the-variants.{Refused}
 use Rattle.model.specs.Answers.{answerOf, resultOf, refusalOf, among, mayGive}
-use Rattle.model.specs.Calls.{face, act, exec}
+use Rattle.model.specs.Calls.{observe, act, exec}
 use Rattle.model.specs.Consistent.{Consistent}
 use Rattle.model.specs.Promise.{Promise}
 use Rattle.theory.specs.Calls as theory
@@ -36,7 +36,7 @@ record-among ns (some s) rest a r = r s
 no-refusal : (ns : List ℕ) → Among ns 0
 no-refusal ns = record { either = inl refl }
 
-refusal-among : (F : Face) (c : Call) → Among (mayGive c) (refusal F c)
+refusal-among : (F : Observation) (c : Call) → Among (mayGive c) (refusal F c)
 refusal-among F (c-attach i) = require-among _ _ _ _ (refl, omega arith) (require-among _ _ _ _ (refl, omega arith) (no-refusal _))
 refusal-among F (c-spawn i p k) = require-among _ _ _ _ (refl, omega arith) (require-among _ _ _ _ (refl, omega arith) (require-among _ _ _ _ (refl, omega arith) (require-among _ _ _ _ (refl, omega arith) (require-among _ _ _ _ (refl, omega arith) (require-among _ _ _ _ (refl, omega arith) (no-refusal _))))))
 refusal-among F (c-detach i) = require-among _ _ _ _ (refl, omega arith) (require-among _ _ _ _ (refl, omega arith) (require-among _ _ _ _ (refl, omega arith) (no-refusal _)))
@@ -91,7 +91,7 @@ refuse-is : {S : Type 0} (n : ℕ) (st : S) (r : theory.Answer × S) → (n ≡ 
 refuse-is zero st r f = absurd (f refl)
 refuse-is (suc n) st r f = refl
 
-exec-by : (g : Geometry) (m : Mem) (c : Call) {n : ℕ} → n ≡ refusal (face m) c → exec g m c ≡ refuse n m (act g m c)
+exec-by : (g : Geometry) (m : Mem) (c : Call) {n : ℕ} → n ≡ refusal (observe m) c → exec g m c ≡ refuse n m (act g m c)
 unfolding exec
 exec-by g m c r = ap (λ k. refuse k m (act g m c)) (sym r)
 
@@ -114,7 +114,7 @@ module _ (c : Call) (g : Geometry) (xs : List ℕ) where
   }
 
   -- the lowest of the numbers 2 to 9 that applies, and not a word is changed
-  pub refused : {n : ℕ} → wrongSize g (length xs) ≡ false → n ≡ refusal (face (memOf g xs)) c → (n ≡ 0 → ⊥) → Promise c g xs (Refused n) xs
+  pub refused : {n : ℕ} → wrongSize g (length xs) ≡ false → n ≡ refusal (observe (memOf g xs)) c → (n ≡ 0 → ⊥) → Promise c g xs (Refused n) xs
   refused {n} e r f = record {
     sizes = λ h. absurd (true≢false (sym h ∙ e));
     exact = λ _ _. (sym (ap (λ a. a .0) does), sym (ap (λ a. a .1) does));
@@ -127,13 +127,13 @@ module _ (c : Call) (g : Geometry) (xs : List ℕ) where
       does = exec-by g (memOf g xs) c r ∙ refuse-is n (memOf g xs) (act g (memOf g xs) c) f
 
       can : (among n (mayGive c) ≡ true) × (2 ≤ n)
-      can = one-of (mayGive c) n f (subst (Among (mayGive c)) (sym r) (refusal-among (face (memOf g xs)) c))
+      can = one-of (mayGive c) n f (subst (Among (mayGive c)) (sym r) (refusal-among (observe (memOf g xs)) c))
 
       big : n ≡ 1 → ⊥
       big q = let l = can .1 in omega arith
 
   -- not refused so, answer and memory are the definition's
-  pub done : {r : Answer} {ys : List ℕ} → wrongSize g (length xs) ≡ false → 0 ≡ refusal (face (memOf g xs)) c → resultOf c r ≡ true → refusalOf r ≡ none
+  pub done : {r : Answer} {ys : List ℕ} → wrongSize g (length xs) ≡ false → 0 ≡ refusal (observe (memOf g xs)) c → resultOf c r ≡ true → refusalOf r ≡ none
       → answerOf r ≡ act g (memOf g xs) c .0 → memOf g ys ≡ act g (memOf g xs) c .1 → Promise c g xs r ys
   done {r} {ys} e z k v a m = record {
     sizes = λ h. absurd (true≢false (sym h ∙ e));

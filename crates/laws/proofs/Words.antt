@@ -5,12 +5,12 @@ use native.Mathlib.Omega.{arith}
 use lib.ListN.{length, getD, length-set}
 use lib.Seq.{getD-set-same, getD-set-other}
 use Rattle.layout.specs.declared.Geometry.{Geometry}
-use Rattle.layout.specs.Geometry.{mutatorCount, mutatorWords, recordWords, stackCount, blocksIn}
+use Rattle.layout.specs.Geometry.{mutatorCount, mutatorWords, segmentRecordWords, stackCount, blocksIn}
 use Rattle.layout.specs.Mem.{Mem, mutatorWord, segmentWord, stackWord, setMutator, setSegment, setStack, Sizes}
 use Rattle.layout.proofs.Sizes.{one-way, within}
 use Rattle.model.specs.declared.SegmentState.{SegmentState}
 use Rattle.model.specs.Fields.{tag, class, place, owner}
-use Rattle.model.specs.Segments.{setState, setRecord}
+use Rattle.model.specs.Segments.{setSegmentState, setRecord}
 use Rattle.model.specs.declared.SegmentState.the-variants as state
 
 -- ---- mutators' entries: word o of entry k
@@ -54,15 +54,15 @@ word-length m i v = length-set (m .segments) i v
 
 module _ (m : Mem) (s t c p k : ℕ) where
   abbrev m₁ : Mem
-  m₁ = setSegment m (s * recordWords) t
+  m₁ = setSegment m (s * segmentRecordWords) t
 
   abbrev m₂ : Mem
-  m₂ = setSegment m₁ (s * recordWords + 1) c
+  m₂ = setSegment m₁ (s * segmentRecordWords + 1) c
 
   abbrev m₃ : Mem
-  m₃ = setSegment m₂ (s * recordWords + 2) p
+  m₃ = setSegment m₂ (s * segmentRecordWords + 2) p
 
-  pub record-there : s * recordWords + 3 < length (m .segments) → Recorded (setRecord m s t c p k) s t c p k
+  pub record-there : s * segmentRecordWords + 3 < length (m .segments) → Recorded (setRecord m s t c p k) s t c p k
   record-there h =
       let a = word-length m (s * 4) t in
       let b = word-length m₁ (s * 4 + 1) c in
@@ -109,8 +109,8 @@ ownerIn (state.Held c p k) = k
 ownerIn (state.Full c) = 0
 ownerIn (state.Condemned c) = 0
 
-pub state-is : (g : Geometry) (m : Mem) (s : ℕ) (x : SegmentState) → setState g m s x ≡ setRecord m s (tagOf x) (classIn x) (placeIn g x) (ownerIn x)
-unfolding setState
+pub state-is : (g : Geometry) (m : Mem) (s : ℕ) (x : SegmentState) → setSegmentState g m s x ≡ setRecord m s (tagOf x) (classIn x) (placeIn g x) (ownerIn x)
+unfolding setSegmentState
 state-is g m s state.Free = refl
 state-is g m s (state.Part c p) = refl
 state-is g m s (state.Held c p k) = refl
@@ -118,10 +118,10 @@ state-is g m s (state.Full c) = refl
 state-is g m s (state.Condemned c) = refl
 
 -- the record of a segment whose state is set, and of another
-pub state-there : (g : Geometry) (m : Mem) (s : ℕ) (x : SegmentState) → s * recordWords + 3 < length (m .segments) → Recorded (setState g m s x) s (tagOf x) (classIn x) (placeIn g x) (ownerIn x)
+pub state-there : (g : Geometry) (m : Mem) (s : ℕ) (x : SegmentState) → s * segmentRecordWords + 3 < length (m .segments) → Recorded (setSegmentState g m s x) s (tagOf x) (classIn x) (placeIn g x) (ownerIn x)
 state-there g m s x h = rw (state-is g m s x) (record-there m s (tagOf x) (classIn x) (placeIn g x) (ownerIn x) h)
 
-pub state-other : (g : Geometry) (m : Mem) (s : ℕ) (x : SegmentState) (r : ℕ) → (r ≡ s → ⊥) → Recorded (setState g m s x) r (tag m r) (class m r) (place m r) (owner m r)
+pub state-other : (g : Geometry) (m : Mem) (s : ℕ) (x : SegmentState) (r : ℕ) → (r ≡ s → ⊥) → Recorded (setSegmentState g m s x) r (tag m r) (class m r) (place m r) (owner m r)
 state-other g m s x r f = rw (state-is g m s x) (record-other m s (tagOf x) (classIn x) (placeIn g x) (ownerIn x) r f)
 
 -- the other regions stay
@@ -139,7 +139,7 @@ record-others : (m : Mem) (s t c p k : ℕ) → OtherRegions m (setRecord m s t 
 unfolding setSegment
 record-others m s t c p k = record { control = refl; mutators = refl; stacks = refl; bitmaps = refl; marks = refl; queued = refl; trace = refl; heap = refl }
 
-pub state-others : (g : Geometry) (m : Mem) (s : ℕ) (x : SegmentState) → OtherRegions m (setState g m s x)
+pub state-others : (g : Geometry) (m : Mem) (s : ℕ) (x : SegmentState) → OtherRegions m (setSegmentState g m s x)
 state-others g m s x = rw (state-is g m s x) (record-others m s (tagOf x) (classIn x) (placeIn g x) (ownerIn x))
 
 -- ---- stacks: word j of stack t

@@ -13,7 +13,7 @@ use Rattle.rules.specs.Pick.{pick}
 use Rattle.layout.specs.declared.Geometry.{Geometry}
 use Rattle.layout.specs.Parts.{parts, joined, start, lengths}
 use Rattle.layout.specs.Geometry.{lens, len, from, total, regionCount, maxSegments, Sized, wrongSize}
-use Rattle.layout.specs.Mem.{Mem, memOf, flat, ofParts, regions, region, run, withRegion, setRun, clearRegion, Sizes}
+use Rattle.layout.specs.Mem.{Mem, memOf, flat, ofParts, regions, region, readRun, withRegion, setRun, clearRegion, Sizes}
 use Rattle.layout.proofs.Cut.{read, write, writes, lent, whole, apart, long-at}
 
 module _ (g : Geometry) (l : List ℕ) where
@@ -26,7 +26,7 @@ module _ (g : Geometry) (l : List ℕ) where
   set-at k i j v (e, h) = rw e (ap ofParts (write (lens g) l k i v h))
 
   -- w words from word i of region k, lent to a leaf that makes g of them: `&mut mem[a..a + w]`
-  pub leaf-at : (k i w a : ℕ) (make : List ℕ → List ℕ) (ys : List ℕ) → ys ≡ make (midOf a (a + w - a) l) → length ys ≡ length (midOf a (a + w - a) l) → (a ≡ from g k + i) × (i + w ≤ len g k) × (k < regionCount) × (a + w ≤ length l) → memOf g (putMid a (a + w - a) l ys) ≡ setRun (memOf g l) k i (make (run (memOf g l) k i w))
+  pub leaf-at : (k i w a : ℕ) (make : List ℕ → List ℕ) (ys : List ℕ) → ys ≡ make (midOf a (a + w - a) l) → length ys ≡ length (midOf a (a + w - a) l) → (a ≡ from g k + i) × (i + w ≤ len g k) × (k < regionCount) × (a + w ≤ length l) → memOf g (putMid a (a + w - a) l ys) ≡ setRun (memOf g l) k i (make (readRun (memOf g l) k i w))
   unfolding memOf setRun
   leaf-at k i w a make ys t s (e, h, q, u) =
       let f : a + w - a ≡ w = omega arith in

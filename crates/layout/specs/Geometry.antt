@@ -68,8 +68,8 @@ abbrev pub entryWords : ℕ
 entryWords = rootCount + 2 + classCount
 
 -- a segment's record: tag, class, allocation pointer, mutator
-abbrev pub recordWords : ℕ
-recordWords = 4
+abbrev pub segmentRecordWords : ℕ
+segmentRecordWords = 4
 
 -- the free stack, and a part stack for each class: a count, and as many entries as there are segments
 abbrev pub stackCount : ℕ
@@ -78,7 +78,7 @@ stackCount = 1 + classCount
 -- the lengths of the nine regions, in order
 abbrev pub lens : Geometry → List ℕ
 lens g =
-    controlWords ∷ mutatorCount * mutatorWords ∷ g .segments * segmentWords g ∷ g .segments * recordWords ∷ (1 + g .segments) * stackCount
+    controlWords ∷ mutatorCount * mutatorWords ∷ g .segments * segmentWords g ∷ g .segments * segmentRecordWords ∷ (1 + g .segments) * stackCount
     ∷ g .segments * bitmapWords g ∷ g .segments * markWords g ∷ g .segments * markWords g ∷ g .segments * mostBlocks g ∷ []
 
 -- the length of region k, and where it begins

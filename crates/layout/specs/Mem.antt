@@ -109,18 +109,18 @@ setSegment m i v = withRegion m Region.segments (set (m .segments) i v)
 unfoldable pub setStack : Mem → ℕ → ℕ → Mem
 setStack m i v = withRegion m Region.stacks (set (m .stacks) i v)
 
-unfoldable pub setMark : Mem → ℕ → ℕ → Mem
-setMark m i v = withRegion m Region.marks (set (m .marks) i v)
+unfoldable pub setMarkWord : Mem → ℕ → ℕ → Mem
+setMarkWord m i v = withRegion m Region.marks (set (m .marks) i v)
 
-unfoldable pub setQueued : Mem → ℕ → ℕ → Mem
-setQueued m i v = withRegion m Region.queued (set (m .queued) i v)
+unfoldable pub setQueuedWord : Mem → ℕ → ℕ → Mem
+setQueuedWord m i v = withRegion m Region.queued (set (m .queued) i v)
 
 unfoldable pub setTrace : Mem → ℕ → ℕ → Mem
 setTrace m i v = withRegion m Region.trace (set (m .trace) i v)
 
 -- w words of region k from word i on, read and set
-abbrev pub run : Mem → ℕ → ℕ → ℕ → List ℕ
-run m k i w = take w (drop i (region m k))
+abbrev pub readRun : Mem → ℕ → ℕ → ℕ → List ℕ
+readRun m k i w = take w (drop i (region m k))
 
 unfoldable pub setRun : Mem → ℕ → ℕ → List ℕ → Mem
 setRun m k i vs = withRegion m k (sets (region m k) i vs)

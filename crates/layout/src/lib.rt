@@ -4,7 +4,7 @@ ghost use mathlib.Core.Path.{_≡_};
 ghost use Prim.Native.Nat.{_%_, _≤_, _<_};
 ghost use lib.ListN.{length, replicate};
 ghost use Rattle.layout.specs.Geometry.{len, from, total, segmentWords, mostBlocks, maxSegments, segmentOf, bitIn, Sized, wrongSize};
-ghost use Rattle.layout.specs.Mem.{memOf, controlWord, mutatorWord, segmentWord, stackWord, bitmapWord, markWord, queuedWord, traceWord, heapWord, setControl, setMutator, setSegment, setStack, setMark, setQueued, setTrace, setHeap, clearRegion};
+ghost use Rattle.layout.specs.Mem.{memOf, controlWord, mutatorWord, segmentWord, stackWord, bitmapWord, markWord, queuedWord, traceWord, heapWord, setControl, setMutator, setSegment, setStack, setMarkWord, setQueuedWord, setTrace, setHeap, clearRegion};
 ghost use Rattle.layout.specs.Region as Region;
 
 // The size of the heap: today its number of segments.
@@ -16,7 +16,7 @@ pub const MUTATORS: u32 = 32;
 
 pub const ROOTS: u32 = 16;
 
-pub const CLASSES: u32 = 10;
+pub const CLASS_COUNT: u32 = 10;
 
 // The words of a segment, and of what goes with each.
 const SEGMENT_WORDS: usize = 4096;
@@ -27,7 +27,7 @@ const MARK_WORDS: usize = 64;
 
 const BITMAP_WORDS: usize = 67;
 
-pub const RECORD_WORDS: usize = 4;
+pub const SEGMENT_RECORD_WORDS: usize = 4;
 
 pub const STACKS: usize = 11;
 
@@ -47,7 +47,7 @@ const HEAP_FROM: usize = CONTROL_WORDS + 32 * MUTATOR_WORDS;
 
 const FIXED: usize = HEAP_FROM + STACKS;
 
-const STACKS_PER: usize = SEGMENT_WORDS + RECORD_WORDS;
+const STACKS_PER: usize = SEGMENT_WORDS + SEGMENT_RECORD_WORDS;
 
 const BITMAPS_PER: usize = STACKS_PER + STACKS;
 
@@ -217,7 +217,7 @@ pub fn mark(g: Geometry, mem: &[u32], i: usize) -> u32
 
 pub fn set_mark(g: Geometry, mem: &mut [u32], i: usize, v: u32)
     requires { ⌜ (Sized g (length (now mem))) × (i < len g Region.marks) ⌝ }
-    ensures { λ _. ⌜ memOf g (now (mem .exit)) ≡ setMark (memOf g (now (mem .entry))) i v ⌝ }
+    ensures { λ _. ⌜ memOf g (now (mem .exit)) ≡ setMarkWord (memOf g (now (mem .entry))) i v ⌝ }
 {
     let n = g.segments;
     mem[n * MARKS_PER + FIXED + i] = v;
@@ -234,7 +234,7 @@ pub fn queued(g: Geometry, mem: &[u32], i: usize) -> u32
 
 pub fn set_queued(g: Geometry, mem: &mut [u32], i: usize, v: u32)
     requires { ⌜ (Sized g (length (now mem))) × (i < len g Region.queued) ⌝ }
-    ensures { λ _. ⌜ memOf g (now (mem .exit)) ≡ setQueued (memOf g (now (mem .entry))) i v ⌝ }
+    ensures { λ _. ⌜ memOf g (now (mem .exit)) ≡ setQueuedWord (memOf g (now (mem .entry))) i v ⌝ }
 {
     let n = g.segments;
     mem[n * QUEUED_PER + FIXED + i] = v;
@@ -289,7 +289,7 @@ pub fn clear_segments(g: Geometry, mem: &mut [u32])
 {
     let n = g.segments;
     let a = n * SEGMENT_WORDS + HEAP_FROM;
-    let end = a + n * RECORD_WORDS;
+    let end = a + n * SEGMENT_RECORD_WORDS;
     zero(&mut mem[a..end]);
 }
 

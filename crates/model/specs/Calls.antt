@@ -11,8 +11,8 @@ use Rattle.layout.specs.declared.Geometry.{Geometry}
 use Rattle.layout.specs.Geometry.{rootCount}
 use Rattle.layout.specs.Mem.{Mem}
 use Rattle.theory.specs.Phases.{duty, inHandshake}
-use Rattle.theory.specs.Calls.{Call, c-attach, c-detach, c-check, c-leave, c-enter, c-spawn, c-make, c-load, c-store, c-copy, c-clear, c-put, c-get, c-same, c-shape, Answer, a-ok, a-num, a-flag, a-shape, a-no, Face, shapeIf, refusal, refuse, onRecord, unless, sameRef}
-use Rattle.model.specs.Fields.{phase, absent, inside, outside, state, setState, acks, root, setRoot}
+use Rattle.theory.specs.Calls.{Call, c-attach, c-detach, c-check, c-leave, c-enter, c-spawn, c-make, c-load, c-store, c-copy, c-clear, c-put, c-get, c-same, c-shape, Answer, a-ok, a-num, a-flag, a-shape, a-no, Observation, shapeIf, refusal, refuse, onRecord, unless, sameRef}
+use Rattle.model.specs.Fields.{phase, absent, inside, outside, state, setMutatorState, acks, root, setRoot}
 use Rattle.model.specs.Records.{record?, pointers, values, pointer, setPointer, value, setValue}
 use Rattle.model.specs.Tracing.{barrier}
 use Rattle.model.specs.Mutators.{acknowledged, attached, detached}
@@ -25,8 +25,8 @@ isAttached m k = not (eqb (state m k) absent)
 abbrev pub isInside : Mem → ℕ → Bool
 isInside m k = eqb (state m k) inside
 
-abbrev pub face : Mem → Face
-face m = record {
+abbrev pub observe : Mem → Observation
+observe m = record {
   attached = isAttached m;
   inside = isInside m;
   shape = λ k i. shapeIf (isAttached m k) (ltb i rootCount) (Option·map (λ at. (pointers m at, values m at)) (record? (root m k i)));
@@ -42,8 +42,8 @@ act g m (c-attach k) = unless (inHandshake (phase m)) 11 m (attached m k 0)
 act g m (c-spawn k p i) = unless (inHandshake (phase m)) 11 m (attached m k (root m p i))
 act g m (c-detach k) = unless (inHandshake (phase m)) 11 m (detached g m k)
 act g m (c-check k) = (a-ok, acknowledged g m k)
-act g m (c-leave k) = (a-ok, setState (acknowledged g m k) k outside)
-act g m (c-enter k) = (a-ok, setState m k inside)
+act g m (c-leave k) = (a-ok, setMutatorState (acknowledged g m k) k outside)
+act g m (c-enter k) = (a-ok, setMutatorState m k inside)
 act g m (c-make k d p n) = ofClass m (classOf (p + n)) (λ c. made g m k d c p n)
 act g m (c-load k d i f) = onRecord (record? (root m k i)) m (λ at. (a-ok, setRoot m k d (pointer m at f)))
 act g m (c-store k i f j) =
@@ -57,4 +57,4 @@ act g m (c-shape k i) = onRecord (record? (root m k i)) m (λ at. (a-shape (poin
 
 -- "The lowest number that applies is given."
 unfoldable pub exec : Geometry → Mem → Call → Answer × Mem
-exec g m c = refuse (refusal (face m) c) m (act g m c)
+exec g m c = refuse (refusal (observe m) c) m (act g m c)

@@ -15,7 +15,7 @@ use Rattle.theory.specs.Calls.{Answer, a-ok, a-no}
 use Rattle.model.specs.declared.Step.{Step}
 use Rattle.model.specs.declared.Step.the-variants as stepAnswer
 use Rattle.model.specs.Fields.{phase, setPhase, traceCount, inside, outside, state, acks, setAcks, tag, class}
-use Rattle.model.specs.Segments.{setState, freeStack, partStack, stacked, above, bitmap, setBitmap, marksOf, inUse}
+use Rattle.model.specs.Segments.{setSegmentState, freeStack, partStack, stacked, above, bitmap, setBitmap, marksOf, inUse}
 use Rattle.model.specs.Tracing.{traced}
 use Rattle.model.specs.Mutators.{acknowledged}
 use Rattle.model.specs.declared.SegmentState.the-variants as segment
@@ -30,7 +30,7 @@ isFull m s = eqb (tag m s) Tag.full
 -- the full ones of the first n segments become condemned
 unfoldable pub condemned : Geometry → Mem → ℕ → Mem
 condemned g m zero = m
-condemned g m (suc s) = pick (isFull m s) (setState g (condemned g m s) s (segment.Condemned (class m s))) (condemned g m s)
+condemned g m (suc s) = pick (isFull m s) (setSegmentState g (condemned g m s) s (segment.Condemned (class m s))) (condemned g m s)
 
 -- whether any of the first n segments is full
 unfoldable pub anyFull : Mem → ℕ → Bool
@@ -88,7 +88,7 @@ abbrev pub orThen : Option ℕ → Option ℕ → Option ℕ
 orThen none o = o
 orThen (some s) o = some s
 
--- the lowest of the first n segments that is condemned
+-- the lowest of the first n condemned segments
 unfoldable pub lowest : Mem → ℕ → Option ℕ
 lowest m zero = none
 lowest m (suc s) = orThen (lowest m s) (pick (eqb (tag m s) Tag.condemned) (some s) none)
@@ -104,9 +104,9 @@ rebuiltBy g m s = setBitmap g m s (adopted (above g (class m s)) (blocksIn g (cl
 -- "place 0 unless it becomes full. No mark: free. All blocks marked: full. Else part."
 unfoldable pub swept : Geometry → Mem → ℕ → Mem
 swept g m s =
-    pick (eqb (keptBy g m s) 0) (stacked g (setState g (rebuiltBy g m s) s segment.Free) freeStack s)
-    (pick (eqb (keptBy g m s) (blocksIn g (class m s))) (setState g (rebuiltBy g m s) s (segment.Full (class m s)))
-    (stacked g (setState g (rebuiltBy g m s) s (segment.Part (class m s) 0)) (partStack (class m s)) s))
+    pick (eqb (keptBy g m s) 0) (stacked g (setSegmentState g (rebuiltBy g m s) s segment.Free) freeStack s)
+    (pick (eqb (keptBy g m s) (blocksIn g (class m s))) (setSegmentState g (rebuiltBy g m s) s (segment.Full (class m s)))
+    (stacked g (setSegmentState g (rebuiltBy g m s) s (segment.Part (class m s) 0)) (partStack (class m s)) s))
 
 -- "how many blocks in use became free": those in use before less those after. "With none left: idle, and done."
 abbrev pub sweeps : Geometry → Option ℕ → Mem → Step × Mem

@@ -1,7 +1,7 @@
 -- The words of the memory by name: control, mutators' entries, segment records. docs/LAYOUT.md has the order of the words.
 use Prim.Native.Nat.{ℕ, _+_, _-_, _*_}
 use Rattle.classes.specs.Class.{firstClass}
-use Rattle.layout.specs.Geometry.{mutatorWords, rootCount, recordWords}
+use Rattle.layout.specs.Geometry.{mutatorWords, rootCount, segmentRecordWords}
 use Rattle.layout.specs.Mem.{Mem, controlWord, mutatorWord, segmentWord, setControl, setMutator}
 use Rattle.theory.specs.Phases.{Phase}
 use Rattle.model.specs.Rules.{phaseOf, phaseNumber}
@@ -44,8 +44,8 @@ outside = 2
 abbrev pub state : Mem → ℕ → ℕ
 state m k = mutatorWord m (k * mutatorWords + stateAt)
 
-abbrev pub setState : Mem → ℕ → ℕ → Mem
-setState m k v = setMutator m (k * mutatorWords + stateAt) v
+abbrev pub setMutatorState : Mem → ℕ → ℕ → Mem
+setMutatorState m k v = setMutator m (k * mutatorWords + stateAt) v
 
 abbrev pub acks : Mem → ℕ → ℕ
 acks m k = mutatorWord m (k * mutatorWords + acksAt)
@@ -68,14 +68,14 @@ setHolding m k c v = setMutator m (k * mutatorWords + heldFrom + (c - firstClass
 -- ---- segment s: tag (0 free, 1 part, 2 held, 3 full, 4 condemned), class, place, mutator
 
 abbrev pub tag : Mem → ℕ → ℕ
-tag m s = segmentWord m (s * recordWords)
+tag m s = segmentWord m (s * segmentRecordWords)
 
 abbrev pub class : Mem → ℕ → ℕ
-class m s = segmentWord m (s * recordWords + 1)
+class m s = segmentWord m (s * segmentRecordWords + 1)
 
 -- document 01: place; the allocation pointer
 abbrev pub place : Mem → ℕ → ℕ
-place m s = segmentWord m (s * recordWords + 2)
+place m s = segmentWord m (s * segmentRecordWords + 2)
 
 abbrev pub owner : Mem → ℕ → ℕ
-owner m s = segmentWord m (s * recordWords + 3)
+owner m s = segmentWord m (s * segmentRecordWords + 3)

@@ -125,7 +125,7 @@ Chain g words (e ∷ es) = Meets e × KeepsLength e × ((wrongSized e ≡ true) 
 -- ---- the unbounded heap beside the list, and the record last put into each block, by the word of its header: a word that is no header now may
 -- keep a record of an earlier class, which no root or pointer leads to any more
 
-pub record Beside : Type 0 where
+pub record Ghost : Type 0 where
   pub heap : Unbounded
   pub put : ℕ → Option ℕ
 
@@ -155,7 +155,7 @@ putIf (Shape p n) c g after r put = put
 putIf (Refused n) c g after r put = put
 
 -- "A block is reached when the record last put there is; one without a record is not."
-pub record BlockReached (w : Beside) (at : ℕ) : Type 0 where
+pub record BlockReached (w : Ghost) (at : ℕ) : Type 0 where
   pub number : ℕ
   pub last : w .put at ≡ some number
   pub reached : UReached (w .heap) number
@@ -196,16 +196,16 @@ module _ (out : ℕ → Bool) where
   remainingAnswers (examinedBy g mem scratch r after ∷ es) = remainingAnswers es
 
   -- the unbounded heap "is fed the arguments of the script calls that remain"
-  abbrev pub besideOne : Beside → Element → Beside
-  besideOne w (called c g before r after) =
+  abbrev pub ghostStep : Ghost → Element → Ghost
+  ghostStep w (called c g before r after) =
       pick (struck r) w (record { heap = uexec (w .heap) c .1; put = putIf r c g after (w .heap .count) (w .put) })
-  besideOne w (started g before r after) = w
-  besideOne w (stepped g before r after) = w
-  besideOne w (openedBy g before r after) = w
-  besideOne w (sawPhase g mem r) = w
-  besideOne w (sawStates g mem output r after) = w
-  besideOne w (examinedBy g mem scratch r after) = w
+  ghostStep w (started g before r after) = w
+  ghostStep w (stepped g before r after) = w
+  ghostStep w (openedBy g before r after) = w
+  ghostStep w (sawPhase g mem r) = w
+  ghostStep w (sawStates g mem output r after) = w
+  ghostStep w (examinedBy g mem scratch r after) = w
 
-  abbrev pub beside : Beside → List Element → Beside
-  beside w [] = w
-  beside w (e ∷ es) = beside (besideOne w e) es
+  abbrev pub ghostAfter : Ghost → List Element → Ghost
+  ghostAfter w [] = w
+  ghostAfter w (e ∷ es) = ghostAfter (ghostStep w e) es

@@ -14,7 +14,7 @@ use Rattle.theory.specs.Phases.{black}
 use Rattle.theory.specs.Calls.{Answer, a-ok, a-no}
 use Rattle.model.specs.declared.SegmentState.the-variants.{Held, Full}
 use Rattle.model.specs.Fields.{phase, acks, holding, setHolding, setRoot, tag, class, place, owner}
-use Rattle.model.specs.Segments.{setState, freeStack, partStack, count, top, pop, above, bitmap, setBitmap, free}
+use Rattle.model.specs.Segments.{setSegmentState, freeStack, partStack, count, top, pop, above, bitmap, setBitmap, free}
 use Rattle.model.specs.Records.{headerOf, written, setMarked}
 use Rattle.model.specs.Tag as Tag
 
@@ -38,7 +38,7 @@ pub record NoRoom (g : Geometry) (m : Mem) (k c : ℕ) : Type 0 where
 
 -- mutator k holds segment s of class c from a place on
 abbrev pub takes : Geometry → Mem → ℕ → ℕ → ℕ → ℕ → Mem
-takes g m k c s p = setHolding (setState g m s (Held c p k)) k c (suc s)
+takes g m k c s p = setHolding (setSegmentState g m s (Held c p k)) k c (suc s)
 
 -- "a free one, whose place is then 0 and whose blocks' bits are all 0"
 abbrev pub freshened : Geometry → Mem → ℕ → ℕ → Mem
@@ -46,9 +46,9 @@ freshened g m s c = setBitmap g m s (fresh (above g c) (blocksIn g c) (bitmap g 
 
 -- "When no free block remains at or after the new place, the segment becomes full in the same call"
 abbrev pub advanced : Geometry → Mem → ℕ → ℕ → ℕ → ℕ → Found → Mem
-advanced g m k c s p (Block b) = setState g m s (Held c p k)
-advanced g m k c s p Nothing = setHolding (setState g m s (Full c)) k c 0
-advanced g m k c s p Torn = setHolding (setState g m s (Full c)) k c 0
+advanced g m k c s p (Block b) = setSegmentState g m s (Held c p k)
+advanced g m k c s p Nothing = setHolding (setSegmentState g m s (Full c)) k c 0
+advanced g m k c s p Torn = setHolding (setSegmentState g m s (Full c)) k c 0
 
 -- "born marked"
 abbrev pub blackened : Geometry → Mem → ℕ → ℕ → Mem

@@ -11,7 +11,7 @@ use Rattle.layout.specs.Mem.{Mem, setRun}
 use Rattle.theory.specs.Phases.{Phase, idle, sync1, sync2, mark, sweep, owes, newcomer}
 use Rattle.model.specs.declared.SegmentState.the-variants.{Part}
 use Rattle.model.specs.Fields.{phase, inside, heldFrom, acks, setAcks, holding, place}
-use Rattle.model.specs.Segments.{setState, partStack, stacked}
+use Rattle.model.specs.Segments.{setSegmentState, partStack, stacked}
 use Rattle.model.specs.Tracing.{pushRoots}
 use Rattle.layout.specs.Region as Region
 
@@ -38,7 +38,7 @@ attached m k v = setEntry m k (v ∷ replicate (rootCount - 1) 0 ++ inside ∷ n
 -- "held segments go to part, places kept, in class order": the one of class c, and those of the first n classes
 abbrev pub releasedOne : Geometry → Mem → ℕ → ℕ → Mem
 releasedOne g m k c =
-    pick (eqb (holding m k c) 0) m (stacked g (setState g m (holding m k c - 1) (Part c (place m (holding m k c - 1)))) (partStack c) (holding m k c - 1))
+    pick (eqb (holding m k c) 0) m (stacked g (setSegmentState g m (holding m k c - 1) (Part c (place m (holding m k c - 1)))) (partStack c) (holding m k c - 1))
 
 unfoldable pub released : Geometry → Mem → ℕ → ℕ → Mem
 released g m k zero = m

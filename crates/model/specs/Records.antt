@@ -53,20 +53,20 @@ headerOf g s c b = s * segmentWords g + b * blockWords c
 abbrev pub blockOf : Geometry → Mem → ℕ → ℕ
 blockOf g m at = at % segmentWords g / blockWords (class m (segmentOf g at))
 
-abbrev pub bitOf : Geometry → Mem → ℕ → ℕ
-bitOf g m at = bitIn g (segmentOf g at) (blockOf g m at)
+abbrev pub recordBit : Geometry → Mem → ℕ → ℕ
+recordBit g m at = bitIn g (segmentOf g at) (blockOf g m at)
 
 abbrev pub marked : Geometry → Mem → ℕ → ℕ
-marked g m at = bitAt (m .marks) (bitOf g m at)
+marked g m at = bitAt (m .marks) (recordBit g m at)
 
 abbrev pub queued : Geometry → Mem → ℕ → ℕ
-queued g m at = bitAt (m .queued) (bitOf g m at)
+queued g m at = bitAt (m .queued) (recordBit g m at)
 
 unfoldable pub setMarked : Geometry → Mem → ℕ → Mem
-setMarked g m at = withRegion m Region.marks (setBit (m .marks) (bitOf g m at))
+setMarked g m at = withRegion m Region.marks (setBit (m .marks) (recordBit g m at))
 
 unfoldable pub setQueued : Geometry → Mem → ℕ → Mem
-setQueued g m at = withRegion m Region.queued (setBit (m .queued) (bitOf g m at))
+setQueued g m at = withRegion m Region.queued (setBit (m .queued) (recordBit g m at))
 
 unfoldable pub clearQueued : Geometry → Mem → ℕ → Mem
-clearQueued g m at = withRegion m Region.queued (clearBit (m .queued) (bitOf g m at))
+clearQueued g m at = withRegion m Region.queued (clearBit (m .queued) (recordBit g m at))

@@ -7,8 +7,8 @@ use Rattle.words.specs.Bits.{bitAt, onesAmong}
 use Rattle.classes.specs.Class.{firstClass}
 use Rattle.classes.specs.Shape.{shapeFor}
 use Rattle.layout.specs.declared.Geometry.{Geometry}
-use Rattle.layout.specs.Geometry.{recordWords, markWords, blocksIn, bitmapWords}
-use Rattle.layout.specs.Mem.{Mem, stackWord, setSegment, setStack, run, setRun}
+use Rattle.layout.specs.Geometry.{segmentRecordWords, markWords, blocksIn, bitmapWords}
+use Rattle.layout.specs.Mem.{Mem, stackWord, setSegment, setStack, readRun, setRun}
 use Rattle.bitmap_search.specs.declared.Found.{Found}
 use Rattle.bitmap_search.specs.Scan.{nextFree}
 use Rattle.model.specs.declared.SegmentState.{SegmentState}
@@ -31,15 +31,15 @@ segment m s = stateOf (tag m s) (class m s) (place m s) (owner m s)
 -- the four words of a segment's record
 abbrev pub setRecord : Mem → ℕ → ℕ → ℕ → ℕ → ℕ → Mem
 setRecord m s t c p k =
-    setSegment (setSegment (setSegment (setSegment m (s * recordWords) t) (s * recordWords + 1) c) (s * recordWords + 2) p) (s * recordWords + 3) k
+    setSegment (setSegment (setSegment (setSegment m (s * segmentRecordWords) t) (s * segmentRecordWords + 1) c) (s * segmentRecordWords + 2) p) (s * segmentRecordWords + 3) k
 
 -- "A full segment's place is its number of blocks, kept when it is condemned."
-unfoldable pub setState : Geometry → Mem → ℕ → SegmentState → Mem
-setState g m s state.Free = setRecord m s Tag.free 0 0 0
-setState g m s (state.Part c p) = setRecord m s Tag.part c p 0
-setState g m s (state.Held c p k) = setRecord m s Tag.held c p k
-setState g m s (state.Full c) = setRecord m s Tag.full c (blocksIn g c) 0
-setState g m s (state.Condemned c) = setRecord m s Tag.condemned c (blocksIn g c) 0
+unfoldable pub setSegmentState : Geometry → Mem → ℕ → SegmentState → Mem
+setSegmentState g m s state.Free = setRecord m s Tag.free 0 0 0
+setSegmentState g m s (state.Part c p) = setRecord m s Tag.part c p 0
+setSegmentState g m s (state.Held c p k) = setRecord m s Tag.held c p k
+setSegmentState g m s (state.Full c) = setRecord m s Tag.full c (blocksIn g c) 0
+setSegmentState g m s (state.Condemned c) = setRecord m s Tag.condemned c (blocksIn g c) 0
 
 -- ---- stacks: "the last put on taken first; each class has its own part stack"
 
@@ -74,13 +74,13 @@ abbrev pub above : Geometry → ℕ → ℕ
 above g c = shapeFor (blocksIn g c) .levels - 1
 
 abbrev pub bitmap : Geometry → Mem → ℕ → List ℕ
-bitmap g m s = run m Region.bitmaps (s * bitmapWords g) (bitmapWords g)
+bitmap g m s = readRun m Region.bitmaps (s * bitmapWords g) (bitmapWords g)
 
 abbrev pub setBitmap : Geometry → Mem → ℕ → List ℕ → Mem
 setBitmap g m s ws = setRun m Region.bitmaps (s * bitmapWords g) ws
 
 abbrev pub marksOf : Geometry → Mem → ℕ → List ℕ
-marksOf g m s = run m Region.marks (s * markWords g) (markWords g)
+marksOf g m s = readRun m Region.marks (s * markWords g) (markWords g)
 
 -- "the next free block": the first at or after the place whose bit is 0
 abbrev pub free : Geometry → Mem → ℕ → ℕ → ℕ → Found

@@ -13,6 +13,6 @@ held = 2
 abbrev pub full : ℕ
 full = 3
 
--- document 01: condemned; in the collect set
+-- document 01: condemned; in the collect set of the papers
 abbrev pub condemned : ℕ
 condemned = 4

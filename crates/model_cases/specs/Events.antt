@@ -15,7 +15,7 @@ use Rattle.theory.specs.Calls.{Call, Answer, a-ok, a-no, require, ifRecord}
 use Rattle.model.specs.declared.Step.{Step}
 use Rattle.model.specs.declared.SegmentState.{SegmentState}
 use Rattle.model.specs.Fields.{phase, traceCount, acks}
-use Rattle.model.specs.Segments.{setState, segment, marksOf}
+use Rattle.model.specs.Segments.{setSegmentState, segment, marksOf}
 use Rattle.model.specs.Records.{setMarked, setQueued, clearQueued}
 use Rattle.model.specs.Tracing.{push, pushRoots, pushPointers}
 use Rattle.model.specs.Mutators.{acknowledged, attached, released, detached}
@@ -73,7 +73,7 @@ does g m (heap i n) = (words (take n (drop i (m .heap))), m)
 
 -- the replies to a list of events, in order; to unfold it is to unfold every definition that it stands on
 unfoldable pub replies : Geometry → Mem → List Event → List Reply
-unfolding segmentBytes bitOf bitAt withBit withoutBit setBit clearBit onesAmong setControl setMutator setSegment setStack setTrace setHeap setRun nextFree wordFrom packed fullBit summed rebuilt padded completed cleared copied fresh adopted require ifRecord setState setMarked setQueued clearQueued push pushRoots pushPointers acknowledged attached released detached handedOut made act exec condemned anyFull acksReset started startOf outsideAnswered waiting lowest swept stepOf downTo0 opened
+unfolding segmentBytes bitOf bitAt withBit withoutBit setBit clearBit onesAmong setControl setMutator setSegment setStack setTrace setHeap setRun nextFree wordFrom packed fullBit summed rebuilt padded completed cleared copied fresh adopted require ifRecord setSegmentState setMarked setQueued clearQueued push pushRoots pushPointers acknowledged attached released detached handedOut made act exec condemned anyFull acksReset started startOf outsideAnswered waiting lowest swept stepOf downTo0 opened
 replies g m [] = []
 replies g m (e ∷ es) = let r = does g m e in r .0 ∷ replies g (r .1) es
 

@@ -8,14 +8,14 @@ use lib.ListN.{length, getD}
 use Rattle.words.specs.Bits.{bitAt}
 use Rattle.classes.specs.Class.{firstClass}
 use Rattle.layout.specs.declared.Geometry.{Geometry}
-use Rattle.layout.specs.Geometry.{mutatorWords, recordWords, blocksIn}
+use Rattle.layout.specs.Geometry.{mutatorWords, segmentRecordWords, blocksIn}
 use Rattle.layout.specs.Mem.{Mem, setMutator, Sizes}
 use Rattle.bitmap_search.specs.declared.Found.{Found}
 use Rattle.bitmap_search.specs.declared.Found.the-variants.{Block, Nothing, Torn}
 use Rattle.bitmap_search.proofs.Scan.{IsNext, next-is}
 use Rattle.model.specs.declared.SegmentState.the-variants.{Held, Full}
 use Rattle.model.specs.Fields.{heldFrom, setHolding}
-use Rattle.model.specs.Segments.{setState, bitmap, free}
+use Rattle.model.specs.Segments.{setSegmentState, bitmap, free}
 use Rattle.model.specs.Making.{advanced}
 use Rattle.laws.proofs.Words.{recorded-as, state-others, state-there, state-other}
 use Rattle.laws.proofs.Entries.{table-there, table-other}
@@ -24,13 +24,13 @@ use Rattle.refine_making.proofs.Request.{Request}
 use Rattle.refine_making.proofs.Result.{Moved}
 
 module _ (g : Geometry) (m : Mem) (s : Sizes g m) (k d cl r b p n : ℕ) (q : Request g m k d cl r b p n) where
-  room : r * recordWords + 3 < length (m .segments)
+  room : r * segmentRecordWords + 3 < length (m .segments)
   room = let z = s .segments in let l = q .inside in omega arith
 
   abbrev full : Mem
-  full = setState g m r (Full cl)
+  full = setSegmentState g m r (Full cl)
 
-  still : (i : ℕ) → b + 1 ≤ i → i < blocksIn g cl → bitAt (bitmap g m r) i ≡ 0 → Moved g m (setState g m r (Held cl (b + 1) k)) k cl r b
+  still : (i : ℕ) → b + 1 ≤ i → i < blocksIn g cl → bitAt (bitmap g m r) i ≡ 0 → Moved g m (setSegmentState g m r (Held cl (b + 1) k)) k cl r b
   still i a l e =
       let f = state-others g m r (Held cl (b + 1) k) in
       record {

@@ -17,7 +17,7 @@ use Rattle.theory.proofs.Updates.{upd-hit, upd-other, upd-hit₁, upd-miss₁}
 use Rattle.theory.proofs.Agree.{Agree}
 use Rattle.model.specs.Fields.{phase, acks, root, tag, class}
 use Rattle.model.specs.Segments.{usedBit}
-use Rattle.model.specs.Records.{record?, pointers, values, pointer, marked, blockOf, bitOf, headerOf}
+use Rattle.model.specs.Records.{record?, pointers, values, pointer, marked, blockOf, recordBit, headerOf}
 use Rattle.model.specs.Reaching.{Live, isMarked}
 use Rattle.model.specs.Consistent.{Consistent, IsClass, RecordOk}
 use Rattle.refine_view.specs.View.{view, valuesOf, isHead, isUsed}
@@ -79,7 +79,7 @@ module _ (g : Geometry) (m : Mem) (s : Sizes g m) (c : Consistent g m) (m′ : M
         and-both _ _ (ne-not _ _ (standing.tag-used g m m′ k d cl r b p n q a (segmentOf g x) (ok .used))) (eq-eqb _ _ e)
 
     -- its bit is another
-    pub bit-other : bitOf g m x ≡ bitIn g r b → ⊥
+    pub bit-other : recordBit g m x ≡ bitIn g r b → ⊥
     bit-other e = f (same-bit g m x h of-class (header-is-class g cl (q .isClass) r b (q .below) m (q .ofClass)) (ok .aligned) (header-head g cl (q .isClass) r b (q .below) m (q .ofClass)) (e ∙ sym (header-bit g cl (q .isClass) r b (q .below) m (q .ofClass))))
 
     mark-on : (isHead g m′ x && isMarked g m′ x) ≡ (isHead g m x && isMarked g m x)
@@ -102,7 +102,7 @@ module _ (g : Geometry) (m : Mem) (s : Sizes g m) (c : Consistent g m) (m′ : M
         go (inl y) = at-old x (y .1) (same x (y .0) (y .1))
         go (inr e) = at-new x e
 
-  -- ---- segments of the collect set
+  -- ---- condemned segments
 
   fated-on : (x : ℕ) → eqb (tag m (segmentOf g x)) Tag.condemned ≡ true → (isHead g m′ x && isMarked g m′ x) ≡ upd (λ at. isHead g m at && isMarked g m at) h (black (phase m) (acks m k)) x
   fated-on x e = standing.mark-same g m m′ k d cl r b p n q a x other-bit ∙ sym (upd-other (λ at. isHead g m at && isMarked g m at) h (black (phase m) (acks m k)) x other)
@@ -119,7 +119,7 @@ module _ (g : Geometry) (m : Mem) (s : Sizes g m) (c : Consistent g m) (m′ : M
       of : IsClass (class m (segmentOf g x))
       of = c .segments (segmentOf g x) (in-range g m s (segmentOf g x) (λ z. let u = four in omega arith)) .classes (λ z. let u = four in omega arith)
 
-      other-bit : bitOf g m x ≡ bitIn g r b → ⊥
+      other-bit : recordBit g m x ≡ bitIn g r b → ⊥
       other-bit y =
           let u = of-block g m x of in
           let v = blocks-most g (class m (segmentOf g x)) of in
@@ -153,8 +153,8 @@ module _ (g : Geometry) (m : Mem) (s : Sizes g m) (c : Consistent g m) (m′ : M
     acks = standing.acks-same g m m′ k d cl r b p n q a;
     root = λ i j x l. root-on i j l;
     marked = λ t. changed (λ at. isHead g m at && isMarked g m at) (λ at. isHead g m′ at && isMarked g m′ at) (black (phase m) (acks m k)) (newborn.mark-there g m c m′ k d cl r b p n q a t) mark-on;
-    fated = fated-on;
-    collect = λ y. standing.tag-test g m m′ k d cl r b p n q a 4 y (λ z. omega arith) (λ z. omega arith);
+    condemnedMarks = fated-on;
+    condemned = λ y. standing.tag-test g m m′ k d cl r b p n q a 4 y (λ z. omega arith) (λ z. omega arith);
     pointers = changed (pointers m) (pointers m′) p (newborn.pointers-there g m c m′ k d cl r b p n q a) pointers-on;
     values = changed (valuesOf m) (valuesOf m′) (replicate n 0) (newborn.fields-there g m c m′ k d cl r b p n q a) fields-on;
     pointer = pointer-at;

@@ -15,7 +15,7 @@ use Rattle.layout.specs.Geometry.{mutatorWords, mostBlocks, bitIn}
 use Rattle.layout.specs.Mem.{Mem, setMutator, setHeap, setRun, Sizes}
 use Rattle.theory.specs.Phases.{black}
 use Rattle.model.specs.Fields.{phase, heldFrom, acks, setRoot, tag, class, place, owner}
-use Rattle.model.specs.Records.{headerOf, written, setMarked, bitOf}
+use Rattle.model.specs.Records.{headerOf, written, setMarked, recordBit}
 use Rattle.model.specs.Making.{blackened, handedOut}
 use Rattle.layout.proofs.Sizes.{within, marks-are}
 use Rattle.laws.proofs.Words.{Recorded, recorded-as}
@@ -48,22 +48,22 @@ module _ (g : Geometry) (m : Mem) (k d cl r b p n : ℕ) (q : Request g m k d cl
   unfolding setHeap setRun
   class₂ = class₁
 
-  bit₂ : bitOf g m₂ h ≡ bitIn g r b
+  bit₂ : recordBit g m₂ h ≡ bitIn g r b
   bit₂ = header-bit g cl (q .isClass) r b (q .below) m₂ class₂
 
   -- ---- the marks, born black
 
-  room : bitOf g m₂ h / 32 < length (m₁ .marks)
+  room : recordBit g m₂ h / 32 < length (m₁ .marks)
   room = let z = v .sizes .marks in let a = q .inside in let c = q .below in let e = blocks-most g cl (q .isClass) in let f = bit₂ in let w = marks-are g (g .segments) in let y = within (mostBlocks g) r (g .segments) b a (omega arith) in omega arith
 
   marks₁ : (i : ℕ) → bitAt (m₁ .marks) i ≡ bitAt (m .marks) i
   marks₁ i = ap (λ (ws : List ℕ). bitAt ws i) (v .marks)
 
-  mark-there : bitAt (setBit (m₁ .marks) (bitOf g m₂ h)) (bitIn g r b) ≡ 1
-  mark-there = ap (λ i. bitAt (setBit (m₁ .marks) (bitOf g m₂ h)) i) (sym bit₂) ∙ set-there (m₁ .marks) (bitOf g m₂ h) room
+  mark-there : bitAt (setBit (m₁ .marks) (recordBit g m₂ h)) (bitIn g r b) ≡ 1
+  mark-there = ap (λ i. bitAt (setBit (m₁ .marks) (recordBit g m₂ h)) i) (sym bit₂) ∙ set-there (m₁ .marks) (recordBit g m₂ h) room
 
-  mark-other : (i : ℕ) → (i ≡ bitIn g r b → ⊥) → bitAt (setBit (m₁ .marks) (bitOf g m₂ h)) i ≡ bitAt (m .marks) i
-  mark-other i f = set-elsewhere (m₁ .marks) (bitOf g m₂ h) room i (λ e. f (e ∙ bit₂)) ∙ marks₁ i
+  mark-other : (i : ℕ) → (i ≡ bitIn g r b → ⊥) → bitAt (setBit (m₁ .marks) (recordBit g m₂ h)) i ≡ bitAt (m .marks) i
+  mark-other i f = set-elsewhere (m₁ .marks) (recordBit g m₂ h) room i (λ e. f (e ∙ bit₂)) ∙ marks₁ i
 
   -- ---- the segment's record
 

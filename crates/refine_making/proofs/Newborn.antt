@@ -14,7 +14,7 @@ use Rattle.theory.specs.TraceStack.{tab}
 use Rattle.theory.proofs.Invariant.{Tracing}
 use Rattle.model.specs.Fields.{phase, acks, tag, class}
 use Rattle.model.specs.Segments.{usedBit}
-use Rattle.model.specs.Records.{pointers, values, pointer, value, marked, blockOf, bitOf, headerOf, blockWords}
+use Rattle.model.specs.Records.{pointers, values, pointer, value, marked, blockOf, recordBit, headerOf, blockWords}
 use Rattle.model.specs.Reaching.{isMarked}
 use Rattle.model.specs.Consistent.{Consistent}
 use Rattle.refine_view.specs.View.{valuesOf, isHead, isUsed}
@@ -58,7 +58,7 @@ module _ (g : Geometry) (m : Mem) (c : Consistent g m) (m′ : Mem) (k d cl r b 
   pub aligned-there : h % segmentWords g % blockWords (class m′ (segmentOf g h)) ≡ 0
   aligned-there = header-head g cl (q .isClass) r b (q .below) m′ (standing.class-there g m m′ k d cl r b p n q a)
 
-  bit-there : bitOf g m′ h ≡ bitIn g r b
+  bit-there : recordBit g m′ h ≡ bitIn g r b
   bit-there = header-bit g cl (q .isClass) r b (q .below) m′ (standing.class-there g m m′ k d cl r b p n q a)
 
   pub used-there : usedBit g m′ (segmentOf g h) (blockOf g m′ h) ≡ 1

@@ -17,7 +17,7 @@ use Rattle.layout.specs.Geometry.{rootCount, segmentWords, mostBlocks, segmentO
 use Rattle.layout.specs.Mem.{Mem, controlWord, traceWord}
 use Rattle.model.specs.Fields.{phase, traceCount, stateAt, acksAt, heldFrom, state, acks, root, holding, tag, class, place}
 use Rattle.model.specs.Segments.{bitmap, usedBit}
-use Rattle.model.specs.Records.{blockOf, bitOf, blockWords, marked}
+use Rattle.model.specs.Records.{blockOf, recordBit, blockWords, marked}
 use Rattle.model.specs.Reaching.{isMarked}
 use Rattle.model.specs.Consistent.{IsClass}
 use Rattle.model.specs.Rules.{phaseOf}
@@ -135,7 +135,7 @@ module _ (g : Geometry) (m m′ : Mem) (k d cl r b p n : ℕ) (q : Request g m k
   pub block-same : (x : ℕ) → blockOf g m′ x ≡ blockOf g m x
   block-same x = ap (λ c. x % segmentWords g / blockWords c) (class-same (segmentOf g x))
 
-  pub bit-same : (x : ℕ) → bitOf g m′ x ≡ bitOf g m x
+  pub bit-same : (x : ℕ) → recordBit g m′ x ≡ recordBit g m x
   bit-same x = ap (bitIn g (segmentOf g x)) (block-same x)
 
   used-before : (x i : ℕ) → i < place m′ x → usedBit g m′ x i ≡ 1
@@ -167,7 +167,7 @@ module _ (g : Geometry) (m m′ : Mem) (k d cl r b p n : ℕ) (q : Request g m k
   pub bit-there : (x i : ℕ) → i < mostBlocks g → bitIn g x i ≡ bitIn g r b → (x ≡ r) × (i ≡ b)
   bit-there x i l e = let u = q .below in let v = blocks-most g cl (q .isClass) in one-way (mostBlocks g) x i r b l (omega arith) e
 
-  pub mark-same : (x : ℕ) → (bitOf g m x ≡ bitIn g r b → ⊥) → (isHead g m′ x && isMarked g m′ x) ≡ (isHead g m x && isMarked g m x)
+  pub mark-same : (x : ℕ) → (recordBit g m x ≡ bitIn g r b → ⊥) → (isHead g m′ x && isMarked g m′ x) ≡ (isHead g m x && isMarked g m x)
   mark-same x f =
-      let e : marked g m′ x ≡ marked g m x = ap (bitAt (m′ .marks)) (bit-same x) ∙ a .marks (bitOf g m x) f in
+      let e : marked g m′ x ≡ marked g m x = ap (bitAt (m′ .marks)) (bit-same x) ∙ a .marks (recordBit g m x) f in
       ap (λ z. z && isMarked g m′ x) (head-same x) ∙ ap (λ z. isHead g m x && eqb z 1) e

@@ -1,4 +1,4 @@
--- The block that is handed out was not in use: not in the machine, not marked while tracing, not in the collect set. Assumes nothing.
+-- The block that is handed out was not in use: not in the machine, not marked while tracing, not condemned. Assumes nothing.
 use mathlib.Core.Path.{_≡_, sym, _∙_, ap}
 use mathlib.Core.Bool.{false, not, _&&_}
 use mathlib.Core.Logic.{_⊎_, ⊎-elim}

@@ -11,7 +11,7 @@ use Rattle.theory.specs.Calls.{c-load, c-copy, c-clear, c-get, c-same, c-shape,
 use Rattle.theory.proofs.CallKeeps.{by-ok, root-ok, require-ok, lt-of}
 use Rattle.model.specs.Fields.{setRoot}
 use Rattle.model.specs.Records.{record?, pointers, values, pointer, value}
-use Rattle.model.specs.Calls.{face, act}
+use Rattle.model.specs.Calls.{observe, act}
 use Rattle.model.specs.Consistent.{Consistent}
 use Rattle.refine_view.specs.View.{view, valuesOf}
 use Rattle.refine_view.specs.Kept.{ActKept}
@@ -23,10 +23,10 @@ use Rattle.theory.specs.Machine as machine
 use Rattle.model.specs.Fields as fields
 
 module _ (g : Geometry) (m : Mem) (s : Sizes g m) (c : Consistent g m) where
-  pub load-kept : (k d i f : ℕ) → refusal (face m) (c-load k d i f) ≡ 0 → ActKept g m (c-load k d i f)
+  pub load-kept : (k d i f : ℕ) → refusal (observe m) (c-load k d i f) ≡ 0 → ActKept g m (c-load k d i f)
   unfolding act
   load-kept k d i f e =
-      let p = by-ok (face m) k _ e in
+      let p = by-ok (observe m) k _ e in
       let q = root-ok d _ (p .3) in
       let r = root-ok i _ (q .1) in
       let w = wanted-in g m k i (pointer? f) (p .1) (r .0) (r .1) in
@@ -36,41 +36,41 @@ module _ (g : Geometry) (m : Mem) (s : Sizes g m) (c : Consistent g m) where
       (root-moves g m s c k d (pointer m (w .at) f) (p .0) (p .1) (q .0) (λ b y. next (root (is-root g m k i (w .at) (p .0) (r .0) (p .1) n)) (record { field = f; within = x; names = y }))) in
       matches-by g m _ _ (h .0) (h .1)
 
-  pub copy-kept : (k d i : ℕ) → refusal (face m) (c-copy k d i) ≡ 0 → ActKept g m (c-copy k d i)
+  pub copy-kept : (k d i : ℕ) → refusal (observe m) (c-copy k d i) ≡ 0 → ActKept g m (c-copy k d i)
   unfolding act
   copy-kept k d i e =
-      let p = by-ok (face m) k _ e in
+      let p = by-ok (observe m) k _ e in
       let q = root-ok d _ (p .3) in
       let r = root-ok i _ (q .1) in
       matches-by g m _ _ refl (root-moves g m s c k d (fields.root m k i) (p .0) (p .1) (q .0) (λ b y. root (is-root g m k i b (p .0) (r .0) (p .1) y)))
 
-  pub clear-kept : (k d : ℕ) → refusal (face m) (c-clear k d) ≡ 0 → ActKept g m (c-clear k d)
+  pub clear-kept : (k d : ℕ) → refusal (observe m) (c-clear k d) ≡ 0 → ActKept g m (c-clear k d)
   unfolding act
   clear-kept k d e =
-      let p = by-ok (face m) k _ e in
+      let p = by-ok (observe m) k _ e in
       let q = root-ok d _ (p .3) in
       matches-by g m _ _ refl (root-moves g m s c k d 0 (p .0) (p .1) (q .0) (λ b y. absurd (omega arith)))
 
   -- ---- calls that change nothing
 
-  pub get-kept : (k i f : ℕ) → refusal (face m) (c-get k i f) ≡ 0 → ActKept g m (c-get k i f)
+  pub get-kept : (k i f : ℕ) → refusal (observe m) (c-get k i f) ≡ 0 → ActKept g m (c-get k i f)
   unfolding act
   get-kept k i f e =
-      let p = by-ok (face m) k _ e in
+      let p = by-ok (observe m) k _ e in
       let r = root-ok i _ (p .3) in
       let w = wanted-in g m k i (value? f) (p .1) (r .0) (r .1) in
       let x = lt-of _ _ (require-ok (ltb f (values m (w .at))) 8 0 (omega arith) (w .asked) .0) in
       let h = on-record g m (record? (fields.root m k i)) (w .at) (w .is) (λ at. (a-num (value m at f), m)) (λ at. (a-num (getD (valuesOf m at) f 0), view g m)) (ap a-num (sym (getD-tab (values m (w .at)) (value m (w .at)) f x))) (moves-self g m c) in
       matches-by g m _ _ (h .0) (h .1)
 
-  pub same-kept : (k i j : ℕ) → refusal (face m) (c-same k i j) ≡ 0 → ActKept g m (c-same k i j)
+  pub same-kept : (k i j : ℕ) → refusal (observe m) (c-same k i j) ≡ 0 → ActKept g m (c-same k i j)
   unfolding act
   same-kept k i j e = matches-by g m _ _ refl (moves-self g m c)
 
-  pub shape-kept : (k i : ℕ) → refusal (face m) (c-shape k i) ≡ 0 → ActKept g m (c-shape k i)
+  pub shape-kept : (k i : ℕ) → refusal (observe m) (c-shape k i) ≡ 0 → ActKept g m (c-shape k i)
   unfolding act
   shape-kept k i e =
-      let p = by-ok (face m) k _ e in
+      let p = by-ok (observe m) k _ e in
       let r = root-ok i _ (p .3) in
       let w = wanted-in g m k i (λ _. 0) (p .1) (r .0) (r .1) in
       let h = on-record g m (record? (fields.root m k i)) (w .at) (w .is) (λ at. (a-shape (pointers m at) (values m at), m)) (λ at. (a-shape (pointers m at) (length (valuesOf m at)), view g m)) (ap (a-shape (pointers m (w .at))) (sym (length-tab (values m (w .at)) (value m (w .at))))) (moves-self g m c) in

@@ -24,7 +24,7 @@ use Rattle.theory.proofs.CycleKeeps.{attach-live}
 use Rattle.model.specs.Fields.{phase, absent, inside, stateAt, acksAt, heldFrom, state, acks, holding}
 use Rattle.model.specs.Records.{record?}
 use Rattle.model.specs.Mutators.{attached, setEntry}
-use Rattle.model.specs.Calls.{isAttached, isInside, face, act}
+use Rattle.model.specs.Calls.{isAttached, isInside, observe, act}
 use Rattle.model.specs.Reaching.{IsRoot}
 use Rattle.model.specs.Consistent.{Consistent, MutatorOk, IsClass}
 use Rattle.refine_view.specs.View.{view}
@@ -162,7 +162,7 @@ module _ (g : Geometry) (m : Mem) (s : Sizes g m) (c : Consistent g m) where
   not-there : (k : ℕ) → not (isAttached m k) ≡ true → state m k ≡ absent
   not-there k e = eqb-true _ _ (not-false _ (not-true _ e))
 
-  pub attach-kept : (k : ℕ) → refusal (face m) (c-attach k) ≡ 0 → ActKept g m (c-attach k)
+  pub attach-kept : (k : ℕ) → refusal (observe m) (c-attach k) ≡ 0 → ActKept g m (c-attach k)
   unfolding act
   attach-kept k e =
       let p = require-ok (ltb k mutatorCount) 2 _ (omega arith) e in
@@ -170,7 +170,7 @@ module _ (g : Geometry) (m : Mem) (s : Sizes g m) (c : Consistent g m) where
       let h = unless-moves g m (attached m k 0) (machine.attach (view g m) k none) c (inHandshake (phase m)) (λ x. coming-moves g m s c k 0 (lt-of k 32 (p .0)) (not-there k (q .0)) (λ b y. absurd (omega arith)) x) in
       matches-by g m _ _ (h .0) (h .1)
 
-  pub spawn-kept : (k p i : ℕ) → refusal (face m) (c-spawn k p i) ≡ 0 → ActKept g m (c-spawn k p i)
+  pub spawn-kept : (k p i : ℕ) → refusal (observe m) (c-spawn k p i) ≡ 0 → ActKept g m (c-spawn k p i)
   unfolding act
   spawn-kept k p i e =
       let a = require-ok (ltb k mutatorCount) 2 _ (omega arith) e in

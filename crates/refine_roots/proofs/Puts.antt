@@ -17,7 +17,7 @@ use Rattle.theory.specs.Update.{upd}
 use Rattle.theory.proofs.Agree.{Agree}
 use Rattle.model.specs.Fields.{phase, traceCount}
 use Rattle.model.specs.Records.{record?, pointers, values, pointer, value, setValue}
-use Rattle.model.specs.Calls.{face, act}
+use Rattle.model.specs.Calls.{observe, act}
 use Rattle.model.specs.Reaching.{Live}
 use Rattle.model.specs.Consistent.{Consistent, RecordOk}
 use Rattle.refine_view.specs.View.{view, valuesOf}
@@ -104,8 +104,8 @@ module _ (g : Geometry) (m : Mem) (s : Sizes g m) (c : Consistent g m) (at : ℕ
     acks = λ j. refl;
     root = λ j i b q. refl;
     marked = λ t b q. refl;
-    fated = λ b e. refl;
-    collect = λ x. refl;
+    condemnedMarks = λ b e. refl;
+    condemned = λ x. refl;
     pointers = λ x p. pointers-by m after x (header x (to-record g m s c x p));
     values = λ x p. values-at x (to-record g m s c x p);
     pointer = λ x i p l. ap record? (pointer-at x i (to-record g m s c x p) l);
@@ -119,10 +119,10 @@ module _ (g : Geometry) (m : Mem) (s : Sizes g m) (c : Consistent g m) (at : ℕ
   unfolding setHeap
   value-moves = record { structure = heap-structure g m place v (structure-of g m c) (λ x p. header x (c .records x p)) live; agree = agree; steady = λ x q e. (e, refl) }
 
-pub put-kept : (g : Geometry) (m : Mem) → Sizes g m → Consistent g m → (k i f v : ℕ) → refusal (face m) (c-put k i f v) ≡ 0 → ActKept g m (c-put k i f v)
+pub put-kept : (g : Geometry) (m : Mem) → Sizes g m → Consistent g m → (k i f v : ℕ) → refusal (observe m) (c-put k i f v) ≡ 0 → ActKept g m (c-put k i f v)
 unfolding act
 put-kept g m s c k i f v e =
-    let p = by-ok (face m) k _ e in
+    let p = by-ok (observe m) k _ e in
     let r = root-ok i _ (p .3) in
     let w = wanted-in g m k i (value? f) (p .1) (r .0) (r .1) in
     let n : fields.root m k i ≡ suc (w .at) = named _ _ (w .is) in

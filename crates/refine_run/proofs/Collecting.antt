@@ -12,7 +12,7 @@ use Rattle.theory.specs.Phases.{Phase, idle, sync1, sync2, mark, sweep}
 use Rattle.theory.specs.Calls.{Answer, a-ok, a-no}
 use Rattle.model.specs.Rules.{phaseNumber}
 use Rattle.model.specs.Fields.{phase, traceCount, outside, state, class}
-use Rattle.model.specs.Segments.{setState, freeStack, partStack, stacked, above, bitmap, marksOf}
+use Rattle.model.specs.Segments.{setSegmentState, freeStack, partStack, stacked, above, bitmap, marksOf}
 use Rattle.model.specs.Mutators.{acknowledged}
 use Rattle.model.specs.Collector.{anyFull, started, startIn, startOf, outsideAnswered, waiting, moves, traces, lowest, keptBy, rebuiltBy, swept, sweeps, stepIn, stepOf}
 use Rattle.laws.proofs.Lengths.{sizes-control, sizes-bitmap, sizes-state}
@@ -60,13 +60,13 @@ module _ (g : Geometry) where
       let c : ℕ = class m s in
       let m₁ : Mem = rebuiltBy g m s in
       let z₁ : Sizes g m₁ = sizes-bitmap g m z (s * bitmapWords g) (adopted (above g c) (blocksIn g c) (marksOf g m s) (bitmap g m s)) in
-      let unused : Mem = stacked g (setState g m₁ s segment.Free) freeStack s in
-      let full : Mem = setState g m₁ s (segment.Full c) in
-      let part : Mem = stacked g (setState g m₁ s (segment.Part c 0)) (partStack c) s in
+      let unused : Mem = stacked g (setSegmentState g m₁ s segment.Free) freeStack s in
+      let full : Mem = setSegmentState g m₁ s (segment.Full c) in
+      let part : Mem = stacked g (setSegmentState g m₁ s (segment.Part c 0)) (partStack c) s in
       sizes-pick g (eqb (keptBy g m s) 0) unused (pick (eqb (keptBy g m s) (blocksIn g c)) full part)
-      (sizes-stacked g (setState g m₁ s segment.Free) (sizes-state g m₁ z₁ s segment.Free) freeStack s)
+      (sizes-stacked g (setSegmentState g m₁ s segment.Free) (sizes-state g m₁ z₁ s segment.Free) freeStack s)
       (sizes-pick g (eqb (keptBy g m s) (blocksIn g c)) full part (sizes-state g m₁ z₁ s (segment.Full c))
-      (sizes-stacked g (setState g m₁ s (segment.Part c 0)) (sizes-state g m₁ z₁ s (segment.Part c 0)) (partStack c) s))
+      (sizes-stacked g (setSegmentState g m₁ s (segment.Part c 0)) (sizes-state g m₁ z₁ s (segment.Part c 0)) (partStack c) s))
 
   sizes-sweeps : (o : Option ℕ) (m : Mem) → Sizes g m → Sizes g (sweeps g o m .1)
   sizes-sweeps none m z = sizes-control g m z 0 (phaseNumber idle)

@@ -15,7 +15,7 @@ use Rattle.model.specs.declared.Answer.{Answer}
 use Rattle.model.specs.declared.Answer.the-variants.{Refused}
 use Rattle.model.specs.Answers.{answerOf, refusalOf, isOk, resultOf, mayGive, startMayGive}
 use Rattle.model.specs.Promise.{Keeps, Promise, StartPromise, StepPromise}
-use Rattle.model.specs.Calls.{face, act, exec}
+use Rattle.model.specs.Calls.{observe, act, exec}
 use Rattle.model.specs.Collector.{startOf, stepOf}
 use Rattle.model.specs.Run.{declared}
 use Rattle.laws.proofs.Promised.{refused}
@@ -46,9 +46,9 @@ module _ (g : Geometry) (words : List ℕ) (z : Sized g (length words)) where
   -- a refusal from 2 to 9, or what the call answers that none of them refuses
   exec-answers : (c : Call) → Answers (resultOf c) (mayGive c) (exec g (memOf g words) c .0)
   unfolding exec
-  exec-answers c = go (refusal (face (memOf g words)) c) refl
+  exec-answers c = go (refusal (observe (memOf g words)) c) refl
     where
-      go : (n : ℕ) → n ≡ refusal (face (memOf g words)) c → Answers (resultOf c) (mayGive c) (refuse n (memOf g words) (act g (memOf g words) c) .0)
+      go : (n : ℕ) → n ≡ refusal (observe (memOf g words)) c → Answers (resultOf c) (mayGive c) (refuse n (memOf g words) (act g (memOf g words) c) .0)
       go zero e = act-answers g (memOf g words) c
       go (suc n) e =
           let p : Promise c g words (Refused (suc n)) words = refused c g words {n = suc n} right e (λ q. omega arith) in

@@ -22,7 +22,7 @@ use Rattle.model.specs.Segments.{partStack, freeStack, stacked, count, pop, bit
 use Rattle.model.specs.Records.{record?, pointers, pointer, headerOf, written}
 use Rattle.model.specs.Mutators.{acknowledged, attached, detached, released, releasedOne}
 use Rattle.model.specs.Making.{Source, held, part, unused, noRoom, sourceOf, takes, freshened, advanced, blackened, handedOut, inBlock, fromSource, made}
-use Rattle.model.specs.Calls.{face, ofClass, act, exec}
+use Rattle.model.specs.Calls.{observe, ofClass, act, exec}
 use Rattle.laws.proofs.Lengths.{sizes-mutator, sizes-entry, sizes-stack, sizes-bitmap, sizes-marked, sizes-heap, sizes-heap-run, sizes-state}
 use Rattle.laws.proofs.Operations.{sizes-pick, sizes-barrier, sizes-acknowledged, sizes-stacked}
 use Rattle.model.specs.Segments as segments
@@ -37,7 +37,7 @@ module _ (g : Geometry) where
   released-one : (m : Mem) → Sizes g m → (k c : ℕ) → Sizes g (releasedOne g m k c)
   released-one m z k c =
       let s : ℕ = holding m k c - 1 in
-      let m′ : Mem = segments.setState g m s (Part c (place m s)) in
+      let m′ : Mem = segments.setSegmentState g m s (Part c (place m s)) in
       sizes-pick g (eqb (holding m k c) 0) m (stacked g m′ (partStack c) s) z (sizes-stacked g m′ (sizes-state g m z s (Part c (place m s))) (partStack c) s)
 
   sizes-released : (m : Mem) → Sizes g m → (k n : ℕ) → Sizes g (released g m k n)
@@ -52,12 +52,12 @@ module _ (g : Geometry) where
   -- ---- make
 
   sizes-takes : (m : Mem) → Sizes g m → (k c s p : ℕ) → Sizes g (takes g m k c s p)
-  sizes-takes m z k c s p = sizes-mutator g (segments.setState g m s (Held c p k)) (sizes-state g m z s (Held c p k)) (k * mutatorWords + heldFrom + (c - firstClass)) (suc s)
+  sizes-takes m z k c s p = sizes-mutator g (segments.setSegmentState g m s (Held c p k)) (sizes-state g m z s (Held c p k)) (k * mutatorWords + heldFrom + (c - firstClass)) (suc s)
 
   sizes-advanced : (m : Mem) → Sizes g m → (k c s p : ℕ) (f : Found) → Sizes g (advanced g m k c s p f)
   sizes-advanced m z k c s p (Block b) = sizes-state g m z s (Held c p k)
-  sizes-advanced m z k c s p Nothing = sizes-mutator g (segments.setState g m s (Full c)) (sizes-state g m z s (Full c)) (k * mutatorWords + heldFrom + (c - firstClass)) 0
-  sizes-advanced m z k c s p Torn = sizes-mutator g (segments.setState g m s (Full c)) (sizes-state g m z s (Full c)) (k * mutatorWords + heldFrom + (c - firstClass)) 0
+  sizes-advanced m z k c s p Nothing = sizes-mutator g (segments.setSegmentState g m s (Full c)) (sizes-state g m z s (Full c)) (k * mutatorWords + heldFrom + (c - firstClass)) 0
+  sizes-advanced m z k c s p Torn = sizes-mutator g (segments.setSegmentState g m s (Full c)) (sizes-state g m z s (Full c)) (k * mutatorWords + heldFrom + (c - firstClass)) 0
 
   sizes-written : (m : Mem) → Sizes g m → (at p n : ℕ) → Sizes g (written m at p n)
   sizes-written m z at p n = sizes-heap-run g (setHeap m at (p * 65536 + n)) (sizes-heap g m z at (p * 65536 + n)) (at + 1) (replicate (p + n) 0)
@@ -139,4 +139,4 @@ module _ (g : Geometry) where
 
   pub sizes-exec : (m : Mem) → Sizes g m → (c : Call) → Sizes g (exec g m c .1)
   unfolding exec
-  sizes-exec m z c = sizes-refuse (refusal (face m) c) m (act g m c) z (sizes-act m z c)
+  sizes-exec m z c = sizes-refuse (refusal (observe m) c) m (act g m c) z (sizes-act m z c)

@@ -12,7 +12,7 @@ use Rattle.layout.specs.Geometry.{blocksIn}
 use Rattle.layout.specs.declared.Geometry.{Geometry}
 use Rattle.layout.specs.Mem.{Mem, Sizes}
 use Rattle.model.specs.Fields.{tag, class, place, owner}
-use Rattle.model.specs.Segments.{setState}
+use Rattle.model.specs.Segments.{setSegmentState}
 use Rattle.model.specs.Collector.{isFull, condemned}
 use Rattle.model.specs.Consistent.{SegmentOk}
 use Rattle.laws.proofs.Words.{Recorded, recorded-by, OtherRegions, state-others, state-there, state-other}
@@ -40,7 +40,7 @@ unfolding condemned
 others-condemned g m zero = record { control = refl; mutators = refl; stacks = refl; bitmaps = refl; marks = refl; queued = refl; trace = refl; heap = refl }
 others-condemned g m (suc s) = go (isFull m s) (others-condemned g m s)
   where
-    go : (b : Bool) → OtherRegions m (condemned g m s) → OtherRegions m (pick b (setState g (condemned g m s) s (segment.Condemned (class m s))) (condemned g m s))
+    go : (b : Bool) → OtherRegions m (condemned g m s) → OtherRegions m (pick b (setSegmentState g (condemned g m s) s (segment.Condemned (class m s))) (condemned g m s))
     go true ih = others-then m (condemned g m s) _ ih (state-others g (condemned g m s) s (segment.Condemned (class m s)))
     go false ih = ih
 
@@ -63,7 +63,7 @@ module _ (g : Geometry) (m : Mem) (z : Sizes g m) (ok : (s : ℕ) → s < g .seg
   below-from zero h x = (λ l. absurd (omega arith), λ l. record { tag = refl; class = refl; place = refl; owner = refl })
   below-from (suc s) h x = go (isFull m s) refl (same-or-not x s) (below-from s (omega arith) x)
     where
-      here : isFull m s ≡ true → Recorded (setState g (condemned g m s) s (segment.Condemned (class m s))) s 4 (class m s) (place m s) (owner m s)
+      here : isFull m s ≡ true → Recorded (setSegmentState g (condemned g m s) s (segment.Condemned (class m s))) s 4 (class m s) (place m s) (owner m s)
       here e =
           let t : tag m s ≡ Tag.full = eqb-true _ _ e in
           let o = ok s (omega arith) in
@@ -74,10 +74,10 @@ module _ (g : Geometry) (m : Mem) (z : Sizes g m) (ok : (s : ℕ) → s < g .seg
           record { tag = r .tag; class = r .class; place = r .place ∙ sym p; owner = r .owner ∙ sym k }
 
       go : (b : Bool) → isFull m s ≡ b → (x ≡ s) ⊎ (x ≡ s → ⊥) → (x < s → After m (condemned g m s) x) × (s ≤ x → Before m (condemned g m s) x)
-          → (x < suc s → After m (pick b (setState g (condemned g m s) s (segment.Condemned (class m s))) (condemned g m s)) x) × (suc s ≤ x → Before m (pick b (setState g (condemned g m s) s (segment.Condemned (class m s))) (condemned g m s)) x)
+          → (x < suc s → After m (pick b (setSegmentState g (condemned g m s) s (segment.Condemned (class m s))) (condemned g m s)) x) × (suc s ≤ x → Before m (pick b (setSegmentState g (condemned g m s) s (segment.Condemned (class m s))) (condemned g m s)) x)
       go true e (inl q) ih =
-          let a : After m (setState g (condemned g m s) s (segment.Condemned (class m s))) s = subst (λ b. Recorded (setState g (condemned g m s) s (segment.Condemned (class m s))) s (pick b 4 (tag m s)) (class m s) (place m s) (owner m s)) (sym e) (here e) in
-          (λ l. subst (After m (setState g (condemned g m s) s (segment.Condemned (class m s)))) (sym q) a, λ l. absurd (omega arith))
+          let a : After m (setSegmentState g (condemned g m s) s (segment.Condemned (class m s))) s = subst (λ b. Recorded (setSegmentState g (condemned g m s) s (segment.Condemned (class m s))) s (pick b 4 (tag m s)) (class m s) (place m s) (owner m s)) (sym e) (here e) in
+          (λ l. subst (After m (setSegmentState g (condemned g m s) s (segment.Condemned (class m s)))) (sym q) a, λ l. absurd (omega arith))
       go true e (inr q) ih =
           let o = state-other g (condemned g m s) s (segment.Condemned (class m s)) x q in
           (λ l. recorded-by (condemned g m s) _ x _ _ _ _ (ih .0 (lt-of l q)) o, λ l. recorded-by (condemned g m s) _ x _ _ _ _ (ih .1 (omega arith)) o)

@@ -11,13 +11,13 @@ use borrow.Author.Tests.{eq-eqb, ne-eqb, eqb-true}
 use Rattle.words.specs.Bits.{bitAt}
 use Rattle.classes.specs.Class.{firstClass}
 use Rattle.layout.specs.declared.Geometry.{Geometry}
-use Rattle.layout.specs.Geometry.{len, mutatorWords, recordWords, mostBlocks, segmentOf}
+use Rattle.layout.specs.Geometry.{len, mutatorWords, segmentRecordWords, mostBlocks, segmentOf}
 use Rattle.layout.specs.Mem.{Mem, controlWord, mutatorWord, segmentWord, Sizes}
 use Rattle.theory.specs.Phases.{idle}
 use Rattle.theory.specs.Unbounded.{empty}
 use Rattle.theory.proofs.Graph.{reach-empty}
 use Rattle.theory.proofs.Invariant.{none-some}
-use Rattle.theory.proofs.CallKeeps.{Good}
+use Rattle.theory.proofs.CallKeeps.{Coupled}
 use Rattle.model.specs.Rules.{phaseOf}
 use Rattle.model.specs.Fields.{phase, traceCount, stateAt, acksAt, heldFrom, state, tag}
 use Rattle.model.specs.Calls.{isAttached}
@@ -87,11 +87,11 @@ no-reached g m at p = reach-empty {R = λ x. IsRoot (opened g m) x ⊎ IsEntry (
 module _ (g : Geometry) (m : Mem) where
   segment-ok : (s : ℕ) → SegmentOk g (opened g m) s
   segment-ok s =
-      let t : tag (opened g m) s ≡ Tag.free = opened-segment g m (s * recordWords) in
+      let t : tag (opened g m) s ≡ Tag.free = opened-segment g m (s * segmentRecordWords) in
       record {
         tags = omega arith;
-        free = λ e. (opened-segment g m (s * recordWords + 1), opened-segment g m (s * recordWords + 2), opened-segment g m (s * recordWords + 3));
-        unowned = λ f. opened-segment g m (s * recordWords + 3);
+        free = λ e. (opened-segment g m (s * segmentRecordWords + 1), opened-segment g m (s * segmentRecordWords + 2), opened-segment g m (s * segmentRecordWords + 3));
+        unowned = λ f. opened-segment g m (s * segmentRecordWords + 3);
         classes = λ f. absurd (f t);
         tree = λ f. absurd (f t);
         remains = λ l h. absurd (omega arith);
@@ -122,10 +122,10 @@ module _ (g : Geometry) (m : Mem) where
       }
 
   in-idle : InPhase idle g (opened g m)
-  in-idle = (opened-control g m 1, λ s l e. let t : tag (opened g m) s ≡ Tag.free = opened-segment g m (s * recordWords) in omega arith)
+  in-idle = (opened-control g m 1, λ s l e. let t : tag (opened g m) s ≡ Tag.free = opened-segment g m (s * segmentRecordWords) in omega arith)
 
   not-part : (c s : ℕ) → isPart (opened g m) c s ≡ false
-  not-part c s = rw (opened-segment g m (s * recordWords)) refl
+  not-part c s = rw (opened-segment g m (s * segmentRecordWords)) refl
 
 pub opened-consistent : (g : Geometry) (m : Mem) → Sizes g m → Consistent g (opened g m)
 opened-consistent g m s = record {
@@ -133,7 +133,7 @@ opened-consistent g m s = record {
   segments = λ r l. segment-ok g m r;
   mutators = λ k l. mutator-ok g m k;
   acknowledgements = λ k l f. absurd (f (opened-mutator g m (k * mutatorWords + stateAt)));
-  freeSegments = free-open g (opened g m) (opened-stacks g m) (isFree (opened g m)) (λ r l. eq-eqb _ _ (opened-segment g m (r * recordWords)));
+  freeSegments = free-open g (opened g m) (opened-stacks g m) (isFree (opened g m)) (λ r l. eq-eqb _ _ (opened-segment g m (r * segmentRecordWords)));
   partSegments = λ c h. part-open g (opened g m) (opened-stacks g m) (c - firstClass) (isPart (opened g m) c) (λ r l. not-part g m c r);
   records = λ at p. absurd (no-reached g m at p);
   trace = trace-ok g m;
@@ -142,7 +142,7 @@ opened-consistent g m s = record {
 
 -- ---- and the unbounded heap beside it is empty
 
-pub opened-good : (g : Geometry) (m : Mem) → Sizes g m → Good (segmentOf g) (λ _. ⊥) (λ _. none) (view g (opened g m)) empty
+pub opened-good : (g : Geometry) (m : Mem) → Sizes g m → Coupled (segmentOf g) (λ _. ⊥) (λ _. none) (view g (opened g m)) empty
 opened-good g m s = record {
   inv = to-inv g (opened g m) (sizes-opened g m s) (opened-consistent g m s);
   sim = record {
@@ -161,4 +161,4 @@ opened-good g m s = record {
     gone i = ap not (eq-eqb (state (opened g m) i) 0 (opened-mutator g m (i * mutatorWords + stateAt)))
 
     not-collected : (b : ℕ) → eqb (tag (opened g m) (segmentOf g b)) Tag.condemned ≡ true → ⊥
-    not-collected b k = let z : tag (opened g m) (segmentOf g b) ≡ Tag.condemned = eqb-true _ _ k in let y = opened-segment g m (segmentOf g b * recordWords) in omega arith
+    not-collected b k = let z : tag (opened g m) (segmentOf g b) ≡ Tag.condemned = eqb-true _ _ k in let y = opened-segment g m (segmentOf g b * segmentRecordWords) in omega arith

@@ -19,7 +19,7 @@ use Rattle.theory.proofs.Agree.{Agree}
 use Rattle.model.specs.Rules.{phaseOf}
 use Rattle.model.specs.Fields.{phase, traceCount, absent, stateAt, acksAt, state, tag, class, place, owner, root, holding}
 use Rattle.model.specs.Segments.{freeStack, partStack, above, bitmap, usedBit}
-use Rattle.model.specs.Records.{record?, pointers, values, pointer, blockOf, bitOf, marked}
+use Rattle.model.specs.Records.{record?, pointers, values, pointer, blockOf, recordBit, marked}
 use Rattle.model.specs.Collector.{isFull, started}
 use Rattle.model.specs.Reaching.{Live, isMarked}
 use Rattle.model.specs.Consistent.{Consistent, InPhase, IsClass, SegmentOk, MutatorOk, RecordOk, isFree, isPart}
@@ -190,7 +190,7 @@ module _ (g : Geometry) (m m′ : Mem) (z : Sizes g m) (ok : Consistent g m) (qu
 
   no-mark : (at : ℕ) → (isHead g m′ at && isMarked g m′ at) ≡ false
   no-mark at =
-      let e : isMarked g m′ at ≡ false = ne-eqb (marked g m′ at) 1 (λ e. let q = b .marks (bitOf g m′ at) in omega arith) in
+      let e : isMarked g m′ at ≡ false = ne-eqb (marked g m′ at) 1 (λ e. let q = b .marks (recordBit g m′ at) in omega arith) in
       ap (λ x. isHead g m′ at && x) e ∙ and-false (isHead g m′ at)
 
   used-test : (at : ℕ) → isUsed g m′ at ≡ isUsed g m at
@@ -208,8 +208,8 @@ module _ (g : Geometry) (m m′ : Mem) (z : Sizes g m) (ok : Consistent g m) (qu
     acks = b .acks;
     root = λ i k a l. ap record? (root-same i k l);
     marked = λ t at l. no-mark at;
-    fated = λ at e. no-mark at;
-    collect = full-test;
+    condemnedMarks = λ at e. no-mark at;
+    condemned = full-test;
     pointers = λ at l. pointers-by m m′ at (word-same at);
     values = λ at l. fields-by m m′ at (word-same at) (λ f h. word-same _);
     pointer = λ at f l h. ap record? (word-same (at + 1 + f));

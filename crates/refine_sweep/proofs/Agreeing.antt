@@ -12,7 +12,7 @@ use Rattle.layout.specs.declared.Geometry.{Geometry}
 use Rattle.layout.specs.Geometry.{segmentWords, segmentOf, bitIn}
 use Rattle.layout.specs.Mem.{Mem, Sizes}
 use Rattle.theory.specs.Phases.{sweep}
-use Rattle.theory.specs.Update.{pick}
+use Rattle.theory.specs.Update.{ifDec}
 use Rattle.theory.proofs.Updates.{upd-cases}
 use Rattle.theory.proofs.Agree.{Agree}
 use Rattle.theory.proofs.Invariant.{Tracing}
@@ -43,22 +43,22 @@ module _ (g : Geometry) (m : Mem) (s : Sizes g m) (c : Consistent g m) (ph : pha
   used-agrees : (x : ℕ) → Live m x → isUsed g m′ x ≡ after .used x
   used-agrees x p = used-record g m′ x (record-after g m s c ph m′ r l t o x p) ∙ sym (go (ℕ-discrete (segmentOf g x) r))
     where
-      go : (d : Dec (segmentOf g x ≡ r)) → pick d (isHead g m x && isMarked g m x) (isUsed g m x) ≡ true
+      go : (d : Dec (segmentOf g x ≡ r)) → ifDec d (isHead g m x && isMarked g m x) (isUsed g m x) ≡ true
       go (yes e) = and-both _ _ (head-of g m s (c .trace .named) (c .records) x p) (eq-eqb _ _ (live-marked g m s c ph m′ r l t o x p e))
       go (no e) = used-of g m s c x p
 
-  collect-agrees : (x : ℕ) → eqb (tag m′ x) Tag.condemned ≡ after .collect x
+  collect-agrees : (x : ℕ) → eqb (tag m′ x) Tag.condemned ≡ after .condemned x
   collect-agrees x = go (upd-cases (λ z. eqb (tag m z) Tag.condemned) r false x)
     where
-      go : ((x ≡ r) × (after .collect x ≡ false)) ⊎ ((x ≡ r → ⊥) × (after .collect x ≡ eqb (tag m x) Tag.condemned)) → eqb (tag m′ x) Tag.condemned ≡ after .collect x
+      go : ((x ≡ r) × (after .condemned x ≡ false)) ⊎ ((x ≡ r → ⊥) × (after .condemned x ≡ eqb (tag m x) Tag.condemned)) → eqb (tag m′ x) Tag.condemned ≡ after .condemned x
       go (inl h) = ne-eqb _ _ (λ e. o .uncondemned (sym (ap (tag m′) (h .0)) ∙ e)) ∙ sym (h .1)
       go (inr h) = ap (λ z. eqb z 4) (o .left .other x (h .0) .tag) ∙ sym (h .1)
 
   -- the marks of the segments that remain to be swept
-  fated-agrees : (x : ℕ) → after .collect (segmentOf g x) ≡ true → (isHead g m′ x && isMarked g m′ x) ≡ (isHead g m x && isMarked g m x)
+  fated-agrees : (x : ℕ) → after .condemned (segmentOf g x) ≡ true → (isHead g m′ x && isMarked g m′ x) ≡ (isHead g m x && isMarked g m x)
   fated-agrees x e = go (upd-cases (λ z. eqb (tag m z) Tag.condemned) r false (segmentOf g x))
     where
-      go : ((segmentOf g x ≡ r) × (after .collect (segmentOf g x) ≡ false)) ⊎ ((segmentOf g x ≡ r → ⊥) × (after .collect (segmentOf g x) ≡ eqb (tag m (segmentOf g x)) Tag.condemned)) → (isHead g m′ x && isMarked g m′ x) ≡ (isHead g m x && isMarked g m x)
+      go : ((segmentOf g x ≡ r) × (after .condemned (segmentOf g x) ≡ false)) ⊎ ((segmentOf g x ≡ r → ⊥) × (after .condemned (segmentOf g x) ≡ eqb (tag m (segmentOf g x)) Tag.condemned)) → (isHead g m′ x && isMarked g m′ x) ≡ (isHead g m x && isMarked g m x)
       go (inl h) = absurd (true≢false (sym e ∙ h .1))
       go (inr h) =
           ap (λ z. eqb (x % segmentWords g % blockWords z) 0 && eqb (bitAt (m′ .marks) (bitIn g (segmentOf g x) (x % segmentWords g / blockWords z))) 1) (o .left .other (segmentOf g x) (h .0) .class)
@@ -75,8 +75,8 @@ module _ (g : Geometry) (m : Mem) (s : Sizes g m) (c : Consistent g m) (ph : pha
         acks = λ i. st _;
         root = λ i k a h. ap record? (st _);
         marked = λ q. absurd (subst Tracing ph q);
-        fated = fated-agrees;
-        collect = collect-agrees;
+        condemnedMarks = fated-agrees;
+        condemned = collect-agrees;
         pointers = λ x p. pointers-by m m′ x (heap-same m m′ (o .left .heap) x);
         values = λ x p. fields-by m m′ x (heap-same m m′ (o .left .heap) x) (λ f l. heap-same m m′ (o .left .heap) _);
         pointer = λ x f p h. ap record? (heap-same m m′ (o .left .heap) _);

@@ -1,4 +1,4 @@
--- The segment that a step in sweep takes: one of the collect set, and none only where the collect set is empty. Assumes nothing.
+-- The segment that a step in sweep takes: one that is condemned, and none only where no segment is. Assumes nothing.
 use mathlib.Core.Path.{_≡_, refl, sym, _∙_, ap}
 use mathlib.Core.Logic.{⊎-elim}
 use mathlib.Core.Bool.{Bool, true, false}
@@ -19,7 +19,7 @@ use Rattle.refine_view.specs.View.{view}
 use Rattle.laws.proofs.Segments.{in-range}
 use Rattle.model.specs.Tag as Tag
 
--- what the scan finds is in the collect set
+-- what the scan finds is condemned
 pub found-condemned : (m : Mem) (n r : ℕ) → lowest m n ≡ some r → (r < n) × (tag m r ≡ Tag.condemned)
 unfolding lowest
 found-condemned m zero r e = none-some e

@@ -10,7 +10,7 @@ use Rattle.layout.specs.declared.Geometry.{Geometry}
 use Rattle.layout.specs.Mem.{Mem, setStack, setRun, Sizes}
 use Rattle.model.specs.declared.SegmentState.{SegmentState}
 use Rattle.model.specs.Fields.{class}
-use Rattle.model.specs.Segments.{setState, above, bitmap, stacked}
+use Rattle.model.specs.Segments.{setSegmentState, above, bitmap, stacked}
 use Rattle.model.specs.Collector.{rebuiltBy}
 use Rattle.model.specs.Consistent.{IsClass}
 use Rattle.laws.proofs.Words.{Recorded, recorded-as, tagOf, classIn, placeIn, ownerIn, OtherRegions, state-others, state-there, state-other}
@@ -27,7 +27,7 @@ pub record Settled (g : Geometry) (m m′ : Mem) (r : ℕ) (x : SegmentState) : 
 
 module _ (g : Geometry) (m : Mem) (s : Sizes g m) (r : ℕ) (l : r < g .segments) (k : IsClass (class m r)) (x : SegmentState) where
   abbrev pub settledMem : Mem
-  settledMem = setState g (rebuiltBy g m r) r x
+  settledMem = setSegmentState g (rebuiltBy g m r) r x
 
   pub settled-sizes : Sizes g settledMem
   settled-sizes = sizes-state g (rebuiltBy g m r) (sizes-bitmap g m s _ _) r x

@@ -1,4 +1,4 @@
--- The collector's step in sweep: it takes the lowest segment of the collect set, its words agree with the abstract machine's step, and what is not
+-- The collector's step in sweep: it takes the lowest condemned segment, its words agree with the abstract machine's step, and what is not
 -- marked becomes free. Assumes nothing.
 use mathlib.Core.Path.{_≡_, refl, _∙_}
 use mathlib.Core.Logic.{_⊎_, inl, inr}

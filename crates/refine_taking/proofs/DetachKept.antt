@@ -11,7 +11,7 @@ use Rattle.theory.specs.Machine.{detach}
 use Rattle.theory.proofs.CallKeeps.{by-ok}
 use Rattle.model.specs.Fields.{phase}
 use Rattle.model.specs.Mutators.{detached}
-use Rattle.model.specs.Calls.{face, act}
+use Rattle.model.specs.Calls.{observe, act}
 use Rattle.model.specs.Consistent.{Consistent}
 use Rattle.refine_view.specs.View.{view}
 use Rattle.refine_view.specs.Kept.{Moves, Matches, ActKept}
@@ -20,12 +20,12 @@ use Rattle.refine_taking.proofs.Detached.{detached-moves}
 use Rattle.theory.specs.MachineCalls as machine
 
 module _ (g : Geometry) (m : Mem) (s : Sizes g m) (c : Consistent g m) where
-  pub detach-kept : (k : ℕ) → refusal (face m) (c-detach k) ≡ 0 → ActKept g m (c-detach k)
+  pub detach-kept : (k : ℕ) → refusal (observe m) (c-detach k) ≡ 0 → ActKept g m (c-detach k)
   unfolding act
   detach-kept k e = go (inHandshake (phase m)) refl
     where
       few : k < mutatorCount
-      few = by-ok (face m) k 0 e .0
+      few = by-ok (observe m) k 0 e .0
 
       go : (b : Bool) → inHandshake (phase m) ≡ b → Matches g m (unless b 11 m (detached g m k)) (λ alloc st. machine.act alloc st (c-detach k))
       go true h = matches-self g m c _ _ (subst (λ b. unless true 11 m (detached g m k) .0 ≡ unless b 11 (view g m) (detach (view g m) k) .0) (sym h) refl) refl (subst (λ b. unless b 11 (view g m) (detach (view g m) k) .1 ≡ view g m) (sym h) refl)

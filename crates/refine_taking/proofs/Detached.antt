@@ -36,7 +36,7 @@ use Rattle.laws.proofs.Stacks.{stack-same}
 use Rattle.laws.proofs.Segments.{segment-same}
 use Rattle.refine_view.proofs.Seeing.{entries-same}
 use Rattle.refine_view.proofs.Invariants.{to-live, to-inv}
-use Rattle.refine_taking.proofs.Standing.{over, Stood, Stands, marked-live, marked-fated, collect-same, used-live, steady, records-stand, trace-stands, marks-stand}
+use Rattle.refine_taking.proofs.Standing.{over, Stood, Stands, marked-live, marked-condemned, collect-same, used-live, steady, records-stand, trace-stands, marks-stand}
 use Rattle.refine_taking.proofs.Releasing.{Gone, gone?, Releasing}
 use Rattle.refine_taking.proofs.Released.{releasing}
 use Rattle.theory.specs.Machine as machine
@@ -225,8 +225,8 @@ module _ (g : Geometry) (m : Mem) (s : Sizes g m) (c : Consistent g m) (k : ℕ)
     acks = changed acks 0 (word-there acksAt (omega arith)) (λ j f. word-other j acksAt (omega arith) f);
     root = λ j i a l. let n = still-there j a in ap record? (root-other j i l n) ∙ sym (upd-miss₁ (λ x y. record? (root m x y)) k (λ _. none) j i n);
     marked = λ _ b l. marked-live g m s c emptied (parted .segments) (parted .stacks) (m .bitmaps) stands b (was-live l);
-    fated = marked-fated g m s c emptied (parted .segments) (parted .stacks) (m .bitmaps) stands;
-    collect = collect-same g m s c emptied (parted .segments) (parted .stacks) (m .bitmaps) stands;
+    condemnedMarks = marked-condemned g m s c emptied (parted .segments) (parted .stacks) (m .bitmaps) stands;
+    condemned = collect-same g m s c emptied (parted .segments) (parted .stacks) (m .bitmaps) stands;
     pointers = λ b l. refl;
     values = λ b l. refl;
     pointer = λ b f l h. refl;

@@ -12,7 +12,7 @@ use Rattle.layout.specs.Geometry.{mutatorCount}
 use Rattle.layout.specs.Mem.{Mem, setSegment, setStack, Sizes}
 use Rattle.model.specs.declared.SegmentState.the-variants.{Part}
 use Rattle.model.specs.Fields.{holding, tag, class, place, owner}
-use Rattle.model.specs.Segments.{setState, partStack, stacked}
+use Rattle.model.specs.Segments.{setSegmentState, partStack, stacked}
 use Rattle.model.specs.Mutators.{releasedOne}
 use Rattle.model.specs.Consistent.{Consistent, IsClass}
 use Rattle.laws.proofs.Words.{Recorded, recorded-as, recorded-by, state-there, state-other}
@@ -36,7 +36,7 @@ module _ (g : Geometry) (m : Mem) (s : Sizes g m) (c : Consistent g m) (k : ℕ)
   still = h .stay r (λ z. let l : class m r < 3 + n = z .2 in let y = was .2 in omega arith)
 
   abbrev m₁ : Mem
-  m₁ = setState g m′ r (Part d (place m′ r))
+  m₁ = setSegmentState g m′ r (Part d (place m′ r))
 
   abbrev m₂ : Mem
   m₂ = stacked g m₁ (partStack d) r
@@ -52,11 +52,11 @@ module _ (g : Geometry) (m : Mem) (s : Sizes g m) (c : Consistent g m) (k : ℕ)
   segments-as = refl
 
   stacks-as : m₁ .stacks ≡ m′ .stacks
-  unfolding setState setSegment
+  unfolding setSegmentState setSegment
   stacks-as = refl
 
   frame-one : m₂ ≡ over m′ (m′ .mutators) (m₂ .segments) (m₂ .stacks) (m′ .bitmaps)
-  unfolding setState setSegment setStack
+  unfolding setSegmentState setSegment setStack
   frame-one = refl
 
   frame₂ : m₂ ≡ over m (m .mutators) (m₂ .segments) (m₂ .stacks) (m .bitmaps)
@@ -103,8 +103,8 @@ module _ (g : Geometry) (m : Mem) (s : Sizes g m) (c : Consistent g m) (k : ℕ)
   is-one =
       let z : holding m′ k d ≡ suc r = ap (λ w. holding w k d) (h .frame) ∙ e in
       let y : holding m′ k d - 1 ≡ r = omega arith in
-      ap (λ b. pick b m′ (stacked g (setState g m′ (holding m′ k d - 1) (Part d (place m′ (holding m′ k d - 1)))) (partStack d) (holding m′ k d - 1))) (ne-eqb (holding m′ k d) 0 (λ q. omega arith))
-      ∙ ap (λ w. stacked g (setState g m′ w (Part d (place m′ w))) (partStack d) w) y
+      ap (λ b. pick b m′ (stacked g (setSegmentState g m′ (holding m′ k d - 1) (Part d (place m′ (holding m′ k d - 1)))) (partStack d) (holding m′ k d - 1))) (ne-eqb (holding m′ k d) 0 (λ q. omega arith))
+      ∙ ap (λ w. stacked g (setSegmentState g m′ w (Part d (place m′ w))) (partStack d) w) y
 
   pub releasing-one : Releasing g m (releasedOne g m′ k d) k (suc n)
   releasing-one = subst (λ z. Releasing g m z k (suc n)) (sym is-one) releasing-more

@@ -10,7 +10,7 @@ use Rattle.layout.specs.Geometry.{mutatorCount}
 use Rattle.layout.specs.Mem.{Mem, Sizes}
 use Rattle.model.specs.declared.SegmentState.the-variants.{Part}
 use Rattle.model.specs.Fields.{holding, place}
-use Rattle.model.specs.Segments.{setState, partStack, stacked}
+use Rattle.model.specs.Segments.{setSegmentState, partStack, stacked}
 use Rattle.model.specs.Mutators.{releasedOne, released}
 use Rattle.model.specs.Consistent.{Consistent}
 use Rattle.refine_taking.proofs.Releasing.{Releasing, releasing-none, releasing-skip}
@@ -23,7 +23,7 @@ module _ (g : Geometry) (m : Mem) (s : Sizes g m) (c : Consistent g m) (k : ℕ)
       skipped : holding m k (firstClass + n) ≡ 0 → releasedOne g m′ k (firstClass + n) ≡ m′
       skipped e =
           let z : holding m′ k (firstClass + n) ≡ 0 = ap (λ w. holding w k (firstClass + n)) (h .frame) ∙ e in
-          ap (λ w. pick (eqb w 0) m′ (stacked g (setState g m′ (w - 1) (Part (firstClass + n) (place m′ (w - 1)))) (partStack (firstClass + n)) (w - 1))) z
+          ap (λ w. pick (eqb w 0) m′ (stacked g (setSegmentState g m′ (w - 1) (Part (firstClass + n) (place m′ (w - 1)))) (partStack (firstClass + n)) (w - 1))) z
 
       go : (x : ℕ) → holding m k (firstClass + n) ≡ x → Releasing g m (releasedOne g m′ k (firstClass + n)) k (suc n)
       go zero e = subst (λ z. Releasing g m z k (suc n)) (sym (skipped e)) (releasing-skip g m s c k n m′ h e)

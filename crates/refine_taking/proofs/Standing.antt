@@ -64,10 +64,10 @@ module _ (g : Geometry) (m : Mem) (s : Sizes g m) (c : Consistent g m) (mu se st
   pub marked-live : (at : ℕ) → Live m at → view g m₁ .marked at ≡ view g m .marked at
   marked-live at l = marked-same at (c .records at l .used)
 
-  pub marked-fated : (at : ℕ) → view g m .collect (segmentOf g at) ≡ true → view g m₁ .marked at ≡ view g m .marked at
-  marked-fated at e = let z : tag m (segmentOf g at) ≡ Tag.condemned = eqb-true (tag m (segmentOf g at)) 4 e in marked-same at (λ q. omega arith)
+  pub marked-condemned : (at : ℕ) → view g m .condemned (segmentOf g at) ≡ true → view g m₁ .marked at ≡ view g m .marked at
+  marked-condemned at e = let z : tag m (segmentOf g at) ≡ Tag.condemned = eqb-true (tag m (segmentOf g at)) 4 e in marked-same at (λ q. omega arith)
 
-  pub collect-same : (q : ℕ) → view g m₁ .collect q ≡ view g m .collect q
+  pub collect-same : (q : ℕ) → view g m₁ .condemned q ≡ view g m .condemned q
   collect-same q = test-same (tag m q) (tag m₁ q) 4 (h .still q) (h .condemned q)
 
   pub used-live : (at : ℕ) → Live m at → view g m₁ .used at ≡ view g m .used at

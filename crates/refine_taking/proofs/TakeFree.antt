@@ -16,7 +16,7 @@ use Rattle.layout.specs.Mem.{Mem, setStack, setSegment, setMutator, setRun, Siz
 use Rattle.bitmap_write.specs.Ready.{fresh}
 use Rattle.bitmap_write.proofs.Copied.{fresh-tree, fresh-bit, length-fresh}
 use Rattle.model.specs.Fields.{holding, tag, class, place, owner}
-use Rattle.model.specs.Segments.{setState, freeStack, partStack, count, top, pop, above, bitmap}
+use Rattle.model.specs.Segments.{setSegmentState, freeStack, partStack, count, top, pop, above, bitmap}
 use Rattle.model.specs.Making.{takes, freshened}
 use Rattle.model.specs.Calls.{isAttached}
 use Rattle.model.specs.Consistent.{Consistent, IsClass, StackOk, isFree, isPart}
@@ -61,7 +61,7 @@ module _ (g : Geometry) (m : Mem) (s : Sizes g m) (c : Consistent g m) (k cl : �
   m₁ = over m (taken .mutators) (taken .segments) (popped g m s n v k cl r 0 .stacks) (sets (m .bitmaps) (r * bitmapWords g) clean)
 
   same : freshened g taken r cl ≡ m₁
-  unfolding setStack setState setSegment setMutator setRun
+  unfolding setStack setSegmentState setSegment setMutator setRun
   same = refl
 
   -- ---- the bitmap

@@ -17,7 +17,7 @@ pub record Taken (g : Geometry) (m m₁ : Mem) (k cl r : ℕ) : Type 0 where
   pub sizes : Sizes g m₁
   pub structure : Structure g m₁
   pub prepared : Agree (segmentOf g) (view g m) (view g m₁)
-  pub shows : machine.face (view g m₁) ≡ machine.face (view g m)
+  pub shows : machine.observe (view g m₁) ≡ machine.observe (view g m)
   pub steady : Steady g m m₁
   pub holds : holding m₁ k cl ≡ suc r
   pub known : isAttached m₁ k ≡ true

@@ -10,7 +10,7 @@ use Rattle.layout.specs.Geometry.{mutatorCount, mutatorWords}
 use Rattle.layout.specs.Mem.{Mem, mutatorWord, setMutator, setSegment, setStack, Sizes}
 use Rattle.model.specs.declared.SegmentState.the-variants.{Held}
 use Rattle.model.specs.Fields.{holding, heldFrom, tag, class, place, owner}
-use Rattle.model.specs.Segments.{setState}
+use Rattle.model.specs.Segments.{setSegmentState}
 use Rattle.model.specs.Making.{takes}
 use Rattle.model.specs.Consistent.{IsClass}
 use Rattle.laws.proofs.Words.{Recorded, recorded-as, state-there, state-other}
@@ -23,13 +23,13 @@ module _ (g : Geometry) (m : Mem) (s : Sizes g m) (n v k cl r p : ℕ) where
   popped = setStack m n v
 
   abbrev pub noted : Mem
-  noted = setState g popped r (Held cl p k)
+  noted = setSegmentState g popped r (Held cl p k)
 
   abbrev pub after : Mem
   after = takes g popped k cl r p
 
   pub takes-over : after ≡ over m (after .mutators) (after .segments) (popped .stacks) (m .bitmaps)
-  unfolding setStack setState setSegment setMutator
+  unfolding setStack setSegmentState setSegment setMutator
   takes-over = refl
 
   noted-sizes : Sizes g noted
@@ -50,7 +50,7 @@ module _ (g : Geometry) (m : Mem) (s : Sizes g m) (n v k cl r p : ℕ) where
   takes-other q f = recorded-as noted after q (tag m q) (class m q) (place m q) (owner m q) segments-as (state-other g popped r (Held cl p k) q f)
 
   mutators-as : noted .mutators ≡ m .mutators
-  unfolding setStack setState setSegment
+  unfolding setStack setSegmentState setSegment
   mutators-as = refl
 
   module _ (few : k < mutatorCount) (ic : IsClass cl) where

@@ -31,7 +31,7 @@ use Rattle.laws.proofs.Entries.{holding-by, table-below, mutators-table}
 use Rattle.laws.proofs.Segments.{segment-same}
 use Rattle.refine_view.proofs.Seeing.{entries-same, root-was}
 use Rattle.refine_view.proofs.Invariants.{to-live}
-use Rattle.refine_taking.proofs.Standing.{over, Stood, Stands, marked-live, marked-fated, collect-same, used-live, steady, records-stand, trace-stands, marks-stand}
+use Rattle.refine_taking.proofs.Standing.{over, Stood, Stands, marked-live, marked-condemned, collect-same, used-live, steady, records-stand, trace-stands, marks-stand}
 use Rattle.refine_taking.proofs.Taken.{Taken}
 use Rattle.theory.specs.MachineCalls as calls
 use Rattle.model.specs.Tag as Tag
@@ -153,8 +153,8 @@ module _ (g : Geometry) (m : Mem) (s : Sizes g m) (c : Consistent g m) (mu se st
     acks = acks-same;
     root = λ i j a l. ap record? (root-same i j l);
     marked = λ _ b l. marked-live g m s c mu se st bi stands b (to-live g m s c l);
-    fated = marked-fated g m s c mu se st bi stands;
-    collect = collect-same g m s c mu se st bi stands;
+    condemnedMarks = marked-condemned g m s c mu se st bi stands;
+    condemned = collect-same g m s c mu se st bi stands;
     pointers = λ b l. refl;
     values = λ b l. refl;
     pointer = λ b f l h. refl;
@@ -163,7 +163,7 @@ module _ (g : Geometry) (m : Mem) (s : Sizes g m) (c : Consistent g m) (mu se st
 
   -- ---- what both show
 
-  shape-same : (k′ i : ℕ) → calls.face (view g m₁) .shape k′ i ≡ calls.face (view g m) .shape k′ i
+  shape-same : (k′ i : ℕ) → calls.observe (view g m₁) .shape k′ i ≡ calls.observe (view g m) .shape k′ i
   shape-same k′ i = go (ltb i rootCount) refl
     where
       none-past : (a b : Bool) (x y : Option (ℕ × ℕ)) → shapeIf a false x ≡ shapeIf b false y
@@ -176,7 +176,7 @@ module _ (g : Geometry) (m : Mem) (s : Sizes g m) (c : Consistent g m) (mu se st
       go true e = ap (λ z. shapeIf z true (Option·map (calls.shapeAt (view g m)) (record? (root m₁ k′ i)))) (attached-same k′) ∙ ap (λ z. shapeIf (isAttached m k′) true (Option·map (calls.shapeAt (view g m)) (record? z))) (root-same k′ i (ltb-true _ _ e))
       go false e = none-past (isAttached m₁ k′) (isAttached m k′) _ _
 
-  face-same : calls.face (view g m₁) ≡ calls.face (view g m)
+  face-same : calls.observe (view g m₁) ≡ calls.observe (view g m)
   face-same = λ i. record { attached = fun-ext attached-same i; inside = fun-ext inside-same i; shape = fun-ext (λ k′. fun-ext (λ j. shape-same k′ j)) i }
 
   pub taken-by : StackOk g m₁ freeStack (isFree m₁) → ((c′ : ℕ) → IsClass c′ → StackOk g m₁ (partStack c′) (isPart m₁ c′)) → Taken g m m₁ k cl r

@@ -66,8 +66,8 @@ module _ (g : Geometry) (m : Mem) (s : Sizes g m) (c : Consistent g m) (k : ℕ)
       acks = λ i. upd-by (acks m) k v i (acks base i) (λ h. ap (acks base) h ∙ mutator-there g m s k acksAt v few (omega arith)) (λ f. acks-set g m s k acksAt v few (omega arith) i (λ x y. f x));
       root = λ i j a h. ap record? (root-set g m s k acksAt v few (omega arith) i j h (λ x y. omega arith));
       marked = λ x b h. refl;
-      fated = λ b h. refl;
-      collect = λ x. refl;
+      condemnedMarks = λ b h. refl;
+      condemned = λ x. refl;
       pointers = λ b h. refl;
       values = λ b h. refl;
       pointer = λ b f h x. refl;

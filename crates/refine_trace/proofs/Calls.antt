@@ -12,7 +12,7 @@ use Rattle.theory.specs.Machine.{check, store}
 use Rattle.theory.proofs.CallKeeps.{by-ok, root-ok, require-ok, lt-of}
 use Rattle.model.specs.Fields.{phase, acks}
 use Rattle.model.specs.Records.{record?, pointers, pointer, setPointer}
-use Rattle.model.specs.Calls.{face, act, isAttached}
+use Rattle.model.specs.Calls.{observe, act, isAttached}
 use Rattle.model.specs.Mutators.{acknowledged}
 use Rattle.model.specs.Consistent.{Consistent}
 use Rattle.refine_view.specs.View.{view}
@@ -28,16 +28,16 @@ use Rattle.model.specs.Fields as fields
 use Rattle.model.specs.Tracing as tracing
 
 module _ (g : Geometry) (m : Mem) (s : Sizes g m) (c : Consistent g m) where
-  pub check-kept : (k : ℕ) → refusal (face m) (c-check k) ≡ 0 → ActKept g m (c-check k)
+  pub check-kept : (k : ℕ) → refusal (observe m) (c-check k) ≡ 0 → ActKept g m (c-check k)
   unfolding act
   check-kept k e =
-      let a = by-ok (face m) k 0 e in
+      let a = by-ok (observe m) k 0 e in
       matches-by g m (act g m (c-check k)) (λ alloc st. machine.act alloc st (c-check k)) refl (acknowledged-moves g m s c k (a .0) (not-eq _ _ (a .1)))
 
-  pub leave-kept : (k : ℕ) → refusal (face m) (c-leave k) ≡ 0 → ActKept g m (c-leave k)
+  pub leave-kept : (k : ℕ) → refusal (observe m) (c-leave k) ≡ 0 → ActKept g m (c-leave k)
   unfolding act
   leave-kept k e =
-      let a = by-ok (face m) k 0 e in
+      let a = by-ok (observe m) k 0 e in
       let v = acknowledged-moves g m s c k (a .0) (not-eq _ _ (a .1)) in
       let h : isAttached (acknowledged g m k) k ≡ true = v .agree .attached k ∙ check-attached (phase m) (acks m k) (view g m) k k ∙ a .1 in
       matches-by g m (act g m (c-leave k)) (λ alloc st. machine.act alloc st (c-leave k)) refl (left-moves g m (acknowledged g m k) (check (view g m) k) v (sizes-acknowledged g m s k) k (a .0) (not-eq _ _ h))
@@ -45,10 +45,10 @@ module _ (g : Geometry) (m : Mem) (s : Sizes g m) (c : Consistent g m) where
   abbrev stored : ℕ → ℕ → ℕ → ℕ → Answer × Mem
   stored k f w at = (a-ok, setPointer (tracing.barrier g (duty (phase m) (acks m k)) m (record? w) (record? (pointer m at f))) at f w)
 
-  pub store-kept : (k i f j : ℕ) → refusal (face m) (c-store k i f j) ≡ 0 → ActKept g m (c-store k i f j)
+  pub store-kept : (k i f j : ℕ) → refusal (observe m) (c-store k i f j) ≡ 0 → ActKept g m (c-store k i f j)
   unfolding act
   store-kept k i f j e =
-      let a = by-ok (face m) k _ e in
+      let a = by-ok (observe m) k _ e in
       let b = root-ok i _ (a .3) in
       let d = root-ok j _ (b .1) in
       let w = wanted-in g m k i (pointer? f) (a .1) (b .0) (d .1) in

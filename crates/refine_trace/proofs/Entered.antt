@@ -16,7 +16,7 @@ use Rattle.layout.specs.Geometry.{len, mutatorCount, mostBlocks}
 use Rattle.layout.specs.Mem.{Mem, controlWord, heapWord}
 use Rattle.model.specs.Rules.{phaseOf}
 use Rattle.model.specs.Fields.{phase}
-use Rattle.model.specs.Records.{bitOf}
+use Rattle.model.specs.Records.{recordBit}
 use Rattle.model.specs.Reaching.{Live}
 use Rattle.model.specs.Consistent.{MutatorOk, RecordOk}
 use Rattle.refine_view.specs.View.{stackOf}
@@ -37,7 +37,7 @@ pub record Entered (g : Geometry) (m : Mem) (c q t : List ℕ) : Type 0 where
   pub phase : getD c 0 0 ≡ controlWord m 0
   pub named : (i : ℕ) → i < getD c 1 0 → 1 ≤ getD t i 0
   pub records : (i : ℕ) → i < getD c 1 0 → RecordOk g m (getD t i 0 - 1)
-  pub bits : (i : ℕ) → i < getD c 1 0 → bitAt q (bitOf g m (getD t i 0 - 1)) ≡ 1
+  pub bits : (i : ℕ) → i < getD c 1 0 → bitAt q (recordBit g m (getD t i 0 - 1)) ≡ 1
   pub once : (i j : ℕ) → i < j → j < getD c 1 0 → getD t i 0 ≡ getD t j 0 → ⊥
   pub number : getD c 1 0 ≡ onesAmong (bitAt q) (g .segments * mostBlocks g)
 
@@ -45,7 +45,7 @@ module _ (g : Geometry) (m : Mem) (c q t : List ℕ) (e : Entered g m c q t) whe
   pub queued-over : (mu ma he : List ℕ) → QueuedOk g (beside m c mu ma q t he)
   queued-over mu ma he = record {
     named = e .named;
-    bits = λ at n. subst (λ z. bitAt q (bitOf g m z) ≡ 1) (let w = n .names in omega arith) (e .bits (n .index) (n .within));
+    bits = λ at n. subst (λ z. bitAt q (recordBit g m z) ≡ 1) (let w = n .names in omega arith) (e .bits (n .index) (n .within));
     number = e .number;
   }
 
@@ -54,24 +54,24 @@ module _ (g : Geometry) (m : Mem) (c q t : List ℕ) (e : Entered g m c q t) whe
   structure-entered mu ma he o h u r k = structure-beside g m c mu ma q t he o (subst (λ z. z ≤ 4) (sym (e .phase)) (o .phases)) h u r (queued-over mu ma he) (subst (λ z. MarksIn (phaseOf z) g (beside m c mu ma q t he)) (sym (e .phase)) k)
 
   module _ (f : Segments g m) (at : ℕ) (r : RecordOk g m at) where
-    same-entry : (i : ℕ) → i < getD c 1 0 → bitOf g m (getD t i 0 - 1) ≡ bitOf g m at → getD t i 0 ≡ suc at
+    same-entry : (i : ℕ) → i < getD c 1 0 → recordBit g m (getD t i 0 - 1) ≡ recordBit g m at → getD t i 0 ≡ suc at
     same-entry i l b =
         let o = e .records i l in
         let z = same-bit g m (getD t i 0 - 1) at (class-of g m f _ o) (class-of g m f at r) (o .aligned) (r .aligned) b in
         let n = e .named i l in
         omega arith
 
-    below : bitOf g m at < g .segments * mostBlocks g
+    below : recordBit g m at < g .segments * mostBlocks g
     below = bit-below g m at (class-of g m f at r) (r .inside)
 
     -- a bit that is 1 is of an entry
-    pub bit-entry : bitAt q (bitOf g m at) ≡ 1 → (List·Memᴰ at (stackOf (over m c q t) (getD c 1 0)) → ⊥) → ⊥
-    bit-entry b gone = places-all (getD c 1 0) (bitAt q) (g .segments * mostBlocks g) (λ i. bitOf g m (getD t i 0 - 1)) places apart (let n = e .number in omega arith) (bitOf g m at) below b (λ i l z. gone (entry-in (over m c q t) (getD c 1 0) i at l (same-entry i l z)))
+    pub bit-entry : bitAt q (recordBit g m at) ≡ 1 → (List·Memᴰ at (stackOf (over m c q t) (getD c 1 0)) → ⊥) → ⊥
+    bit-entry b gone = places-all (getD c 1 0) (bitAt q) (g .segments * mostBlocks g) (λ i. recordBit g m (getD t i 0 - 1)) places apart (let n = e .number in omega arith) (recordBit g m at) below b (λ i l z. gone (entry-in (over m c q t) (getD c 1 0) i at l (same-entry i l z)))
       where
-        places : (i : ℕ) → i < getD c 1 0 → (bitOf g m (getD t i 0 - 1) < g .segments * mostBlocks g) × (bitAt q (bitOf g m (getD t i 0 - 1)) ≡ 1)
+        places : (i : ℕ) → i < getD c 1 0 → (recordBit g m (getD t i 0 - 1) < g .segments * mostBlocks g) × (bitAt q (recordBit g m (getD t i 0 - 1)) ≡ 1)
         places i l = let o = e .records i l in (bit-below g m (getD t i 0 - 1) (class-of g m f _ o) (o .inside), e .bits i l)
 
-        apart : (i j : ℕ) → i < j → j < getD c 1 0 → bitOf g m (getD t i 0 - 1) ≡ bitOf g m (getD t j 0 - 1) → ⊥
+        apart : (i j : ℕ) → i < j → j < getD c 1 0 → recordBit g m (getD t i 0 - 1) ≡ recordBit g m (getD t j 0 - 1) → ⊥
         apart i j l h z =
             let k : i < getD c 1 0 = omega arith in
             let o = e .records i k in
@@ -81,12 +81,12 @@ module _ (g : Geometry) (m : Mem) (c q t : List ℕ) (e : Entered g m c q t) whe
             let b = e .named j h in
             e .once i j l h (omega arith)
 
-    pub entry-bit : List·Memᴰ at (stackOf (over m c q t) (getD c 1 0)) → bitAt q (bitOf g m at) ≡ 1
-    entry-bit h = let x = entry-of (over m c q t) (getD c 1 0) at h in subst (λ z. bitAt q (bitOf g m z) ≡ 1) (x .2) (e .bits (x .0) (x .1))
+    pub entry-bit : List·Memᴰ at (stackOf (over m c q t) (getD c 1 0)) → bitAt q (recordBit g m at) ≡ 1
+    entry-bit h = let x = entry-of (over m c q t) (getD c 1 0) at h in subst (λ z. bitAt q (recordBit g m z) ≡ 1) (x .2) (e .bits (x .0) (x .1))
 
     -- ---- one record more
 
-    module _ (free : bitAt q (bitOf g m at) ≡ 1 → ⊥) where
+    module _ (free : bitAt q (recordBit g m at) ≡ 1 → ⊥) where
       abbrev count : ℕ
       count = getD c 1 0
 
@@ -94,22 +94,22 @@ module _ (g : Geometry) (m : Mem) (c q t : List ℕ) (e : Entered g m c q t) whe
       c′ = set c 1 (count + 1)
 
       abbrev q′ : List ℕ
-      q′ = setBit q (bitOf g m at)
+      q′ = setBit q (recordBit g m at)
 
       abbrev t′ : List ℕ
       t′ = set t count (suc at)
 
-      zero-bit : bitAt q (bitOf g m at) ≡ 0
-      zero-bit = ⊎-elim (λ z. z) (λ n. absurd (free (one-of-not-zero _ (at-lt q (bitOf g m at)) n))) (same-or-not (bitAt q (bitOf g m at)) 0)
+      zero-bit : bitAt q (recordBit g m at) ≡ 0
+      zero-bit = ⊎-elim (λ z. z) (λ n. absurd (free (one-of-not-zero _ (at-lt q (recordBit g m at)) n))) (same-or-not (bitAt q (recordBit g m at)) 0)
 
-      in-words : bitOf g m at / 32 < length q
+      in-words : recordBit g m at / 32 < length q
       in-words = let b = below in let l = e .lengthQueued in let w = marks-are g (g .segments) in omega arith
 
       more : onesAmong (bitAt q′) (g .segments * mostBlocks g) ≡ count + 1
       more =
-          let z = among-change (bitAt q) (bitAt q′) (g .segments * mostBlocks g) (bitOf g m at) below (λ i l d. set-elsewhere q (bitOf g m at) in-words i d) in
+          let z = among-change (bitAt q) (bitAt q′) (g .segments * mostBlocks g) (recordBit g m at) below (λ i l d. set-elsewhere q (recordBit g m at) in-words i d) in
           let a = zero-bit in
-          let b = set-there q (bitOf g m at) in-words in
+          let b = set-there q (recordBit g m at) in-words in
           let n = e .number in
           omega arith
 
@@ -133,28 +133,28 @@ module _ (g : Geometry) (m : Mem) (c q t : List ℕ) (e : Entered g m c q t) whe
           go (inr h) = inl (h, old-word i h)
 
       bit-kept : (k : ℕ) → bitAt q k ≡ 1 → bitAt q′ k ≡ 1
-      bit-kept k b = go (same-or-not k (bitOf g m at))
+      bit-kept k b = go (same-or-not k (recordBit g m at))
         where
-          go : (k ≡ bitOf g m at) ⊎ (k ≡ bitOf g m at → ⊥) → bitAt q′ k ≡ 1
-          go (inl z) = ap (bitAt q′) z ∙ set-there q (bitOf g m at) in-words
-          go (inr z) = set-elsewhere q (bitOf g m at) in-words k z ∙ b
+          go : (k ≡ recordBit g m at) ⊎ (k ≡ recordBit g m at → ⊥) → bitAt q′ k ≡ 1
+          go (inl z) = ap (bitAt q′) z ∙ set-there q (recordBit g m at) in-words
+          go (inr z) = set-elsewhere q (recordBit g m at) in-words k z ∙ b
 
       pub entered-more : Entered g m c′ q′ t′
       entered-more = record {
         lengthControl = length-set c 1 (count + 1) ∙ e .lengthControl;
-        lengthQueued = length-setBit q (bitOf g m at) ∙ e .lengthQueued;
+        lengthQueued = length-setBit q (recordBit g m at) ∙ e .lengthQueued;
         lengthTrace = length-set t count (suc at) ∙ e .lengthTrace;
         phase = getD-set-other c 1 0 (count + 1) 0 (λ z. omega arith) ∙ e .phase;
         named = λ i l. ⊎-elim (λ h. let n = e .named i (h .0) in let w = h .1 in omega arith) (λ h. let w = h .1 in omega arith) (word i l);
         records = λ i l. ⊎-elim (λ h. subst (λ z. RecordOk g m (z - 1)) (sym (h .1)) (e .records i (h .0))) (λ h. subst (λ z. RecordOk g m z) (let w = h .1 in omega arith) r) (word i l);
-        bits = λ i l. ⊎-elim (λ h. subst (λ z. bitAt q′ (bitOf g m (z - 1)) ≡ 1) (sym (h .1)) (bit-kept _ (e .bits i (h .0)))) (λ h. subst (λ z. bitAt q′ (bitOf g m z) ≡ 1) (let w = h .1 in omega arith) (set-there q (bitOf g m at) in-words)) (word i l);
+        bits = λ i l. ⊎-elim (λ h. subst (λ z. bitAt q′ (recordBit g m (z - 1)) ≡ 1) (sym (h .1)) (bit-kept _ (e .bits i (h .0)))) (λ h. subst (λ z. bitAt q′ (recordBit g m z) ≡ 1) (let w = h .1 in omega arith) (set-there q (recordBit g m at) in-words)) (word i l);
         once = λ i j l h z. apart i j l (word i (omega arith)) (word j h) z;
         number = count-after ∙ sym more;
       }
         where
           apart : (i j : ℕ) → i < j → ((i < count) × (getD t′ i 0 ≡ getD t i 0)) ⊎ ((i ≡ count) × (getD t′ i 0 ≡ suc at)) → ((j < count) × (getD t′ j 0 ≡ getD t j 0)) ⊎ ((j ≡ count) × (getD t′ j 0 ≡ suc at)) → getD t′ i 0 ≡ getD t′ j 0 → ⊥
           apart i j l (inl h) (inl k) z = e .once i j l (k .0) (sym (h .1) ∙ z ∙ k .1)
-          apart i j l (inl h) (inr k) z = let a : getD t i 0 ≡ suc at = sym (h .1) ∙ z ∙ k .1 in let b : getD t i 0 - 1 ≡ at = omega arith in free (subst (λ x. bitAt q (bitOf g m x) ≡ 1) b (e .bits i (h .0)))
+          apart i j l (inl h) (inr k) z = let a : getD t i 0 ≡ suc at = sym (h .1) ∙ z ∙ k .1 in let b : getD t i 0 - 1 ≡ at = omega arith in free (subst (λ x. bitAt q (recordBit g m x) ≡ 1) b (e .bits i (h .0)))
           apart i j l (inr h) (inl k) z = let a = h .0 in let b = k .0 in omega arith
           apart i j l (inr h) (inr k) z = let a = h .0 in let b = k .0 in omega arith
 

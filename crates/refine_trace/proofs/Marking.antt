@@ -18,7 +18,7 @@ use Rattle.theory.specs.Phases.{mark}
 use Rattle.theory.specs.Update.{upd}
 use Rattle.theory.proofs.Updates.{upd-cases}
 use Rattle.model.specs.Fields.{class}
-use Rattle.model.specs.Records.{blockOf, bitOf, setMarked}
+use Rattle.model.specs.Records.{blockOf, recordBit, setMarked}
 use Rattle.model.specs.Reaching.{isMarked}
 use Rattle.model.specs.Consistent.{IsClass, RecordOk, BlockInUse}
 use Rattle.refine_view.specs.View.{view, isHead}
@@ -34,28 +34,28 @@ module _ (g : Geometry) (m : Mem) (s : Sizes g m) (f : Segments g m) (at : ℕ) 
   abbrev after : Mem
   after = setMarked g m at
 
-  in-words : bitOf g m at / 32 < length (m .marks)
+  in-words : recordBit g m at / 32 < length (m .marks)
   in-words = let b = bit-below g m at (class-of g m f at r) (r .inside) in let l = s .marks in let w = marks-are g (g .segments) in omega arith
 
-  mark-there : bitAt (after .marks) (bitOf g m at) ≡ 1
+  mark-there : bitAt (after .marks) (recordBit g m at) ≡ 1
   unfolding setMarked
-  mark-there = set-there (m .marks) (bitOf g m at) in-words
+  mark-there = set-there (m .marks) (recordBit g m at) in-words
 
-  mark-else : (k : ℕ) → (k ≡ bitOf g m at → ⊥) → bitAt (after .marks) k ≡ bitAt (m .marks) k
+  mark-else : (k : ℕ) → (k ≡ recordBit g m at → ⊥) → bitAt (after .marks) k ≡ bitAt (m .marks) k
   unfolding setMarked
-  mark-else k d = set-elsewhere (m .marks) (bitOf g m at) in-words k d
+  mark-else k d = set-elsewhere (m .marks) (recordBit g m at) in-words k d
 
   -- the machine sees the record marked, and no other
   pub marked-view : (x : ℕ) → IsClass (class m (segmentOf g x)) → view g after .marked x ≡ upd (view g m .marked) at true x
   unfolding setMarked
   marked-view x k = ⊎-elim (λ h. there (h .0) ∙ sym (h .1)) (λ h. elsewhere (h .0) (isHead g m x) refl ∙ sym (h .1)) (upd-cases (view g m .marked) at true x)
     where
-      there : x ≡ at → (isHead g m x && eqb (bitAt (after .marks) (bitOf g m x)) 1) ≡ true
+      there : x ≡ at → (isHead g m x && eqb (bitAt (after .marks) (recordBit g m x)) 1) ≡ true
       there e = rw e (rw (eq-eqb _ _ (r .aligned), mark-there) refl)
 
-      elsewhere : (x ≡ at → ⊥) → (b : Bool) → isHead g m x ≡ b → (b && eqb (bitAt (after .marks) (bitOf g m x)) 1) ≡ (b && isMarked g m x)
+      elsewhere : (x ≡ at → ⊥) → (b : Bool) → isHead g m x ≡ b → (b && eqb (bitAt (after .marks) (recordBit g m x)) 1) ≡ (b && isMarked g m x)
       elsewhere d false e = refl
-      elsewhere d true e = ap (λ z. eqb z 1) (mark-else (bitOf g m x) (λ z. d (same-bit g m x at k (class-of g m f at r) (eqb-true _ _ e) (r .aligned) z)))
+      elsewhere d true e = ap (λ z. eqb z 1) (mark-else (recordBit g m x) (λ z. d (same-bit g m x at k (class-of g m f at r) (eqb-true _ _ e) (r .aligned) z)))
 
   pub segments-marked : Segments g after
   unfolding setMarked
@@ -81,9 +81,9 @@ module _ (g : Geometry) (m : Mem) (s : Sizes g m) (f : Segments g m) (at : ℕ) 
 
   pub marks-marked : MarksIn mark g m → MarksIn mark g after
   unfolding setMarked
-  marks-marked h = λ x b l u k e. go x b l k e (same-or-not (bitIn g x b) (bitOf g m at))
+  marks-marked h = λ x b l u k e. go x b l k e (same-or-not (bitIn g x b) (recordBit g m at))
     where
-      go : (x b : ℕ) → x < g .segments → b < mostBlocks g → bitAt (after .marks) (bitIn g x b) ≡ 1 → (bitIn g x b ≡ bitOf g m at) ⊎ (bitIn g x b ≡ bitOf g m at → ⊥) → BlockInUse g after x b
+      go : (x b : ℕ) → x < g .segments → b < mostBlocks g → bitAt (after .marks) (bitIn g x b) ≡ 1 → (bitIn g x b ≡ recordBit g m at) ⊎ (bitIn g x b ≡ recordBit g m at → ⊥) → BlockInUse g after x b
       go x b l k e (inr d) = let o = h x b l tt k (sym (mark-else (bitIn g x b) d) ∙ e) in record { used = o .used; within = o .within; block = o .block }
       go x b l k e (inl d) =
           let n = class-of g m f at r in

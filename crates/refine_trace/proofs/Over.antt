@@ -9,7 +9,7 @@ use Rattle.rules.specs.Pick.{pick}
 use Rattle.words.specs.Bits.{bitAt, setBit}
 use Rattle.layout.specs.declared.Geometry.{Geometry}
 use Rattle.layout.specs.Mem.{Mem, setControl, setTrace, setMutator, setHeap}
-use Rattle.model.specs.Records.{bitOf, marked, setQueued}
+use Rattle.model.specs.Records.{recordBit, marked, setQueued}
 use Rattle.model.specs.Tracing.{push}
 use Rattle.model.specs.Consistent.{SegmentOk}
 use Rattle.refine_view.proofs.Frames.{beside}
@@ -21,7 +21,7 @@ over m c q t = beside m c (m .mutators) (m .marks) q t (m .heap)
 pub over-self : (m : Mem) → m ≡ over m (m .control) (m .queued) (m .trace)
 over-self m = refl
 
-pub push-over : (g : Geometry) (m : Mem) (c q t : List ℕ) (at : ℕ) → push g (over m c q t) (some at) ≡ pick (eqb (marked g m at) 1) (over m c q t) (pick (eqb (bitAt q (bitOf g m at)) 1) (over m c q t) (over m (set c 1 (getD c 1 0 + 1)) (setBit q (bitOf g m at)) (set t (getD c 1 0) (suc at))))
+pub push-over : (g : Geometry) (m : Mem) (c q t : List ℕ) (at : ℕ) → push g (over m c q t) (some at) ≡ pick (eqb (marked g m at) 1) (over m c q t) (pick (eqb (bitAt q (recordBit g m at)) 1) (over m c q t) (over m (set c 1 (getD c 1 0 + 1)) (setBit q (recordBit g m at)) (set t (getD c 1 0) (suc at))))
 unfolding push setTrace setControl setQueued
 push-over g m c q t at = refl
 

@@ -10,7 +10,7 @@ use Rattle.words.proofs.Lists.{clear-there, clear-elsewhere, length-clearBit}
 use Rattle.layout.specs.declared.Geometry.{Geometry}
 use Rattle.layout.specs.Geometry.{mostBlocks}
 use Rattle.layout.specs.Mem.{Mem, setControl}
-use Rattle.model.specs.Records.{bitOf, setMarked, clearQueued}
+use Rattle.model.specs.Records.{recordBit, setMarked, clearQueued}
 use Rattle.model.specs.Tracing.{popped}
 use Rattle.model.specs.Fields.{traceCount}
 use Rattle.layout.proofs.Sizes.{marks-are}
@@ -20,7 +20,7 @@ use Rattle.laws.proofs.Apart.{class-of}
 use Rattle.refine_trace.proofs.Over.{over, Segments}
 use Rattle.refine_trace.proofs.Entered.{Entered}
 
-pub popped-over : (g : Geometry) (m : Mem) (at : ℕ) → popped g m at ≡ over (setMarked g m at) (set (m .control) 1 (traceCount m - 1)) (clearBit (m .queued) (bitOf g m at)) (m .trace)
+pub popped-over : (g : Geometry) (m : Mem) (at : ℕ) → popped g m at ≡ over (setMarked g m at) (set (m .control) 1 (traceCount m - 1)) (clearBit (m .queued) (recordBit g m at)) (m .trace)
 unfolding setControl setMarked clearQueued
 popped-over g m at = refl
 
@@ -32,15 +32,15 @@ module _ (g : Geometry) (m : Mem) (f : Segments g m) (c q t : List ℕ) (e : Ent
   c′ = set c 1 (getD c 1 0 - 1)
 
   abbrev q′ : List ℕ
-  q′ = clearBit q (bitOf g m at)
+  q′ = clearBit q (recordBit g m at)
 
   last : n < getD c 1 0
   last = omega arith
 
-  below : bitOf g m at < g .segments * mostBlocks g
+  below : recordBit g m at < g .segments * mostBlocks g
   below = let r = e .records n last in bit-below g m at (class-of g m f at r) (r .inside)
 
-  in-words : bitOf g m at / 32 < length q
+  in-words : recordBit g m at / 32 < length q
   in-words = let b = below in let l = e .lengthQueued in let w = marks-are g (g .segments) in omega arith
 
   pub count-after : getD c′ 1 0 ≡ n
@@ -54,13 +54,13 @@ module _ (g : Geometry) (m : Mem) (f : Segments g m) (c q t : List ℕ) (e : Ent
 
   less : onesAmong (bitAt q′) (g .segments * mostBlocks g) ≡ n
   less =
-      let z = among-change (bitAt q) (bitAt q′) (g .segments * mostBlocks g) (bitOf g m at) below (λ i l d. clear-elsewhere q (bitOf g m at) in-words i d) in
+      let z = among-change (bitAt q) (bitAt q′) (g .segments * mostBlocks g) (recordBit g m at) below (λ i l d. clear-elsewhere q (recordBit g m at) in-words i d) in
       let a = e .bits n last in
-      let b = clear-there q (bitOf g m at) in-words in
+      let b = clear-there q (recordBit g m at) in-words in
       let k = e .number in
       omega arith
 
-  other-bit : (i : ℕ) → i < getD c′ 1 0 → bitOf g m (getD t i 0 - 1) ≡ bitOf g m at → ⊥
+  other-bit : (i : ℕ) → i < getD c′ 1 0 → recordBit g m (getD t i 0 - 1) ≡ recordBit g m at → ⊥
   other-bit i l z =
       let j = before i l in
       let o = e .records i j in
@@ -73,12 +73,12 @@ module _ (g : Geometry) (m : Mem) (f : Segments g m) (c q t : List ℕ) (e : Ent
   pub entered-less : Entered g m c′ q′ t
   entered-less = record {
     lengthControl = length-set c 1 (getD c 1 0 - 1) ∙ e .lengthControl;
-    lengthQueued = length-clearBit q (bitOf g m at) ∙ e .lengthQueued;
+    lengthQueued = length-clearBit q (recordBit g m at) ∙ e .lengthQueued;
     lengthTrace = e .lengthTrace;
     phase = getD-set-other c 1 0 (getD c 1 0 - 1) 0 (λ z. omega arith) ∙ e .phase;
     named = λ i l. e .named i (before i l);
     records = λ i l. e .records i (before i l);
-    bits = λ i l. clear-elsewhere q (bitOf g m at) in-words (bitOf g m (getD t i 0 - 1)) (other-bit i l) ∙ e .bits i (before i l);
+    bits = λ i l. clear-elsewhere q (recordBit g m at) in-words (recordBit g m (getD t i 0 - 1)) (other-bit i l) ∙ e .bits i (before i l);
     once = λ i j l h. e .once i j l (before j h);
     number = count-after ∙ sym less;
   }

@@ -12,7 +12,7 @@ use Rattle.words.specs.Bits.{bitAt, setBit}
 use Rattle.layout.specs.declared.Geometry.{Geometry}
 use Rattle.layout.specs.Mem.{Mem}
 use Rattle.theory.specs.TraceStack.{mem?, pushIf, push}
-use Rattle.model.specs.Records.{bitOf, marked}
+use Rattle.model.specs.Records.{recordBit, marked}
 use Rattle.model.specs.Consistent.{RecordOk}
 use Rattle.refine_view.specs.View.{view, stackOf}
 use Rattle.refine_trace.proofs.Over.{over, Segments, push-over}
@@ -46,18 +46,18 @@ module _ (g : Geometry) (m : Mem) (f : Segments g m) where
     now = over m (p .control) (p .queued) (p .trace)
 
     abbrev next : ℕ → Mem
-    next at = over m (set (p .control) 1 (getD (p .control) 1 0 + 1)) (setBit (p .queued) (bitOf g m at)) (set (p .trace) (getD (p .control) 1 0) (suc at))
+    next at = over m (set (p .control) 1 (getD (p .control) 1 0 + 1)) (setBit (p .queued) (recordBit g m at)) (set (p .trace) (getD (p .control) 1 0) (suc at))
 
     push-one : (at : ℕ) → RecordOk g m at → Pushed g m (tracing.push g m′ (some at)) (push (view g m .marked) (some at) l)
     push-one at r =
         subst (λ z. Pushed g m z (push (view g m .marked) (some at) l)) (sym (ap (λ z. tracing.push g z (some at)) (p .is) ∙ push-over g m (p .control) (p .queued) (p .trace) at))
-        (subst (λ z. Pushed g m (pick (eqb (marked g m at) 1) now (pick (eqb (bitAt (p .queued) (bitOf g m at)) 1) now (next at))) z) (sym (push-is (view g m .marked) at l ∙ ap (λ b. pushIf (b && eqb (marked g m at) 1) (mem? at l) at l) (eq-eqb _ _ (r .aligned))))
-        (go (eqb (marked g m at) 1) (eqb (bitAt (p .queued) (bitOf g m at)) 1) refl (mem? at l)))
+        (subst (λ z. Pushed g m (pick (eqb (marked g m at) 1) now (pick (eqb (bitAt (p .queued) (recordBit g m at)) 1) now (next at))) z) (sym (push-is (view g m .marked) at l ∙ ap (λ b. pushIf (b && eqb (marked g m at) 1) (mem? at l) at l) (eq-eqb _ _ (r .aligned))))
+        (go (eqb (marked g m at) 1) (eqb (bitAt (p .queued) (recordBit g m at)) 1) refl (mem? at l)))
       where
         same : Pushed g m now l
         same = record { control = p .control; queued = p .queued; trace = p .trace; is = refl; entered = p .entered; stack = p .stack }
 
-        go : (b d : Bool) → eqb (bitAt (p .queued) (bitOf g m at)) 1 ≡ d → (k : Dec (List·Memᴰ at l)) → Pushed g m (pick b now (pick d now (next at))) (pushIf b k at l)
+        go : (b d : Bool) → eqb (bitAt (p .queued) (recordBit g m at)) 1 ≡ d → (k : Dec (List·Memᴰ at l)) → Pushed g m (pick b now (pick d now (next at))) (pushIf b k at l)
         go true d e k = same
         go false true e (yes k) = same
         go false true e (no k) = absurd (bit-entry g m (p .control) (p .queued) (p .trace) (p .entered) f at r (eqb-true _ _ e) (λ h. k (subst (List·Memᴰ at) (p .stack) h)))

@@ -80,8 +80,8 @@ module _ (g : Geometry) (m : Mem) (s : Sizes g m) (c : Consistent g m) where
         acks = λ i. refl;
         root = λ i j a h. refl;
         marked = λ x b h. refl;
-        fated = λ b h. refl;
-        collect = λ x. refl;
+        condemnedMarks = λ b h. refl;
+        condemned = λ x. refl;
         pointers = λ b h. pointers-kept g m s (c .segments) at f w at-record few b (to-record g m s c b (was-live h));
         values = λ b h. values-kept g m s (c .segments) at f w at-record few b (to-record g m s c b (was-live h));
         pointer = λ b i h l. pointer-kept g m s (c .segments) at f w at-record few b (to-record g m s c b (was-live h)) i l;

@@ -23,7 +23,7 @@ use Rattle.theory.proofs.Agree.{Agree}
 use Rattle.theory.proofs.Updates.{tab-inv}
 use Rattle.model.specs.Rules.{phaseOf}
 use Rattle.model.specs.Fields.{phase, traceCount, tag, class}
-use Rattle.model.specs.Records.{record?, pointers, pointer, bitOf, setMarked, clearQueued}
+use Rattle.model.specs.Records.{record?, pointers, pointer, recordBit, setMarked, clearQueued}
 use Rattle.model.specs.Tracing.{popped, traced}
 use Rattle.model.specs.Collector.{traces}
 use Rattle.model.specs.Consistent.{IsClass, RecordOk, Consistent}
@@ -89,7 +89,7 @@ module _ (g : Geometry) (m : Mem) (s : Sizes g m) (c : Consistent g m) (marking 
       trace = _;
       is = popped-over g m at;
       entered = entered-marked g m s (c .segments) at at-record _ _ _ (entered-less g m (c .segments) (m .control) (m .queued) (m .trace) (entered-self g m s c) n some-left);
-      stack = ap (stackOf (over base (set (m .control) 1 (traceCount m - 1)) (clearBit (m .queued) (bitOf g m at)) (m .trace))) (count-after g m (c .segments) (m .control) (m .queued) (m .trace) (entered-self g m s c) n some-left) ∙ entries-same m (over base (set (m .control) 1 (traceCount m - 1)) (clearBit (m .queued) (bitOf g m at)) (m .trace)) n (λ i h. refl);
+      stack = ap (stackOf (over base (set (m .control) 1 (traceCount m - 1)) (clearBit (m .queued) (recordBit g m at)) (m .trace))) (count-after g m (c .segments) (m .control) (m .queued) (m .trace) (entered-self g m s c) n some-left) ∙ entries-same m (over base (set (m .control) 1 (traceCount m - 1)) (clearBit (m .queued) (recordBit g m at)) (m .trace)) n (λ i h. refl);
     }
 
     pointer-live : (i x : ℕ) → i < pointers m at → record? (pointer m at i) ≡ some x → machine.Live (view g m) x
@@ -122,8 +122,8 @@ module _ (g : Geometry) (m : Mem) (s : Sizes g m) (c : Consistent g m) (marking 
         acks = λ i. refl;
         root = λ i j a h. refl;
         marked = λ x b h. same-marks b (was-live h);
-        fated = λ b h. marked-view g m s (c .segments) at at-record b (condemned-class b h);
-        collect = λ x. refl;
+        condemnedMarks = λ b h. marked-view g m s (c .segments) at at-record b (condemned-class b h);
+        condemned = λ x. refl;
         pointers = λ b h. refl;
         values = λ b h. refl;
         pointer = λ b i h l. refl;

@@ -11,7 +11,7 @@ use Rattle.layout.specs.Mem.{Mem, traceWord, heapWord}
 use Rattle.theory.specs.Phases.{Phase, idle, sync1, sync2, mark, sweep}
 use Rattle.model.specs.Fields.{traceCount, tag, class}
 use Rattle.model.specs.Segments.{usedBit}
-use Rattle.model.specs.Records.{blockWords, blockOf, bitOf}
+use Rattle.model.specs.Records.{blockWords, blockOf, recordBit}
 use Rattle.model.specs.Reaching.{IsEntry}
 use Rattle.model.specs.Consistent.{RecordOk, BlockInUse, MarksOf}
 use Rattle.refine_view.specs.Kept.{QueuedOk, MarksIn}
@@ -22,7 +22,7 @@ module _ (g : Geometry) (m m′ : Mem) (at : ℕ) (c : class m′ (segmentOf g a
   pub block-by : blockOf g m′ at ≡ blockOf g m at
   block-by = ap (λ z. at % segmentWords g / blockWords z) c
 
-  pub bit-by : bitOf g m′ at ≡ bitOf g m at
+  pub bit-by : recordBit g m′ at ≡ recordBit g m at
   bit-by = ap (bitIn g (segmentOf g at)) block-by
 
   -- a record whose block stays in use
@@ -39,14 +39,14 @@ pub use-by : (g : Geometry) (m m′ : Mem) (s b : ℕ) → BlockInUse g m s b �
 use-by g m m′ s b u c t h = record { used = t; within = subst (λ z. b < blocksIn g z) (sym c) (u .within); block = h }
 
 -- the trace stack's words stay, and the bits of its entries
-pub queued-by : (g : Geometry) (m m′ : Mem) → QueuedOk g m → traceCount m′ ≡ traceCount m → ((i : ℕ) → traceWord m′ i ≡ traceWord m i) → m′ .queued ≡ m .queued → ((at : ℕ) → IsEntry m at → bitOf g m′ at ≡ bitOf g m at) → QueuedOk g m′
+pub queued-by : (g : Geometry) (m m′ : Mem) → QueuedOk g m → traceCount m′ ≡ traceCount m → ((i : ℕ) → traceWord m′ i ≡ traceWord m i) → m′ .queued ≡ m .queued → ((at : ℕ) → IsEntry m at → recordBit g m′ at ≡ recordBit g m at) → QueuedOk g m′
 queued-by g m m′ o n t q b = record {
   named = λ i l. subst (λ z. 1 ≤ z) (sym (t i)) (o .named i (subst (λ z. i < z) n l));
-  bits = λ at e. let x = entry-was m m′ n t at e in ap (λ (l : List ℕ). bitAt l (bitOf g m′ at)) q ∙ ap (bitAt (m .queued)) (b at x) ∙ o .bits at x;
+  bits = λ at e. let x = entry-was m m′ n t at e in ap (λ (l : List ℕ). bitAt l (recordBit g m′ at)) q ∙ ap (bitAt (m .queued)) (b at x) ∙ o .bits at x;
   number = n ∙ o .number ∙ ap (λ (l : List ℕ). onesAmong (bitAt l) (g .segments * mostBlocks g)) (sym q);
 }
 
--- by the phase: no segment came into the collect set, no mark before marking began, and marks are of blocks in use
+-- by the phase: no segment came among the condemned, no mark before marking began, and marks are of blocks in use
 pub marks-by : (g : Geometry) (m m′ : Mem) → ((s : ℕ) → tag m′ s ≡ Tag.condemned → tag m s ≡ Tag.condemned) → ((test : ℕ → Type 0) → MarksOf g m test → MarksOf g m′ test) → (p : Phase) → (p ≡ sync1 → MarksIn sync1 g m → MarksIn sync1 g m′) → MarksIn p g m → MarksIn p g m′
 marks-by g m m′ back of idle blank h = λ s l e. h s l (back s e)
 marks-by g m m′ back of sync1 blank h = blank refl h

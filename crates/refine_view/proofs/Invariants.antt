@@ -19,7 +19,7 @@ use Rattle.theory.proofs.Invariant.{Inv, Core, Tracing, Quiet}
 use Rattle.theory.proofs.Updates.{Nodup}
 use Rattle.theory.proofs.Graph.{reach-map}
 use Rattle.model.specs.Fields.{phase, traceCount, absent, acksAt, state, acks}
-use Rattle.model.specs.Records.{bitOf, marked}
+use Rattle.model.specs.Records.{recordBit, marked}
 use Rattle.model.specs.Calls.{isAttached}
 use Rattle.model.specs.Reaching.{IsRoot, IsEntry, Live, Reached, Covered, isMarked}
 use Rattle.model.specs.Consistent.{Consistent, InPhase, AcksIn, Tricolour, RecordOk}
@@ -83,7 +83,7 @@ unmarked g m at e = go (same-or-not (marked g m at) 0)
   where
     go : (marked g m at ≡ 0) ⊎ (marked g m at ≡ 0 → ⊥) → marked g m at ≡ 0
     go (inl q) = q
-    go (inr f) = absurd (eqb-false _ _ e (one-of-not-zero (marked g m at) (at-lt (m .marks) (bitOf g m at)) f))
+    go (inr f) = absurd (eqb-false _ _ e (one-of-not-zero (marked g m at) (at-lt (m .marks) (recordBit g m at)) f))
 
 not-marked : (g : Geometry) (m : Mem) (at : ℕ) → marked g m at ≡ 0 → isMarked g m at ≡ false
 not-marked g m at e = ne-eqb (marked g m at) 1 (λ q. omega arith)
@@ -121,20 +121,20 @@ module _ (g : Geometry) (m : Mem) (s : Sizes g m) (c : Consistent g m) where
 
   to-covered : Tricolour g m → (t : Unit {0}) → Core (view g m)
   to-covered t u = record {
-    m1 = λ k b a h. let r : IsRoot m b = record { mutator = k; index = h .0; few = few-mutators g m s k (h .1); within = h .2; attached = not-eq _ _ (h .1); names = named _ _ (h .3) } in covered-on g m s (c .trace .named) (c .records) b (root (inl r)) (t .roots b r a);
-    m2 = λ x y p e q. covered-on g m s (c .trace .named) (c .records) y (next (to-live p) (edge-back g m x y q)) (t .edges x y (to-live p) (marked-1 g m x (and-right (isHead g m x) _ e)) (edge-back g m x y q));
+    rootsCovered = λ k b a h. let r : IsRoot m b = record { mutator = k; index = h .0; few = few-mutators g m s k (h .1); within = h .2; attached = not-eq _ _ (h .1); names = named _ _ (h .3) } in covered-on g m s (c .trace .named) (c .records) b (root (inl r)) (t .roots b r a);
+    pointersCovered = λ x y p e q. covered-on g m s (c .trace .named) (c .records) y (next (to-live p) (edge-back g m x y q)) (t .edges x y (to-live p) (marked-1 g m x (and-right (isHead g m x) _ e)) (edge-back g m x y q));
   }
 
   -- before anything is marked, nothing can hide
   to-core : (p : Phase) → phase m ≡ p → InPhase p g m → Tracing p → Core (view g m)
   to-core idle e h t = absurd t
   to-core sync1 e h t = record {
-    m1 = λ k b a q. absurd (let z = subst (λ p. AcksIn p (acks m k)) e (acks-in k (q .1)) in omega arith);
-    m2 = λ x y p k q. absurd (let z : marked g m x ≡ 0 = blank-bit x (to-live p) in let u : marked g m x ≡ 1 = marked-1 g m x (and-right (isHead g m x) (isMarked g m x) k) in omega arith);
+    rootsCovered = λ k b a q. absurd (let z = subst (λ p. AcksIn p (acks m k)) e (acks-in k (q .1)) in omega arith);
+    pointersCovered = λ x y p k q. absurd (let z : marked g m x ≡ 0 = blank-bit x (to-live p) in let u : marked g m x ≡ 1 = marked-1 g m x (and-right (isHead g m x) (isMarked g m x) k) in omega arith);
   }
     where
       blank-bit : (x : ℕ) → Live m x → marked g m x ≡ 0
-      blank-bit x l = let r = c .records x l in let i = r .inside in h (bitOf g m x) (bit-below g m x (c .segments (segmentOf g x) (segment-below g x i) .classes (r .used)) i)
+      blank-bit x l = let r = c .records x l in let i = r .inside in h (recordBit g m x) (bit-below g m x (c .segments (segmentOf g x) (segment-below g x i) .classes (r .used)) i)
   to-core sync2 e h t = to-covered (h .1) tt
   to-core mark e h t = to-covered (h .1) tt
   to-core sweep e h t = absurd t
@@ -179,7 +179,7 @@ module _ (g : Geometry) (m : Mem) (s : Sizes g m) (c : Consistent g m) where
       white-bit e x l =
           let r = c .records x l in
           let i = r .inside in
-          let z = in-phase sync1 e (bitOf g m x) (bit-below g m x (c .segments (segmentOf g x) (segment-below g x i) .classes (r .used)) i) in
+          let z = in-phase sync1 e (recordBit g m x) (bit-below g m x (c .segments (segmentOf g x) (segment-below g x i) .classes (r .used)) i) in
           ap (λ b. isHead g m x && b) (not-marked g m x z) ∙ and-false (isHead g m x)
 
 -- ---- and back: the words in order and the machine's invariant are consistency
@@ -193,8 +193,8 @@ module _ (g : Geometry) (m : Mem) (s : Sizes g m) (o : Structure g m) (inv : Inv
 
   from-core : Core (view g m) → Tricolour g m
   from-core t = record {
-    roots = λ at r a. from-covered (root (inl r)) (t .m1 (r .mutator) at a (r .index, ne-not _ _ (r .attached), r .within, naming _ _ (r .names)));
-    edges = λ x y l e p. from-covered (next l p) (t .m2 x y (from-live l) (and-both _ _ (head-of g m s (o .trace .named) (o .records) x l) (eq-eqb _ _ e)) (edge-on g m x y p));
+    roots = λ at r a. from-covered (root (inl r)) (t .rootsCovered (r .mutator) at a (r .index, ne-not _ _ (r .attached), r .within, naming _ _ (r .names)));
+    edges = λ x y l e p. from-covered (next l p) (t .pointersCovered x y (from-live l) (and-both _ _ (head-of g m s (o .trace .named) (o .records) x l) (eq-eqb _ _ e)) (edge-on g m x y p));
   }
 
   no-entries : stackOf m (traceCount m) ≡ [] → traceCount m ≡ 0

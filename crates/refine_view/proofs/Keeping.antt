@@ -15,12 +15,12 @@ use Rattle.theory.specs.Reach.{root, next}
 use Rattle.theory.specs.Calls.{Call, Answer, a-no, shapeIf, refusal, refuse, ifRecord, onRecord}
 use Rattle.theory.specs.Unbounded.{Unbounded}
 use Rattle.theory.proofs.Simulation.{Same}
-use Rattle.theory.proofs.CallKeeps.{Good, Alloc}
+use Rattle.theory.proofs.CallKeeps.{Coupled, Alloc}
 use Rattle.theory.proofs.Agree.{Agree}
 use Rattle.theory.proofs.Invariant.{none-some}
 use Rattle.model.specs.Fields.{phase, acks}
 use Rattle.model.specs.Records.{record?, pointers, values, pointer}
-use Rattle.model.specs.Calls.{isAttached, isInside, face, act, exec}
+use Rattle.model.specs.Calls.{isAttached, isInside, observe, act, exec}
 use Rattle.model.specs.Reaching.{Live, IsRoot}
 use Rattle.model.specs.Consistent.{Consistent}
 use Rattle.laws.proofs.Bools.{not-eq}
@@ -35,14 +35,14 @@ use Rattle.model.specs.Fields as fields
 
 -- ---- what both show of themselves
 
-pub face-same : (g : Geometry) (m : Mem) → calls.face (view g m) ≡ face m
+pub face-same : (g : Geometry) (m : Mem) → calls.observe (view g m) ≡ observe m
 face-same g m = λ i. record { attached = isAttached m; inside = isInside m; shape = fun-ext (λ k. fun-ext (λ j. shape k j)) i }
   where
     of : (o : Option ℕ) → Option·map (calls.shapeAt (view g m)) o ≡ Option·map (λ at. (pointers m at, values m at)) o
     of none = refl
     of (some at) = ap (λ n. some (pointers m at, n)) (length-tab (values m at) _)
 
-    shape : (k j : ℕ) → calls.face (view g m) .shape k j ≡ face m .shape k j
+    shape : (k j : ℕ) → calls.observe (view g m) .shape k j ≡ observe m .shape k j
     shape k j = ap (shapeIf (isAttached m k) (ltb j rootCount)) (of (record? (fields.root m k j)))
 
 -- ---- the memory agrees with itself
@@ -56,8 +56,8 @@ agree-self g m = record {
   acks = λ i. refl;
   root = λ i k a l. refl;
   marked = λ t b l. refl;
-  fated = λ b e. refl;
-  collect = λ g. refl;
+  condemnedMarks = λ b e. refl;
+  condemned = λ g. refl;
   pointers = λ b l. refl;
   values = λ b l. refl;
   pointer = λ b f l h. refl;
@@ -104,21 +104,21 @@ module _ (g : Geometry) (m : Mem) where
     pub is : record? (fields.root m k i) ≡ some at
     pub asked : rest (pointers m at, values m at) ≡ 0
 
-  pub wanted-in : (k i : ℕ) (rest : ℕ × ℕ → ℕ) → isAttached m k ≡ true → i < rootCount → ifRecord (face m .shape k i) rest ≡ 0 → Wanted k i rest
+  pub wanted-in : (k i : ℕ) (rest : ℕ × ℕ → ℕ) → isAttached m k ≡ true → i < rootCount → ifRecord (observe m .shape k i) rest ≡ 0 → Wanted k i rest
   wanted-in k i rest a h e = let w = wanted (record? (fields.root m k i)) (λ at. (pointers m at, values m at)) rest (isAttached m k) (ltb i rootCount) a (lt-ltb _ _ h) e in record { at = w .0; is = w .1; asked = w .2 }
 
 -- ---- a call is refused by a number from 2 to 9, alike on both sides, or it acts
 
-pub call-kept : (g : Geometry) (m : Mem) (c : Call) → Consistent g m → (refusal (face m) c ≡ 0 → ActKept g m c) → CallKept g m c
+pub call-kept : (g : Geometry) (m : Mem) (c : Call) → Consistent g m → (refusal (observe m) c ≡ 0 → ActKept g m c) → CallKept g m c
 unfolding exec
-call-kept g m c ok k = go (refusal (face m) c) refl
+call-kept g m c ok k = go (refusal (observe m) c) refl
   where
-    shown : (n : ℕ) → refusal (face m) c ≡ n → refusal (calls.face (view g m)) c ≡ n
+    shown : (n : ℕ) → refusal (observe m) c ≡ n → refusal (calls.observe (view g m)) c ≡ n
     shown n e = ap (λ F. refusal F c) (face-same g m) ∙ e
 
-    acted : ActKept g m c → refusal (face m) c ≡ 0 → Matches g m (act g m c) (λ alloc st. calls.exec alloc st c)
+    acted : ActKept g m c → refusal (observe m) c ≡ 0 → Matches g m (act g m c) (λ alloc st. calls.exec alloc st c)
     acted a e =
-        let z : refusal (calls.face (view g (a .ready))) c ≡ 0 = ap (λ F. refusal F c) (a .shows) ∙ shown 0 e in
+        let z : refusal (calls.observe (view g (a .ready))) c ≡ 0 = ap (λ F. refusal F c) (a .shows) ∙ shown 0 e in
         record {
           ready = a .ready;
           prepared = a .prepared;
@@ -129,12 +129,12 @@ call-kept g m c ok k = go (refusal (face m) c) refl
           moves = subst (λ n. Moves g m (act g m c .1) (refuse n (view g (a .ready)) (calls.act (λ _ _ _ _. a .block) (view g (a .ready)) c) .1)) (sym z) (a .moves);
         }
 
-    refused : (n : ℕ) → refusal (face m) c ≡ suc n → Matches g m (a-no (suc n), m) (λ alloc st. calls.exec alloc st c)
+    refused : (n : ℕ) → refusal (observe m) c ≡ suc n → Matches g m (a-no (suc n), m) (λ alloc st. calls.exec alloc st c)
     refused n e =
         let z = shown (suc n) e in
         matches-self g m ok _ _ (subst (λ x. a-no (suc n) ≡ refuse x (view g m) (calls.act (λ _ _ _ _. none) (view g m) c) .0) (sym z) refl) refl (subst (λ x. refuse x (view g m) (calls.act (λ _ _ _ _. none) (view g m) c) .1 ≡ view g m) (sym z) refl)
 
-    go : (n : ℕ) → refusal (face m) c ≡ n → Matches g m (refuse n m (act g m c)) (λ alloc st. calls.exec alloc st c)
+    go : (n : ℕ) → refusal (observe m) c ≡ n → Matches g m (refuse n m (act g m c)) (λ alloc st. calls.exec alloc st c)
     go zero e = acted (k e) e
     go (suc n) e = refused n e
 
@@ -170,7 +170,7 @@ module _ (g : Geometry) (m : Mem) where
     same-self none h = refl
     same-self (some b) h = ap some (put-live b (h b refl))
 
-    pub self-good : Good (segmentOf g) (λ _. Unit {0}) selfPut (view g m) self
+    pub self-good : Coupled (segmentOf g) (λ _. Unit {0}) selfPut (view g m) self
     self-good = record {
       inv = to-inv g m s c;
       sim = record {

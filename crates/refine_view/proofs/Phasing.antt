@@ -72,8 +72,8 @@ module _ (g : Geometry) (m m′ : Mem) (st : State) (v : Moves g m m′ st) (s :
     acks = a .acks;
     root = a .root;
     marked = λ t. a .marked (tracing t);
-    fated = a .fated;
-    collect = a .collect;
+    condemnedMarks = a .condemnedMarks;
+    condemned = a .condemned;
     pointers = a .pointers;
     values = a .values;
     pointer = a .pointer;

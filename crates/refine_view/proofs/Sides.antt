@@ -9,7 +9,7 @@ use Rattle.rules.proofs.Order.{same-or-not}
 use Rattle.layout.specs.declared.Geometry.{Geometry}
 use Rattle.layout.specs.Geometry.{mutatorCount}
 use Rattle.layout.specs.Mem.{Mem, setMutator, Sizes}
-use Rattle.model.specs.Fields.{absent, inside, stateAt, state, setState}
+use Rattle.model.specs.Fields.{absent, inside, stateAt, state, setMutatorState}
 use Rattle.model.specs.Records.{record?}
 use Rattle.model.specs.Calls.{isAttached, isInside}
 use Rattle.refine_view.specs.View.{view}
@@ -23,7 +23,7 @@ use Rattle.theory.specs.Machine as machine
 
 module _ (g : Geometry) (m : Mem) (s : Sizes g m) (o : Structure g m) (k v : ℕ) (l : k < mutatorCount) (there : state m k ≡ absent → ⊥) (some : 1 ≤ v) (most : v ≤ 2) where
   abbrev now : Mem
-  now = setState m k v
+  now = setMutatorState m k v
 
   here : (j : ℕ) → j ≡ k → state now j ≡ v
   here j e = ap (state now) e ∙ mutator-there g m s k stateAt v l (omega arith)
@@ -34,7 +34,7 @@ module _ (g : Geometry) (m : Mem) (s : Sizes g m) (o : Structure g m) (k v : ℕ
   attached-at : (j : ℕ) → isAttached now j ≡ isAttached m j
   attached-at j = ⊎-elim (λ e. ne-not (state now j) absent (λ z. let y = here j e in omega arith) ∙ sym (ap (isAttached m) e ∙ ne-not _ _ there)) (λ f. ap (λ x. not (eqb x absent)) (elsewhere j f)) (same-or-not j k)
 
-  pub side-moves : Moves g m (setState m k v) (machine.setInside (view g m) k (eqb v inside))
+  pub side-moves : Moves g m (setMutatorState m k v) (machine.setInside (view g m) k (eqb v inside))
   unfolding setMutator
   side-moves = entries-moves g m _ _ _ _ _ s o (record {
     mutators = mutators-set g m s (o .mutators) k stateAt v l (omega arith) there (λ _. (some, most)) (λ e. absurd (omega arith));

@@ -1,5 +1,5 @@
 -- What a call must show: the words of its memory afterwards are in order, they agree with the abstract machine's state after the same call,
--- and no segment came into the collect set. Consistency afterwards follows (`consistent-of`, proofs/Invariants.antt).
+-- and no segment came among the condemned. Consistency afterwards follows (`consistent-of`, proofs/Invariants.antt).
 use mathlib.Core.Path.{_≡_}
 use mathlib.Core.Option.{Option}
 use Prim.Native.Nat.{ℕ, _*_, _≤_, _<_}
@@ -52,7 +52,7 @@ pub record Structure (g : Geometry) (m : Mem) : Type 0 where
 
 -- ---- from one memory to the next
 
--- a segment in the collect set was there before, with its class
+-- a condemned segment was condemned before, with its class
 abbrev pub Steady : Geometry → Mem → Mem → Type 0
 Steady g m m′ = (s : ℕ) → s < g .segments → tag m′ s ≡ Tag.condemned → (tag m s ≡ Tag.condemned) × (class m′ s ≡ class m s)
 
@@ -67,7 +67,7 @@ pub record Moves (g : Geometry) (m m′ : Mem) (st : State) : Type 0 where
 pub record Matches (g : Geometry) (m : Mem) (r : Answer × Mem) (by : (State → ℕ → ℕ → ℕ → Option ℕ) → State → Answer × State) : Type 0 where
   pub ready : Mem
   pub prepared : Agree (segmentOf g) (view g m) (view g ready)
-  pub shows : machine.face (view g ready) ≡ machine.face (view g m)
+  pub shows : machine.observe (view g ready) ≡ machine.observe (view g m)
   pub block : Option ℕ
   pub alloc : Alloc (segmentOf g) (λ _ _ _ _. block) (view g ready)
   pub answer : r .0 ≡ by (λ _ _ _ _. block) (view g ready) .0
@@ -80,13 +80,13 @@ ActKept g m c = Matches g m (model.act g m c) (λ alloc st. machine.act alloc st
 abbrev pub CallKept : Geometry → Mem → Call → Type 0
 CallKept g m c = Matches g m (model.exec g m c) (λ alloc st. machine.exec alloc st c)
 
--- a start that is not refused: the full segments, with their classes, are the collect set
+-- a start that is not refused: the full segments, with their classes, are the condemned segments
 pub record StartKept (g : Geometry) (m : Mem) : Type 0 where
   pub structure : Structure g (started g m)
   pub agree : Agree (segmentOf g) (start (view g m) (isFull m)) (view g (started g m))
   pub full : (s : ℕ) → s < g .segments → tag (started g m) s ≡ Tag.condemned → (tag m s ≡ Tag.full) × (class (started g m) s ≡ class m s)
 
--- a step; in sweep it takes the lowest segment of the collect set
+-- a step; in sweep it takes the lowest condemned segment
 pub record StepKept (g : Geometry) (m : Mem) : Type 0 where
   pub picked : Pick (λ _. lowest m (g .segments)) (view g m)
   pub moves : Moves g m (stepOf g m .1) (machine.step (segmentOf g) (λ _. lowest m (g .segments)) (view g m) .1)

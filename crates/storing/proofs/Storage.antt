@@ -20,7 +20,7 @@ use Rattle.model.specs.Rules.{phaseOf, dutyOf}
 use Rattle.model.specs.Fields.{phase, acks}
 use Rattle.model.specs.Records.{record?, pointers, pointer}
 use Rattle.model.specs.Tracing.{barrier}
-use Rattle.model.specs.Calls.{face, act}
+use Rattle.model.specs.Calls.{observe, act}
 use Rattle.model.specs.Consistent.{RecordOk, Consistent}
 use Rattle.model.specs.Promise.{Promise}
 use Rattle.laws.proofs.Promised.{refused, done, torn-13}
@@ -31,8 +31,8 @@ use Rattle.records.specs.Places.{pointerPlace}
 use Rattle.records.proofs.Found.{Stands, pointer-stands}
 use Rattle.records.proofs.Within.{rooted, live-root}
 use Rattle.field_calls.proofs.Reaching.{Names, Reaches, pointer-0}
-use Rattle.tracing.specs.Pushing.{Bars, ruleOf}
-use Rattle.tracing.proofs.Unhindered.{unhindered, unhindered-next}
+use Rattle.tracing.specs.Pushing.{BarrierRuns, ruleOf}
+use Rattle.tracing.proofs.Succeeds.{push-succeeds, push-succeeds-next}
 use Rattle.storing.specs.Stored.{stored, Hinders, Stores}
 use Rattle.theory.specs.Phases as phases
 use Rattle.model.specs.Fields as fields
@@ -46,7 +46,7 @@ rule-of phases.both = refl
 rule-of phases.old = refl
 
 module _ (g : Geometry) (m : Mem) (k p new : ℕ) (n a o : ℕ) (d : Duty) (r : Bool) (m₁ : Mem) (en : n ≡ controlWord m 0) (ea : a ≡ acks m k)
-    (ed : d ≡ dutyOf (duty (phaseOf n) a)) (eo : o ≡ heapWord m p) (b : Bars g m d new o r m₁) where
+    (ed : d ≡ dutyOf (duty (phaseOf n) a)) (eo : o ≡ heapWord m p) (b : BarrierRuns g m d new o r m₁) where
   is-duty : ruleOf d ≡ duty (phase m) (acks m k)
   is-duty = ap ruleOf ed ∙ rule-of (duty (phaseOf n) a) ∙ ap (λ x. duty (phaseOf x) a) en ∙ ap (duty (phase m)) ea
 
@@ -61,13 +61,13 @@ module _ (g : Geometry) (m : Mem) (k p new : ℕ) (n a o : ℕ) (d : Duty) (r : 
   }
 
   pub stores-13 : r ≡ false → Stores g m k p new (Refused 13) m₁
-  stores-13 t = record { either = inr (refl, subst (Hinders g m new) eo (b .hindered t)) }
+  stores-13 t = record { either = inr (refl, subst (Hinders g m new) eo (b .fails t)) }
 
 -- ---- refused as its mutator and roots stand
 
 module _ (g : Geometry) (xs : List ℕ) (k i f j n : ℕ) (e : wrongSize g (length xs) ≡ false) (s : n ≡ insideThen (memOf g xs) k (ifRoot i (ifRoot j 0))) where
   abbrev rest : ℕ
-  rest = ifRecord (face (memOf g xs) .shape k i) (pointer? f)
+  rest = ifRecord (observe (memOf g xs) .shape k i) (pointer? f)
 
   pub store-standing : (n ≡ 0 → ⊥) → Promise (c-store k i f j) g xs (Refused n) xs
   unfolding insideThen
@@ -103,13 +103,13 @@ module _ (g : Geometry) (xs : List ℕ) (k i f j at : ℕ) (q : Reaches (c-store
     old-ok x e = c .records x (next (live-root g m k i at (q .known) (q .within) (q .attached) (w .word)) (record { field = f; within = h; names = e }))
 
     free : Hinders g m (fields.root m k j) (pointer m at f) → ⊥
-    free (inl x) = unhindered g m c (fields.root m k j) new-ok x
-    free (inr (inl x)) = unhindered g m c (pointer m at f) old-ok x
+    free (inl x) = push-succeeds g m c (fields.root m k j) new-ok x
+    free (inr (inl x)) = push-succeeds g m c (pointer m at f) old-ok x
     free (inr (inr x)) =
         let z = sized g (length xs) (q .size) in
         let lc : length (m .control) ≡ 2 = length-region g xs Region.control (z .is) (omega arith) in
         let lq : length (m .queued) ≡ g .segments * markWords g = length-region g xs Region.queued (z .is) (omega arith) in
-        unhindered-next g m c (omega arith) lq (fields.root m k j) (pointer m at f) new-ok old-ok x
+        push-succeeds-next g m c (omega arith) lq (fields.root m k j) (pointer m at f) new-ok old-ok x
 
   pub store-by : (p v : ℕ) (r : Answer) (ys : List ℕ) → At p ≡ pointerPlace g m at f → v ≡ fields.root m k j → Stores g m k p v r (memOf g ys) → Promise (c-store k i f j) g xs r ys
   store-by p v r ys a e s =

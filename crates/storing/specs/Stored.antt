@@ -10,7 +10,7 @@ use Rattle.model.specs.declared.Answer.the-variants.{Ok, Refused}
 use Rattle.model.specs.Fields.{phase, acks}
 use Rattle.model.specs.Records.{record?}
 use Rattle.model.specs.Tracing.{push, barrier}
-use Rattle.tracing.specs.Pushing.{Hindered}
+use Rattle.tracing.specs.Pushing.{PushFails}
 
 -- the barrier of mutator k, then the word
 abbrev pub stored : Geometry → Mem → ℕ → ℕ → ℕ → Mem
@@ -18,7 +18,7 @@ stored g m k p new = setHeap (barrier g (duty (phase m) (acks m k)) m (record? n
 
 -- one of its pushes is hindered
 abbrev pub Hinders : Geometry → Mem → ℕ → ℕ → Type 0
-Hinders g m new o = Hindered g m new ⊎ (Hindered g m o ⊎ Hindered g (push g m (record? new)) o)
+Hinders g m new o = PushFails g m new ⊎ (PushFails g m o ⊎ PushFails g (push g m (record? new)) o)
 
 -- Ok and the memory stored to, or 13 where a push is hindered
 pub record Stores (g : Geometry) (m : Mem) (k p new : ℕ) (r : Answer) (after : Mem) : Type 0 where

@@ -25,8 +25,8 @@ pub record Agree (segmentOf : ℕ → ℕ) (st st′ : State) : Type 0 where
   pub acks : (i : ℕ) → st′ .acks i ≡ st .acks i
   pub root : (i k : ℕ) → st .attached i ≡ true → k < rootCount → st′ .root i k ≡ st .root i k
   pub marked : Tracing (st .phase) → (b : ℕ) → Live st b → st′ .marked b ≡ st .marked b
-  pub fated : (b : ℕ) → st .collect (segmentOf b) ≡ true → st′ .marked b ≡ st .marked b
-  pub collect : (g : ℕ) → st′ .collect g ≡ st .collect g
+  pub condemnedMarks : (b : ℕ) → st .condemned (segmentOf b) ≡ true → st′ .marked b ≡ st .marked b
+  pub condemned : (g : ℕ) → st′ .condemned g ≡ st .condemned g
   pub pointers : (b : ℕ) → Live st b → st′ .pointers b ≡ st .pointers b
   pub values : (b : ℕ) → Live st b → st′ .values b ≡ st .values b
   pub pointer : (b f : ℕ) → Live st b → f < st .pointers b → st′ .pointer b f ≡ st .pointer b f
@@ -80,14 +80,14 @@ module _ (segmentOf : ℕ → ℕ) (st st′ : State) (a : Agree segmentOf st st
     second = λ e i o. omega (arith, a .acks i, inv .second (sym (a .phase) ∙ e) i (sym (a .attached i) ∙ o));
     all = λ e i o. omega (arith, a .acks i, inv .all (sym (a .phase) ∙ e) i (sym (a .attached i) ∙ o));
     core = λ t. let t′ = subst Tracing (a .phase) t in let c = inv .core t′ in record {
-      m1 = λ i b q h. safe-on t′ b (root (inl (i, holds-back i b h))) (c .m1 i b (omega (arith, a .acks i)) (holds-back i b h));
-      m2 = λ x y p m e. safe-on t′ y (next (live-back p) (edge-back x y (live-back p) e)) (c .m2 x y (live-back p) (sym (a .marked t′ x (live-back p)) ∙ m) (edge-back x y (live-back p) e));
+      rootsCovered = λ i b q h. safe-on t′ b (root (inl (i, holds-back i b h))) (c .rootsCovered i b (omega (arith, a .acks i)) (holds-back i b h));
+      pointersCovered = λ x y p m e. safe-on t′ y (next (live-back p) (edge-back x y (live-back p) e)) (c .pointersCovered x y (live-back p) (sym (a .marked t′ x (live-back p)) ∙ m) (edge-back x y (live-back p) e));
     };
-    kept = λ e b p d. let d′ = sym (a .collect (segmentOf b)) ∙ d in a .fated b d′ ∙ inv .kept (sym (a .phase) ∙ e) b (reached-back p) d′;
+    kept = λ e b p d. let d′ = sym (a .condemned (segmentOf b)) ∙ d in a .condemnedMarks b d′ ∙ inv .kept (sym (a .phase) ∙ e) b (reached-back p) d′;
   }
 
   pub agree-comp : (P : ℕ → Type 0) → Complete segmentOf P st → Complete segmentOf P st′
-  agree-comp P c = record { live = λ b p k. c .live b (live-back p) (sym (a .collect (segmentOf b)) ∙ k); black = λ b m k. let k′ = sym (a .collect (segmentOf b)) ∙ k in c .black b (sym (a .fated b k′) ∙ m) k′ }
+  agree-comp P c = record { live = λ b p k. c .live b (live-back p) (sym (a .condemned (segmentOf b)) ∙ k); black = λ b m k. let k′ = sym (a .condemned (segmentOf b)) ∙ k in c .black b (sym (a .condemnedMarks b k′) ∙ m) k′ }
 
   pub agree-sim : (put : ℕ → Option ℕ) (un : Unbounded) → Simulates put st un → Simulates put st′ un
   agree-sim put un s = record {
@@ -123,8 +123,8 @@ module _ (segmentOf : ℕ → ℕ) (st st′ : State) (a : Agree segmentOf st st
     acks = λ i. b .acks i ∙ a .acks i;
     root = λ i k h l. b .root i k (a .attached i ∙ h) l ∙ a .root i k h l;
     marked = λ t x h. b .marked (subst Tracing (sym (a .phase)) t) x (live-on h) ∙ a .marked t x h;
-    fated = λ x d. b .fated x (a .collect (segmentOf x) ∙ d) ∙ a .fated x d;
-    collect = λ x. b .collect x ∙ a .collect x;
+    condemnedMarks = λ x d. b .condemnedMarks x (a .condemned (segmentOf x) ∙ d) ∙ a .condemnedMarks x d;
+    condemned = λ x. b .condemned x ∙ a .condemned x;
     pointers = λ x h. b .pointers x (live-on h) ∙ a .pointers x h;
     values = λ x h. b .values x (live-on h) ∙ a .values x h;
     pointer = λ x f h l. b .pointer x f (live-on h) (subst (λ z. f < z) (sym (a .pointers x h)) l) ∙ a .pointer x f h l;

@@ -24,8 +24,8 @@ module _ (segmentOf : ℕ → ℕ) (st st′ : State) (a : Agree segmentOf st st
     acks = upd-alike (st′ .acks) (st .acks) i v (a .acks);
     root = a .root;
     marked = λ t x h. a .marked t x (back x h);
-    fated = a .fated;
-    collect = a .collect;
+    condemnedMarks = a .condemnedMarks;
+    condemned = a .condemned;
     pointers = λ x h. a .pointers x (back x h);
     values = λ x h. a .values x (back x h);
     pointer = λ x f h. a .pointer x f (back x h);
@@ -41,8 +41,8 @@ module _ (segmentOf : ℕ → ℕ) (st st′ : State) (a : Agree segmentOf st st
     acks = a .acks;
     root = a .root;
     marked = a .marked;
-    fated = a .fated;
-    collect = a .collect;
+    condemnedMarks = a .condemnedMarks;
+    condemned = a .condemned;
     pointers = a .pointers;
     values = a .values;
     pointer = a .pointer;

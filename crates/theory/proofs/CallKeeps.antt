@@ -14,15 +14,15 @@ use Rattle.theory.proofs.CycleKeeps.{check-inv, detach-inv, attach-inv,
 use Rattle.theory.proofs.Graph.{clash}
 use Rattle.theory.proofs.Invariant.{Inv, none-some, load-inv, copy-inv, clear-inv}
 use Rattle.theory.specs.Machine.{State, Holds, Root, Live, make, attach, detach, setInside, setValues, acknowledge, check}
-use Rattle.theory.specs.MachineCalls.{shapeAt, face, room, act, exec}
+use Rattle.theory.specs.MachineCalls.{shapeAt, observe, room, act, exec}
 use Rattle.theory.proofs.MakeKeeps.{make-inv}
 use Rattle.theory.proofs.Simulation.{Simulates, Same, root-sim, store-sim, make-sim, attach-sim, detach-sim, side-sim, values-sim, gc-sim}
 use Rattle.theory.proofs.StoreKeeps.{store-inv}
 use Rattle.theory.proofs.Updates.{upd-cases}
-use Rattle.theory.specs.Calls.{Call, c-attach, c-detach, c-check, c-leave, c-enter, c-spawn, c-make, c-load, c-store, c-copy, c-clear, c-put, c-get, c-same, c-shape, Answer, a-ok, a-num, a-flag, a-no, Face, shapeIf, require, ifRecord, ifInside, pointer?, refusal, sameRef, onRecord, refuse, unless}
+use Rattle.theory.specs.Calls.{Call, c-attach, c-detach, c-check, c-leave, c-enter, c-spawn, c-make, c-load, c-store, c-copy, c-clear, c-put, c-get, c-same, c-shape, Answer, a-ok, a-num, a-flag, a-no, Observation, shapeIf, require, ifRecord, ifInside, pointer?, refusal, sameRef, onRecord, refuse, unless}
 use Rattle.theory.specs.Phases.{Phase, idle, sync1, sync2, mark, sweep, inHandshake}
 use Rattle.theory.specs.Reach.{root, next}
-use Rattle.theory.specs.Unbounded.{Unbounded, uAttach, uDetach, uSetInside, uSetValues, ushapeAt, uface, uact, uexec}
+use Rattle.theory.specs.Unbounded.{Unbounded, uAttach, uDetach, uSetInside, uSetValues, ushapeAt, uobserve, uact, uexec}
 use Rattle.theory.specs.Update.{upd}
 use Rattle.layout.specs.Geometry.{rootCount, mutatorCount}
 
@@ -48,7 +48,7 @@ module _ (put : ℕ → Option ℕ) (st : State) (un : Unbounded) (s : Simulates
       let e : q .id ≡ r = (let z : put b ≡ some r = cc in Option·some-injective (q .id) r (sym (q .is) ∙ z)) in
       ap some (λ i. ((q .pointers ∙ ap (un .pointers) e) i, length ((q .values ∙ ap (un .values) e) i)))
 
-  sh-eq : (i k : ℕ) → face st .shape i k ≡ uface un .shape i k
+  sh-eq : (i k : ℕ) → observe st .shape i k ≡ uobserve un .shape i k
   sh-eq i k = go (st .attached i) (un .attached i) (ltb k rootCount) refl (s .attached i) refl
     where
       go : (a b c : Bool) → st .attached i ≡ a → a ≡ b → ltb k rootCount ≡ c → shapeIf a c (Option·map (shapeAt st) (st .root i k)) ≡ shapeIf b c (Option·map (ushapeAt un) (un .root i k))
@@ -58,12 +58,12 @@ module _ (put : ℕ → Option ℕ) (st : State) (un : Unbounded) (s : Simulates
       go false true c e f h = clash f refl
       go false false c e f h = refl
 
-  face-eq : face st ≡ uface un
-  face-eq = λ z. record { attached = fun-ext (s .attached) z; inside = fun-ext (s .inside) z; shape = fun-ext (λ i. fun-ext (sh-eq i)) z }
+  observe-eq : observe st ≡ uobserve un
+  observe-eq = λ z. record { attached = fun-ext (s .attached) z; inside = fun-ext (s .inside) z; shape = fun-ext (λ i. fun-ext (sh-eq i)) z }
 
 -- ---- the state of a run
 
-pub record Good (segmentOf : ℕ → ℕ) (P : ℕ → Type 0) (put : ℕ → Option ℕ) (st : State) (un : Unbounded) : Type 0 where
+pub record Coupled (segmentOf : ℕ → ℕ) (P : ℕ → Type 0) (put : ℕ → Option ℕ) (st : State) (un : Unbounded) : Type 0 where
   pub inv : Inv segmentOf st
   pub sim : Simulates put st un
   pub few : (i : ℕ) → st .attached i ≡ true → i < mutatorCount
@@ -75,7 +75,7 @@ Dropped st r = ((r .0 ≡ a-no 10) ⊎ (r .0 ≡ a-no 11)) × (r .1 ≡ st)
 
 pub record Alike (segmentOf : ℕ → ℕ) (P : ℕ → Type 0) (put : ℕ → Option ℕ) (r : Answer × State) (q : Answer × Unbounded) : Type 0 where
   pub same : r .0 ≡ q .0
-  pub ok : Good segmentOf P put (r .1) (q .1)
+  pub ok : Coupled segmentOf P put (r .1) (q .1)
 
 abbrev pub Agrees : (ℕ → ℕ) → (ℕ → Type 0) → (ℕ → Option ℕ) → (ℕ → Option ℕ) → State → Answer × State → Answer × Unbounded → Type 0
 Agrees segmentOf P put put′ st r q = (Dropped st r × (put′ ≡ put)) ⊎ Alike segmentOf P put′ r q
@@ -107,14 +107,14 @@ refPut zero put put′ = put′
 refPut (suc n) put put′ = put
 
 abbrev pub nextPut : (State → ℕ → ℕ → ℕ → Option ℕ) → (ℕ → Option ℕ) → State → ℕ → Call → ℕ → Option ℕ
-nextPut alloc put st n c = refPut (refusal (face st) c) put (actPut alloc put st n c)
+nextPut alloc put st n c = refPut (refusal (observe st) c) put (actPut alloc put st n c)
 
 -- a refused make or coming or going of a mutator; what the block is
 pub record Alloc (segmentOf : ℕ → ℕ) (alloc : State → ℕ → ℕ → ℕ → Option ℕ) (st : State) : Type 0 where
   pub free : (i p n b : ℕ) → alloc st i p n ≡ some b → st .used b ≡ false
-  pub sound : (i p n b : ℕ) → alloc st i p n ≡ some b → st .collect (segmentOf b) ≡ false
+  pub sound : (i p n b : ℕ) → alloc st i p n ≡ some b → st .condemned (segmentOf b) ≡ false
 
-pub by-ok : (F : Face) (i k : ℕ) → ifInside F i k ≡ 0 → (i < mutatorCount) × (F .attached i ≡ true) × (F .inside i ≡ true) × (k ≡ 0)
+pub by-ok : (F : Observation) (i k : ℕ) → ifInside F i k ≡ 0 → (i < mutatorCount) × (F .attached i ≡ true) × (F .inside i ≡ true) × (k ≡ 0)
 by-ok F i k e =
     let a = require-ok (ltb i mutatorCount) 2 _ (omega arith) e in
     let b = require-ok (F .attached i) 4 _ (omega arith) (a .1) in
@@ -165,8 +165,8 @@ same-same put inj (some b) (some b′) (some r) (some r′) c d =
     let f : put b′ ≡ some r′ = cc in
     eqb-iff b b′ r r′ (λ h. Option·some-injective r r′ (sym e ∙ ap put h ∙ f)) (λ h. inj b b′ r e (f ∙ ap some (sym h)))
 
-module _ (segmentOf : ℕ → ℕ) (P : ℕ → Type 0) (put : ℕ → Option ℕ) (st : State) (un : Unbounded) (o : Good segmentOf P put st un) where
-  acknowledge-ok : (p : Phase) (n i : ℕ) → st .attached i ≡ true → Inv segmentOf (acknowledge p n st i) → Good segmentOf P put (acknowledge p n st i) un
+module _ (segmentOf : ℕ → ℕ) (P : ℕ → Type 0) (put : ℕ → Option ℕ) (st : State) (un : Unbounded) (o : Coupled segmentOf P put st un) where
+  acknowledge-ok : (p : Phase) (n i : ℕ) → st .attached i ≡ true → Inv segmentOf (acknowledge p n st i) → Coupled segmentOf P put (acknowledge p n st i) un
   acknowledge-ok idle n i h v = o
   acknowledge-ok sync1 zero i h v = record { inv = v; sim = gc-sim put st un (o .sim) _ _ _ _ _ _ (λ b q. q); few = o .few; comp = same-comp segmentOf P st (o .inv) (o .comp) _ (λ b q. q) (λ b. refl) (λ g. refl) }
   acknowledge-ok sync1 (suc n) i h v = o
@@ -176,10 +176,10 @@ module _ (segmentOf : ℕ → ℕ) (P : ℕ → Type 0) (put : ℕ → Option �
   acknowledge-ok mark n i h v = o
   acknowledge-ok sweep n i h v = o
 
-  pub check-ok : (i : ℕ) → st .attached i ≡ true → Good segmentOf P put (check st i) un
+  pub check-ok : (i : ℕ) → st .attached i ≡ true → Coupled segmentOf P put (check st i) un
   check-ok i h = acknowledge-ok (st .phase) (st .acks i) i h (check-inv segmentOf st (o .inv) i h)
 
-module _ (segmentOf : ℕ → ℕ) (alloc : State → ℕ → ℕ → ℕ → Option ℕ) (P : ℕ → Type 0) (put : ℕ → Option ℕ) (st : State) (al : Alloc segmentOf alloc st) (un : Unbounded) (o : Good segmentOf P put st un) where
+module _ (segmentOf : ℕ → ℕ) (alloc : State → ℕ → ℕ → ℕ → Option ℕ) (P : ℕ → Type 0) (put : ℕ → Option ℕ) (st : State) (al : Alloc segmentOf alloc st) (un : Unbounded) (o : Coupled segmentOf P put st un) where
   same-at : (i k : ℕ) → st .attached i ≡ true → k < rootCount → Same put (st .root i k) (un .root i k)
   same-at i k h l = o .sim .root i k h l
 
@@ -192,16 +192,16 @@ module _ (segmentOf : ℕ → ℕ) (alloc : State → ℕ → ℕ → ℕ → Op
   onRecord-ok (some a) none c K L f = let z : _≡_ {A = ℕ} 0 1 = cc in absurd (omega arith)
   onRecord-ok (some a) (some r) c K L f = f a r refl refl cc
 
-  unless-ok : (b : Bool) (st′ : State) (rk′ : Unbounded) → (b ≡ false → Good segmentOf P put st′ rk′) → Agrees segmentOf P put put st (unless b 11 st st′) (a-ok, rk′)
+  unless-ok : (b : Bool) (st′ : State) (rk′ : Unbounded) → (b ≡ false → Coupled segmentOf P put st′ rk′) → Agrees segmentOf P put put st (unless b 11 st st′) (a-ok, rk′)
   unless-ok true st′ rk′ f = inl ((inr refl, refl), refl)
   unless-ok false st′ rk′ f = inr (record { same = refl; ok = f refl })
 
   same-id : (a r : ℕ) (h : Live st a) → put a ≡ some r → o .sim .rec a h .id ≡ r
   same-id a r h e = let q = o .sim .rec a h in Option·some-injective (q .id) r (sym (q .is) ∙ e)
 
-  act-load : (i d s f : ℕ) → refusal (face st) (c-load i d s f) ≡ 0 → Agrees segmentOf P put put st (act alloc st (c-load i d s f)) (uact un (c-load i d s f))
+  act-load : (i d s f : ℕ) → refusal (observe st) (c-load i d s f) ≡ 0 → Agrees segmentOf P put put st (act alloc st (c-load i d s f)) (uact un (c-load i d s f))
   act-load i d s f e =
-      let a = by-ok (face st) i _ e in
+      let a = by-ok (observe st) i _ e in
       let b = root-ok d _ (a .3) in
       let c = root-ok s _ (b .1) in
       onRecord-ok (st .root i s) (un .root i s) (same-at i s (a .1) (c .0)) _ _ (λ x r p q u.
@@ -210,9 +210,9 @@ module _ (segmentOf : ℕ → ℕ) (alloc : State → ℕ → ℕ → ℕ → Op
       let v : Same put (st .pointer x f) (un .pointer r f) = subst (λ z. Same put (st .pointer x f) (un .pointer z f)) (same-id x r (root (inl (i, h))) u) (o .sim .rec x (root (inl (i, h))) .pointer f l) in
       inr (record { same = refl; ok = record { inv = load-inv segmentOf st (o .inv) i d x f h l; sim = root-sim segmentOf put st un (o .inv) (o .sim) i d (st .pointer x f) (un .pointer r f) v (λ b k. next (root (i, h)) (f, l, k)); few = o .few; comp = root-comp segmentOf P st (o .inv) (o .comp) i d (st .pointer x f) (λ b k. next (root (i, h)) (f, l, k)) } }))
 
-  act-store : (i s f t : ℕ) → refusal (face st) (c-store i s f t) ≡ 0 → Agrees segmentOf P put put st (act alloc st (c-store i s f t)) (uact un (c-store i s f t))
+  act-store : (i s f t : ℕ) → refusal (observe st) (c-store i s f t) ≡ 0 → Agrees segmentOf P put put st (act alloc st (c-store i s f t)) (uact un (c-store i s f t))
   act-store i s f t e =
-      let a = by-ok (face st) i _ e in
+      let a = by-ok (observe st) i _ e in
       let b = root-ok s _ (a .3) in
       let c = root-ok t _ (b .1) in
       onRecord-ok (st .root i s) (un .root i s) (same-at i s (a .1) (b .0)) _ _ (λ x r p q u.
@@ -221,26 +221,26 @@ module _ (segmentOf : ℕ → ℕ) (alloc : State → ℕ → ℕ → ℕ → Op
       let n : (y : ℕ) → st .root i t ≡ some y → Holds st i y = (λ y k. (t, a .1, c .0, k)) in
       inr (record { same = refl; ok = record { inv = store-inv segmentOf st (o .inv) i x f (st .root i t) h l n; sim = store-sim segmentOf put st un (o .inv) (o .sim) i x f r (st .root i t) (un .root i t) h l n u (same-at i t (a .1) (c .0)); few = o .few; comp = store-comp segmentOf P st (o .inv) (o .comp) i x f (st .root i t) h l n } }))
 
-  act-put : (i s k v : ℕ) → refusal (face st) (c-put i s k v) ≡ 0 → Agrees segmentOf P put put st (act alloc st (c-put i s k v)) (uact un (c-put i s k v))
+  act-put : (i s k v : ℕ) → refusal (observe st) (c-put i s k v) ≡ 0 → Agrees segmentOf P put put st (act alloc st (c-put i s k v)) (uact un (c-put i s k v))
   act-put i s k v e =
-      let a = by-ok (face st) i _ e in
+      let a = by-ok (observe st) i _ e in
       let b = root-ok s _ (a .3) in
       onRecord-ok (st .root i s) (un .root i s) (same-at i s (a .1) (b .0)) _ _ (λ x r p q u.
       let h : Live st x = root (inl (i, (s, a .1, b .0, p))) in
       let n : st .values x ≡ un .values r = o .sim .rec x h .values ∙ ap (un .values) (same-id x r h u) in
       inr (record { same = refl; ok = record { inv = values-inv segmentOf st (o .inv) x (set (st .values x) k v); sim = subst (λ z. Simulates put (setValues st x (set (st .values x) k v)) (uSetValues un r (set z k v))) n (values-sim segmentOf put st un (o .inv) (o .sim) x r (set (st .values x) k v) u); few = o .few; comp = values-comp segmentOf P st (o .inv) (o .comp) x (set (st .values x) k v) } }))
 
-  act-get : (i s k : ℕ) → refusal (face st) (c-get i s k) ≡ 0 → Agrees segmentOf P put put st (act alloc st (c-get i s k)) (uact un (c-get i s k))
+  act-get : (i s k : ℕ) → refusal (observe st) (c-get i s k) ≡ 0 → Agrees segmentOf P put put st (act alloc st (c-get i s k)) (uact un (c-get i s k))
   act-get i s k e =
-      let a = by-ok (face st) i _ e in
+      let a = by-ok (observe st) i _ e in
       let b = root-ok s _ (a .3) in
       onRecord-ok (st .root i s) (un .root i s) (same-at i s (a .1) (b .0)) _ _ (λ x r p q u.
       let h : Live st x = root (inl (i, (s, a .1, b .0, p))) in
       stay _ _ (ap (λ (z : List ℕ). a-num (getD z k 0)) (o .sim .rec x h .values ∙ ap (un .values) (same-id x r h u))))
 
-  act-shape : (i s : ℕ) → refusal (face st) (c-shape i s) ≡ 0 → Agrees segmentOf P put put st (act alloc st (c-shape i s)) (uact un (c-shape i s))
+  act-shape : (i s : ℕ) → refusal (observe st) (c-shape i s) ≡ 0 → Agrees segmentOf P put put st (act alloc st (c-shape i s)) (uact un (c-shape i s))
   act-shape i s e =
-      let a = by-ok (face st) i _ e in
+      let a = by-ok (observe st) i _ e in
       let b = root-ok s _ (a .3) in
       onRecord-ok (st .root i s) (un .root i s) (same-at i s (a .1) (b .0)) _ _ (λ x r p q u.
       let h : Live st x = root (inl (i, (s, a .1, b .0, p))) in
@@ -248,16 +248,16 @@ module _ (segmentOf : ℕ → ℕ) (alloc : State → ℕ → ℕ → ℕ → Op
       let m : st .pointers x ≡ un .pointers r = o .sim .rec x h .pointers ∙ ap (un .pointers) (same-id x r h u) in
       stay _ _ cc)
 
-  act-same : (i s t : ℕ) → refusal (face st) (c-same i s t) ≡ 0 → Agrees segmentOf P put put st (act alloc st (c-same i s t)) (uact un (c-same i s t))
+  act-same : (i s t : ℕ) → refusal (observe st) (c-same i s t) ≡ 0 → Agrees segmentOf P put put st (act alloc st (c-same i s t)) (uact un (c-same i s t))
   act-same i s t e =
-      let a = by-ok (face st) i _ e in
+      let a = by-ok (observe st) i _ e in
       let b = root-ok s _ (a .3) in
       let c = root-ok t _ (b .1) in
       stay _ _ (ap a-flag (same-same put (o .sim .inj) (st .root i s) (st .root i t) (un .root i s) (un .root i t) (same-at i s (a .1) (b .0)) (same-at i t (a .1) (c .0))))
 
-  act-copy : (i d s : ℕ) → refusal (face st) (c-copy i d s) ≡ 0 → Agrees segmentOf P put put st (act alloc st (c-copy i d s)) (uact un (c-copy i d s))
+  act-copy : (i d s : ℕ) → refusal (observe st) (c-copy i d s) ≡ 0 → Agrees segmentOf P put put st (act alloc st (c-copy i d s)) (uact un (c-copy i d s))
   act-copy i d s e =
-      let a = by-ok (face st) i _ e in
+      let a = by-ok (observe st) i _ e in
       let b = root-ok d _ (a .3) in
       let c = root-ok s _ (b .1) in
       inr (record { same = refl; ok = record { inv = copy-inv segmentOf st (o .inv) i d s (a .1) (c .0); sim = root-sim segmentOf put st un (o .inv) (o .sim) i d (st .root i s) (un .root i s) (same-at i s (a .1) (c .0)) (λ b k. root (i, (s, a .1, c .0, k))); few = o .few; comp = root-comp segmentOf P st (o .inv) (o .comp) i d (st .root i s) (λ b k. root (i, (s, a .1, c .0, k))) } })
@@ -288,11 +288,11 @@ module _ (segmentOf : ℕ → ℕ) (alloc : State → ℕ → ℕ → ℕ → Op
   act-detach : (i : ℕ) → Agrees segmentOf P put put st (act alloc st (c-detach i)) (uact un (c-detach i))
   act-detach i = unless-ok (inHandshake (st .phase)) (detach st i) (uDetach un i) (λ e. record { inv = detach-inv segmentOf st (o .inv) i; sim = detach-sim segmentOf put st un (o .inv) (o .sim) i; few = λ j k. few-detach i j k; comp = detach-comp segmentOf P st (o .inv) (o .comp) i })
 
-pub side-ok : (segmentOf : ℕ → ℕ) (P : ℕ → Type 0) (put : ℕ → Option ℕ) (st : State) (un : Unbounded) → Good segmentOf P put st un → (i : ℕ) (v : Bool) → Good segmentOf P put (setInside st i v) (uSetInside un i v)
+pub side-ok : (segmentOf : ℕ → ℕ) (P : ℕ → Type 0) (put : ℕ → Option ℕ) (st : State) (un : Unbounded) → Coupled segmentOf P put st un → (i : ℕ) (v : Bool) → Coupled segmentOf P put (setInside st i v) (uSetInside un i v)
 side-ok segmentOf P put st un o i v = record { inv = side-inv segmentOf st (o .inv) i v; sim = side-sim segmentOf put st un (o .inv) (o .sim) i v; few = o .few; comp = side-comp segmentOf P st (o .inv) (o .comp) i v }
 
-module _ (segmentOf : ℕ → ℕ) (alloc : State → ℕ → ℕ → ℕ → Option ℕ) (P : ℕ → Type 0) (put : ℕ → Option ℕ) (st : State) (al : Alloc segmentOf alloc st) (un : Unbounded) (o : Good segmentOf P put st un) where
-  act-ok : (c : Call) → refusal (face st) c ≡ 0 → Agrees segmentOf P put (actPut alloc put st (un .count) c) st (act alloc st c) (uact un c)
+module _ (segmentOf : ℕ → ℕ) (alloc : State → ℕ → ℕ → ℕ → Option ℕ) (P : ℕ → Type 0) (put : ℕ → Option ℕ) (st : State) (al : Alloc segmentOf alloc st) (un : Unbounded) (o : Coupled segmentOf P put st un) where
+  act-ok : (c : Call) → refusal (observe st) c ≡ 0 → Agrees segmentOf P put (actPut alloc put st (un .count) c) st (act alloc st c) (uact un c)
   act-ok (c-attach i) e = act-attach segmentOf alloc P put st al un o i none none (lt-of i 32 (require-ok _ 2 _ (omega arith) e .0)) refl (λ b k. none-some k)
   act-ok (c-spawn i p k) e =
       let a = require-ok (ltb i mutatorCount) 2 _ (omega arith) e in
@@ -303,8 +303,8 @@ module _ (segmentOf : ℕ → ℕ) (alloc : State → ℕ → ℕ → ℕ → Op
       let g = root-ok k _ (f .1) in
       act-attach segmentOf alloc P put st al un o i (st .root p k) (un .root p k) (lt-of i 32 (a .0)) (o .sim .root p k (d .0) (g .0)) (λ x q. (p, (k, d .0, g .0, q)))
   act-ok (c-detach i) e = act-detach segmentOf alloc P put st al un o i
-  act-ok (c-check i) e = inr (record { same = refl; ok = check-ok segmentOf P put st un o i (by-ok (face st) i _ e .1) })
-  act-ok (c-leave i) e = inr (record { same = refl; ok = side-ok segmentOf P put (check st i) un (check-ok segmentOf P put st un o i (by-ok (face st) i _ e .1)) i false })
+  act-ok (c-check i) e = inr (record { same = refl; ok = check-ok segmentOf P put st un o i (by-ok (observe st) i _ e .1) })
+  act-ok (c-leave i) e = inr (record { same = refl; ok = side-ok segmentOf P put (check st i) un (check-ok segmentOf P put st un o i (by-ok (observe st) i _ e .1)) i false })
   act-ok (c-enter i) e = inr (record { same = refl; ok = side-ok segmentOf P put st un o i true })
   act-ok (c-make i d p n) e = act-make segmentOf alloc P put st al un o i d p n
   act-ok (c-load i d s f) e = act-load segmentOf alloc P put st al un o i d s f e
@@ -318,9 +318,9 @@ module _ (segmentOf : ℕ → ℕ) (alloc : State → ℕ → ℕ → ℕ → Op
 
   -- the theorem of the mutator calls
   pub exec-ok : (c : Call) → Agrees segmentOf P put (nextPut alloc put st (un .count) c) st (exec alloc st c) (uexec un c)
-  exec-ok c = go (refusal (face st) c) (refusal (uface un) c) refl (ap (λ F. refusal F c) (face-eq put st un (o .sim)))
+  exec-ok c = go (refusal (observe st) c) (refusal (uobserve un) c) refl (ap (λ F. refusal F c) (observe-eq put st un (o .sim)))
     where
-      go : (n m : ℕ) → refusal (face st) c ≡ n → n ≡ m → Agrees segmentOf P put (refPut n put (actPut alloc put st (un .count) c)) st (refuse n st (act alloc st c)) (refuse m un (uact un c))
+      go : (n m : ℕ) → refusal (observe st) c ≡ n → n ≡ m → Agrees segmentOf P put (refPut n put (actPut alloc put st (un .count) c)) st (refuse n st (act alloc st c)) (refuse m un (uact un c))
       go zero zero e f = act-ok c e
       go zero (suc m) e f = absurd (omega arith)
       go (suc n) zero e f = absurd (omega arith)

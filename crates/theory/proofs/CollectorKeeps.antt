@@ -7,7 +7,7 @@ use mathlib.Core.List.{List, [], _∷_}
 use Prim.Native.Nat.{ℕ, zero, suc, _≤_, _<_}
 use native.Mathlib.Omega.{arith}
 use native.Mathlib.Decide.{ℕ-discrete}
-use Rattle.theory.proofs.CallKeeps.{Good, check-ok}
+use Rattle.theory.proofs.CallKeeps.{Coupled, check-ok}
 use Rattle.theory.proofs.Completeness.{start-comp, phase-comp, trace-comp, sweep-comp}
 use Rattle.theory.proofs.Graph.{bool-cases, clash}
 use Rattle.theory.proofs.Invariant.{Inv}
@@ -28,14 +28,14 @@ pub record Later (st st′ : State) : Type 0 where
   pub attached : (i : ℕ) → st′ .attached i ≡ st .attached i
   pub inside : (i : ℕ) → st′ .inside i ≡ st .inside i
   pub phase : st′ .phase ≡ st .phase
-  pub collect : st′ .collect ≡ st .collect
+  pub condemned : st′ .condemned ≡ st .condemned
   pub up : (i : ℕ) → st .acks i ≤ st′ .acks i
 
 later-refl : (st : State) → Later st st
-later-refl st = record { attached = λ i. refl; inside = λ i. refl; phase = refl; collect = refl; up = λ i. omega arith }
+later-refl st = record { attached = λ i. refl; inside = λ i. refl; phase = refl; condemned = refl; up = λ i. omega arith }
 
 later-trans : (a b c : State) → Later a b → Later b c → Later a c
-later-trans a b c p q = record { attached = λ i. q .attached i ∙ p .attached i; inside = λ i. q .inside i ∙ p .inside i; phase = q .phase ∙ p .phase; collect = q .collect ∙ p .collect; up = λ i. omega (arith, p .up i, q .up i) }
+later-trans a b c p q = record { attached = λ i. q .attached i ∙ p .attached i; inside = λ i. q .inside i ∙ p .inside i; phase = q .phase ∙ p .phase; condemned = q .condemned ∙ p .condemned; up = λ i. omega (arith, p .up i, q .up i) }
 
 owes-up : (p : Phase) (a b : ℕ) → a ≤ b → owes p a ≡ false → owes p b ≡ false
 owes-up idle a b h e = refl
@@ -49,7 +49,7 @@ owes-up mark a b h e = refl
 owes-up sweep a b h e = refl
 
 set-later : (st : State) (i n : ℕ) (l : List ℕ) → st .acks i ≤ n → Later st (setAcks st i n l)
-set-later st i n l h = record { attached = λ j. refl; inside = λ j. refl; phase = refl; collect = refl; up = λ j. ⊎-elim (λ q. subst (λ z. st .acks j ≤ z) (sym (q .1)) (subst (λ z. st .acks z ≤ n) (sym (q .0)) h)) (λ q. omega (arith, q .1)) (upd-cases (st .acks) i n j) }
+set-later st i n l h = record { attached = λ j. refl; inside = λ j. refl; phase = refl; condemned = refl; up = λ j. ⊎-elim (λ q. subst (λ z. st .acks j ≤ z) (sym (q .1)) (subst (λ z. st .acks z ≤ n) (sym (q .0)) h)) (λ q. omega (arith, q .1)) (upd-cases (st .acks) i n j) }
 
 acknowledge-later : (st : State) (i : ℕ) (p : Phase) (n : ℕ) → st .phase ≡ p → st .acks i ≡ n → Later st (acknowledge p n st i) × (owes p (acknowledge p n st i .acks i) ≡ false)
 acknowledge-later st i idle n e a = (later-refl st, refl)
@@ -134,45 +134,45 @@ owes2 (suc (suc a)) e = omega arith
 
 -- what picks the segment to sweep
 pub record Pick (lowest : State → Option ℕ) (st : State) : Type 0 where
-  pub condemned : (g : ℕ) → lowest st ≡ some g → st .collect g ≡ true
-  pub none-left : lowest st ≡ none → (g : ℕ) → g < maxSegments → st .collect g ≡ false
+  pub condemned : (g : ℕ) → lowest st ≡ some g → st .condemned g ≡ true
+  pub none-left : lowest st ≡ none → (g : ℕ) → g < maxSegments → st .condemned g ≡ false
 
 module _ (segmentOf : ℕ → ℕ) (lowest : State → Option ℕ) where
-  outside-ok : (n : ℕ) (P : ℕ → Type 0) (put : ℕ → Option ℕ) (st : State) (un : Unbounded) → Good segmentOf P put st un → Good segmentOf P put (answerOutside n st) un
+  outside-ok : (n : ℕ) (P : ℕ → Type 0) (put : ℕ → Option ℕ) (st : State) (un : Unbounded) → Coupled segmentOf P put st un → Coupled segmentOf P put (answerOutside n st) un
   outside-ok zero P put st un o = o
   outside-ok (suc n) P put st un o = go (answerOutside n st .attached n) (answerOutside n st .inside n) refl (outside-ok n P put st un o)
     where
       st₁ : State
       st₁ = answerOutside n st
 
-      go : (a b : Bool) → st₁ .attached n ≡ a → Good segmentOf P put st₁ un → Good segmentOf P put (outside a b st₁ (check st₁ n)) un
+      go : (a b : Bool) → st₁ .attached n ≡ a → Coupled segmentOf P put st₁ un → Coupled segmentOf P put (outside a b st₁ (check st₁ n)) un
       go true false e o = check-ok segmentOf P put st₁ un o n e
       go true true e o = o
       go false b e o = o
 
-  phase-ok : (P : ℕ → Type 0) (put : ℕ → Option ℕ) (st : State) (un : Unbounded) (p : Phase) → Good segmentOf P put st un → Inv segmentOf (setPhase st p) → Good segmentOf P put (setPhase st p) un
+  phase-ok : (P : ℕ → Type 0) (put : ℕ → Option ℕ) (st : State) (un : Unbounded) (p : Phase) → Coupled segmentOf P put st un → Inv segmentOf (setPhase st p) → Coupled segmentOf P put (setPhase st p) un
   phase-ok P put st un p o v = record { inv = v; sim = gc-sim put st un (o .sim) _ _ _ _ _ _ (λ b q. q); few = o .few; comp = phase-comp segmentOf P st (o .inv) (o .comp) p }
 
-  pub step-ok : (P : ℕ → Type 0) (put : ℕ → Option ℕ) (st : State) (un : Unbounded) → Pick lowest st → Good segmentOf P put st un → (p : Phase) → st .phase ≡ p → Good segmentOf P put (stepBy segmentOf lowest p st .1) un
+  pub step-ok : (P : ℕ → Type 0) (put : ℕ → Option ℕ) (st : State) (un : Unbounded) → Pick lowest st → Coupled segmentOf P put st un → (p : Phase) → st .phase ≡ p → Coupled segmentOf P put (stepBy segmentOf lowest p st .1) un
   step-ok P put st un lo o idle e = o
   step-ok P put st un lo o sync1 e = go (waiting mutatorCount (answerOutside mutatorCount st)) refl (outside-ok 32 P put st un o)
     where
-      go : (n : ℕ) → waiting mutatorCount (answerOutside mutatorCount st) ≡ n → Good segmentOf P put (answerOutside mutatorCount st) un → Good segmentOf P put (move n (answerOutside mutatorCount st) sync2 .1) un
+      go : (n : ℕ) → waiting mutatorCount (answerOutside mutatorCount st) ≡ n → Coupled segmentOf P put (answerOutside mutatorCount st) un → Coupled segmentOf P put (move n (answerOutside mutatorCount st) sync2 .1) un
       go (suc n) w o₁ = o₁
       go zero w o₁ = phase-ok P put (answerOutside mutatorCount st) un sync2 o₁ (Cycle.to-sync2 segmentOf (answerOutside mutatorCount st) (o₁ .inv) (outside-later 32 st .phase ∙ e) (λ i h. owes1 _ (subst (λ p. owes p (answerOutside mutatorCount st .acks i) ≡ false) e (all-answered st w i (o₁ .few i h) h))))
   step-ok P put st un lo o sync2 e = go (waiting mutatorCount (answerOutside mutatorCount st)) refl (outside-ok 32 P put st un o)
     where
-      go : (n : ℕ) → waiting mutatorCount (answerOutside mutatorCount st) ≡ n → Good segmentOf P put (answerOutside mutatorCount st) un → Good segmentOf P put (move n (answerOutside mutatorCount st) mark .1) un
+      go : (n : ℕ) → waiting mutatorCount (answerOutside mutatorCount st) ≡ n → Coupled segmentOf P put (answerOutside mutatorCount st) un → Coupled segmentOf P put (move n (answerOutside mutatorCount st) mark .1) un
       go (suc n) w o₁ = o₁
       go zero w o₁ = phase-ok P put (answerOutside mutatorCount st) un mark o₁ (Cycle.to-mark segmentOf (answerOutside mutatorCount st) (o₁ .inv) (outside-later 32 st .phase ∙ e) (λ i h. owes2 _ (subst (λ p. owes p (answerOutside mutatorCount st .acks i) ≡ false) e (all-answered st w i (o₁ .few i h) h))))
   step-ok P put st un lo o mark e = go (st .stack) refl
     where
-      go : (l : List ℕ) → st .stack ≡ l → Good segmentOf P put (traceStep l st .1) un
+      go : (l : List ℕ) → st .stack ≡ l → Coupled segmentOf P put (traceStep l st .1) un
       go [] k = phase-ok P put st un sweep o (Cycle.to-sweep segmentOf st (o .inv) e k)
       go (b ∷ l) k = record { inv = Cycle.trace-inv segmentOf st (o .inv) b l e k; sim = gc-sim put st un (o .sim) _ _ _ _ _ _ (λ x q. Cycle.live-back segmentOf st (o .inv) b l e k q); few = o .few; comp = trace-comp segmentOf P st (o .inv) (o .comp) b l e k }
   step-ok P put st un lo o sweep e = go (lowest st) refl
     where
-      go : (v : Option ℕ) → lowest st ≡ v → Good segmentOf P put (sweepStep segmentOf v st .1) un
+      go : (v : Option ℕ) → lowest st ≡ v → Coupled segmentOf P put (sweepStep segmentOf v st .1) un
       go none k = phase-ok P put st un idle o (Cycle.to-idle segmentOf st (o .inv) e)
       go (some g) k = record { inv = Cycle.sweep-inv segmentOf st (o .inv) g e (lo .condemned g k); sim = gc-sim put st un (o .sim) _ _ _ _ _ _ (λ x q. q); few = o .few; comp = sweep-comp segmentOf P st (o .inv) (o .comp) g }
 
@@ -184,7 +184,7 @@ module _ (segmentOf : ℕ → ℕ) (lowest : State → Option ℕ) where
   atStart mark st P = P
   atStart sweep st P = P
 
-  pub start-ok : (full : ℕ → Bool) (P : ℕ → Type 0) (put : ℕ → Option ℕ) (st : State) (un : Unbounded) → Good segmentOf P put st un → (p : Phase) → Good segmentOf (atStart p st P) put (startBy p full st .1) un
+  pub start-ok : (full : ℕ → Bool) (P : ℕ → Type 0) (put : ℕ → Option ℕ) (st : State) (un : Unbounded) → Coupled segmentOf P put st un → (p : Phase) → Coupled segmentOf (atStart p st P) put (startBy p full st .1) un
   start-ok full P put st un o idle = record { inv = Cycle.start-inv segmentOf st (o .inv) full; sim = gc-sim put st un (o .sim) _ _ _ _ _ _ (λ b q. q); few = o .few; comp = start-comp segmentOf st full }
   start-ok full P put st un o sync1 = o
   start-ok full P put st un o sync2 = o

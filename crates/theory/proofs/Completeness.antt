@@ -1,4 +1,4 @@
--- Completeness: what was not live when the cycle began is never marked in the collect set. Assumes nothing.
+-- Completeness: what was not live when the cycle began is never marked in a condemned segment. Assumes nothing.
 use mathlib.Core.Path.{_≡_, refl, ap, sym, _∙_, subst}
 use mathlib.Core.Logic.{_⊎_, inl, inr, ⊎-elim, _≢_}
 use mathlib.Core.Bool.{Bool, true, false}
@@ -12,25 +12,25 @@ use Rattle.theory.specs.Machine.{setValues, State, Holds, Root, Live, Re
 use Rattle.theory.proofs.Updates.{upd-cases, upd-other}
 use Rattle.theory.specs.Phases.{Phase, idle, sync1, sync2, mark, sweep, black}
 use Rattle.theory.specs.Reach.{root}
-use Rattle.theory.specs.Update.{pick}
+use Rattle.theory.specs.Update.{ifDec}
 use Rattle.theory.proofs.StoreKeeps as Store
 use Rattle.theory.proofs.MakeKeeps as Make
 use Rattle.theory.proofs.CycleKeeps as Cycle
 
--- P: what was live when the cycle began. A block of the collect set that is live or marked is of P.
+-- P: what was live when the cycle began. A block of a condemned segment that is live or marked is of P.
 pub record Complete (segmentOf : ℕ → ℕ) (P : ℕ → Type 0) (st : State) : Type 0 where
-  pub live : (b : ℕ) → Live st b → st .collect (segmentOf b) ≡ true → P b
-  pub black : (b : ℕ) → st .marked b ≡ true → st .collect (segmentOf b) ≡ true → P b
+  pub live : (b : ℕ) → Live st b → st .condemned (segmentOf b) ≡ true → P b
+  pub black : (b : ℕ) → st .marked b ≡ true → st .condemned (segmentOf b) ≡ true → P b
 
--- where nothing becomes live or comes into the collect set, and only what was live is marked
-pub back-comp : (segmentOf : ℕ → ℕ) (P : ℕ → Type 0) (st st′ : State) → Complete segmentOf P st → ((b : ℕ) → Live st′ b → Live st b) → ((b : ℕ) → st′ .marked b ≡ true → (st .marked b ≡ true) ⊎ Live st b) → ((g : ℕ) → st′ .collect g ≡ true → st .collect g ≡ true) → Complete segmentOf P st′
+-- where nothing becomes live or comes among the condemned, and only what was live is marked
+pub back-comp : (segmentOf : ℕ → ℕ) (P : ℕ → Type 0) (st st′ : State) → Complete segmentOf P st → ((b : ℕ) → Live st′ b → Live st b) → ((b : ℕ) → st′ .marked b ≡ true → (st .marked b ≡ true) ⊎ Live st b) → ((g : ℕ) → st′ .condemned g ≡ true → st .condemned g ≡ true) → Complete segmentOf P st′
 back-comp segmentOf P st st′ c l m d = record { live = λ b p k. c .live b (l b p) (d (segmentOf b) k); black = λ b h k. ⊎-elim (λ q. c .black b q (d (segmentOf b) k)) (λ q. c .live b q (d (segmentOf b) k)) (m b h) }
 
 pub start-comp : (segmentOf : ℕ → ℕ) (st : State) (full : ℕ → Bool) → Complete segmentOf (Live st) (start st full)
 start-comp segmentOf st full = record { live = λ b p k. p; black = λ b m k. clash m refl }
 
 module _ (segmentOf : ℕ → ℕ) (P : ℕ → Type 0) (st : State) (inv : Inv segmentOf st) (c : Complete segmentOf P st) where
-  pub same-comp : (st′ : State) → ((b : ℕ) → Live st′ b → Live st b) → ((b : ℕ) → st′ .marked b ≡ st .marked b) → ((g : ℕ) → st′ .collect g ≡ st .collect g) → Complete segmentOf P st′
+  pub same-comp : (st′ : State) → ((b : ℕ) → Live st′ b → Live st b) → ((b : ℕ) → st′ .marked b ≡ st .marked b) → ((g : ℕ) → st′ .condemned g ≡ st .condemned g) → Complete segmentOf P st′
   same-comp st′ l m d = back-comp segmentOf P st st′ c l (λ b h. inl (sym (m b) ∙ h)) (λ g h. sym (d g) ∙ h)
 
   pub root-comp : (i k : ℕ) (v : Option ℕ) → ((b : ℕ) → v ≡ some b → Reached st b) → Complete segmentOf P (setRoot st i k v)
@@ -42,14 +42,14 @@ module _ (segmentOf : ℕ → ℕ) (P : ℕ → Type 0) (st : State) (inv : Inv 
   pub values-comp : (a : ℕ) (z : List ℕ) → Complete segmentOf P (setValues st a z)
   values-comp a z = same-comp _ (λ b p. p) (λ b. refl) (λ g. refl)
 
-  pub make-comp : (i d b n : ℕ) (z : List ℕ) → st .used b ≡ false → st .collect (segmentOf b) ≡ false → Complete segmentOf P (make st i d b n z)
+  pub make-comp : (i d b n : ℕ) (z : List ℕ) → st .used b ≡ false → st .condemned (segmentOf b) ≡ false → Complete segmentOf P (make st i d b n z)
   make-comp i d b n z hu hd = record {
-    live = λ x p k. ⊎-elim (λ q. c .live x q k) (λ q. clash k (ap (λ w. st .collect (segmentOf w)) q ∙ hd)) (Make.live-back segmentOf st inv i d b n z hu hd p);
+    live = λ x p k. ⊎-elim (λ q. c .live x q k) (λ q. clash k (ap (λ w. st .condemned (segmentOf w)) q ∙ hd)) (Make.live-back segmentOf st inv i d b n z hu hd p);
     black = λ x m k. go x m k (ℕ-discrete x b);
   }
     where
-      go : (x : ℕ) → make st i d b n z .marked x ≡ true → st .collect (segmentOf x) ≡ true → Dec (x ≡ b) → P x
-      go x m k (yes e) = clash k (ap (λ w. st .collect (segmentOf w)) e ∙ hd)
+      go : (x : ℕ) → make st i d b n z .marked x ≡ true → st .condemned (segmentOf x) ≡ true → Dec (x ≡ b) → P x
+      go x m k (yes e) = clash k (ap (λ w. st .condemned (segmentOf w)) e ∙ hd)
       go x m k (no n) = c .black x (sym (upd-other (st .marked) b (black (st .phase) (st .acks i)) x n) ∙ m) k
 
   acknowledge-comp : (p : Phase) (n i : ℕ) → st .attached i ≡ true → Complete segmentOf P (acknowledge p n st i)
@@ -69,7 +69,7 @@ module _ (segmentOf : ℕ → ℕ) (P : ℕ → Type 0) (st : State) (inv : Inv 
   phase-comp p = same-comp _ (λ b q. q) (λ b. refl) (λ g. refl)
 
   pub sweep-comp : (g : ℕ) → Complete segmentOf P (sweepSegment segmentOf st g)
-  sweep-comp g = back-comp segmentOf P st _ c (λ b q. q) (λ b m. inl m) (λ h k. ⊎-elim (λ q. clash k (q .1)) (λ q. sym (q .1) ∙ k) (upd-cases (st .collect) g false h))
+  sweep-comp g = back-comp segmentOf P st _ c (λ b q. q) (λ b m. inl m) (λ h k. ⊎-elim (λ q. clash k (q .1)) (λ q. sym (q .1) ∙ k) (upd-cases (st .condemned) g false h))
 
   pub side-comp : (i : ℕ) (v : Bool) → Complete segmentOf P (setInside st i v)
   side-comp i v = same-comp _ (λ b q. q) (λ b. refl) (λ g. refl)
@@ -84,14 +84,14 @@ module _ (segmentOf : ℕ → ℕ) (P : ℕ → Type 0) (st : State) (inv : Inv 
   pub detach-comp : (i : ℕ) → Complete segmentOf P (detach st i)
   detach-comp i = same-comp _ (λ x p. Cycle.detach-live segmentOf st inv i p) (λ b. refl) (λ g. refl)
 
-  -- a block of the collect set that was not live when the cycle began is free once its segment is swept
-  pub swept-free : (t : ℕ) → st .collect (segmentOf t) ≡ true → ¬ P t → sweepSegment segmentOf st (segmentOf t) .used t ≡ false
+  -- a block of a condemned segment that was not live when the cycle began is free once its segment is swept
+  pub swept-free : (t : ℕ) → st .condemned (segmentOf t) ≡ true → ¬ P t → sweepSegment segmentOf st (segmentOf t) .used t ≡ false
   swept-free t d k = go (ℕ-discrete (segmentOf t) (segmentOf t))
     where
       white : (st .marked t ≡ true) ⊎ (st .marked t ≡ false) → st .marked t ≡ false
       white (inl m) = absurd (k (c .black t m d))
       white (inr w) = w
 
-      go : (d : Dec (segmentOf t ≡ segmentOf t)) → pick d (st .marked t) (st .used t) ≡ false
+      go : (d : Dec (segmentOf t ≡ segmentOf t)) → ifDec d (st .marked t) (st .used t) ≡ false
       go (yes _) = white (bool-cases (st .marked t))
       go (no n) = absurd (n refl)

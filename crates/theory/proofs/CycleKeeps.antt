@@ -14,7 +14,7 @@ use Rattle.theory.proofs.Updates.{upd-cases, upd-same, upd-other, tab-m
 use Rattle.theory.specs.TraceStack.{tab, pushes}
 use Rattle.theory.specs.Phases.{Phase, idle, sync1, sync2, mark, sweep, newcomer}
 use Rattle.theory.specs.Reach.{root, next}
-use Rattle.theory.specs.Update.{pick, upd}
+use Rattle.theory.specs.Update.{ifDec, upd}
 use Rattle.layout.specs.Geometry.{rootCount}
 
 abbrev pub phaseNo : Phase → ℕ
@@ -50,7 +50,7 @@ module _ (segmentOf : ℕ → ℕ) (st : State) (inv : Inv segmentOf st) (i n : 
     where
       go : ((j ≡ i) × (upd (st .acks) i n j ≡ n)) ⊎ ((j ≢ i) × (upd (st .acks) i n j ≡ st .acks j)) → Covered (setAcks st i n l) b
       go (inl w) = in-safe (setAcks st i n l) b (did b (omega (arith, w .1)) (subst (λ z. Holds st z b) (w .0) h))
-      go (inr w) = acks-safe b (c .m1 j b (omega (arith, w .1)) h)
+      go (inr w) = acks-safe b (c .rootsCovered j b (omega (arith, w .1)) h)
 
   acks-low : st .phase ≡ sync1 → (j : ℕ) → upd (st .acks) i n j ≤ 1
   acks-low e j = go (upd-cases (st .acks) i n j)
@@ -68,7 +68,7 @@ module _ (segmentOf : ℕ → ℕ) (st : State) (inv : Inv segmentOf st) (i n : 
     first = acks-low;
     second = λ e j o. omega (arith, inv .second e j o, acks-up j);
     all = λ e j o. omega (arith, inv .all e j o, acks-up j);
-    core = λ t. record { m1 = acks-m1 (inv .core t); m2 = λ x y p m e. acks-safe y (inv .core t .m2 x y (acks-live p) m e) };
+    core = λ t. record { rootsCovered = acks-m1 (inv .core t); pointersCovered = λ x y p m e. acks-safe y (inv .core t .pointersCovered x y (acks-live p) m e) };
     kept = inv .kept;
   }
 
@@ -116,7 +116,7 @@ module _ (segmentOf : ℕ → ℕ) (st : State) (inv : Inv segmentOf st) where
     first = λ e i. omega arith;
     second = λ e. absurd (omega (arith, ap phaseNo e));
     all = λ e. absurd (omega (arith, ap phaseNo e));
-    core = λ t. record { m1 = λ i b q h. absurd (omega arith); m2 = λ x y p m e. clash m refl };
+    core = λ t. record { rootsCovered = λ i b q h. absurd (omega arith); pointersCovered = λ x y p m e. clash m refl };
     kept = λ e. absurd (omega (arith, ap phaseNo e));
   }
 
@@ -129,7 +129,7 @@ module _ (segmentOf : ℕ → ℕ) (st : State) (inv : Inv segmentOf st) where
     first = λ e. absurd (omega (arith, ap phaseNo e));
     second = λ e. h;
     all = λ e. absurd (omega (arith, ap phaseNo e));
-    core = λ t. let c = inv .core (subst Tracing (sym p) tt) in record { m1 = c .m1; m2 = c .m2 };
+    core = λ t. let c = inv .core (subst Tracing (sym p) tt) in record { rootsCovered = c .rootsCovered; pointersCovered = c .pointersCovered };
     kept = λ e. absurd (omega (arith, ap phaseNo e));
   }
 
@@ -142,7 +142,7 @@ module _ (segmentOf : ℕ → ℕ) (st : State) (inv : Inv segmentOf st) where
     first = λ e. absurd (omega (arith, ap phaseNo e));
     second = λ e. absurd (omega (arith, ap phaseNo e));
     all = λ e. h;
-    core = λ t. let c = inv .core (subst Tracing (sym p) tt) in record { m1 = c .m1; m2 = c .m2 };
+    core = λ t. let c = inv .core (subst Tracing (sym p) tt) in record { rootsCovered = c .rootsCovered; pointersCovered = c .pointersCovered };
     kept = λ e. absurd (omega (arith, ap phaseNo e));
   }
 
@@ -152,8 +152,8 @@ module _ (segmentOf : ℕ → ℕ) (st : State) (inv : Inv segmentOf st) where
   no-grey e x (inr p) = absurd (reach-empty {R = Grey st} (λ y g. List·Memᴰ·not-nil (subst (List·Memᴰ y) e g)) p)
 
   pub all-marked : st .phase ≡ mark → st .stack ≡ [] → {b : ℕ} → Reached st b → st .marked b ≡ true
-  all-marked p e r = reach-ind (λ x. st .marked x ≡ true) (λ x h. no-grey e x (c .m1 (h .0) x (inv .all p (h .0) (h .1 .1)) (h .1)))
-      (λ x y q m ed. no-grey e y (c .m2 x y (reached-live st q) m ed)) r
+  all-marked p e r = reach-ind (λ x. st .marked x ≡ true) (λ x h. no-grey e x (c .rootsCovered (h .0) x (inv .all p (h .0) (h .1 .1)) (h .1)))
+      (λ x y q m ed. no-grey e y (c .pointersCovered x y (reached-live st q) m ed)) r
     where
       c : Core st
       c = inv .core (subst Tracing (sym p) tt)
@@ -235,8 +235,8 @@ module _ (segmentOf : ℕ → ℕ) (st : State) (inv : Inv segmentOf st) (b : �
     second = inv .second;
     all = inv .all;
     core = λ t. record {
-      m1 = λ i x q h. trace-safe x (inv .core t .m1 i x q h);
-      m2 = λ x y p m e. ⊎-elim (λ q. child-safe x y (q .0) e) (λ q. trace-safe y (inv .core t .m2 x y (live-back p) (sym (q .1) ∙ m) e)) (upd-cases (st .marked) b true x);
+      rootsCovered = λ i x q h. trace-safe x (inv .core t .rootsCovered i x q h);
+      pointersCovered = λ x y p m e. ⊎-elim (λ q. child-safe x y (q .0) e) (λ q. trace-safe y (inv .core t .pointersCovered x y (live-back p) (sym (q .1) ∙ m) e)) (upd-cases (st .marked) b true x);
     };
     kept = λ e. absurd (omega (arith, ap phaseNo (sym hp ∙ e)));
   }
@@ -246,15 +246,15 @@ module _ (segmentOf : ℕ → ℕ) (st : State) (inv : Inv segmentOf st) (b : �
 pub quiet-reached : (segmentOf : ℕ → ℕ) (st : State) → Inv segmentOf st → Quiet (st .phase) → {b : ℕ} → Live st b → Reached st b
 quiet-reached segmentOf st inv k p = reach-map (λ x h. ⊎-elim (λ (r : Root st x). root r) (λ q. absurd (List·Memᴰ·not-nil (subst (List·Memᴰ x) (inv .quiet k) q))) h) (λ x y q e. inl e) p
 
-module _ (segmentOf : ℕ → ℕ) (st : State) (inv : Inv segmentOf st) (g : ℕ) (hp : st .phase ≡ sweep) (hg : st .collect g ≡ true) where
+module _ (segmentOf : ℕ → ℕ) (st : State) (inv : Inv segmentOf st) (g : ℕ) (hp : st .phase ≡ sweep) (hg : st .condemned g ≡ true) where
   pub live-reached : {b : ℕ} → Live st b → Reached st b
   live-reached p = reach-map (λ x h. ⊎-elim (λ (r : Root st x). root r) (λ q. absurd (List·Memᴰ·not-nil (subst (List·Memᴰ x) (inv .quiet (subst Quiet (sym hp) tt)) q))) h) (λ x y q e. inl e) p
 
   sweep-valid : (b : ℕ) → Live st b → sweepSegment segmentOf st g .used b ≡ true
   sweep-valid b p = go (ℕ-discrete (segmentOf b) g)
     where
-      go : (d : Dec (segmentOf b ≡ g)) → pick d (st .marked b) (st .used b) ≡ true
-      go (yes e) = inv .kept hp b (live-reached p) (ap (st .collect) e ∙ hg)
+      go : (d : Dec (segmentOf b ≡ g)) → ifDec d (st .marked b) (st .used b) ≡ true
+      go (yes e) = inv .kept hp b (live-reached p) (ap (st .condemned) e ∙ hg)
       go (no n) = inv .valid b p
 
   pub sweep-inv : Inv segmentOf (sweepSegment segmentOf st g)
@@ -267,7 +267,7 @@ module _ (segmentOf : ℕ → ℕ) (st : State) (inv : Inv segmentOf st) (g : �
     second = inv .second;
     all = inv .all;
     core = λ t. absurd (subst Tracing hp t);
-    kept = λ e b r d. inv .kept e b r (⊎-elim (λ q. clash d (q .1)) (λ q. sym (q .1) ∙ d) (upd-cases (st .collect) g false (segmentOf b)));
+    kept = λ e b r d. inv .kept e b r (⊎-elim (λ q. clash d (q .1)) (λ q. sym (q .1) ∙ d) (upd-cases (st .condemned) g false (segmentOf b)));
   }
 
 -- ---- mutators come and go
@@ -306,7 +306,7 @@ module _ (segmentOf : ℕ → ℕ) (st : State) (inv : Inv segmentOf st) (i : �
     first = detach-low;
     second = λ e j o. subst (λ a. 1 ≤ a) (sym (detach-acks j o)) (inv .second e j (detach-on j o));
     all = λ e j o. subst (λ a. 2 ≤ a) (sym (detach-acks j o)) (inv .all e j (detach-on j o));
-    core = λ t. record { m1 = λ j b q h. inv .core t .m1 j b (subst Acked (detach-acks j (h .1)) q) (detach-holds j b h); m2 = λ x y p. inv .core t .m2 x y (detach-live p) };
+    core = λ t. record { rootsCovered = λ j b q h. inv .core t .rootsCovered j b (subst Acked (detach-acks j (h .1)) q) (detach-holds j b h); pointersCovered = λ x y p. inv .core t .pointersCovered x y (detach-live p) };
     kept = λ e b p. inv .kept e b (detach-reached p);
   }
 
@@ -347,8 +347,8 @@ module _ (segmentOf : ℕ → ℕ) (st : State) (inv : Inv segmentOf st) (i : �
     attach-core idle e t c = absurd t
     attach-core sweep e t c = absurd t
     attach-core mark e t c = record {
-      m1 = λ j b q h. let r = attach-root b (j, h) in c .m1 (r .0) b (inv .all e (r .0) (r .1 .1)) (r .1);
-      m2 = λ x y p. c .m2 x y (attach-live p);
+      rootsCovered = λ j b q h. let r = attach-root b (j, h) in c .rootsCovered (r .0) b (inv .all e (r .0) (r .1 .1)) (r .1);
+      pointersCovered = λ x y p. c .pointersCovered x y (attach-live p);
     }
 
     pub attach-inv : Inv segmentOf (attach st i v)
@@ -365,7 +365,7 @@ module _ (segmentOf : ℕ → ℕ) (st : State) (inv : Inv segmentOf st) (i : �
     }
 
   pub side-inv : (v : Bool) → Inv segmentOf (setInside st i v)
-  side-inv v = record { valid = inv .valid; stack = inv .stack; quiet = inv .quiet; blank = inv .blank; first = inv .first; second = inv .second; all = inv .all; core = λ t. record { m1 = inv .core t .m1; m2 = inv .core t .m2 }; kept = inv .kept }
+  side-inv v = record { valid = inv .valid; stack = inv .stack; quiet = inv .quiet; blank = inv .blank; first = inv .first; second = inv .second; all = inv .all; core = λ t. record { rootsCovered = inv .core t .rootsCovered; pointersCovered = inv .core t .pointersCovered }; kept = inv .kept }
 
   pub values-inv : (z : List ℕ) → Inv segmentOf (setValues st i z)
-  values-inv z = record { valid = inv .valid; stack = inv .stack; quiet = inv .quiet; blank = inv .blank; first = inv .first; second = inv .second; all = inv .all; core = λ t. record { m1 = inv .core t .m1; m2 = inv .core t .m2 }; kept = inv .kept }
+  values-inv z = record { valid = inv .valid; stack = inv .stack; quiet = inv .quiet; blank = inv .blank; first = inv .first; second = inv .second; all = inv .all; core = λ t. record { rootsCovered = inv .core t .rootsCovered; pointersCovered = inv .core t .pointersCovered }; kept = inv .kept }

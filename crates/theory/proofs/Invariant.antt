@@ -54,8 +54,8 @@ module _ (segmentOf : ℕ → ℕ) (st : State) (inv : Inv segmentOf st) (i k : 
       second = inv .second;
       all = inv .all;
       core = λ t. record {
-        m1 = λ j b a h. ⊎-elim (inv .core t .m1 j b a) (λ q. s b (q .1) t (subst (λ z. Acked (st .acks z)) (q .0) a)) (root-holds j b h);
-        m2 = λ x y p. inv .core t .m2 x y (root-live p);
+        rootsCovered = λ j b a h. ⊎-elim (inv .core t .rootsCovered j b a) (λ q. s b (q .1) t (subst (λ z. Acked (st .acks z)) (q .0) a)) (root-holds j b h);
+        pointersCovered = λ x y p. inv .core t .pointersCovered x y (root-live p);
       };
       kept = λ e b p. inv .kept e b (root-reached p);
     }
@@ -63,10 +63,10 @@ module _ (segmentOf : ℕ → ℕ) (st : State) (inv : Inv segmentOf st) (i k : 
 module _ (segmentOf : ℕ → ℕ) (st : State) (inv : Inv segmentOf st) (i : ℕ) where
   -- root d takes the pointer f of the block a that a root holds
   pub load-inv : (d a f : ℕ) → Holds st i a → f < st .pointers a → Inv segmentOf (setRoot st i d (st .pointer a f))
-  load-inv d a f h l = root-inv segmentOf st inv i d (st .pointer a f) (λ b e. next (root (i, h)) (f, l, e)) (λ b e t q. safe-edge (λ m. inv .core t .m2 a b (root (inl (i, h))) m (f, l, e)) (inv .core t .m1 i a q h) (f, l, e))
+  load-inv d a f h l = root-inv segmentOf st inv i d (st .pointer a f) (λ b e. next (root (i, h)) (f, l, e)) (λ b e t q. safe-edge (λ m. inv .core t .pointersCovered a b (root (inl (i, h))) m (f, l, e)) (inv .core t .rootsCovered i a q h) (f, l, e))
 
   pub copy-inv : (d k : ℕ) → st .attached i ≡ true → k < rootCount → Inv segmentOf (setRoot st i d (st .root i k))
-  copy-inv d k o l = root-inv segmentOf st inv i d (st .root i k) (λ b e. root (i, (k, o, l, e))) (λ b e t q. inv .core t .m1 i b q (k, o, l, e))
+  copy-inv d k o l = root-inv segmentOf st inv i d (st .root i k) (λ b e. root (i, (k, o, l, e))) (λ b e t q. inv .core t .rootsCovered i b q (k, o, l, e))
 
   pub clear-inv : (d : ℕ) → Inv segmentOf (setRoot st i d none)
   clear-inv d = root-inv segmentOf st inv i d none (λ b e. none-some e) (λ b e t q. none-some e)

@@ -19,9 +19,9 @@ black-two p (suc zero) h w = absurd (omega arith)
 black-two p (suc (suc n)) h (inl e) = rw e
 black-two p (suc (suc n)) h (inr e) = rw e
 
--- mutator i makes a record of n pointers in the block b, which is free and not in the collect set
+-- mutator i makes a record of n pointers in the block b, which is free and in no condemned segment
 module _ (segmentOf : ℕ → ℕ) (st : State) (inv : Inv segmentOf st) (i d b n : ℕ) (z : List ℕ)
-    (hu : st .used b ≡ false) (hd : st .collect (segmentOf b) ≡ false) where
+    (hu : st .used b ≡ false) (hd : st .condemned (segmentOf b) ≡ false) where
   abbrev after : State
   after = make st i d b n z
 
@@ -75,15 +75,15 @@ module _ (segmentOf : ℕ → ℕ) (st : State) (inv : Inv segmentOf st) (i d b 
 
   make-core : Tracing (st .phase) → Core after
   make-core t = record {
-    m1 = λ j y q h. ⊎-elim (λ h′. sm y (root (inl (j, h′))) (inv .core t .m1 j y q h′)) (λ w. subst (Covered after) (sym (w .1)) (new-safe (st .phase) refl t (subst (λ z. 2 ≤ st .acks z) (w .0) q))) (make-holds j y h);
-    m2 = λ x y p m e. ⊎-elim (λ p′. sm y (next p′ (edge-back x y e .1)) (inv .core t .m2 x y p′ (sym (mark-other x (live-other x p′)) ∙ m) (edge-back x y e .1))) (λ w. absurd (edge-back x y e .0 w)) (live-back p);
+    rootsCovered = λ j y q h. ⊎-elim (λ h′. sm y (root (inl (j, h′))) (inv .core t .rootsCovered j y q h′)) (λ w. subst (Covered after) (sym (w .1)) (new-safe (st .phase) refl t (subst (λ z. 2 ≤ st .acks z) (w .0) q))) (make-holds j y h);
+    pointersCovered = λ x y p m e. ⊎-elim (λ p′. sm y (next p′ (edge-back x y e .1)) (inv .core t .pointersCovered x y p′ (sym (mark-other x (live-other x p′)) ∙ m) (edge-back x y e .1))) (λ w. absurd (edge-back x y e .0 w)) (live-back p);
   }
 
   make-valid : (x : ℕ) → Live after x → after .used x ≡ true
   make-valid x p = ⊎-elim (λ p′. upd-other (st .used) b true x (live-other x p′) ∙ inv .valid x p′) (λ e. ap (after .used) e ∙ upd-same (st .used) b true) (live-back p)
 
-  make-kept : st .phase ≡ sweep → (x : ℕ) → Reached after x → st .collect (segmentOf x) ≡ true → after .marked x ≡ true
-  make-kept e x p k = ⊎-elim (λ p′. mark-other x (live-other x (reached-live st p′)) ∙ inv .kept e x p′ k) (λ w. clash k (ap (λ z. st .collect (segmentOf z)) w ∙ hd)) (reached-back p)
+  make-kept : st .phase ≡ sweep → (x : ℕ) → Reached after x → st .condemned (segmentOf x) ≡ true → after .marked x ≡ true
+  make-kept e x p k = ⊎-elim (λ p′. mark-other x (live-other x (reached-live st p′)) ∙ inv .kept e x p′ k) (λ w. clash k (ap (λ z. st .condemned (segmentOf z)) w ∙ hd)) (reached-back p)
 
   pub make-inv : Inv segmentOf after
   make-inv = record {

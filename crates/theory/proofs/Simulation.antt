@@ -15,7 +15,7 @@ use Rattle.theory.proofs.Updates.{upd-cases, upd-same, upd-other, upd-h
 use Rattle.theory.specs.Phases.{Phase, sync1, sync2, old}
 use Rattle.theory.specs.Reach.{root, next}
 use Rattle.theory.specs.Unbounded.{Unbounded, uSetRoot, uStore, uMake, uAttach, uDetach, uSetValues, uSetInside, URoot, UPoints, UReached}
-use Rattle.theory.specs.Update.{pick, upd, upd2}
+use Rattle.theory.specs.Update.{ifDec, upd, upd2}
 use Rattle.layout.specs.Geometry.{rootCount}
 use Rattle.theory.proofs.StoreKeeps as Store
 use Rattle.theory.proofs.MakeKeeps as Make
@@ -59,7 +59,7 @@ pub upd-rel : {A B : Type 0} (P : A → B → Type 0) (f : ℕ → A) (g : ℕ �
 unfolding upd
 upd-rel {A} {B} P f g k v w x p q = go (ℕ-discrete x k)
   where
-    go : (d : Dec (x ≡ k)) → P (pick d v (f x)) (pick d w (g x))
+    go : (d : Dec (x ≡ k)) → P (ifDec d v (f x)) (ifDec d w (g x))
     go (yes e) = p
     go (no n) = q n
 
@@ -109,7 +109,7 @@ module _ (put : ℕ → Option ℕ) (st : State) (un : Unbounded) (s : Simulates
 
 -- whatever leaves roots and pointers alone, and makes nothing live
 abbrev pub gc : State → (ℕ → Bool) → (ℕ → Bool) → (ℕ → Bool) → List ℕ → (ℕ → ℕ) → Phase → State
-gc st u d m l a p = record { pointers = st .pointers; values = st .values; pointer = st .pointer; used = u; collect = d; marked = m; stack = l; attached = st .attached; inside = st .inside; acks = a; root = st .root; phase = p }
+gc st u d m l a p = record { pointers = st .pointers; values = st .values; pointer = st .pointer; used = u; condemned = d; marked = m; stack = l; attached = st .attached; inside = st .inside; acks = a; root = st .root; phase = p }
 
 pub gc-sim : (put : ℕ → Option ℕ) (st : State) (un : Unbounded) (s : Simulates put st un) (u d m : ℕ → Bool) (l : List ℕ) (a : ℕ → ℕ) (p : Phase)
     → ((b : ℕ) → Live (gc st u d m l a p) b → Live st b) → Simulates put (gc st u d m l a p) un
@@ -159,7 +159,7 @@ module _ (segmentOf : ℕ → ℕ) (put : ℕ → Option ℕ) (st : State) (un :
       rec′ b h = let q = s .rec b (Store.live-back segmentOf st inv i a f new ha hf hn h) in record { id = q .id; is = q .is; pointers = q .pointers; values = q .values; pointer = λ g l. lnk′ b q g l (ℕ-discrete b a) }
 
   -- the new record's number is the list's length
-  pub make-sim : (i d b n : ℕ) (z : List ℕ) → st .used b ≡ false → st .collect (segmentOf b) ≡ false → Simulates (upd put b (some (un .count))) (make st i d b n z) (uMake un i d n z)
+  pub make-sim : (i d b n : ℕ) (z : List ℕ) → st .used b ≡ false → st .condemned (segmentOf b) ≡ false → Simulates (upd put b (some (un .count))) (make st i d b n z) (uMake un i d n z)
   make-sim i d b n z hu hd = record {
     attached = s .attached;
     inside = s .inside;

@@ -63,8 +63,8 @@ module _ (segmentOf : ℕ → ℕ) (st : State) (inv : Inv segmentOf st) (i a f 
   core-store : Core st → ((y : ℕ) → st .pointer a f ≡ some y → In (st .marked) (after .stack) y)
       → ((y : ℕ) → new ≡ some y → ((x : ℕ) → Covered st x → Covered after x) → Covered after y) → Core after
   core-store c ho hs = record {
-    m1 = λ j b q h. sm b (c .m1 j b q h);
-    m2 = λ x y p m e. ⊎-elim (λ e′. sm y (c .m2 x y (live-back p) m e′)) (λ w. hs y (w .1) sm) (edge-back x y e);
+    rootsCovered = λ j b q h. sm b (c .rootsCovered j b q h);
+    pointersCovered = λ x y p m e. ⊎-elim (λ e′. sm y (c .pointersCovered x y (live-back p) m e′)) (λ w. hs y (w .1) sm) (edge-back x y e);
   }
     where
       sm : (x : ℕ) → Covered st x → Covered after x
@@ -83,12 +83,12 @@ module _ (segmentOf : ℕ → ℕ) (st : State) (inv : Inv segmentOf st) (i a f 
   old-old d e y q = rw (e, q) (push-did _ _ _)
 
   store-core : Tracing (st .phase) → (p : Phase) → st .phase ≡ p → Tracing p → Core after
-  store-core t sync1 e _ = record { m1 = λ j b q h. absurd (omega (arith, inv .first e j)); m2 = λ x y p m ed. clash m (inv .blank e x (live-back p)) }
+  store-core t sync1 e _ = record { rootsCovered = λ j b q h. absurd (omega (arith, inv .first e j)); pointersCovered = λ x y p m ed. clash m (inv .blank e x (live-back p)) }
   store-core t sync2 e _ = core-store (inv .core t) (both-old _ d) (λ y q sm. in-safe after y (both-new _ d y q))
     where
       d : duty (st .phase) (st .acks i) ≡ both
       d = ap (λ p. duty p (st .acks i)) e ∙ duty-sync2 _ (inv .second e i (ha .1))
-  store-core t mark e _ = core-store (inv .core t) (old-old _ (ap (λ p. duty p (st .acks i)) e)) (λ y q sm. sm y (inv .core t .m1 i y (inv .all e i (ha .1)) (hn y q)))
+  store-core t mark e _ = core-store (inv .core t) (old-old _ (ap (λ p. duty p (st .acks i)) e)) (λ y q sm. sm y (inv .core t .rootsCovered i y (inv .all e i (ha .1)) (hn y q)))
   store-core t idle e h = absurd h
   store-core t sweep e h = absurd h
 

@@ -9,7 +9,7 @@ use Prim.Native.Nat.{ℕ, zero, suc, _<_}
 use native.Mathlib.Omega.{arith}
 use native.Mathlib.Decide.{ℕ-discrete}
 use Rattle.rules.proofs.Order.{same-or-not}
-use Rattle.theory.specs.Update.{pick, upd, upd2}
+use Rattle.theory.specs.Update.{ifDec, upd, upd2}
 pub use Rattle.theory.specs.Invariant.{Nodup, StackOk}
 
 -- ---- point updates
@@ -18,7 +18,7 @@ pub upd-cases : {A : Type 0} (f : ℕ → A) (k : ℕ) (v : A) (x : ℕ) → ((x
 unfolding upd
 upd-cases {A} f k v x = go (ℕ-discrete x k)
   where
-    go : (d : Dec (x ≡ k)) → ((x ≡ k) × (pick d v (f x) ≡ v)) ⊎ ((x ≢ k) × (pick d v (f x) ≡ f x))
+    go : (d : Dec (x ≡ k)) → ((x ≡ k) × (ifDec d v (f x) ≡ v)) ⊎ ((x ≢ k) × (ifDec d v (f x) ≡ f x))
     go (yes e) = inl (e, refl)
     go (no n) = inr (n, refl)
 
@@ -77,7 +77,7 @@ upd2-by {A} f a b v x y z h e = go (same-or-not x a) (same-or-not y b)
 
 pub upd-alike : {A : Type 0} (f h : ℕ → A) (k : ℕ) (v : A) → ((x : ℕ) → f x ≡ h x) → (x : ℕ) → upd f k v x ≡ upd h k v x
 unfolding upd
-upd-alike f h k v e x = ap (λ z. pick (ℕ-discrete x k) v z) (e x)
+upd-alike f h k v e x = ap (λ z. ifDec (ℕ-discrete x k) v z) (e x)
 
 -- ---- tables: f 0, .., f (n - 1)
 

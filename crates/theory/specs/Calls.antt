@@ -32,7 +32,7 @@ pub data Answer : Type 0 where
   a-swept : (segment : ℕ) → Answer
 
 -- what a heap shows: which mutators are attached, which are inside, and the shape of the record in a root
-pub record Face : Type 0 where
+pub record Observation : Type 0 where
   pub attached : ℕ → Bool
   pub inside : ℕ → Bool
   pub shape : ℕ → ℕ → Option (ℕ × ℕ)
@@ -48,7 +48,7 @@ ifRecord none rest = 7
 ifRecord (some shape) rest = rest shape
 
 -- "2, script: a script number over 31", "4, absent", "5, side"
-abbrev pub ifInside : Face → ℕ → ℕ → ℕ
+abbrev pub ifInside : Observation → ℕ → ℕ → ℕ
 ifInside F i rest = require (ltb i mutatorCount) 2 (require (F .attached i) 4 (require (F .inside i) 5 rest))
 
 -- "6, slot: slot over 15"
@@ -63,7 +63,7 @@ abbrev pub value? : ℕ → ℕ × ℕ → ℕ
 value? f shape = require (ltb f (shape .1)) 8 0
 
 -- the lowest of the numbers 2 to 9 that applies, and 0 where none does
-abbrev pub refusal : Face → Call → ℕ
+abbrev pub refusal : Observation → Call → ℕ
 refusal F (c-attach i) = require (ltb i mutatorCount) 2 (require (not (F .attached i)) 3 0)
 refusal F (c-spawn i p k) =
     require (ltb i mutatorCount) 2

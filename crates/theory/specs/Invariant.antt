@@ -35,8 +35,8 @@ Acked a = 2 ≤ a
 
 -- the tricolour invariant
 pub record Core (st : State) : Type 0 where
-  pub m1 : (i b : ℕ) → Acked (st .acks i) → Holds st i b → Covered st b
-  pub m2 : (x y : ℕ) → Live st x → st .marked x ≡ true → Points st x y → Covered st y
+  pub rootsCovered : (i b : ℕ) → Acked (st .acks i) → Holds st i b → Covered st b
+  pub pointersCovered : (x y : ℕ) → Live st x → st .marked x ≡ true → Points st x y → Covered st y
 
 pub record Inv (segmentOf : ℕ → ℕ) (st : State) : Type 0 where
   pub valid : (b : ℕ) → Live st b → st .used b ≡ true
@@ -47,4 +47,4 @@ pub record Inv (segmentOf : ℕ → ℕ) (st : State) : Type 0 where
   pub second : st .phase ≡ sync2 → (i : ℕ) → st .attached i ≡ true → 1 ≤ st .acks i
   pub all : st .phase ≡ mark → (i : ℕ) → st .attached i ≡ true → 2 ≤ st .acks i
   pub core : Tracing (st .phase) → Core st
-  pub kept : st .phase ≡ sweep → (b : ℕ) → Reached st b → st .collect (segmentOf b) ≡ true → st .marked b ≡ true
+  pub kept : st .phase ≡ sweep → (b : ℕ) → Reached st b → st .condemned (segmentOf b) ≡ true → st .marked b ≡ true

@@ -6,7 +6,7 @@ use Prim.Native.Nat.{ℕ, zero, suc, _+_}
 use lib.Dec.{ltb}
 use lib.ListN.{length, getD, set, replicate}
 use Rattle.theory.specs.Machine.{State, setRoot, store, make, attach, detach, setInside, setValues, check, start, setPhase, trace, sweepSegment}
-use Rattle.theory.specs.Calls.{Call, Answer, Face, refusal, shapeIf, refuse, onRecord, unless, sameRef, c-attach, c-detach, c-check, c-leave, c-enter, c-spawn, c-make, c-load, c-store, c-copy, c-clear, c-put, c-get, c-same, c-shape, a-ok, a-moved, a-traced, a-done, a-idle, a-num, a-flag, a-shape, a-no, a-waiting, a-swept}
+use Rattle.theory.specs.Calls.{Call, Answer, Observation, refusal, shapeIf, refuse, onRecord, unless, sameRef, c-attach, c-detach, c-check, c-leave, c-enter, c-spawn, c-make, c-load, c-store, c-copy, c-clear, c-put, c-get, c-same, c-shape, a-ok, a-moved, a-traced, a-done, a-idle, a-num, a-flag, a-shape, a-no, a-waiting, a-swept}
 use Rattle.theory.specs.Phases.{Phase, idle, sync1, sync2, mark, sweep, inHandshake, owes}
 use Rattle.theory.specs.Reach.{root}
 use Rattle.rules.specs.Pick.{oneIf}
@@ -17,8 +17,8 @@ use Rattle.layout.specs.Geometry.{rootCount, mutatorCount}
 abbrev pub shapeAt : State → ℕ → ℕ × ℕ
 shapeAt st b = (st .pointers b, length (st .values b))
 
-abbrev pub face : State → Face
-face st = record { attached = st .attached; inside = st .inside; shape = λ i k. shapeIf (st .attached i) (ltb k rootCount) (Option·map (shapeAt st) (st .root i k)) }
+abbrev pub observe : State → Observation
+observe st = record { attached = st .attached; inside = st .inside; shape = λ i k. shapeIf (st .attached i) (ltb k rootCount) (Option·map (shapeAt st) (st .root i k)) }
 
 -- ---- what a call does that is not refused so
 
@@ -46,7 +46,7 @@ act alloc st (c-same i s t) = (a-flag (sameRef (st .root i s) (st .root i t)), s
 act alloc st (c-shape i s) = onRecord (st .root i s) st (λ a. (a-shape (st .pointers a) (length (st .values a)), st))
 
 abbrev pub exec : (State → ℕ → ℕ → ℕ → Option ℕ) → State → Call → Answer × State
-exec alloc st c = refuse (refusal (face st) c) st (act alloc st c)
+exec alloc st c = refuse (refusal (observe st) c) st (act alloc st c)
 
 -- ---- the collector's calls
 

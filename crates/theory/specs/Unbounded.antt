@@ -11,7 +11,7 @@ use lib.ListN.{length, getD, set, replicate}
 use Rattle.layout.specs.Geometry.{rootCount}
 use Rattle.theory.specs.Reach.{Reach}
 use Rattle.theory.specs.Update.{upd, upd2}
-use Rattle.theory.specs.Calls.{Call, c-attach, c-detach, c-check, c-leave, c-enter, c-spawn, c-make, c-load, c-store, c-copy, c-clear, c-put, c-get, c-same, c-shape, Answer, a-ok, a-num, a-flag, a-shape, Face, shapeIf, refusal, refuse, onRecord, sameRef}
+use Rattle.theory.specs.Calls.{Call, c-attach, c-detach, c-check, c-leave, c-enter, c-spawn, c-make, c-load, c-store, c-copy, c-clear, c-put, c-get, c-same, c-shape, Answer, a-ok, a-num, a-flag, a-shape, Observation, shapeIf, refusal, refuse, onRecord, sameRef}
 
 -- the records are those below the count: how many pointer fields each has, the pointers, and the data fields' values
 pub record Unbounded : Type 0 where
@@ -108,8 +108,8 @@ uSetInside un i v = record {
 abbrev pub ushapeAt : Unbounded → ℕ → ℕ × ℕ
 ushapeAt un b = (un .pointers b, length (un .values b))
 
-abbrev pub uface : Unbounded → Face
-uface un = record { attached = un .attached; inside = un .inside; shape = λ i k. shapeIf (un .attached i) (ltb k rootCount) (Option·map (ushapeAt un) (un .root i k)) }
+abbrev pub uobserve : Unbounded → Observation
+uobserve un = record { attached = un .attached; inside = un .inside; shape = λ i k. shapeIf (un .attached i) (ltb k rootCount) (Option·map (ushapeAt un) (un .root i k)) }
 
 -- what a call does that no number from 2 to 9 refuses
 abbrev pub uact : Unbounded → Call → Answer × Unbounded
@@ -131,7 +131,7 @@ uact un (c-shape i s) = onRecord (un .root i s) un (λ a. (a-shape (un .pointers
 
 -- "If a number from 2 to 9 applies in this state, it answers the lowest and nothing changes."
 abbrev pub uexec : Unbounded → Call → Answer × Unbounded
-uexec un c = refuse (refusal (uface un) c) un (uact un c)
+uexec un c = refuse (refusal (uobserve un) c) un (uact un c)
 
 -- a record in a root of an inside or outside mutator
 abbrev pub URoot : Unbounded → ℕ → Type 0

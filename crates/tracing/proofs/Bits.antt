@@ -15,17 +15,17 @@ use Rattle.rules.specs.Pick.{pick}
 use Rattle.words.specs.Bits.{bitAt, withBit, setBit}
 use Rattle.layout.specs.declared.Geometry.{Geometry}
 use Rattle.layout.specs.Geometry.{segmentWords, blocksIn, mostBlocks, len, segmentOf, bitIn}
-use Rattle.layout.specs.Mem.{Mem, markWord, queuedWord, setQueued, setTrace, setControl}
+use Rattle.layout.specs.Mem.{Mem, markWord, queuedWord, setQueuedWord, setTrace, setControl}
 use Rattle.layout.proofs.Sizes.{words-some, segment-below}
 use Rattle.model.specs.Fields.{class, traceCount}
-use Rattle.model.specs.Records.{record?, blockWords, bitOf}
+use Rattle.model.specs.Records.{record?, blockWords, recordBit}
 use Rattle.model.specs.Tracing.{push}
 use Rattle.model.specs.Consistent.{IsClass}
 use Rattle.laws.proofs.Blocks.{blocks-most, block-below, bit-below}
 use Rattle.model.specs.declared.Duty.{Duty}
 use Rattle.tracing.specs.declared.Bit.{Bit}
 use Rattle.tracing.specs.declared.Bit.the-variants.{At, Torn}
-use Rattle.tracing.specs.Pushing.{bitPlace, pushedBit, PushesBit, Hindered, Pushes, Bars}
+use Rattle.tracing.specs.Pushing.{bitPlace, pushedBit, PushesBit, PushFails, Pushes, BarrierRuns}
 use Rattle.words.specs.Bits as bits
 use Rattle.model.specs.Records as records
 use Rattle.model.specs.declared.Duty.the-variants as duty
@@ -120,9 +120,9 @@ module _ (g : Geometry) (m : Mem) (w k : ℕ) where
         full = λ _. ((λ q. i (is-queued ∙ q)), subst (λ z. len g Region.trace ≤ z) j (subst (λ z. z ≤ n) t o));
       }
 
-      pub push-done : (z : ℕ) (m₁ m₂ m₃ : Mem) → z ≡ withBit y (k % 32) → m₁ ≡ setQueued m (k / 32) z → m₂ ≡ setTrace m₁ n w → m₃ ≡ setControl m₂ 1 (n + 1)
+      pub push-done : (z : ℕ) (m₁ m₂ m₃ : Mem) → z ≡ withBit y (k % 32) → m₁ ≡ setQueuedWord m (k / 32) z → m₂ ≡ setTrace m₁ n w → m₃ ≡ setControl m₂ 1 (n + 1)
           → PushesBit g m w k true m₃
-      unfolding pushedBit setBit setQueued
+      unfolding pushedBit setBit setQueuedWord
       push-done z m₁ m₂ m₃ a e₁ e₂ e₃ = record {
         done = λ _. e₃ ∙ rw (e₂, e₁, a, u, j, ne-eqb _ _ unmarked, ne-eqb _ _ (λ q. i (is-queued ∙ q))) refl;
         full = λ t. absurd (true≢false t);
@@ -139,17 +139,17 @@ isAt (At k) = true
 isAt Torn = false
 
 module _ (g : Geometry) (m : Mem) (at : ℕ) where
-  pub bit-of-class : 3 ≤ class m (segmentOf g at) → class m (segmentOf g at) ≤ 12 → at < len g Region.heap → bitOf g m at < g .segments * mostBlocks g
+  pub bit-of-class : 3 ≤ class m (segmentOf g at) → class m (segmentOf g at) ≤ 12 → at < len g Region.heap → recordBit g m at < g .segments * mostBlocks g
   bit-of-class h i l = bit-below g m at (h, (omega arith)) l
 
-  pub bit-within : (k : ℕ) → At k ≡ bitPlace g m at → (k ≡ bitOf g m at) × (k < g .segments * mostBlocks g)
+  pub bit-within : (k : ℕ) → At k ≡ bitPlace g m at → (k ≡ recordBit g m at) × (k < g .segments * mostBlocks g)
   unfolding bitPlace
   bit-within k e = go (ltb at (len g Region.heap)) (ltb (class m (segmentOf g at)) 3) (ltb 12 (class m (segmentOf g at))) refl refl refl e
     where
       go : (a b c : Bool) → ltb at (len g Region.heap) ≡ a → ltb (class m (segmentOf g at)) 3 ≡ b → ltb 12 (class m (segmentOf g at)) ≡ c
-          → At k ≡ pick a (pick b Torn (pick c Torn (At (bitOf g m at)))) Torn → (k ≡ bitOf g m at) × (k < g .segments * mostBlocks g)
+          → At k ≡ pick a (pick b Torn (pick c Torn (At (recordBit g m at)))) Torn → (k ≡ recordBit g m at) × (k < g .segments * mostBlocks g)
       go true false false q r s e =
-          let z : k ≡ bitOf g m at = ap at-of e in
+          let z : k ≡ recordBit g m at = ap at-of e in
           (z, subst (λ y. y < g .segments * mostBlocks g) (sym z) (bit-of-class (ltb-false _ _ r) (ltb-false _ _ s) (ltb-true _ _ q)))
       go true false true q r s e = absurd (true≢false (ap isAt e))
       go true true c q r s e = absurd (true≢false (ap isAt e))
@@ -157,49 +157,49 @@ module _ (g : Geometry) (m : Mem) (at : ℕ) where
 
 -- ---- a push of a word
 
-pushed-is : (g : Geometry) (m : Mem) (at k : ℕ) → k ≡ bitOf g m at → pushedBit m (suc at) k ≡ push g m (some at)
+pushed-is : (g : Geometry) (m : Mem) (at k : ℕ) → k ≡ recordBit g m at → pushedBit m (suc at) k ≡ push g m (some at)
 unfolding push pushedBit records.setQueued
 pushed-is g m at k e = rw e refl
 
 module _ (g : Geometry) (m : Mem) (w : ℕ) where
   pub push-nil : w ≡ 0 → Pushes g m w true m
   unfolding push
-  push-nil e = record { done = λ _. rw e refl; hindered = λ t. absurd (true≢false t) }
+  push-nil e = record { done = λ _. rw e refl; fails = λ t. absurd (true≢false t) }
 
   named : (w ≡ 0 → ⊥) → w ≡ suc (w - 1)
   named f = let l = pos-of-ne-zero f in omega arith
 
   pub push-torn : (w ≡ 0 → ⊥) → Torn ≡ bitPlace g m (w - 1) → Pushes g m w false m
-  push-torn f e = record { done = λ t. absurd (true≢false (sym t)); hindered = λ _. record { at = w - 1; names = named f; why = inl (sym e) } }
+  push-torn f e = record { done = λ t. absurd (true≢false (sym t)); fails = λ _. record { at = w - 1; names = named f; why = inl (sym e) } }
 
   pub push-by : (k : ℕ) (r : Bool) (after : Mem) → (w ≡ 0 → ⊥) → At k ≡ bitPlace g m (w - 1) → PushesBit g m w k r after → Pushes g m w r after
   push-by k r after f e p =
       let z = bit-within g m (w - 1) k e .0 in
       record {
         done = λ t. p .done t ∙ subst (λ v. pushedBit m v k ≡ push g m (record? v)) (sym (named f)) (pushed-is g m (w - 1) k z);
-        hindered = λ t. let h = p .full t in record { at = w - 1; names = named f; why = inr ((λ q. h .0 (ap (bitAt (m .queued)) z ∙ q)), h .1) };
+        fails = λ t. let h = p .full t in record { at = w - 1; names = named f; why = inr ((λ q. h .0 (ap (bitAt (m .queued)) z ∙ q)), h .1) };
       }
 
 -- ---- the barrier
 
 module _ (g : Geometry) (m : Mem) (d : Duty) (new o : ℕ) where
-  pub bars-nothing : d ≡ duty.Nothing → Bars g m d new o true m
-  bars-nothing k = subst (λ z. Bars g m z new o true m) (sym k) (record { done = λ _. refl; hindered = λ t. absurd (true≢false t) })
+  pub barrier-nothing : d ≡ duty.Nothing → BarrierRuns g m d new o true m
+  barrier-nothing k = subst (λ z. BarrierRuns g m z new o true m) (sym k) (record { done = λ _. refl; fails = λ t. absurd (true≢false t) })
 
-  pub bars-old : d ≡ duty.Old → (r : Bool) (after : Mem) → Pushes g m o r after → Bars g m d new o r after
-  bars-old k r after p =
-      subst (λ z. Bars g m z new o r after) (sym k) (record { done = λ t. p .done t; hindered = λ t. inr (inl (p .hindered t)) })
+  pub barrier-old : d ≡ duty.Old → (r : Bool) (after : Mem) → Pushes g m o r after → BarrierRuns g m d new o r after
+  barrier-old k r after p =
+      subst (λ z. BarrierRuns g m z new o r after) (sym k) (record { done = λ t. p .done t; fails = λ t. inr (inl (p .fails t)) })
 
-  pub bars-not : d ≡ duty.Both → (r : Bool) (after : Mem) → Pushes g m new r after → r ≡ false → Bars g m d new o false after
-  bars-not k r after p f =
-      subst (λ z. Bars g m z new o false after) (sym k)
-      (record { done = λ t. absurd (true≢false (sym t)); hindered = λ _. inl (p .hindered f) })
+  pub barrier-stops : d ≡ duty.Both → (r : Bool) (after : Mem) → Pushes g m new r after → r ≡ false → BarrierRuns g m d new o false after
+  barrier-stops k r after p f =
+      subst (λ z. BarrierRuns g m z new o false after) (sym k)
+      (record { done = λ t. absurd (true≢false (sym t)); fails = λ _. inl (p .fails f) })
 
-  pub bars-both : d ≡ duty.Both → (r : Bool) (m₁ : Mem) (q : Bool) (after : Mem) → Pushes g m new r m₁ → r ≡ true → Pushes g m₁ o q after → Bars g m d new o q after
-  bars-both k r m₁ q after p t u =
+  pub barrier-both : d ≡ duty.Both → (r : Bool) (m₁ : Mem) (q : Bool) (after : Mem) → Pushes g m new r m₁ → r ≡ true → Pushes g m₁ o q after → BarrierRuns g m d new o q after
+  barrier-both k r m₁ q after p t u =
       let e = p .done t in
-      subst (λ z. Bars g m z new o q after) (sym k)
+      subst (λ z. BarrierRuns g m z new o q after) (sym k)
       (record {
         done = λ v. u .done v ∙ ap (λ z. push g z (record? o)) e;
-        hindered = λ v. inr (inr (subst (λ z. Hindered g z o) e (u .hindered v)));
+        fails = λ v. inr (inr (subst (λ z. PushFails g z o) e (u .fails v)));
       })

@@ -1,3 +1,3 @@
 -- Laws of bits and pushes.
 pub mod Bits
-pub mod Unhindered
+pub mod Succeeds

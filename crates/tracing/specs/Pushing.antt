@@ -11,7 +11,7 @@ use Rattle.layout.specs.Geometry.{len, segmentOf}
 use Rattle.layout.specs.Mem.{Mem, setTrace, withRegion}
 use Rattle.model.specs.Fields.{class, traceCount, setTraceCount}
 use Rattle.model.specs.declared.Duty.{Duty}
-use Rattle.model.specs.Records.{record?, bitOf, queued}
+use Rattle.model.specs.Records.{record?, recordBit, queued}
 use Rattle.model.specs.Tracing.{push, barrier}
 use Rattle.tracing.specs.declared.Bit.{Bit}
 use Rattle.tracing.specs.declared.Bit.the-variants.{At, Torn}
@@ -22,7 +22,7 @@ use Rattle.layout.specs.Region as Region
 -- the bit of the record at a word; none off the heap, or in a segment of no class
 unfoldable pub bitPlace : Geometry → Mem → ℕ → Bit
 bitPlace g m at =
-    pick (ltb at (len g Region.heap)) (pick (ltb (class m (segmentOf g at)) 3) Torn (pick (ltb 12 (class m (segmentOf g at))) Torn (At (bitOf g m at)))) Torn
+    pick (ltb at (len g Region.heap)) (pick (ltb (class m (segmentOf g at)) 3) Torn (pick (ltb 12 (class m (segmentOf g at))) Torn (At (recordBit g m at)))) Torn
 
 -- the word w on top of the stack, with bit k, unless the bit is marked or queued
 unfoldable pub pushedBit : Mem → ℕ → ℕ → Mem
@@ -37,14 +37,14 @@ pub record PushesBit (g : Geometry) (m : Mem) (w k : ℕ) (r : Bool) (after : Me
   pub full : r ≡ false → (bitAt (m .queued) k ≡ 1 → ⊥) × (len g Region.trace ≤ traceCount m)
 
 -- what hinders a push of word w: its record has no bit, or is not queued while the stack has no room
-pub record Hindered (g : Geometry) (m : Mem) (w : ℕ) : Type 0 where
+pub record PushFails (g : Geometry) (m : Mem) (w : ℕ) : Type 0 where
   pub at : ℕ
   pub names : w ≡ suc at
   pub why : (bitPlace g m at ≡ Torn) ⊎ ((queued g m at ≡ 1 → ⊥) × (len g Region.trace ≤ traceCount m))
 
 pub record Pushes (g : Geometry) (m : Mem) (w : ℕ) (r : Bool) (after : Mem) : Type 0 where
   pub done : r ≡ true → after ≡ push g m (record? w)
-  pub hindered : r ≡ false → Hindered g m w
+  pub fails : r ≡ false → PushFails g m w
 
 -- the barrier's duty as theory has it
 abbrev pub ruleOf : Duty → theory.Duty
@@ -52,6 +52,6 @@ ruleOf duty.Nothing = theory.nothing
 ruleOf duty.Both = theory.both
 ruleOf duty.Old = theory.old
 
-pub record Bars (g : Geometry) (m : Mem) (d : Duty) (new old : ℕ) (r : Bool) (after : Mem) : Type 0 where
+pub record BarrierRuns (g : Geometry) (m : Mem) (d : Duty) (new old : ℕ) (r : Bool) (after : Mem) : Type 0 where
   pub done : r ≡ true → after ≡ barrier g (ruleOf d) m (record? new) (record? old)
-  pub hindered : r ≡ false → Hindered g m new ⊎ (Hindered g m old ⊎ Hindered g (push g m (record? new)) old)
+  pub fails : r ≡ false → PushFails g m new ⊎ (PushFails g m old ⊎ PushFails g (push g m (record? new)) old)

@@ -7,7 +7,7 @@ ghost use Prim.Native.Nat.{_*_, _<_};
 ghost use lib.ListN.{length};
 ghost use Rattle.layout.specs.Geometry.{Sized, mostBlocks};
 ghost use Rattle.layout.specs.Mem.{memOf};
-ghost use Rattle.tracing.specs.Pushing.{bitPlace, PushesBit, Pushes, Bars};
+ghost use Rattle.tracing.specs.Pushing.{bitPlace, PushesBit, Pushes, BarrierRuns};
 
 // The number of a record's bit among the marks and the queued bits, or none.
 pub enum Bit {
@@ -27,7 +27,7 @@ pub fn bit_of(g: Geometry, mem: &[u32], at: usize) -> Bit
         return Bit::Torn;
     }
     let s = layout::segment_of(g, at);
-    let class = layout::segment(g, mem, s * layout::RECORD_WORDS + 1) as usize;
+    let class = layout::segment(g, mem, s * layout::SEGMENT_RECORD_WORDS + 1) as usize;
     if class < 3 {
         return Bit::Torn;
     }
@@ -80,7 +80,7 @@ pub fn push(g: Geometry, mem: &mut [u32], w: u32) -> bool
 // The write barrier of a store: the new value and then the old, the old, or nothing.
 pub fn barrier(g: Geometry, mem: &mut [u32], duty: Duty, new: u32, old: u32) -> bool
     requires { ⌜ Sized g (length (now mem)) ⌝ }
-    ensures { λ r. ⌜ Bars g (memOf g (now (mem .entry))) duty new old r (memOf g (now (mem .exit))) ⌝ }
+    ensures { λ r. ⌜ BarrierRuns g (memOf g (now (mem .entry))) duty new old r (memOf g (now (mem .exit))) ⌝ }
 {
     match duty {
         Duty::Nothing => true,

@@ -2,7 +2,7 @@
 use native.Mathlib.Omega.{arith}
 use borrow.Author.Needs.{needs}
 use Rattle.layout.specs.Geometry.{segmentBytes}
-use Rattle.layout.specs.Mem.{setMark}
+use Rattle.layout.specs.Mem.{setMarkWord}
 use Rattle.layout.proofs.Regions.{set-at}
 use Rattle.layout.proofs.set_mark.Tie as tie
 use Rattle.layout.proofs.set_mark.Statement.{statement}
@@ -27,7 +27,7 @@ same-length : tie.Need-same-length
 same-length c = search needs
 
 returns : tie.Need-returns
-unfolding segmentBytes setMark
+unfolding segmentBytes setMarkWord
 returns c = set-at _ _ 6 _ _ _ (omega arith)
 
 pub set-mark-spec : {M : Type 1} → statement M

@@ -2,7 +2,7 @@
 use native.Mathlib.Omega.{arith}
 use borrow.Author.Needs.{needs}
 use Rattle.layout.specs.Geometry.{segmentBytes}
-use Rattle.layout.specs.Mem.{setQueued}
+use Rattle.layout.specs.Mem.{setQueuedWord}
 use Rattle.layout.proofs.Regions.{set-at}
 use Rattle.layout.proofs.set_queued.Tie as tie
 use Rattle.layout.proofs.set_queued.Statement.{statement}
@@ -27,7 +27,7 @@ same-length : tie.Need-same-length
 same-length c = search needs
 
 returns : tie.Need-returns
-unfolding segmentBytes setQueued
+unfolding segmentBytes setQueuedWord
 returns c = set-at _ _ 7 _ _ _ (omega arith)
 
 pub set-queued-spec : {M : Type 1} → statement M

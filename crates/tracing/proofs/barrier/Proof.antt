@@ -1,6 +1,6 @@
 -- `tracing::barrier` meets its contract. Assumes nothing.
 use borrow.Author.Needs.{needs}
-use Rattle.tracing.proofs.Bits.{bars-nothing, bars-old, bars-not, bars-both}
+use Rattle.tracing.proofs.Bits.{barrier-nothing, barrier-old, barrier-stops, barrier-both}
 use Rattle.tracing.proofs.barrier.Tie as tie
 use Rattle.tracing.proofs.barrier.Statement.{statement}
 
@@ -21,7 +21,7 @@ same-length c = search needs
 
 returns : tie.Need-returns
 returns c =
-    bars-both _ _ _ _ _ (c .before .before .before .before .before .before .before .before .before .enum-told2 .given .1) _ _ _ _ (c .before .before .before .before .before .before .before .push .ensures) (c .before .before .before .before .if1 .taken) (c .before .before .push2 .ensures)
+    barrier-both _ _ _ _ _ (c .before .before .before .before .before .before .before .before .before .enum-told2 .given .1) _ _ _ _ (c .before .before .before .before .before .before .before .push .ensures) (c .before .before .before .before .if1 .taken) (c .before .before .push2 .ensures)
 
 enum-told-3 : tie.Need-enum-told-3
 enum-told-3 c = search needs
@@ -30,19 +30,19 @@ push-requires-3 : tie.Need-push-requires-3
 push-requires-3 c κs = search needs
 
 returns-2 : tie.Need-returns-2
-returns-2 c = bars-nothing _ _ _ _ _ (c .enum-told .given .1)
+returns-2 c = barrier-nothing _ _ _ _ _ (c .enum-told .given .1)
 
 same-length-2 : tie.Need-same-length-2
 same-length-2 c = search needs
 
 returns-3 : tie.Need-returns-3
-returns-3 c = bars-not _ _ _ _ _ (c .before .before .before .before .before .enum-told2 .given .1) _ _ (c .before .before .before .push .ensures) (c .if1 .left)
+returns-3 c = barrier-stops _ _ _ _ _ (c .before .before .before .before .before .enum-told2 .given .1) _ _ (c .before .before .before .push .ensures) (c .if1 .left)
 
 same-length-3 : tie.Need-same-length-3
 same-length-3 c = search needs
 
 returns-4 : tie.Need-returns-4
-returns-4 c = bars-old _ _ _ _ _ (c .before .before .before .before .enum-told3 .given .1) _ _ (c .before .before .push3 .ensures)
+returns-4 c = barrier-old _ _ _ _ _ (c .before .before .before .before .enum-told3 .given .1) _ _ (c .before .before .push3 .ensures)
 
 pub barrier-spec : {M : Type 1} → statement M
 barrier-spec =

@@ -20,11 +20,11 @@ use Rattle.layout.specs.Geometry.{mostBlocks, markWords, len, segmentOf}
 use Rattle.layout.specs.Mem.{Mem, setTrace, setControl}
 use Rattle.layout.proofs.Sizes.{marks-are, segment-below}
 use Rattle.model.specs.Fields.{class, traceCount}
-use Rattle.model.specs.Records.{record?, bitOf, marked, queued, setQueued}
+use Rattle.model.specs.Records.{record?, recordBit, marked, queued, setQueued}
 use Rattle.model.specs.Tracing.{push, onTop}
 use Rattle.model.specs.Consistent.{RecordOk, Consistent}
 use Rattle.tracing.specs.declared.Bit.the-variants.{At, Torn}
-use Rattle.tracing.specs.Pushing.{bitPlace, Hindered}
+use Rattle.tracing.specs.Pushing.{bitPlace, PushFails}
 use Rattle.tracing.proofs.Bits.{bit-of-class, isAt}
 use Rattle.layout.specs.Region as Region
 
@@ -73,22 +73,22 @@ module _ (g : Geometry) (m : Mem) (c : Consistent g m) where
 
     has-bit : bitPlace g m at ≡ Torn → ⊥
     unfolding bitPlace
-    has-bit e = let z : At (bitOf g m at) ≡ Torn = sym (placed) ∙ e in true≢false (ap isAt z)
+    has-bit e = let z : At (recordBit g m at) ≡ Torn = sym (placed) ∙ e in true≢false (ap isAt z)
       where
-        placed : bitPlace g m at ≡ At (bitOf g m at)
+        placed : bitPlace g m at ≡ At (recordBit g m at)
         placed = rw (lt-ltb _ _ (r .inside), le-ltb _ _ (of-class .0), le-ltb _ _ (of-class .1)) refl
 
-    bit-below : bitOf g m at < g .segments * mostBlocks g
+    bit-below : recordBit g m at < g .segments * mostBlocks g
     bit-below = bit-of-class g m at (of-class .0) (of-class .1) (r .inside)
 
     pub room : (queued g m at ≡ 1 → ⊥) → traceCount m < len g Region.trace
     room f =
-        let h = zero-less (bitAt (m .queued)) (at-lt (m .queued)) (g .segments * mostBlocks g) (bitOf g m at) bit-below (zero-of _ (at-lt (m .queued) (bitOf g m at)) f) in
+        let h = zero-less (bitAt (m .queued)) (at-lt (m .queued)) (g .segments * mostBlocks g) (recordBit g m at) bit-below (zero-of _ (at-lt (m .queued) (recordBit g m at)) f) in
         let e = c .trace .number in
         omega arith
 
-  pub unhindered : (w : ℕ) → ((at : ℕ) → w ≡ suc at → RecordOk g m at) → Hindered g m w → ⊥
-  unhindered w r h = go (h .why)
+  pub push-succeeds : (w : ℕ) → ((at : ℕ) → w ≡ suc at → RecordOk g m at) → PushFails g m w → ⊥
+  push-succeeds w r h = go (h .why)
     where
       ok : RecordOk g m (h .at)
       ok = r (h .at) (h .names)
@@ -109,36 +109,36 @@ module _ (g : Geometry) (m : Mem) (c : Consistent g m) where
       unfolding bitPlace setTrace setControl setQueued
       same-place = refl
 
-      bits-after : queued g (onTop g m a) at ≡ bitAt (setBit (m .queued) (bitOf g m a)) (bitOf g m at)
+      bits-after : queued g (onTop g m a) at ≡ bitAt (setBit (m .queued) (recordBit g m a)) (recordBit g m at)
       unfolding setTrace setControl setQueued
       bits-after = refl
 
-      in-words : bitOf g m a / 32 < length (m .queued)
+      in-words : recordBit g m a / 32 < length (m .queued)
       in-words = let l = bit-below a ra in let z = marks-are g (g .segments) in omega arith
 
       room-after : (queued g (onTop g m a) at ≡ 1 → ⊥) → traceCount (onTop g m a) < len g Region.trace
       room-after f =
-          let d : bitOf g m at ≡ bitOf g m a → ⊥ = λ e. f (bits-after ∙ ap (bitAt (setBit (m .queued) (bitOf g m a))) e ∙ set-there (m .queued) (bitOf g m a) in-words) in
-          let u : bitAt (m .queued) (bitOf g m at) ≡ 1 → ⊥ = λ e. f (bits-after ∙ set-elsewhere (m .queued) (bitOf g m a) in-words (bitOf g m at) d ∙ e) in
-          let h = two-less (bitAt (m .queued)) (at-lt (m .queued)) (g .segments * mostBlocks g) (bitOf g m a) (bitOf g m at) (bit-below a ra) (bit-below at r) d
-          (zero-of _ (at-lt (m .queued) (bitOf g m a)) ua) (zero-of _ (at-lt (m .queued) (bitOf g m at)) u) in
+          let d : recordBit g m at ≡ recordBit g m a → ⊥ = λ e. f (bits-after ∙ ap (bitAt (setBit (m .queued) (recordBit g m a))) e ∙ set-there (m .queued) (recordBit g m a) in-words) in
+          let u : bitAt (m .queued) (recordBit g m at) ≡ 1 → ⊥ = λ e. f (bits-after ∙ set-elsewhere (m .queued) (recordBit g m a) in-words (recordBit g m at) d ∙ e) in
+          let h = two-less (bitAt (m .queued)) (at-lt (m .queued)) (g .segments * mostBlocks g) (recordBit g m a) (recordBit g m at) (bit-below a ra) (bit-below at r) d
+          (zero-of _ (at-lt (m .queued) (recordBit g m a)) ua) (zero-of _ (at-lt (m .queued) (recordBit g m at)) u) in
           let e = c .trace .number in
           let z = count-more in
           omega arith
 
-      unhindered-on : (w : ℕ) → w ≡ suc at → Hindered g (onTop g m a) w → ⊥
-      unhindered-on w e h = go (subst (λ y. (bitPlace g (onTop g m a) y ≡ Torn) ⊎ ((queued g (onTop g m a) y ≡ 1 → ⊥) × (len g Region.trace ≤ traceCount (onTop g m a)))) (same-at (sym (h .names) ∙ e)) (h .why))
+      push-succeeds-on : (w : ℕ) → w ≡ suc at → PushFails g (onTop g m a) w → ⊥
+      push-succeeds-on w e h = go (subst (λ y. (bitPlace g (onTop g m a) y ≡ Torn) ⊎ ((queued g (onTop g m a) y ≡ 1 → ⊥) × (len g Region.trace ≤ traceCount (onTop g m a)))) (same-at (sym (h .names) ∙ e)) (h .why))
         where
           go : (bitPlace g (onTop g m a) at ≡ Torn) ⊎ ((queued g (onTop g m a) at ≡ 1 → ⊥) × (len g Region.trace ≤ traceCount (onTop g m a))) → ⊥
           go (inl q) = has-bit at r (sym same-place ∙ q)
           go (inr p) = let l = room-after (p .0) in let q = p .1 in omega arith
 
-    pub unhindered-next : (v w : ℕ) → ((at : ℕ) → v ≡ suc at → RecordOk g m at) → ((at : ℕ) → w ≡ suc at → RecordOk g m at) → Hindered g (push g m (record? v)) w → ⊥
+    pub push-succeeds-next : (v w : ℕ) → ((at : ℕ) → v ≡ suc at → RecordOk g m at) → ((at : ℕ) → w ≡ suc at → RecordOk g m at) → PushFails g (push g m (record? v)) w → ⊥
     unfolding push
-    unhindered-next zero w rv rw′ h = unhindered w rw′ h
-    unhindered-next (suc a) w rv rw′ h = go (eqb (marked g m a) 1) (eqb (queued g m a) 1) refl h
+    push-succeeds-next zero w rv rw′ h = push-succeeds w rw′ h
+    push-succeeds-next (suc a) w rv rw′ h = go (eqb (marked g m a) 1) (eqb (queued g m a) 1) refl h
       where
-        go : (x y : Bool) → eqb (queued g m a) 1 ≡ y → Hindered g (pick x m (pick y m (onTop g m a))) w → ⊥
-        go true y q h = unhindered w rw′ h
-        go false true q h = unhindered w rw′ h
-        go false false q h = unhindered-on a (rv a refl) (eqb-false _ _ q) (h .at) (rw′ (h .at) (h .names)) w (h .names) h
+        go : (x y : Bool) → eqb (queued g m a) 1 ≡ y → PushFails g (pick x m (pick y m (onTop g m a))) w → ⊥
+        go true y q h = push-succeeds w rw′ h
+        go false true q h = push-succeeds w rw′ h
+        go false false q h = push-succeeds-on a (rv a refl) (eqb-false _ _ q) (h .at) (rw′ (h .at) (h .names)) w (h .names) h
