@@ -5,16 +5,15 @@ use mathlib.Core.List.{List}
 use Prim.Native.Nat.{ℕ, suc, _+_, _-_, _*_, _≤_, _<_}
 use native.Mathlib.Omega.{arith}
 use lib.ListN.{length, getD}
-use lib.Seq.{sets}
 use Rattle.rules.proofs.Order.{same-or-not, le-or-lt}
 use Rattle.classes.specs.Class.{firstClass}
 use Rattle.layout.specs.declared.Geometry.{Geometry}
 use Rattle.layout.specs.Geometry.{mutatorCount, mutatorWords, entryWords, rootCount}
-use Rattle.layout.specs.Mem.{Mem, mutatorWord, setMutator, Sizes}
+use Rattle.layout.specs.Mem.{Mem, mutatorWord, setMutator, Sizes, spliced}
 use Rattle.model.specs.Fields.{absent, stateAt, acksAt, heldFrom, state, acks, root, holding, setHolding, tag, class, place, owner}
 use Rattle.model.specs.Consistent.{IsClass, MutatorOk}
 use Rattle.laws.proofs.Words.{Recorded, mutator-there, mutator-other}
-use Rattle.laws.proofs.Windows.{sets-in, sets-out}
+use Rattle.laws.proofs.Windows.{spliced-in, spliced-out}
 use Rattle.model.specs.Tag as Tag
 
 -- ---- each word of an entry by its offset
@@ -36,11 +35,11 @@ table-below c i = let a = i .0 in let b = i .1 in omega arith
 -- ---- an entry written whole
 
 module _ (g : Geometry) (m : Mem) (s : Sizes g m) (k : ℕ) (l : k < mutatorCount) (vs : List ℕ) (long : length vs ≡ mutatorWords) where
-  pub entry-in : (o : ℕ) → o < mutatorWords → getD (sets (m .mutators) (k * mutatorWords) vs) (k * mutatorWords + o) 0 ≡ getD vs o 0
-  entry-in o h = let z = s .mutators in sets-in vs (m .mutators) (k * mutatorWords) o (omega arith) (omega arith)
+  pub entry-in : (o : ℕ) → o < mutatorWords → getD (spliced (m .mutators) (k * mutatorWords) vs) (k * mutatorWords + o) 0 ≡ getD vs o 0
+  entry-in o h = let z = s .mutators in spliced-in vs (m .mutators) (k * mutatorWords) o (omega arith) (omega arith)
 
-  pub entry-out : (j o : ℕ) → o < mutatorWords → (j ≡ k → ⊥) → getD (sets (m .mutators) (k * mutatorWords) vs) (j * mutatorWords + o) 0 ≡ mutatorWord m (j * mutatorWords + o)
-  entry-out j o h f = sets-out vs (m .mutators) (k * mutatorWords) (j * mutatorWords + o) (side (le-or-lt j k))
+  pub entry-out : (j o : ℕ) → o < mutatorWords → (j ≡ k → ⊥) → getD (spliced (m .mutators) (k * mutatorWords) vs) (j * mutatorWords + o) 0 ≡ mutatorWord m (j * mutatorWords + o)
+  entry-out j o h f = spliced-out vs (m .mutators) (k * mutatorWords) (j * mutatorWords + o) (side (le-or-lt j k))
     where
       side : (j ≤ k) ⊎ (k < j) → (j * mutatorWords + o < k * mutatorWords) ⊎ (k * mutatorWords + length vs ≤ j * mutatorWords + o)
       side (inl q) = inl (⊎-elim (λ x. absurd (f (omega arith))) (λ x. omega arith) (le-or-lt k j))

@@ -4,7 +4,6 @@ use mathlib.Core.List.{List}
 use Prim.Native.Nat.{ℕ}
 use native.Mathlib.Omega.{arith}
 use lib.ListN.{length, length-set}
-use lib.Seq.{length-sets}
 use Rattle.words.proofs.Lists.{length-setBit, length-clearBit}
 use Rattle.layout.specs.declared.Geometry.{Geometry}
 use Rattle.layout.specs.Geometry.{Sized}
@@ -15,6 +14,7 @@ use Rattle.model.specs.Segments.{setSegmentState}
 use Rattle.model.specs.Records.{setMarked, setQueued, clearQueued, recordBit}
 use Rattle.laws.proofs.Words.{state-is}
 use Rattle.layout.specs.Region as Region
+use Rattle.laws.proofs.Windows.{length-spliced}
 
 -- the memory of a slice of its length
 pub sizes-of : (g : Geometry) (l : List ℕ) → Sized g (length l) → Sizes g (memOf g l)
@@ -41,7 +41,7 @@ module _ (g : Geometry) (m : Mem) (s : Sizes g m) where
 
   pub sizes-entry : (i : ℕ) (vs : List ℕ) → Sizes g (setRun m Region.mutators i vs)
   unfolding setRun
-  sizes-entry i vs = record { control = s .control; mutators = length-sets (m .mutators) i vs ∙ s .mutators; segments = s .segments; stacks = s .stacks; bitmaps = s .bitmaps; marks = s .marks; queued = s .queued; trace = s .trace; heap = s .heap }
+  sizes-entry i vs = record { control = s .control; mutators = length-spliced (m .mutators) i vs ∙ s .mutators; segments = s .segments; stacks = s .stacks; bitmaps = s .bitmaps; marks = s .marks; queued = s .queued; trace = s .trace; heap = s .heap }
 
   pub sizes-segment : (i v : ℕ) → Sizes g (setSegment m i v)
   unfolding setSegment
@@ -53,7 +53,7 @@ module _ (g : Geometry) (m : Mem) (s : Sizes g m) where
 
   pub sizes-bitmap : (i : ℕ) (vs : List ℕ) → Sizes g (setRun m Region.bitmaps i vs)
   unfolding setRun
-  sizes-bitmap i vs = record { control = s .control; mutators = s .mutators; segments = s .segments; stacks = s .stacks; bitmaps = length-sets (m .bitmaps) i vs ∙ s .bitmaps; marks = s .marks; queued = s .queued; trace = s .trace; heap = s .heap }
+  sizes-bitmap i vs = record { control = s .control; mutators = s .mutators; segments = s .segments; stacks = s .stacks; bitmaps = length-spliced (m .bitmaps) i vs ∙ s .bitmaps; marks = s .marks; queued = s .queued; trace = s .trace; heap = s .heap }
 
   pub sizes-marked : (at : ℕ) → Sizes g (setMarked g m at)
   unfolding setMarked
@@ -77,7 +77,7 @@ module _ (g : Geometry) (m : Mem) (s : Sizes g m) where
 
   pub sizes-heap-run : (i : ℕ) (vs : List ℕ) → Sizes g (setRun m Region.heap i vs)
   unfolding setRun
-  sizes-heap-run i vs = record { control = s .control; mutators = s .mutators; segments = s .segments; stacks = s .stacks; bitmaps = s .bitmaps; marks = s .marks; queued = s .queued; trace = s .trace; heap = length-sets (m .heap) i vs ∙ s .heap }
+  sizes-heap-run i vs = record { control = s .control; mutators = s .mutators; segments = s .segments; stacks = s .stacks; bitmaps = s .bitmaps; marks = s .marks; queued = s .queued; trace = s .trace; heap = length-spliced (m .heap) i vs ∙ s .heap }
 
 pub sizes-state : (g : Geometry) (m : Mem) → Sizes g m → (r : ℕ) (x : SegmentState) → Sizes g (setSegmentState g m r x)
 sizes-state g m s r x = rw (state-is g m r x) (sizes-segment g _ (sizes-segment g _ (sizes-segment g _ (sizes-segment g m s _ _) _ _) _ _) _ _)

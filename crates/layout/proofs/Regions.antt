@@ -14,6 +14,7 @@ use Rattle.layout.specs.declared.Geometry.{Geometry}
 use Rattle.layout.specs.Parts.{parts, joined, start, lengths}
 use Rattle.layout.specs.Geometry.{lens, len, from, total, regionCount, maxSegments, Sized, wrongSize}
 use Rattle.layout.specs.Mem.{Mem, memOf, flat, ofParts, regions, region, readRun, withRegion, setRun, clearRegion, Sizes}
+use Rattle.layout.proofs.Spliced.{run-sets}
 use Rattle.layout.proofs.Cut.{read, write, writes, lent, whole, apart, long-at}
 
 module _ (g : Geometry) (l : List ℕ) where
@@ -26,13 +27,16 @@ module _ (g : Geometry) (l : List ℕ) where
   set-at k i j v (e, h) = rw e (ap ofParts (write (lens g) l k i v h))
 
   -- w words from word i of region k, lent to a leaf that makes g of them: `&mut mem[a..a + w]`
-  pub leaf-at : (k i w a : ℕ) (make : List ℕ → List ℕ) (ys : List ℕ) → ys ≡ make (midOf a (a + w - a) l) → length ys ≡ length (midOf a (a + w - a) l) → (a ≡ from g k + i) × (i + w ≤ len g k) × (k < regionCount) × (a + w ≤ length l) → memOf g (putMid a (a + w - a) l ys) ≡ setRun (memOf g l) k i (make (readRun (memOf g l) k i w))
-  unfolding memOf setRun
-  leaf-at k i w a make ys t s (e, h, q, u) =
+  leaf-sets : (k i w a : ℕ) (make : List ℕ → List ℕ) (ys : List ℕ) → ys ≡ make (midOf a (a + w - a) l) → length ys ≡ length (midOf a (a + w - a) l) → (a ≡ from g k + i) × (i + w ≤ len g k) × (k < regionCount) × (a + w ≤ length l) → memOf g (putMid a (a + w - a) l ys) ≡ withRegion (memOf g l) k (sets (region (memOf g l) k) i (make (readRun (memOf g l) k i w)))
+  unfolding memOf
+  leaf-sets k i w a make ys t s (e, h, q, u) =
       let f : a + w - a ≡ w = omega arith in
       let z : length ys ≡ w = s ∙ length-take (a + w - a) (drop a l) ∙ simp length-drop (omega arith) in
       rw (f, drop-drop w a l, ← z, ← append-assoc (take a l) ys (drop (a + length ys) l), ← sets-eq ys l a (omega arith), e)
       (ap ofParts (writes (lens g) l k i ys (omega arith)) ∙ ap (λ (x : List ℕ). ofParts (set (parts (lens g) l) k (sets (getD (parts (lens g) l) k []) i x))) (t ∙ ap make (rw (f, e, z) (lent (lens g) l k i w h q))))
+
+  pub leaf-at : (k i w a : ℕ) (make : List ℕ → List ℕ) (ys : List ℕ) → ys ≡ make (midOf a (a + w - a) l) → length ys ≡ length (midOf a (a + w - a) l) → (a ≡ from g k + i) × (i + w ≤ len g k) × (k < regionCount) × (a + w ≤ length l) → memOf g (putMid a (a + w - a) l ys) ≡ setRun (memOf g l) k i (make (readRun (memOf g l) k i w))
+  leaf-at k i w a make ys t s q = leaf-sets k i w a make ys t s q ∙ sym (run-sets (memOf g l) k i (make (readRun (memOf g l) k i w)))
 
   pub length-region : (k : ℕ) → length l ≡ total g → from g k + len g k ≤ total g → length (region (memOf g l) k) ≡ len g k
   unfolding memOf
@@ -40,11 +44,10 @@ module _ (g : Geometry) (l : List ℕ) where
 
   -- a whole region set
   pub run-all : (k : ℕ) (ys : List ℕ) → length l ≡ total g → from g k + len g k ≤ total g → length ys ≡ len g k → setRun (memOf g l) k 0 ys ≡ withRegion (memOf g l) k ys
-  unfolding setRun
   run-all k ys e h f =
       let r = region (memOf g l) k in
       let z : length r ≡ len g k = length-region k e h in
-      ap (withRegion (memOf g l) k) (sets-eq ys r 0 (omega arith) ∙ rw (drop-of-length-le r {i = 0 + length ys} (omega arith)) (append-nil ys))
+      run-sets (memOf g l) k 0 ys ∙ ap (withRegion (memOf g l) k) (sets-eq ys r 0 (omega arith) ∙ rw (drop-of-length-le r {i = 0 + length ys} (omega arith)) (append-nil ys))
 
   -- a whole region lent to a leaf that clears what it is lent: `&mut mem[a..b]`
   pub cleared-at : (k a b : ℕ) (ys : List ℕ) → ys ≡ replicate (length (midOf a (b - a) l)) 0 → (a ≡ from g k) × (b ≡ a + len g k) × (k < regionCount) → length l ≡ total g → from g k + len g k ≤ total g → memOf g (putMid a (b - a) l ys) ≡ clearRegion g (memOf g l) k

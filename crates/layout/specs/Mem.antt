@@ -1,9 +1,8 @@
 -- The lent memory as one value with a list of words for each region, cut from the slice and joined to it again.
-use Prim.Native.Nat.{ℕ}
+use Prim.Native.Nat.{ℕ, _+_, _-_}
 use mathlib.Core.Path.{_≡_}
-use mathlib.Core.List.{List, [], _∷_}
+use mathlib.Core.List.{List, [], _∷_, _++_}
 use lib.ListN.{length, getD, take, drop, set, replicate}
-use lib.Seq.{sets}
 use Rattle.layout.specs.declared.Geometry.{Geometry}
 use Rattle.layout.specs.Geometry.{lens, len}
 use Rattle.layout.specs.Parts.{parts, joined, lengths}
@@ -118,9 +117,13 @@ setQueuedWord m i v = withRegion m Region.queued (set (m .queued) i v)
 unfoldable pub setTrace : Mem → ℕ → ℕ → Mem
 setTrace m i v = withRegion m Region.trace (set (m .trace) i v)
 
+-- a list with vs from element i on, as far as it reaches
+unfoldable pub spliced : List ℕ → ℕ → List ℕ → List ℕ
+spliced l i vs = take i l ++ (take (length l - i) vs ++ drop (i + length vs) l)
+
 -- w words of region k from word i on, read and set
 abbrev pub readRun : Mem → ℕ → ℕ → ℕ → List ℕ
 readRun m k i w = take w (drop i (region m k))
 
 unfoldable pub setRun : Mem → ℕ → ℕ → List ℕ → Mem
-setRun m k i vs = withRegion m k (sets (region m k) i vs)
+setRun m k i vs = withRegion m k (spliced (region m k) i vs)

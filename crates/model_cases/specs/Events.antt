@@ -6,7 +6,7 @@ use lib.ListN.{take, drop, replicate}
 use Rattle.words.specs.Bits.{bitOf, bitAt, withBit, withoutBit, setBit, clearBit, onesAmong}
 use Rattle.layout.specs.declared.Geometry.{Geometry}
 use Rattle.layout.specs.Geometry.{len, segmentBytes}
-use Rattle.layout.specs.Mem.{Mem, setControl, setMutator, setSegment, setStack, setTrace, setHeap, setRun}
+use Rattle.layout.specs.Mem.{Mem, setControl, setMutator, setSegment, setStack, setTrace, setHeap, setRun, spliced}
 use Rattle.bitmap_search.specs.Scan.{nextFree}
 use Rattle.bitmap_write.specs.Rebuild.{wordFrom, packed, fullBit, summed, rebuilt}
 use Rattle.bitmap_write.specs.Ready.{padded, completed, cleared, copied, fresh, adopted}
@@ -73,7 +73,7 @@ does g m (heap i n) = (words (take n (drop i (m .heap))), m)
 
 -- the replies to a list of events, in order; to unfold it is to unfold every definition that it stands on
 unfoldable pub replies : Geometry → Mem → List Event → List Reply
-unfolding segmentBytes bitOf bitAt withBit withoutBit setBit clearBit onesAmong setControl setMutator setSegment setStack setTrace setHeap setRun nextFree wordFrom packed fullBit summed rebuilt padded completed cleared copied fresh adopted require ifRecord setSegmentState setMarked setQueued clearQueued push pushRoots pushPointers acknowledged attached released detached handedOut made act exec condemned anyFull acksReset started startOf outsideAnswered waiting lowest swept stepOf downTo0 opened
+unfolding segmentBytes bitOf bitAt withBit withoutBit setBit clearBit onesAmong setControl setMutator setSegment setStack setTrace setHeap setRun spliced nextFree wordFrom packed fullBit summed rebuilt padded completed cleared copied fresh adopted require ifRecord setSegmentState setMarked setQueued clearQueued push pushRoots pushPointers acknowledged attached released detached handedOut made act exec condemned anyFull acksReset started startOf outsideAnswered waiting lowest swept stepOf downTo0 opened
 replies g m [] = []
 replies g m (e ∷ es) = let r = does g m e in r .0 ∷ replies g (r .1) es
 

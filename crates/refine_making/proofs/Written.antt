@@ -5,16 +5,16 @@ use mathlib.Core.List.{List}
 use Prim.Native.Nat.{ℕ, suc, _+_, _-_, _*_, _≤_, _<_}
 use native.Mathlib.Omega.{arith}
 use lib.ListN.{length, set, getD, replicate, length-set, length-replicate, getD-replicate}
-use lib.Seq.{sets, getD-set-same, getD-set-other}
+use lib.Seq.{getD-set-same, getD-set-other}
 use Rattle.classes.specs.Class.{firstClass}
 use Rattle.layout.specs.declared.Geometry.{Geometry}
 use Rattle.layout.specs.Geometry.{mutatorWords}
-use Rattle.layout.specs.Mem.{Mem, mutatorWord, heapWord}
+use Rattle.layout.specs.Mem.{Mem, mutatorWord, heapWord, spliced}
 use Rattle.theory.specs.Phases.{black}
 use Rattle.model.specs.Fields.{phase, acksAt, heldFrom, acks, holding}
 use Rattle.model.specs.Records.{headerOf, written}
 use Rattle.model.specs.Rules.{phaseOf}
-use Rattle.laws.proofs.Windows.{sets-in, sets-out}
+use Rattle.laws.proofs.Windows.{spliced-in, spliced-out}
 use Rattle.laws.proofs.Blocks.{header-inside}
 use Rattle.refine_making.proofs.Request.{Request}
 use Rattle.refine_making.proofs.Result.{Moved}
@@ -35,22 +35,22 @@ module _ (g : Geometry) (m : Mem) (k d cl r b p n : ℕ) (q : Request g m k d cl
   zeros = length-replicate {A = ℕ} (p + n) 0
 
   abbrev pub written-heap : List ℕ
-  written-heap = sets (set (m₁ .heap) h (p * 65536 + n)) (h + 1) (replicate (p + n) 0)
+  written-heap = spliced (set (m₁ .heap) h (p * 65536 + n)) (h + 1) (replicate (p + n) 0)
 
   pub at-header : getD written-heap h 0 ≡ p * 65536 + n
-  at-header = sets-out (replicate (p + n) 0) _ (h + 1) h (inl (omega arith)) ∙ getD-set-same (m₁ .heap) h (p * 65536 + n) 0 (let z = inside in omega arith)
+  at-header = spliced-out (replicate (p + n) 0) _ (h + 1) h (inl (omega arith)) ∙ getD-set-same (m₁ .heap) h (p * 65536 + n) 0 (let z = inside in omega arith)
 
   pub at-field : (i : ℕ) → i < p + n → getD written-heap (h + 1 + i) 0 ≡ 0
-  at-field i l = let z = inside in let y = length-set (m₁ .heap) h (p * 65536 + n) in let w = zeros in sets-in (replicate (p + n) 0) (set (m₁ .heap) h (p * 65536 + n)) (h + 1) i (omega arith) (omega arith) ∙ getD-replicate (p + n) i 0 0 l
+  at-field i l = let z = inside in let y = length-set (m₁ .heap) h (p * 65536 + n) in let w = zeros in spliced-in (replicate (p + n) 0) (set (m₁ .heap) h (p * 65536 + n)) (h + 1) i (omega arith) (omega arith) ∙ getD-replicate (p + n) i 0 0 l
 
   old-word : (i : ℕ) → getD (m₁ .heap) i 0 ≡ heapWord m i
   old-word i = ap (λ (ws : List ℕ). getD ws i 0) (v .heap)
 
   pub at-before : (i : ℕ) → i < h → getD written-heap i 0 ≡ heapWord m i
-  at-before i l = sets-out (replicate (p + n) 0) _ (h + 1) i (inl (omega arith)) ∙ getD-set-other (m₁ .heap) h i (p * 65536 + n) 0 (λ e. omega arith) ∙ old-word i
+  at-before i l = spliced-out (replicate (p + n) 0) _ (h + 1) i (inl (omega arith)) ∙ getD-set-other (m₁ .heap) h i (p * 65536 + n) 0 (λ e. omega arith) ∙ old-word i
 
   pub at-behind : (i : ℕ) → h + (p + n) < i → getD written-heap i 0 ≡ heapWord m i
-  at-behind i l = sets-out (replicate (p + n) 0) _ (h + 1) i (inr (let z = zeros in omega arith)) ∙ getD-set-other (m₁ .heap) h i (p * 65536 + n) 0 (λ e. omega arith) ∙ old-word i
+  at-behind i l = spliced-out (replicate (p + n) 0) _ (h + 1) i (inr (let z = zeros in omega arith)) ∙ getD-set-other (m₁ .heap) h i (p * 65536 + n) 0 (λ e. omega arith) ∙ old-word i
 
   -- ---- the words of the mutators
 

@@ -8,13 +8,12 @@ use Prim.Native.Nat.{ℕ, suc, _+_, _*_, _≤_, _<_}
 use native.Mathlib.Omega.{arith}
 use lib.Dec.{eqb}
 use lib.ListN.{length, getD, replicate, length-replicate, getD-replicate}
-use lib.Seq.{sets}
 use Rattle.rules.proofs.Order.{same-or-not}
 use Rattle.words.specs.Tree.{Tree}
 use Rattle.classes.specs.Class.{classCount}
 use Rattle.layout.specs.declared.Geometry.{Geometry}
 use Rattle.layout.specs.Geometry.{mutatorCount, mutatorWords, rootCount, blocksIn, segmentOf}
-use Rattle.layout.specs.Mem.{Mem, mutatorWord, setRun, Sizes}
+use Rattle.layout.specs.Mem.{Mem, mutatorWord, setRun, Sizes, spliced}
 use Rattle.theory.specs.Machine.{detach}
 use Rattle.theory.specs.Update.{upd}
 use Rattle.theory.proofs.Agree.{Agree}
@@ -51,7 +50,7 @@ module _ (g : Geometry) (m : Mem) (s : Sizes g m) (c : Consistent g m) (k : ℕ)
   parts = releasing g m s c k few classCount (omega arith)
 
   abbrev emptied : List ℕ
-  emptied = sets (m .mutators) (k * mutatorWords) zeros
+  emptied = spliced (m .mutators) (k * mutatorWords) zeros
 
   abbrev m₁ : Mem
   m₁ = over m emptied (parted .segments) (parted .stacks) (m .bitmaps)
@@ -238,7 +237,7 @@ module _ (g : Geometry) (m : Mem) (s : Sizes g m) (c : Consistent g m) (k : ℕ)
 
   same : setRun parted Region.mutators (k * mutatorWords) zeros ≡ m₁
   unfolding setRun
-  same = ap (λ z. over z (sets (z .mutators) (k * mutatorWords) zeros) (parted .segments) (parted .stacks) (z .bitmaps)) (parts .frame)
+  same = ap (λ z. over z (spliced (z .mutators) (k * mutatorWords) zeros) (parted .segments) (parted .stacks) (z .bitmaps)) (parts .frame)
 
   moves-run : Moves g m (setRun parted Region.mutators (k * mutatorWords) zeros) (detach (view g m) k)
   moves-run = subst (λ z. Moves g m z (detach (view g m) k)) (sym same) moves-over

@@ -5,14 +5,13 @@ use mathlib.Core.List.{List}
 use Prim.Native.Nat.{ℕ, _+_, _-_, _*_, _≤_, _<_}
 use native.Mathlib.Omega.{arith}
 use lib.ListN.{length}
-use lib.Seq.{sets}
 use borrow.Author.Tests.{eqb-true}
 use Rattle.words.specs.Bits.{bitAt}
 use Rattle.words.specs.Levels.{treeWords}
 use Rattle.words.specs.Tree.{Tree}
 use Rattle.layout.specs.declared.Geometry.{Geometry}
 use Rattle.layout.specs.Geometry.{mutatorCount, blocksIn, bitmapWords}
-use Rattle.layout.specs.Mem.{Mem, setStack, setSegment, setMutator, setRun, Sizes}
+use Rattle.layout.specs.Mem.{Mem, setStack, setSegment, setMutator, setRun, Sizes, spliced}
 use Rattle.bitmap_write.specs.Ready.{fresh}
 use Rattle.bitmap_write.proofs.Copied.{fresh-tree, fresh-bit, length-fresh}
 use Rattle.model.specs.Fields.{holding, tag, class, place, owner}
@@ -58,7 +57,7 @@ module _ (g : Geometry) (m : Mem) (s : Sizes g m) (c : Consistent g m) (k cl : �
   clean = fresh (above g cl) (blocksIn g cl) (bitmap g m r)
 
   abbrev m₁ : Mem
-  m₁ = over m (taken .mutators) (taken .segments) (popped g m s n v k cl r 0 .stacks) (sets (m .bitmaps) (r * bitmapWords g) clean)
+  m₁ = over m (taken .mutators) (taken .segments) (popped g m s n v k cl r 0 .stacks) (spliced (m .bitmaps) (r * bitmapWords g) clean)
 
   same : freshened g taken r cl ≡ m₁
   unfolding setStack setSegmentState setSegment setMutator setRun
@@ -108,7 +107,7 @@ module _ (g : Geometry) (m : Mem) (s : Sizes g m) (c : Consistent g m) (k cl : �
   part-stacks d i = stack-apart g m s m₁ freeStack v (omega arith) refl (partStack d) (λ e. omega arith) (isPart m d) (isPart m₁ d) (c .partSegments d i) (λ q l. part-left m m₁ r other d (λ e z. let y = top-tag in omega arith) (λ e z. let y = there .tag in omega arith) q)
 
   taken-over : Taken g m m₁ k cl r
-  taken-over = taken-by g m s c (taken .mutators) (taken .segments) (popped g m s n v k cl r 0 .stacks) (sets (m .bitmaps) (r * bitmapWords g) clean) k cl r 0 few here ic none took free-stack part-stacks
+  taken-over = taken-by g m s c (taken .mutators) (taken .segments) (popped g m s n v k cl r 0 .stacks) (spliced (m .bitmaps) (r * bitmapWords g) clean) k cl r 0 few here ic none took free-stack part-stacks
 
   pub taken-free : Taken g m (freshened g (takes g (pop g m freeStack) k cl r 0) r cl) k cl r
   taken-free = subst (λ z. Taken g m z k cl r) (sym same) taken-over

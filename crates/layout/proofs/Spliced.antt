@@ -1,0 +1,34 @@
+-- A list with other elements from a place on, as one splice and as a run of stores. Assumes nothing.
+use mathlib.Core.Path.{_≡_, refl, sym, _∙_, ap}
+use mathlib.Core.List.{List, [], _∷_, _++_}
+use Prim.Native.Nat.{ℕ, zero, suc, _+_, _-_}
+use native.Mathlib.Omega.{arith}
+use lib.ListN.{length, take, drop}
+use lib.Seq.{sets, take-nil, drop-nil}
+use Rattle.layout.specs.Mem.{Mem, region, withRegion, spliced, setRun}
+
+sets-nil : (i : ℕ) (vs : List ℕ) → sets [] i vs ≡ []
+sets-nil i [] = refl
+sets-nil i (v ∷ vs) = sets-nil (suc i) vs
+
+sets-cons : (x : ℕ) (l : List ℕ) (i : ℕ) (vs : List ℕ) → sets (x ∷ l) (suc i) vs ≡ x ∷ sets l i vs
+sets-cons x l i [] = refl
+sets-cons x l i (v ∷ vs) = sets-cons x _ (suc i) vs
+
+pub spliced-sets : (l : List ℕ) (i : ℕ) (vs : List ℕ) → spliced l i vs ≡ sets l i vs
+unfolding spliced
+spliced-sets [] zero vs = rw (drop-nil (0 + length vs), sets-nil 0 vs) refl
+spliced-sets [] (suc i) vs = let e : 0 - suc i ≡ 0 = omega arith in rw (drop-nil (suc i + length vs), sets-nil (suc i) vs, e) refl
+spliced-sets (x ∷ l) zero [] = rw (take-nil (length (x ∷ l) - 0)) refl
+spliced-sets (x ∷ l) zero (v ∷ vs) =
+    let e : suc (length l) - 0 ≡ suc (length l - 0) = omega arith in
+    let f : 0 + suc (length vs) ≡ suc (0 + length vs) = omega arith in
+    rw (e, f) (ap (λ z. v ∷ z) (spliced-sets l zero vs) ∙ sym (sets-cons v l zero vs))
+spliced-sets (x ∷ l) (suc i) vs =
+    let e : suc (length l) - suc i ≡ length l - i = omega arith in
+    let f : suc i + length vs ≡ suc (i + length vs) = omega arith in
+    rw (e, f) (ap (λ z. x ∷ z) (spliced-sets l i vs) ∙ sym (sets-cons x l i vs))
+
+pub run-sets : (m : Mem) (k i : ℕ) (vs : List ℕ) → setRun m k i vs ≡ withRegion m k (sets (region m k) i vs)
+unfolding setRun
+run-sets m k i vs = ap (withRegion m k) (spliced-sets (region m k) i vs)
