@@ -6,7 +6,6 @@ use mathlib.Core.Option.{Option, none, some, Option·some-injective}
 use mathlib.Core.List.{List, [], _∷_, _++_}
 use Prim.Native.Nat.{ℕ, zero, suc, _+_, _%_, _<_}
 use native.Mathlib.Omega.{arith}
-use lib.Dec.{eqb}
 use borrow.Author.Tests.{eq-eqb}
 use Rattle.rules.proofs.Order.{same-or-not}
 use Rattle.words.specs.Bits.{bitAt}
@@ -30,6 +29,7 @@ use Rattle.model.specs.Consistent.{IsClass}
 use Rattle.model.specs.Lists.{Element, started, Meets, KeepsLength, Gets, wrongSized, onward, Chain, Ghost, ghostStep, ghostAfter, BlockReached}
 use Rattle.refine_view.specs.View.{view, isHead}
 use Rattle.refine_view.specs.Kept.{AllKept}
+use Rattle.refine_view.proofs.Invariants.{consistent-ordered}
 use Rattle.laws.proofs.Bools.{and-both}
 use Rattle.laws.proofs.Blocks.{header-segment, header-aligned, header-bit}
 use Rattle.laws.proofs.Lengths.{sizes-of}
@@ -145,7 +145,7 @@ module _ (all : AllKept) (g : Geometry) (words₀ : List ℕ) (w : Ghost) (p : P
 
     pub block-free : (d : During all g m₀ words w′ (machine.Live (view g m₀))) → SweptBy g m s → Unreached g m₀ w s b → BlockFree g (swept g m s) s b
     block-free d y z =
-        let c = q .consistent in
+        let c = consistent-ordered g m (q .consistent) in
         let h = sizes-of g words (q .long) in
         let o = lowest-condemned g m h c s (y .is-lowest) in
         let n = d .full s (o .0) (o .1) .1 in

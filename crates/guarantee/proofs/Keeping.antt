@@ -27,6 +27,7 @@ use Rattle.model.specs.Run.{Request, answered}
 use Rattle.model.specs.Consistent.{Consistent, IsClass}
 use Rattle.model.specs.Lists.{Element, called, stepped, openedBy, sawPhase, sawStates, examinedBy, Meets, KeepsLength, lent, left, wrongSized, numberOf, Ghost, struck}
 use Rattle.laws.proofs.Lengths.{sizes-of}
+use Rattle.refine_view.proofs.Invariants.{consistent-ordered}
 use Rattle.refine_view.proofs.Keeping.{self, selfPut, self-good}
 use Rattle.refine_taking.proofs.Rooms.{room-source, source-room}
 use Rattle.refine_start.proofs.Opened.{sizes-opened, opened-consistent}
@@ -63,7 +64,7 @@ module _ (g : Geometry) (words : List ℕ) (right : wrongSize g (length words) �
   alone = record { heap = self g m; put = selfPut g m }
 
   at-point : Point g words alone Any
-  at-point = record { long = long; consistent = c; good = self-good g m (sizes-of g words long) c }
+  at-point = record { long = long; consistent = c; good = self-good g m (sizes-of g words long) (consistent-ordered g m c) }
 
   -- words that a call left, and the memory that they are
   same-words : (after : List ℕ) → length after ≡ length words → memOf g after ≡ m → after ≡ words
@@ -221,10 +222,10 @@ no-room-exactly = record {
   only = λ g words after k d p n r a e.
       let q = a .meets .exact (a .sized) (a .consistent) in
       let x = roomless-of g (memOf g words) k d p n (sym (q .0) ∙ number-of g words (a .sized) (a .consistent) r 10 e) in
-      record { class = x .class; lower = x .lower; sized = x .sized; noRoom = source-room g (memOf g words) (sizes-of g words (sized g (length words) (a .sized))) (a .consistent) k (x .class) (known g words k d p n (x .lower)) (is-class (p + n) (x .class) (x .sized)) (x .source) };
+      record { class = x .class; lower = x .lower; sized = x .sized; noRoom = source-room g (memOf g words) (sizes-of g words (sized g (length words) (a .sized))) (consistent-ordered g (memOf g words) (a .consistent)) k (x .class) (known g words k d p n (x .lower)) (is-class (p + n) (x .class) (x .sized)) (x .source) };
   whenever = λ g words after k d p n r a x.
       let q = a .meets .exact (a .sized) (a .consistent) in
-      let s = room-source g (memOf g words) (sizes-of g words (sized g (length words) (a .sized))) (a .consistent) k (x .class) (known g words k d p n (x .lower)) (is-class (p + n) (x .class) (x .sized)) (x .noRoom) in
+      let s = room-source g (memOf g words) (sizes-of g words (sized g (length words) (a .sized))) (consistent-ordered g (memOf g words) (a .consistent)) k (x .class) (known g words k d p n (x .lower)) (is-class (p + n) (x .class) (x .sized)) (x .noRoom) in
       refused-by r 10 (q .0 ∙ roomless-is g (memOf g words) k d p n (record { lower = x .lower; class = x .class; sized = x .sized; source = s }));
 }
   where

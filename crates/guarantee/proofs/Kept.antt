@@ -19,15 +19,15 @@ use Rattle.theory.specs.Calls.{Call, c-attach, c-detach, c-check, c-leave, c-en
 use Rattle.theory.proofs.CallKeeps.{by-ok, root-ok, require-ok}
 use Rattle.theory.proofs.Agree.{agree-inv}
 use Rattle.model.specs.Fields.{phase, holding}
-use Rattle.model.specs.Segments.{count, top, partStack, freeStack, free}
+use Rattle.model.specs.Segments.{count, top, partStack, freeStack}
 use Rattle.model.specs.Records.{headerOf}
 use Rattle.model.specs.Making.{held, part, unused, noRoom, sourceOf, inBlock, inSegment, fromSource, made}
 use Rattle.model.specs.Calls.{isAttached, observe, act, ofClass}
 use Rattle.model.specs.Collector.{lowest, stepOf, stepIn}
-use Rattle.model.specs.Consistent.{Consistent, IsClass}
+use Rattle.model.specs.Consistent.{IsClass}
 use Rattle.refine_view.specs.View.{view}
-use Rattle.refine_view.specs.Kept.{Moves, Matches, ActKept, StepKept, AllKept}
-use Rattle.refine_view.proofs.Invariants.{to-inv, consistent-of}
+use Rattle.refine_view.specs.Kept.{Ordered, Moves, Matches, ActKept, StepKept, AllKept}
+use Rattle.refine_view.proofs.Invariants.{consistent-ordered, to-inv, ordered-of}
 use Rattle.refine_view.proofs.Keeping.{agree-self, matches-by, moves-self, call-kept}
 use Rattle.refine_roots.proofs.Calls.{load-kept, copy-kept, clear-kept, get-kept, same-kept, shape-kept}
 use Rattle.refine_roots.proofs.Sides.{enter-kept}
@@ -47,7 +47,7 @@ use Rattle.theory.specs.MachineCalls as calls
 
 -- ---- make: from a held segment, or from one that is taken first
 
-module _ (g : Geometry) (m : Mem) (s : Sizes g m) (c : Consistent g m) (k d cl p n : ℕ) (l : k < mutatorCount) (a : isAttached m k ≡ true) (h : d < rootCount) (e : classOf (p + n) ≡ Class cl) where
+module _ (g : Geometry) (m : Mem) (s : Sizes g m) (c : Ordered g m) (k d cl p n : ℕ) (l : k < mutatorCount) (a : isAttached m k ≡ true) (h : d < rootCount) (e : classOf (p + n) ≡ Class cl) where
   abbrev By : (machine.State → ℕ → ℕ → ℕ → Option ℕ) → machine.State → Answer × machine.State
   By alloc st = calls.act alloc st (c-make k d p n)
 
@@ -56,8 +56,8 @@ module _ (g : Geometry) (m : Mem) (s : Sizes g m) (c : Consistent g m) (k d cl p
 
   -- out of a memory in which the mutator holds segment r
   module _ (m₁ : Mem) (r : ℕ) (t : Taken g m m₁ k cl r) where
-    in-order : Consistent g m₁
-    in-order = consistent-of g m₁ (t .sizes) (t .structure) (agree-inv (segmentOf g) (view g m) (view g m₁) (t .prepared) (to-inv g m s c))
+    in-order : Ordered g m₁
+    in-order = ordered-of g m₁ (t .sizes) (t .structure) (agree-inv (segmentOf g) (view g m) (view g m₁) (t .prepared) (to-inv g m s c))
 
     from-held : Matches g m (inSegment g m m₁ k d cl r p n) By
     from-held =
@@ -89,7 +89,7 @@ module _ (g : Geometry) (m : Mem) (s : Sizes g m) (c : Consistent g m) (k d cl p
       go true true false q i j = from-held _ _ (taken-free g m s c k cl l a is-class (eqb-true _ _ q) (some-of _ j))
       go true true true q i j = matches-by g m _ _ refl (moves-self g m c)
 
-make-kept : (g : Geometry) (m : Mem) → Sizes g m → Consistent g m → (k d p n : ℕ) → refusal (observe m) (c-make k d p n) ≡ 0 → ActKept g m (c-make k d p n)
+make-kept : (g : Geometry) (m : Mem) → Sizes g m → Ordered g m → (k d p n : ℕ) → refusal (observe m) (c-make k d p n) ≡ 0 → ActKept g m (c-make k d p n)
 unfolding act made
 make-kept g m s c k d p n e =
     let x = by-ok (observe m) k _ e in
@@ -103,7 +103,7 @@ make-kept g m s c k d p n e =
 
 -- ---- all calls
 
-calls-kept : (g : Geometry) (m : Mem) → Sizes g m → Consistent g m → (c : Call) → refusal (observe m) c ≡ 0 → ActKept g m c
+calls-kept : (g : Geometry) (m : Mem) → Sizes g m → Ordered g m → (c : Call) → refusal (observe m) c ≡ 0 → ActKept g m c
 calls-kept g m s c (c-attach k) = attach-kept g m s c k
 calls-kept g m s c (c-spawn k p i) = spawn-kept g m s c k p i
 calls-kept g m s c (c-detach k) = detach-kept g m s c k
@@ -120,7 +120,7 @@ calls-kept g m s c (c-get k i f) = get-kept g m s c k i f
 calls-kept g m s c (c-same k i j) = same-kept g m s c k i j
 calls-kept g m s c (c-shape k i) = shape-kept g m s c k i
 
-step-kept : (g : Geometry) (m : Mem) → Sizes g m → Consistent g m → StepKept g m
+step-kept : (g : Geometry) (m : Mem) → Sizes g m → Ordered g m → StepKept g m
 unfolding stepOf
 step-kept g m s c = record { picked = picked g m s c; moves = go (phase m) refl }
   where
@@ -132,4 +132,4 @@ step-kept g m s c = record { picked = picked g m s c; moves = go (phase m) refl 
     go sweep e = sweep-moves g m s c e
 
 pub all-kept : AllKept
-all-kept = record { calls = λ g m s c k. call-kept g m k c (calls-kept g m s c k); starts = start-kept; steps = step-kept }
+all-kept = record { calls = λ g m s c k. let o = consistent-ordered g m c in call-kept g m k o (calls-kept g m s o k); starts = λ g m s c. start-kept g m s (consistent-ordered g m c); steps = λ g m s c. step-kept g m s (consistent-ordered g m c) }

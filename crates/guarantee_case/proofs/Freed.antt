@@ -18,8 +18,9 @@ use Rattle.model.specs.Fields.{tag, class, place}
 use Rattle.model.specs.Segments.{bitmap, usedBit, inUse}
 use Rattle.model.specs.Records.{blockOf, headerOf}
 use Rattle.model.specs.Collector.{swept}
-use Rattle.model.specs.Consistent.{Consistent, IsClass, isFree}
+use Rattle.model.specs.Consistent.{IsClass, isFree}
 use Rattle.refine_view.specs.View.{isUsed}
+use Rattle.refine_view.specs.Kept.{Ordered}
 use Rattle.laws.proofs.Bools.{and-right, and-left, not-eq}
 use Rattle.laws.proofs.Blocks.{header-segment, header-block}
 use Rattle.words.proofs.Counts.{one-missing}
@@ -43,7 +44,7 @@ in-use-le g m s = go (eqb (tag m s) Tag.free)
     go true = omega arith
     go false = among-le (usedBit g m s) (used-small g m s) (blocksIn g (class m s))
 
-module _ (g : Geometry) (m : Mem) (z : Sizes g m) (c : Consistent g m) (s : ℕ) (l : s < g .segments) (t : tag m s ≡ Tag.condemned) where
+module _ (g : Geometry) (m : Mem) (z : Sizes g m) (c : Ordered g m) (s : ℕ) (l : s < g .segments) (t : tag m s ≡ Tag.condemned) where
   abbrev after : Mem
   after = swept g m s
 

@@ -4,7 +4,7 @@ use mathlib.Core.Path.{_≡_, sym, _∙_, ap, subst}
 use mathlib.Core.Logic.{_⊎_, inl, inr}
 use mathlib.Core.Bool.{Bool, true}
 use mathlib.Core.List.{List, _∷_, _++_}
-use Prim.Native.Nat.{ℕ, suc, _-_, _≤_, _<_}
+use Prim.Native.Nat.{ℕ, suc, _-_, _<_}
 use native.Mathlib.Omega.{arith}
 use lib.ListN.{length}
 use borrow.Author.Tests.{lt-ltb, eq-eqb}
@@ -27,6 +27,7 @@ use Rattle.model.specs.Collector.{isFull, stepOf, stepIn, sweeps, swept}
 use Rattle.model.specs.Consistent.{Consistent, IsClass}
 use Rattle.model.specs.Lists.{Element, started, stepped, Meets, KeepsLength, Gets, wrongSized, onward, Chain, Ghost, ghostAfter, BlockReached}
 use Rattle.refine_view.specs.View.{view, isUsed}
+use Rattle.refine_view.proofs.Invariants.{consistent-ordered}
 use Rattle.laws.proofs.Lengths.{sizes-of}
 use Rattle.refine_sweep.proofs.Sweeping.{lowest-condemned}
 use Rattle.guarantee.specs.Demand3.{struckOut, ghostStart, wordsAfter, Unreached, SweptIn, Opened}
@@ -48,7 +49,7 @@ reached-used g u w P at p r =
 -- every block of a full segment is in use
 full-used : (g : Geometry) (m : Mem) → Consistent g m → (s b : ℕ) → s < g .segments → tag m s ≡ Tag.full → b < blocksIn g (class m s) → usedBit g m s b ≡ 1
 full-used g m c s b l t h =
-    let e : place m s ≡ blocksIn g (class m s) = c .segments s l .whole (let z : Tag.full ≤ tag m s = omega arith in z) in
+    let e : place m s ≡ blocksIn g (class m s) = c .sound .segments s l .full t in
     ap (λ (x : Bool). pick x 1 (bitAt (bitmap g m s) b)) (lt-ltb b (place m s) (omega arith))
 
 -- the number of blocks that a step says it freed
@@ -88,7 +89,7 @@ module _ (g : Geometry) (w₀ : List ℕ) (v : Ghost) (p : Point g w₀ v Any) (
 
   found-at : (s n : ℕ) (after : List ℕ) → Stepped all-kept g w₁ v₁ Then (d .point) (Swept s (suc n)) after → v₁ ≡ v → Found g (memOf g w₀) v s
   found-at s n after x still =
-      let c = d .point .consistent in
+      let c = consistent-ordered g m (d .point .consistent) in
       let z = sizes-of g w₁ (d .point .long) in
       let y = swept-by g m s (suc n) (x .answer) in
       let o = lowest-condemned g m z c s (y .is-lowest) in

@@ -16,7 +16,7 @@ use Rattle.layout.specs.Geometry.{mutatorCount, blocksIn}
 use Rattle.layout.specs.Mem.{Mem, Sizes}
 use Rattle.model.specs.Fields.{absent, state, holding, tag, class, place, owner}
 use Rattle.model.specs.Segments.{above, bitmap, usedBit}
-use Rattle.model.specs.Consistent.{IsClass, SegmentOk, isFree, isPart}
+use Rattle.model.specs.Consistent.{IsClass, SegmentOk, TreeOk, isFree, isPart}
 use Rattle.laws.proofs.Bools.{and-both}
 use Rattle.laws.proofs.Words.{Recorded}
 use Rattle.model.specs.Tag as Tag
@@ -36,15 +36,19 @@ segment-same g m m₁ q o x e h = record {
   free = λ f. let y = o .free (sym (x .tag) ∙ f) in (x .class ∙ y .0, x .place ∙ y .1, x .owner ∙ y .2);
   unowned = λ f. x .owner ∙ o .unowned (λ y. f (x .tag ∙ y));
   classes = λ f. subst IsClass (sym (x .class)) (o .classes (λ y. f (x .tag ∙ y)));
-  tree = λ f. subst (λ z. Tree (above g z) (blocksIn g z) (bitmap g m₁ q)) (sym (x .class)) (subst (Tree (above g (class m q)) (blocksIn g (class m q))) (sym e) (o .tree (λ y. f (x .tag ∙ y))));
   remains = λ a b. let y = x .tag in remain (o .remains (omega arith) (omega arith));
-  whole = λ a. let y = x .tag in x .place ∙ o .whole (omega arith) ∙ ap (blocksIn g) (sym (x .class));
+  full = λ a. x .place ∙ o .full (sym (x .tag) ∙ a) ∙ ap (blocksIn g) (sym (x .class));
+  condemned = λ a. x .place ∙ o .condemned (sym (x .tag) ∙ a) ∙ ap (blocksIn g) (sym (x .class));
   held = λ f. let y : tag m q ≡ Tag.held = sym (x .tag) ∙ f in
       (subst (λ z. z < mutatorCount) (sym (x .owner)) (o .held y .0), λ z. h y .0 (ap (state m₁) (sym (x .owner)) ∙ z), ap (λ z. holding m₁ z (class m₁ q)) (x .owner) ∙ ap (holding m₁ (owner m q)) (x .class) ∙ h y .1);
 }
   where
     remain : (b : ℕ) × (place m q ≤ b) × (b < blocksIn g (class m q)) × (bitAt (bitmap g m q) b ≡ 0) → (b : ℕ) × (place m₁ q ≤ b) × (b < blocksIn g (class m₁ q)) × (bitAt (bitmap g m₁ q) b ≡ 0)
     remain (b, l, k, z) = (b, subst (λ w. w ≤ b) (sym (x .place)) l, subst (λ w. b < blocksIn g w) (sym (x .class)) k, ap (λ w. bitAt w b) e ∙ z)
+
+-- and one whose class and bitmap stay, and that is free if it was, keeps its bitmap's tree
+pub tree-same : (g : Geometry) (m m₁ : Mem) (q : ℕ) → TreeOk g m q → (tag m q ≡ Tag.free → tag m₁ q ≡ Tag.free) → class m₁ q ≡ class m q → bitmap g m₁ q ≡ bitmap g m q → TreeOk g m₁ q
+tree-same g m m₁ q t u c e f = subst (λ z. Tree (above g z) (blocksIn g z) (bitmap g m₁ q)) (sym c) (subst (Tree (above g (class m q)) (blocksIn g (class m q))) (sym e) (t (λ y. f (u y))))
 
 -- ---- free and part
 

@@ -1,5 +1,6 @@
 -- The consistency of the memory: what the examination decides, "the consistency definition that an opening establishes and every call
--- keeps. That definition binds the links of records reachable from slots or trace stack only."
+-- keeps. That definition binds the links of records reachable from slots or trace stack only." Two halves: `Summed`, what can be built again
+-- from the other words (the bitmaps' trees over their level 0, the stacks of segments), and `Sound`, which reads nothing of that.
 use mathlib.Core.Path.{_≡_}
 use mathlib.Core.Bool.{Bool, true, _&&_}
 use Prim.Native.Nat.{ℕ, suc, _+_, _*_, _%_, _≤_, _<_}
@@ -26,29 +27,32 @@ IsClass c = (firstClass ≤ c) × (c < firstClass + classCount)
 -- ---- one segment: its words are in range, and those that its state does not use are 0
 
 pub record SegmentOk (g : Geometry) (m : Mem) (s : ℕ) : Type 0 where
+  -- "A segment is free, part (class, place), held (class, place, script), full (class) or condemned (class)."
   pub tags : tag m s ≤ Tag.condemned
   pub free : tag m s ≡ Tag.free → (class m s ≡ 0) × (place m s ≡ 0) × (owner m s ≡ 0)
   pub unowned : (tag m s ≡ Tag.held → ⊥) → owner m s ≡ 0
   pub classes : (tag m s ≡ Tag.free → ⊥) → IsClass (class m s)
-  -- "A bit above level 0 is 1 exactly when its word below is all ones. Bits past a level's end are 1."
-  pub tree : (tag m s ≡ Tag.free → ⊥) → Tree (above g (class m s)) (blocksIn g (class m s)) (bitmap g m s)
-  -- part and held: a free block remains at or after the place
+  -- part and held: a free block remains at or after the place, for else the segment "becomes full in the same call"
   pub remains : (Tag.part ≤ tag m s) → (tag m s ≤ Tag.held) → (b : ℕ) × (place m s ≤ b) × (b < blocksIn g (class m s)) × (bitAt (bitmap g m s) b ≡ 0)
-  -- "A full segment's place is its number of blocks, kept when it is condemned."
-  pub whole : Tag.full ≤ tag m s → place m s ≡ blocksIn g (class m s)
+  -- "A full segment's place is its number of blocks,
+  pub full : tag m s ≡ Tag.full → place m s ≡ blocksIn g (class m s)
+  -- kept when it is condemned."
+  pub condemned : tag m s ≡ Tag.condemned → place m s ≡ blocksIn g (class m s)
   -- held: the mutator is attached and holds it
   pub held : tag m s ≡ Tag.held → (owner m s < mutatorCount) × (state m (owner m s) ≡ absent → ⊥) × (holding m (owner m s) (class m s) ≡ suc s)
 
 -- ---- one mutator
 
 pub record MutatorOk (g : Geometry) (m : Mem) (k : ℕ) : Type 0 where
+  -- absent, inside or outside; "roll 1, roll 2": no acknowledgement, one or both
   pub states : state m k ≤ outside
   pub acknowledged : acks m k ≤ 2
+  -- "detach: slots emptied"; an absent mutator's entry has nothing else either
   pub gone : state m k ≡ absent → (i : ℕ) → i < entryWords → mutatorWord m (k * mutatorWords + i) ≡ 0
   -- what it holds is held by it, one of each class
   pub holds : (c s : ℕ) → IsClass c → holding m k c ≡ suc s → (s < g .segments) × (tag m s ≡ Tag.held) × (class m s ≡ c) × (owner m s ≡ k)
 
--- the acknowledgements of an attached mutator, by the phase
+-- the acknowledgements of an attached mutator, by the phase: none is behind, and none ahead in roll 1
 abbrev pub AcksIn : Phase → ℕ → Type 0
 AcksIn idle a = Unit
 AcksIn sync1 a = a ≤ 1
@@ -69,6 +73,19 @@ isFree m s = eqb (tag m s) Tag.free
 
 abbrev pub isPart : Mem → ℕ → ℕ → Bool
 isPart m c s = eqb (tag m s) Tag.part && eqb (class m s) c
+
+-- ---- the first half: bitmap trees and stacks
+
+-- "A bit above level 0 is 1 exactly when its word below is all ones. Bits past a level's end are 1." "A free segment has no place, and its
+-- bitmap words bind nothing."
+abbrev pub TreeOk : Geometry → Mem → ℕ → Type 0
+TreeOk g m s = (tag m s ≡ Tag.free → ⊥) → Tree (above g (class m s)) (blocksIn g (class m s)) (bitmap g m s)
+
+pub record Summed (g : Geometry) (m : Mem) : Type 0 where
+  pub trees : (s : ℕ) → s < g .segments → TreeOk g m s
+  -- "Free and part segments lie on stacks .. each class has its own part stack."
+  pub freeSegments : StackOk g m freeStack (isFree m)
+  pub partSegments : (c : ℕ) → IsClass c → StackOk g m (partStack c) (isPart m c)
 
 -- ---- one live record: it lies at the head of a block in use, of the segment's class
 
@@ -116,13 +133,17 @@ InPhase sweep g m =
     × MarksOf g m (λ s. tag m s ≡ Tag.condemned)
     × ((at : ℕ) → Reached m at → tag m (segmentOf g at) ≡ Tag.condemned → marked g m at ≡ 1)
 
-pub record Consistent (g : Geometry) (m : Mem) : Type 0 where
+-- ---- the second half: all the rest
+
+pub record Sound (g : Geometry) (m : Mem) : Type 0 where
   pub phases : controlWord m 0 ≤ 4
   pub segments : (s : ℕ) → s < g .segments → SegmentOk g m s
   pub mutators : (k : ℕ) → k < mutatorCount → MutatorOk g m k
   pub acknowledgements : (k : ℕ) → k < mutatorCount → (state m k ≡ absent → ⊥) → AcksIn (phase m) (acks m k)
-  pub freeSegments : StackOk g m freeStack (isFree m)
-  pub partSegments : (c : ℕ) → IsClass c → StackOk g m (partStack c) (isPart m c)
   pub records : (at : ℕ) → Live m at → RecordOk g m at
   pub trace : TraceOk g m
   pub cycle : InPhase (phase m) g m
+
+pub record Consistent (g : Geometry) (m : Mem) : Type 0 where
+  pub summed : Summed g m
+  pub sound : Sound g m

@@ -39,4 +39,4 @@ pub live-root : (g : Geometry) (m : Mem) (k i at : ℕ) → k < mutatorCount →
 live-root g m k i at l h a e = root (inl (record { mutator = k; index = i; few = l; within = h; attached = attached-state m k a; names = e }))
 
 pub rooted : (g : Geometry) (m : Mem) (k i at : ℕ) → Consistent g m → k < mutatorCount → i < rootCount → isAttached m k ≡ true → fields.root m k i ≡ suc at → RecordOk g m at
-rooted g m k i at c l h a e = c .records at (live-root g m k i at l h a e)
+rooted g m k i at c l h a e = c .sound .records at (live-root g m k i at l h a e)

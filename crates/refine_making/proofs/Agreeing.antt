@@ -19,7 +19,8 @@ use Rattle.model.specs.Fields.{phase, acks, root, tag, class}
 use Rattle.model.specs.Segments.{usedBit}
 use Rattle.model.specs.Records.{record?, pointers, values, pointer, marked, blockOf, recordBit, headerOf}
 use Rattle.model.specs.Reaching.{Live, isMarked}
-use Rattle.model.specs.Consistent.{Consistent, IsClass, RecordOk}
+use Rattle.model.specs.Consistent.{IsClass, RecordOk}
+use Rattle.refine_view.specs.Kept.{Ordered}
 use Rattle.refine_view.specs.View.{view, valuesOf, isHead, isUsed}
 use Rattle.laws.proofs.Bools.{and-both, ne-not}
 use Rattle.layout.proofs.Sizes.{segment-below}
@@ -37,7 +38,7 @@ use Rattle.refine_making.proofs.Unused as unused
 use Rattle.refine_making.proofs.Newborn as newborn
 use Rattle.model.specs.Tag as Tag
 
-module _ (g : Geometry) (m : Mem) (s : Sizes g m) (c : Consistent g m) (m′ : Mem) (k d cl r b p n : ℕ) (q : Request g m k d cl r b p n) (a : Result g m m′ k d cl r b p n) where
+module _ (g : Geometry) (m : Mem) (s : Sizes g m) (c : Ordered g m) (m′ : Mem) (k d cl r b p n : ℕ) (q : Request g m k d cl r b p n) (a : Result g m m′ k d cl r b p n) where
   abbrev h : ℕ
   h = headerOf g r cl b
 

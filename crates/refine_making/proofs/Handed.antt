@@ -18,9 +18,8 @@ use Rattle.model.specs.Segments.{free}
 use Rattle.model.specs.Records.{headerOf}
 use Rattle.model.specs.Making.{handedOut}
 use Rattle.model.specs.Calls.{isAttached}
-use Rattle.model.specs.Consistent.{Consistent}
 use Rattle.refine_view.specs.View.{view}
-use Rattle.refine_view.specs.Kept.{Moves}
+use Rattle.refine_view.specs.Kept.{Ordered, Moves}
 use Rattle.refine_making.proofs.Request.{Request, requested}
 use Rattle.refine_making.proofs.Blackened.{result}
 use Rattle.refine_making.proofs.Agreeing.{agree}
@@ -28,7 +27,7 @@ use Rattle.refine_making.proofs.Structured.{structure}
 use Rattle.refine_making.proofs.Unused as unused
 use Rattle.refine_making.proofs.Standing as standing
 
-module _ (g : Geometry) (m : Mem) (s : Sizes g m) (c : Consistent g m) where
+module _ (g : Geometry) (m : Mem) (s : Sizes g m) (c : Ordered g m) where
   -- the memory afterwards, and the machine's state
   moves : (k d cl r b p n : ℕ) → Request g m k d cl r b p n → Moves g m (handedOut g m k d cl r b p n) (make (view g m) k d (headerOf g r cl b) p (replicate n 0))
   moves k d cl r b p n q =

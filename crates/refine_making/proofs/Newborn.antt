@@ -16,7 +16,7 @@ use Rattle.model.specs.Fields.{phase, acks, tag, class}
 use Rattle.model.specs.Segments.{usedBit}
 use Rattle.model.specs.Records.{pointers, values, pointer, value, marked, blockOf, recordBit, headerOf, blockWords}
 use Rattle.model.specs.Reaching.{isMarked}
-use Rattle.model.specs.Consistent.{Consistent}
+use Rattle.refine_view.specs.Kept.{Ordered}
 use Rattle.refine_view.specs.View.{valuesOf, isHead, isUsed}
 use Rattle.laws.proofs.Bools.{and-both, ne-not}
 use Rattle.layout.proofs.Sizes.{bytes-are}
@@ -28,7 +28,7 @@ use Rattle.refine_making.proofs.Standing as standing
 use Rattle.refine_making.proofs.Unused as unused
 use Rattle.model.specs.Tag as Tag
 
-module _ (g : Geometry) (m : Mem) (c : Consistent g m) (m′ : Mem) (k d cl r b p n : ℕ) (q : Request g m k d cl r b p n) (a : Result g m m′ k d cl r b p n) where
+module _ (g : Geometry) (m : Mem) (c : Ordered g m) (m′ : Mem) (k d cl r b p n : ℕ) (q : Request g m k d cl r b p n) (a : Result g m m′ k d cl r b p n) where
   abbrev h : ℕ
   h = headerOf g r cl b
 

@@ -17,7 +17,8 @@ use Rattle.model.specs.Fields.{absent, state, holding, tag, class, place, owner
 use Rattle.model.specs.Segments.{bitmap, free}
 use Rattle.model.specs.Records.{blockWords}
 use Rattle.model.specs.Calls.{isAttached}
-use Rattle.model.specs.Consistent.{Consistent, IsClass}
+use Rattle.model.specs.Consistent.{IsClass}
+use Rattle.refine_view.specs.Kept.{Ordered}
 use Rattle.laws.proofs.Bools.{not-eq}
 use Rattle.laws.proofs.Apart.{fits}
 use Rattle.model.specs.Tag as Tag
@@ -45,7 +46,7 @@ found bit n p (Block b) h i l k z = (b, refl, h .0, h .1, h .2)
 found bit n p Nothing h i l k z = absurd (h i l k z)
 found bit n p Torn h i l k z = absurd h
 
-module _ (g : Geometry) (m : Mem) (c : Consistent g m) (k d cl r p n : ℕ) (few : k < mutatorCount) (att : isAttached m k ≡ true) (within : d < rootCount) (sized : classOf (p + n) ≡ Class cl) (holds : holding m k cl ≡ suc r) where
+module _ (g : Geometry) (m : Mem) (c : Ordered g m) (k d cl r p n : ℕ) (few : k < mutatorCount) (att : isAttached m k ≡ true) (within : d < rootCount) (sized : classOf (p + n) ≡ Class cl) (holds : holding m k cl ≡ suc r) where
   is-class : IsClass cl
   is-class = let q = is-smallest classCount firstClass (recordBytes (p + n)) cl sized in let l = q .0 in (q .1 .from, l)
 

@@ -6,25 +6,19 @@ use Prim.Native.Nat.{ℕ, suc, _-_, _≤_, _<_}
 use native.Mathlib.Omega.{arith}
 use Rattle.rules.proofs.Order.{same-or-not}
 use Rattle.words.specs.Bits.{bitAt}
-use Rattle.words.specs.Tree.{Tree}
 use Rattle.layout.specs.declared.Geometry.{Geometry}
 use Rattle.layout.specs.Geometry.{mutatorCount, blocksIn}
 use Rattle.layout.specs.Mem.{Mem}
 use Rattle.model.specs.Fields.{state, holding, tag, class, place, owner}
-use Rattle.model.specs.Segments.{bitmap, above}
-use Rattle.model.specs.Consistent.{Consistent, IsClass, SegmentOk}
-use Rattle.laws.proofs.Segments.{segment-same}
+use Rattle.model.specs.Consistent.{IsClass, SegmentOk, TreeOk}
+use Rattle.refine_view.specs.Kept.{Ordered}
+use Rattle.laws.proofs.Segments.{segment-same, tree-same}
 use Rattle.refine_making.proofs.Request.{Request}
 use Rattle.refine_making.proofs.Result.{StillHeld, NowFull, Result}
 use Rattle.refine_making.proofs.Standing as standing
 use Rattle.model.specs.Tag as Tag
 
-module _ (g : Geometry) (m : Mem) (c : Consistent g m) (m′ : Mem) (k d cl r b p n : ℕ) (q : Request g m k d cl r b p n) (a : Result g m m′ k d cl r b p n) where
-  tree-on : (x : ℕ) → Tree (above g (class m x)) (blocksIn g (class m x)) (bitmap g m x) → Tree (above g (class m′ x)) (blocksIn g (class m′ x)) (bitmap g m′ x)
-  tree-on x t =
-      subst (λ (ws : List ℕ). Tree (above g (class m′ x)) (blocksIn g (class m′ x)) ws) (sym (standing.bitmap-same g m m′ k d cl r b p n q a x))
-      (subst (λ z. Tree (above g z) (blocksIn g z) (bitmap g m x)) (sym (standing.class-same g m m′ k d cl r b p n q a x)) t)
-
+module _ (g : Geometry) (m : Mem) (c : Ordered g m) (m′ : Mem) (k d cl r b p n : ℕ) (q : Request g m k d cl r b p n) (a : Result g m m′ k d cl r b p n) where
   -- ---- another segment
 
   module _ (x : ℕ) (l : x < g .segments) (f : x ≡ r → ⊥) where
@@ -45,9 +39,6 @@ module _ (g : Geometry) (m : Mem) (c : Consistent g m) (m′ : Mem) (k d cl r b 
 
   -- ---- the segment of the block
 
-  tree-there : Tree (above g (class m′ r)) (blocksIn g (class m′ r)) (bitmap g m′ r)
-  tree-there = tree-on r (c .segments r (q .inside) .tree (λ e. let z = q .isHeld in omega arith))
-
   class-there : IsClass (class m′ r)
   class-there = subst IsClass (sym (standing.class-there g m m′ k d cl r b p n q a)) (q .isClass)
 
@@ -60,9 +51,9 @@ module _ (g : Geometry) (m : Mem) (c : Consistent g m) (m′ : Mem) (k d cl r b 
         free = λ e. absurd (omega arith);
         unowned = λ h. absurd (h t);
         classes = λ h. class-there;
-        tree = λ h. tree-there;
         remains = λ u v. (x .next, subst (λ z. z ≤ x .next) (sym (o .place)) (x .after), subst (λ z. x .next < blocksIn g z) (sym (o .class)) (x .below), ap (λ (ws : List ℕ). bitAt ws (x .next)) (standing.bitmap-same g m m′ k d cl r b p n q a r) ∙ x .unused);
-        whole = λ u. absurd (omega arith);
+        full = λ u. absurd (omega arith);
+        condemned = λ u. absurd (omega arith);
         held = λ e. (
           subst (λ w. w < mutatorCount) (sym (o .owner)) (q .few),
           λ y. q .attached (sym (standing.state-same g m m′ k d cl r b p n q a k) ∙ ap (state m′) (sym (o .owner)) ∙ y),
@@ -77,11 +68,14 @@ module _ (g : Geometry) (m : Mem) (c : Consistent g m) (m′ : Mem) (k d cl r b 
         free = λ e. absurd (omega arith);
         unowned = λ h. o .owner;
         classes = λ h. class-there;
-        tree = λ h. tree-there;
         remains = λ u v. absurd (omega arith);
-        whole = λ u. o .place ∙ ap (blocksIn g) (sym (o .class));
+        full = λ u. o .place ∙ ap (blocksIn g) (sym (o .class));
+        condemned = λ u. absurd (omega arith);
         held = λ e. absurd (omega arith);
       }
 
   pub segments-ok : (x : ℕ) → x < g .segments → SegmentOk g m′ x
   segments-ok x l = ⊎-elim (λ e. subst (SegmentOk g m′) (sym e) (same-segment (a .segment))) (other-ok x l) (same-or-not x r)
+
+  pub trees-ok : (x : ℕ) → x < g .segments → TreeOk g m′ x
+  trees-ok x l = tree-same g m m′ x (c .trees x l) (λ e. a .others x (λ f. let y : tag m r ≡ Tag.free = ap (tag m) (sym f) ∙ e in let z = q .isHeld in omega arith) .tag ∙ e) (standing.class-same g m m′ k d cl r b p n q a x) (standing.bitmap-same g m m′ k d cl r b p n q a x)

@@ -16,9 +16,9 @@ use Rattle.model.specs.Fields.{phase, state, acks, holding, tag, class, owner}
 use Rattle.model.specs.Segments.{freeStack, partStack}
 use Rattle.model.specs.Records.{values, blockOf, headerOf}
 use Rattle.model.specs.Reaching.{Live}
-use Rattle.model.specs.Consistent.{Consistent, IsClass, MutatorOk, StackOk, isFree, isPart, RecordOk, BlockInUse, MarksOf}
+use Rattle.model.specs.Consistent.{IsClass, MutatorOk, StackOk, isFree, isPart, RecordOk, BlockInUse, MarksOf}
 use Rattle.refine_view.specs.View.{view}
-use Rattle.refine_view.specs.Kept.{QueuedOk, MarksIn, Structure}
+use Rattle.refine_view.specs.Kept.{Ordered, QueuedOk, MarksIn, Structure}
 use Rattle.laws.proofs.Blocks.{header-inside}
 use Rattle.laws.proofs.Entries.{mutators-table}
 use Rattle.laws.proofs.OtherStacks.{stack-by}
@@ -29,12 +29,12 @@ use Rattle.refine_view.proofs.Invariants.{structure-of}
 use Rattle.refine_making.proofs.Request.{Request}
 use Rattle.refine_making.proofs.Result.{StillHeld, NowFull, Result}
 use Rattle.refine_making.proofs.Agreeing.{after, agree, old-or-new, header-on}
-use Rattle.refine_making.proofs.Segments.{segments-ok}
+use Rattle.refine_making.proofs.Segments.{segments-ok, trees-ok}
 use Rattle.refine_making.proofs.Standing as standing
 use Rattle.refine_making.proofs.Newborn as newborn
 use Rattle.model.specs.Tag as Tag
 
-module _ (g : Geometry) (m : Mem) (s : Sizes g m) (c : Consistent g m) (m′ : Mem) (k d cl r b p n : ℕ) (q : Request g m k d cl r b p n) (a : Result g m m′ k d cl r b p n) where
+module _ (g : Geometry) (m : Mem) (s : Sizes g m) (c : Ordered g m) (m′ : Mem) (k d cl r b p n : ℕ) (q : Request g m k d cl r b p n) (a : Result g m m′ k d cl r b p n) where
   abbrev h : ℕ
   h = headerOf g r cl b
 
@@ -122,6 +122,7 @@ module _ (g : Geometry) (m : Mem) (s : Sizes g m) (c : Consistent g m) (m′ : M
   structure = record {
     phases = subst (λ z. z ≤ 4) (sym (standing.phase-word g m m′ k d cl r b p n q a)) (c .phases);
     segments = segments-ok g m c m′ k d cl r b p n q a;
+    trees = trees-ok g m c m′ k d cl r b p n q a;
     mutators = mutators-ok;
     freeSegments = free-ok;
     partSegments = part-ok;

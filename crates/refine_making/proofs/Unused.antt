@@ -20,9 +20,9 @@ use Rattle.theory.proofs.CallKeeps.{Alloc}
 use Rattle.model.specs.Fields.{phase, tag, place}
 use Rattle.model.specs.Segments.{usedBit}
 use Rattle.model.specs.Records.{blockOf, headerOf}
-use Rattle.model.specs.Consistent.{Consistent, MarksOf}
+use Rattle.model.specs.Consistent.{MarksOf}
 use Rattle.refine_view.specs.View.{view, isUsed}
-use Rattle.refine_view.specs.Kept.{MarksIn}
+use Rattle.refine_view.specs.Kept.{Ordered, MarksIn}
 use Rattle.laws.proofs.Bools.{and-false}
 use Rattle.laws.proofs.Blocks.{header-segment, header-block, blocks-most}
 use Rattle.refine_view.proofs.Invariants.{structure-of}
@@ -30,7 +30,7 @@ use Rattle.refine_making.proofs.Request.{Request}
 use Rattle.layout.proofs.Sizes.{within}
 use Rattle.model.specs.Tag as Tag
 
-module _ (g : Geometry) (m : Mem) (c : Consistent g m) (k d cl r b p n : ℕ) (q : Request g m k d cl r b p n) where
+module _ (g : Geometry) (m : Mem) (c : Ordered g m) (k d cl r b p n : ℕ) (q : Request g m k d cl r b p n) where
   abbrev h : ℕ
   h = headerOf g r cl b
 

@@ -12,9 +12,8 @@ use Rattle.theory.proofs.CallKeeps.{by-ok, root-ok, require-ok, lt-of}
 use Rattle.model.specs.Fields.{setRoot}
 use Rattle.model.specs.Records.{record?, pointers, values, pointer, value}
 use Rattle.model.specs.Calls.{observe, act}
-use Rattle.model.specs.Consistent.{Consistent}
 use Rattle.refine_view.specs.View.{view, valuesOf}
-use Rattle.refine_view.specs.Kept.{ActKept}
+use Rattle.refine_view.specs.Kept.{Ordered, ActKept}
 use Rattle.refine_view.proofs.Seeing.{named}
 use Rattle.laws.proofs.Tables.{getD-tab, length-tab}
 use Rattle.refine_view.proofs.Keeping.{matches-by, moves-self, is-root, wanted-in, on-record}
@@ -22,7 +21,7 @@ use Rattle.refine_roots.proofs.Roots.{root-moves}
 use Rattle.theory.specs.Machine as machine
 use Rattle.model.specs.Fields as fields
 
-module _ (g : Geometry) (m : Mem) (s : Sizes g m) (c : Consistent g m) where
+module _ (g : Geometry) (m : Mem) (s : Sizes g m) (c : Ordered g m) where
   pub load-kept : (k d i f : ℕ) → refusal (observe m) (c-load k d i f) ≡ 0 → ActKept g m (c-load k d i f)
   unfolding act
   load-kept k d i f e =

@@ -26,9 +26,9 @@ use Rattle.model.specs.Records.{record?}
 use Rattle.model.specs.Mutators.{attached, setEntry}
 use Rattle.model.specs.Calls.{isAttached, isInside, observe, act}
 use Rattle.model.specs.Reaching.{IsRoot}
-use Rattle.model.specs.Consistent.{Consistent, MutatorOk, IsClass}
+use Rattle.model.specs.Consistent.{MutatorOk, IsClass}
 use Rattle.refine_view.specs.View.{view}
-use Rattle.refine_view.specs.Kept.{Moves, ActKept}
+use Rattle.refine_view.specs.Kept.{Ordered, Moves, ActKept}
 use Rattle.refine_view.proofs.Seeing.{root-on, named}
 use Rattle.refine_view.proofs.Invariants.{to-inv, structure-of}
 use Rattle.refine_view.proofs.Keeping.{matches-by, moves-self, is-root}
@@ -40,7 +40,7 @@ use Rattle.model.specs.Fields as fields
 
 -- ---- the entry of a mutator that comes, with its first root
 
-module _ (g : Geometry) (m : Mem) (s : Sizes g m) (c : Consistent g m) (k v : ℕ) (l : k < mutatorCount) (a : state m k ≡ absent) (r : (b : ℕ) → v ≡ suc b → IsRoot m b) where
+module _ (g : Geometry) (m : Mem) (s : Sizes g m) (c : Ordered g m) (k v : ℕ) (l : k < mutatorCount) (a : state m k ≡ absent) (r : (b : ℕ) → v ≡ suc b → IsRoot m b) where
   abbrev words : List ℕ
   words = v ∷ replicate (rootCount - 1) 0 ++ inside ∷ newcomer (phase m) ∷ replicate (mutatorWords - heldFrom) 0
 
@@ -154,11 +154,11 @@ module _ (g : Geometry) (m : Mem) (s : Sizes g m) (c : Consistent g m) (k v : �
     })
 
 -- refused 11 in a handshake, and then nothing changes
-pub unless-moves : (g : Geometry) (m m′ : Mem) (st : machine.State) → Consistent g m → (b : Bool) → (b ≡ false → Moves g m m′ st) → (unless b 11 m m′ .0 ≡ unless b 11 (view g m) st .0) × Moves g m (unless b 11 m m′ .1) (unless b 11 (view g m) st .1)
+pub unless-moves : (g : Geometry) (m m′ : Mem) (st : machine.State) → Ordered g m → (b : Bool) → (b ≡ false → Moves g m m′ st) → (unless b 11 m m′ .0 ≡ unless b 11 (view g m) st .0) × Moves g m (unless b 11 m m′ .1) (unless b 11 (view g m) st .1)
 unless-moves g m m′ st c true h = (refl, moves-self g m c)
 unless-moves g m m′ st c false h = (refl, h refl)
 
-module _ (g : Geometry) (m : Mem) (s : Sizes g m) (c : Consistent g m) where
+module _ (g : Geometry) (m : Mem) (s : Sizes g m) (c : Ordered g m) where
   not-there : (k : ℕ) → not (isAttached m k) ≡ true → state m k ≡ absent
   not-there k e = eqb-true _ _ (not-false _ (not-true _ e))
 

@@ -19,9 +19,9 @@ use Rattle.model.specs.Fields.{phase, traceCount}
 use Rattle.model.specs.Records.{record?, pointers, values, pointer, value, setValue}
 use Rattle.model.specs.Calls.{observe, act}
 use Rattle.model.specs.Reaching.{Live}
-use Rattle.model.specs.Consistent.{Consistent, RecordOk}
+use Rattle.model.specs.Consistent.{RecordOk}
 use Rattle.refine_view.specs.View.{view, valuesOf}
-use Rattle.refine_view.specs.Kept.{Structure, Moves, ActKept}
+use Rattle.refine_view.specs.Kept.{Ordered, Structure, Moves, ActKept}
 use Rattle.refine_view.proofs.Seeing.{entries-same, live-on, named}
 use Rattle.refine_view.proofs.Carried.{queued-by}
 use Rattle.refine_view.proofs.Frames.{held-self, mutator-beside, marks-beside, structure-beside}
@@ -52,7 +52,7 @@ module _ (g : Geometry) (m : Mem) (i v : ℕ) (o : Structure g m) (heads : (x : 
 
 -- ---- a field of a live record
 
-module _ (g : Geometry) (m : Mem) (s : Sizes g m) (c : Consistent g m) (at : ℕ) (r : RecordOk g m at) (f v : ℕ) (h : f < values m at) where
+module _ (g : Geometry) (m : Mem) (s : Sizes g m) (c : Ordered g m) (at : ℕ) (r : RecordOk g m at) (f v : ℕ) (h : f < values m at) where
   abbrev place : ℕ
   place = at + 1 + pointers m at + f
 
@@ -119,7 +119,7 @@ module _ (g : Geometry) (m : Mem) (s : Sizes g m) (c : Consistent g m) (at : ℕ
   unfolding setHeap
   value-moves = record { structure = heap-structure g m place v (structure-of g m c) (λ x p. header x (c .records x p)) live; agree = agree; steady = λ x q e. (e, refl) }
 
-pub put-kept : (g : Geometry) (m : Mem) → Sizes g m → Consistent g m → (k i f v : ℕ) → refusal (observe m) (c-put k i f v) ≡ 0 → ActKept g m (c-put k i f v)
+pub put-kept : (g : Geometry) (m : Mem) → Sizes g m → Ordered g m → (k i f v : ℕ) → refusal (observe m) (c-put k i f v) ≡ 0 → ActKept g m (c-put k i f v)
 unfolding act
 put-kept g m s c k i f v e =
     let p = by-ok (observe m) k _ e in

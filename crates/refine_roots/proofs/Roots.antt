@@ -13,9 +13,8 @@ use Rattle.model.specs.Fields.{absent, inside, state, setRoot, root}
 use Rattle.model.specs.Records.{record?}
 use Rattle.model.specs.Calls.{isAttached}
 use Rattle.model.specs.Reaching.{Reached}
-use Rattle.model.specs.Consistent.{Consistent}
 use Rattle.refine_view.specs.View.{view}
-use Rattle.refine_view.specs.Kept.{Moves}
+use Rattle.refine_view.specs.Kept.{Ordered, Moves}
 use Rattle.laws.proofs.Bools.{not-eq}
 use Rattle.refine_view.proofs.Seeing.{reached-on, named}
 use Rattle.refine_view.proofs.Invariants.{to-inv, structure-of}
@@ -25,7 +24,7 @@ use Rattle.laws.proofs.Entries.{state-set, acks-set, root-set, mutators-set, he
 use Rattle.refine_view.proofs.EntriesOnly.{entries-moves}
 use Rattle.theory.specs.Machine as machine
 
-module _ (g : Geometry) (m : Mem) (s : Sizes g m) (c : Consistent g m) (k d v : ℕ) (l : k < mutatorCount) (a : isAttached m k ≡ true) (h : d < rootCount) where
+module _ (g : Geometry) (m : Mem) (s : Sizes g m) (c : Ordered g m) (k d v : ℕ) (l : k < mutatorCount) (a : isAttached m k ≡ true) (h : d < rootCount) where
   abbrev now : Mem
   now = setRoot m k d v
 

@@ -10,14 +10,13 @@ use Rattle.theory.specs.Calls.{c-enter, refusal}
 use Rattle.theory.proofs.CallKeeps.{require-ok, lt-of}
 use Rattle.model.specs.Fields.{inside}
 use Rattle.model.specs.Calls.{isAttached, observe, act}
-use Rattle.model.specs.Consistent.{Consistent}
-use Rattle.refine_view.specs.Kept.{ActKept}
+use Rattle.refine_view.specs.Kept.{Ordered, ActKept}
 use Rattle.laws.proofs.Bools.{not-eq}
 use Rattle.refine_view.proofs.Invariants.{structure-of}
 use Rattle.refine_view.proofs.Keeping.{matches-by}
 use Rattle.refine_view.proofs.Sides.{side-moves}
 
-pub enter-kept : (g : Geometry) (m : Mem) → Sizes g m → Consistent g m → (k : ℕ) → refusal (observe m) (c-enter k) ≡ 0 → ActKept g m (c-enter k)
+pub enter-kept : (g : Geometry) (m : Mem) → Sizes g m → Ordered g m → (k : ℕ) → refusal (observe m) (c-enter k) ≡ 0 → ActKept g m (c-enter k)
 unfolding act
 enter-kept g m s c k e =
     let p = require-ok (ltb k mutatorCount) 2 _ (omega arith) e in

@@ -67,7 +67,7 @@ module _ (g : Geometry) (m : Mem) (z : Sizes g m) (ok : (s : ℕ) → s < g .seg
       here e =
           let t : tag m s ≡ Tag.full = eqb-true _ _ e in
           let o = ok s (omega arith) in
-          let p : place m s ≡ blocksIn g (class m s) = o .whole (omega arith) in
+          let p : place m s ≡ blocksIn g (class m s) = o .full t in
           let k : owner m s ≡ 0 = o .unowned (λ q. omega arith) in
           let l = sizes-condemned g m z s .segments in
           let r = state-there g (condemned g m s) s (segment.Condemned (class m s)) (omega arith) in

@@ -26,7 +26,7 @@ use Rattle.model.specs.Reaching.{IsRoot, IsEntry, PointsTo, Live}
 use Rattle.model.specs.Consistent.{Consistent, SegmentOk, MutatorOk, TraceOk, InPhase, isFree, isPart}
 use Rattle.refine_view.specs.View.{view}
 use Rattle.refine_view.proofs.Seeing.{live-back}
-use Rattle.refine_view.proofs.Invariants.{to-inv}
+use Rattle.refine_view.proofs.Invariants.{consistent-ordered, to-inv}
 use Rattle.words.proofs.Counts.{no-ones}
 use Rattle.words.proofs.Zeros.{zeros-at, zeros-bit}
 use Rattle.refine_start.proofs.OpenStacks.{length-open, free-open, part-open}
@@ -93,9 +93,9 @@ module _ (g : Geometry) (m : Mem) where
         free = λ e. (opened-segment g m (s * segmentRecordWords + 1), opened-segment g m (s * segmentRecordWords + 2), opened-segment g m (s * segmentRecordWords + 3));
         unowned = λ f. opened-segment g m (s * segmentRecordWords + 3);
         classes = λ f. absurd (f t);
-        tree = λ f. absurd (f t);
         remains = λ l h. absurd (omega arith);
-        whole = λ l. absurd (omega arith);
+        full = λ e. absurd (omega arith);
+        condemned = λ e. absurd (omega arith);
         held = λ e. absurd (omega arith);
       }
 
@@ -129,22 +129,27 @@ module _ (g : Geometry) (m : Mem) where
 
 pub opened-consistent : (g : Geometry) (m : Mem) → Sizes g m → Consistent g (opened g m)
 opened-consistent g m s = record {
-  phases = let z = opened-control g m 0 in omega arith;
-  segments = λ r l. segment-ok g m r;
-  mutators = λ k l. mutator-ok g m k;
-  acknowledgements = λ k l f. absurd (f (opened-mutator g m (k * mutatorWords + stateAt)));
-  freeSegments = free-open g (opened g m) (opened-stacks g m) (isFree (opened g m)) (λ r l. eq-eqb _ _ (opened-segment g m (r * segmentRecordWords)));
-  partSegments = λ c h. part-open g (opened g m) (opened-stacks g m) (c - firstClass) (isPart (opened g m) c) (λ r l. not-part g m c r);
-  records = λ at p. absurd (no-reached g m at p);
-  trace = trace-ok g m;
-  cycle = subst (λ p. InPhase p g (opened g m)) (sym (opened-idle g m)) (in-idle g m);
+  summed = record {
+    trees = λ r l f. absurd (f (opened-segment g m (r * segmentRecordWords)));
+    freeSegments = free-open g (opened g m) (opened-stacks g m) (isFree (opened g m)) (λ r l. eq-eqb _ _ (opened-segment g m (r * segmentRecordWords)));
+    partSegments = λ c h. part-open g (opened g m) (opened-stacks g m) (c - firstClass) (isPart (opened g m) c) (λ r l. not-part g m c r);
+  };
+  sound = record {
+    phases = let z = opened-control g m 0 in omega arith;
+    segments = λ r l. segment-ok g m r;
+    mutators = λ k l. mutator-ok g m k;
+    acknowledgements = λ k l f. absurd (f (opened-mutator g m (k * mutatorWords + stateAt)));
+    records = λ at p. absurd (no-reached g m at p);
+    trace = trace-ok g m;
+    cycle = subst (λ p. InPhase p g (opened g m)) (sym (opened-idle g m)) (in-idle g m);
+  };
 }
 
 -- ---- and the unbounded heap beside it is empty
 
 pub opened-good : (g : Geometry) (m : Mem) → Sizes g m → Coupled (segmentOf g) (λ _. ⊥) (λ _. none) (view g (opened g m)) empty
 opened-good g m s = record {
-  inv = to-inv g (opened g m) (sizes-opened g m s) (opened-consistent g m s);
+  inv = to-inv g (opened g m) (sizes-opened g m s) (consistent-ordered g (opened g m) (opened-consistent g m s));
   sim = record {
     attached = gone;
     inside = λ i. ne-eqb (state (opened g m) i) 1 (λ e. let z = opened-mutator g m (i * mutatorWords + stateAt) in omega arith);

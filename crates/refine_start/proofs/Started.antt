@@ -9,7 +9,6 @@ use lib.ListN.{getD}
 use borrow.Author.Tests.{ne-eqb, eq-eqb, eqb-true, eqb-false}
 use Rattle.rules.proofs.Order.{same-or-not}
 use Rattle.rules.specs.Pick.{pick}
-use Rattle.words.specs.Tree.{Tree}
 use Rattle.layout.specs.declared.Geometry.{Geometry}
 use Rattle.layout.specs.Geometry.{mutatorWords, entryWords, rootCount, blocksIn, segmentOf}
 use Rattle.layout.specs.Mem.{Mem, mutatorWord, heapWord, Sizes}
@@ -18,13 +17,13 @@ use Rattle.theory.specs.Machine.{start}
 use Rattle.theory.proofs.Agree.{Agree}
 use Rattle.model.specs.Rules.{phaseOf}
 use Rattle.model.specs.Fields.{phase, traceCount, absent, stateAt, acksAt, state, tag, class, place, owner, root, holding}
-use Rattle.model.specs.Segments.{freeStack, partStack, above, bitmap, usedBit}
+use Rattle.model.specs.Segments.{freeStack, partStack, usedBit}
 use Rattle.model.specs.Records.{record?, pointers, values, pointer, blockOf, recordBit, marked}
 use Rattle.model.specs.Collector.{isFull, started}
 use Rattle.model.specs.Reaching.{Live, isMarked}
-use Rattle.model.specs.Consistent.{Consistent, InPhase, IsClass, SegmentOk, MutatorOk, RecordOk, isFree, isPart}
+use Rattle.model.specs.Consistent.{InPhase, IsClass, SegmentOk, MutatorOk, RecordOk, isFree, isPart}
 use Rattle.refine_view.specs.View.{view, stackOf, isHead, isUsed}
-use Rattle.refine_view.specs.Kept.{QueuedOk, MarksIn, Structure, StartKept}
+use Rattle.refine_view.specs.Kept.{Ordered, QueuedOk, MarksIn, Structure, StartKept}
 use Rattle.laws.proofs.Bools.{and-false, test-same}
 use Rattle.refine_view.proofs.Contents.{pointers-by, fields-by}
 use Rattle.refine_view.proofs.Seeing.{root-was, edge-was, live-was}
@@ -32,12 +31,12 @@ use Rattle.laws.proofs.OtherStacks.{stack-by}
 use Rattle.refine_view.proofs.Carried.{block-by, bit-by, record-by, queued-by}
 use Rattle.refine_view.proofs.Invariants.{structure-of}
 use Rattle.laws.proofs.Entries.{holding-by, table-below}
-use Rattle.laws.proofs.Segments.{segment-same, part-same, used-same, in-range}
+use Rattle.laws.proofs.Segments.{segment-same, tree-same, part-same, used-same, in-range}
 use Rattle.laws.proofs.Bitmaps.{bitmap-by}
 use Rattle.refine_start.proofs.Beginning.{Begun, begun}
 use Rattle.model.specs.Tag as Tag
 
-module _ (g : Geometry) (m m′ : Mem) (z : Sizes g m) (ok : Consistent g m) (quiet : phase m ≡ idle) (b : Begun m m′) where
+module _ (g : Geometry) (m m′ : Mem) (z : Sizes g m) (ok : Ordered g m) (quiet : phase m ≡ idle) (b : Begun m m′) where
   -- ---- before: the trace stack is empty, and no segment is condemned
 
   was-idle : InPhase idle g m
@@ -130,9 +129,9 @@ module _ (g : Geometry) (m m′ : Mem) (z : Sizes g m) (ok : Consistent g m) (qu
             free = λ e. absurd (omega arith);
             unowned = λ f. w .owner ∙ o .unowned (λ e. omega arith);
             classes = λ f. subst IsClass (sym (w .class)) (o .classes (λ e. omega arith));
-            tree = λ f. subst (λ c. Tree (above g c) (blocksIn g c) (bitmap g m′ s)) (sym (w .class)) (subst (Tree (above g (class m s)) (blocksIn g (class m s))) (sym (bitmap-by g m m′ (b .bitmaps) s)) (o .tree (λ e. omega arith)));
             remains = λ l h. absurd (omega arith);
-            whole = λ l. w .place ∙ o .whole (omega arith) ∙ ap (blocksIn g) (sym (w .class));
+            full = λ e. absurd (omega arith);
+            condemned = λ e. w .place ∙ o .full t ∙ ap (blocksIn g) (sym (w .class));
             held = λ e. absurd (omega arith);
           }
 
@@ -178,6 +177,7 @@ module _ (g : Geometry) (m m′ : Mem) (z : Sizes g m) (ok : Consistent g m) (qu
   structure = record {
     phases = let e = b .phase in omega arith;
     segments = λ s l. segment-ok s (ok .segments s l);
+    trees = λ s l. tree-same g m m′ s (ok .trees s l) (tag-on s 0 (omega arith)) (b .segments s .class) (bitmap-by g m m′ (b .bitmaps) s);
     mutators = λ k l. mutator-ok k (ok .mutators k l);
     freeSegments = stack-by g m m′ freeStack (isFree m) (isFree m′) (b .stacks) (ok .freeSegments) (λ s l. tag-test s 0 (omega arith));
     partSegments = λ c h. stack-by g m m′ (partStack c) (isPart m c) (isPart m′ c) (b .stacks) (ok .partSegments c h) (λ s l. part-test c s);
@@ -216,7 +216,7 @@ module _ (g : Geometry) (m m′ : Mem) (z : Sizes g m) (ok : Consistent g m) (qu
     used = λ at l. used-test at;
   }
 
-pub start-kept : (g : Geometry) (m : Mem) → Sizes g m → Consistent g m → phase m ≡ idle → StartKept g m
+pub start-kept : (g : Geometry) (m : Mem) → Sizes g m → Ordered g m → phase m ≡ idle → StartKept g m
 start-kept g m z ok quiet =
     let b = begun g m z (ok .segments) in
     record {

@@ -19,9 +19,8 @@ use Rattle.theory.proofs.Invariant.{Tracing}
 use Rattle.model.specs.Fields.{phase, traceCount, absent, inside, tag, class}
 use Rattle.model.specs.Records.{blockWords, blockOf, record?}
 use Rattle.model.specs.Reaching.{Live, isMarked}
-use Rattle.model.specs.Consistent.{Consistent}
 use Rattle.refine_view.specs.View.{view, stackOf, isHead, isUsed}
-use Rattle.refine_view.specs.Kept.{Moves}
+use Rattle.refine_view.specs.Kept.{Ordered, Moves}
 use Rattle.laws.proofs.Bools.{and-both}
 use Rattle.refine_view.proofs.Seeing.{head-of}
 use Rattle.refine_view.proofs.Contents.{pointers-by, fields-by}
@@ -33,7 +32,7 @@ use Rattle.refine_sweep.proofs.Structured.{record-after, structure-afte
 use Rattle.theory.specs.Machine as machine
 use Rattle.model.specs.Tag as Tag
 
-module _ (g : Geometry) (m : Mem) (s : Sizes g m) (c : Consistent g m) (ph : phase m ≡ sweep) (m′ : Mem) (r : ℕ) (l : r < g .segments) (t : tag m r ≡ Tag.condemned) (o : Outcome g m m′ r) where
+module _ (g : Geometry) (m : Mem) (s : Sizes g m) (c : Ordered g m) (ph : phase m ≡ sweep) (m′ : Mem) (r : ℕ) (l : r < g .segments) (t : tag m r ≡ Tag.condemned) (o : Outcome g m m′ r) where
   abbrev after : machine.State
   after = machine.sweepSegment (segmentOf g) (view g m) r
 

@@ -5,13 +5,12 @@ use Rattle.layout.specs.declared.Geometry.{Geometry}
 use Rattle.layout.specs.Mem.{Mem, Sizes}
 use Rattle.theory.specs.Phases.{idle}
 use Rattle.model.specs.Fields.{setPhase, tag}
-use Rattle.model.specs.Consistent.{Consistent}
 use Rattle.refine_view.specs.View.{view}
-use Rattle.refine_view.specs.Kept.{Moves}
+use Rattle.refine_view.specs.Kept.{Ordered, Moves}
 use Rattle.refine_view.proofs.Keeping.{moves-self}
 use Rattle.refine_view.proofs.Phasing.{phase-moves}
 use Rattle.theory.specs.Machine as machine
 use Rattle.model.specs.Tag as Tag
 
-pub moves-done : (g : Geometry) (m : Mem) → Sizes g m → Consistent g m → ((x : ℕ) → x < g .segments → tag m x ≡ Tag.condemned → ⊥) → Moves g m (setPhase m idle) (machine.setPhase (view g m) idle)
+pub moves-done : (g : Geometry) (m : Mem) → Sizes g m → Ordered g m → ((x : ℕ) → x < g .segments → tag m x ≡ Tag.condemned → ⊥) → Moves g m (setPhase m idle) (machine.setPhase (view g m) idle)
 moves-done g m s c left = phase-moves g m m (view g m) (moves-self g m c) s idle (λ t. absurd t) left

@@ -13,9 +13,9 @@ use Rattle.layout.specs.Mem.{Mem, Sizes}
 use Rattle.theory.specs.Phases.{sweep}
 use Rattle.model.specs.Fields.{phase, tag}
 use Rattle.model.specs.Reaching.{Live}
-use Rattle.model.specs.Consistent.{Consistent, InPhase, SegmentOk, MutatorOk, RecordOk, BlockInUse}
-use Rattle.refine_view.specs.Kept.{Structure, MarksIn, Steady}
-use Rattle.laws.proofs.Segments.{segment-same}
+use Rattle.model.specs.Consistent.{InPhase, SegmentOk, TreeOk, MutatorOk, RecordOk, BlockInUse}
+use Rattle.refine_view.specs.Kept.{Ordered, Structure, MarksIn, Steady}
+use Rattle.laws.proofs.Segments.{segment-same, tree-same}
 use Rattle.refine_view.proofs.Carried.{record-by, use-by, queued-by}
 use Rattle.refine_view.proofs.Invariants.{structure-of}
 use Rattle.refine_sweep.proofs.Frames.{mutator-same, heap-same}
@@ -23,7 +23,7 @@ use Rattle.refine_sweep.proofs.Outcome.{Outcome}
 use Rattle.refine_sweep.proofs.Survivors.{control-same, empty, phase-after, live-was, class-same, used-other, tag-after, block-after}
 use Rattle.model.specs.Tag as Tag
 
-module _ (g : Geometry) (m : Mem) (s : Sizes g m) (c : Consistent g m) (ph : phase m ≡ sweep) (m′ : Mem) (r : ℕ) (l : r < g .segments) (t : tag m r ≡ Tag.condemned) (o : Outcome g m m′ r) where
+module _ (g : Geometry) (m : Mem) (s : Sizes g m) (c : Ordered g m) (ph : phase m ≡ sweep) (m′ : Mem) (r : ℕ) (l : r < g .segments) (t : tag m r ≡ Tag.condemned) (o : Outcome g m m′ r) where
   pub record-after : (x : ℕ) → Live m x → RecordOk g m′ x
   record-after x p = record-by g m m′ x (class-same g m s c ph m′ r l t o x p) (c .records x p) (tag-after g m s c ph m′ r l t o x p) (block-after g m s c ph m′ r l t o x p) (heap-same m m′ (o .left .heap) x)
 
@@ -32,6 +32,10 @@ module _ (g : Geometry) (m : Mem) (s : Sizes g m) (c : Consistent g m) (ph : pha
   segment-after x h (inr d) =
       let st = mutator-same m m′ (o .left .mutators) in
       segment-same g m m′ x (c .segments x h) (o .left .other x d) (o .left .bitmaps x d) (λ e. let y = c .segments x h .held e in (λ z. y .1 (sym (st _) ∙ z), st _ ∙ y .2))
+
+  tree-after : (x : ℕ) → x < g .segments → (x ≡ r) ⊎ (x ≡ r → ⊥) → TreeOk g m′ x
+  tree-after x h (inl e) = subst (TreeOk g m′) (sym e) (o .tree)
+  tree-after x h (inr d) = let w = o .left .other x d in tree-same g m m′ x (c .trees x h) (λ e. w .tag ∙ e) (w .class) (o .left .bitmaps x d)
 
   mutator-after : (k : ℕ) → k < mutatorCount → MutatorOk g m′ k
   mutator-after k h =
@@ -61,6 +65,7 @@ module _ (g : Geometry) (m : Mem) (s : Sizes g m) (c : Consistent g m) (ph : pha
   structure-after = record {
     phases = subst (λ z. z ≤ 4) (sym (control-same g m s c ph m′ r l t o 0)) (c .phases);
     segments = λ x h. segment-after x h (same-or-not x r);
+    trees = λ x h. tree-after x h (same-or-not x r);
     mutators = mutator-after;
     freeSegments = o .stacks .0;
     partSegments = o .stacks .1;

@@ -16,14 +16,15 @@ use Rattle.model.specs.Fields.{phase, traceCount, tag, class}
 use Rattle.model.specs.Segments.{usedBit}
 use Rattle.model.specs.Records.{blockOf, marked}
 use Rattle.model.specs.Reaching.{Live}
-use Rattle.model.specs.Consistent.{Consistent, InPhase, IsClass}
+use Rattle.model.specs.Consistent.{InPhase, IsClass}
+use Rattle.refine_view.specs.Kept.{Ordered}
 use Rattle.laws.proofs.Blocks.{of-block}
 use Rattle.laws.proofs.Segments.{used-same}
 use Rattle.refine_sweep.proofs.Frames.{live-reached, live-before}
 use Rattle.refine_sweep.proofs.Outcome.{Outcome}
 use Rattle.model.specs.Tag as Tag
 
-module _ (g : Geometry) (m : Mem) (s : Sizes g m) (c : Consistent g m) (ph : phase m ≡ sweep) (m′ : Mem) (r : ℕ) (l : r < g .segments) (t : tag m r ≡ Tag.condemned) (o : Outcome g m m′ r) where
+module _ (g : Geometry) (m : Mem) (s : Sizes g m) (c : Ordered g m) (ph : phase m ≡ sweep) (m′ : Mem) (r : ℕ) (l : r < g .segments) (t : tag m r ≡ Tag.condemned) (o : Outcome g m m′ r) where
   in-sweep : InPhase sweep g m
   in-sweep = subst (λ p. InPhase p g m) ph (c .cycle)
 

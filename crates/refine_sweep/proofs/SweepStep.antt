@@ -12,7 +12,8 @@ use Rattle.layout.specs.Mem.{Mem, Sizes}
 use Rattle.model.specs.Fields.{tag, class}
 use Rattle.model.specs.Segments.{freeStack, partStack, stacked}
 use Rattle.model.specs.Collector.{keptBy, swept}
-use Rattle.model.specs.Consistent.{Consistent, IsClass}
+use Rattle.model.specs.Consistent.{IsClass}
+use Rattle.refine_view.specs.Kept.{Ordered}
 use Rattle.refine_sweep.proofs.Settled.{settledMem, settled-state}
 use Rattle.refine_sweep.proofs.SweptStacks.{full-stacks, free-state, free-stacks, part-state, part-stacks}
 use Rattle.refine_sweep.proofs.Ends.{free-end, full-end, part-end}
@@ -20,7 +21,7 @@ use Rattle.refine_sweep.proofs.Outcome.{Outcome}
 use Rattle.model.specs.declared.SegmentState.the-variants as segment
 use Rattle.model.specs.Tag as Tag
 
-module _ (g : Geometry) (m : Mem) (s : Sizes g m) (c : Consistent g m) (r : ℕ) (l : r < g .segments) (t : tag m r ≡ Tag.condemned) where
+module _ (g : Geometry) (m : Mem) (s : Sizes g m) (c : Ordered g m) (r : ℕ) (l : r < g .segments) (t : tag m r ≡ Tag.condemned) where
   classed : IsClass (class m r)
   classed = c .segments r l .classes (λ z. omega arith)
 

@@ -15,16 +15,15 @@ use Rattle.theory.proofs.CollectorKeeps.{Pick}
 use Rattle.model.specs.Fields.{phase, tag, class}
 use Rattle.model.specs.Segments.{usedBit}
 use Rattle.model.specs.Collector.{lowest, swept, sweeps, stepIn}
-use Rattle.model.specs.Consistent.{Consistent}
 use Rattle.refine_view.specs.View.{view}
-use Rattle.refine_view.specs.Kept.{Moves}
+use Rattle.refine_view.specs.Kept.{Ordered, Moves}
 use Rattle.refine_sweep.proofs.Lowest.{found-condemned, none-condemned, pick-lowest}
 use Rattle.refine_sweep.proofs.SweepStep.{swept-outcome}
 use Rattle.refine_sweep.proofs.Agreeing.{moves-after}
 use Rattle.refine_sweep.proofs.LastStep.{moves-done}
 use Rattle.model.specs.Tag as Tag
 
-module _ (g : Geometry) (m : Mem) (s : Sizes g m) (c : Consistent g m) where
+module _ (g : Geometry) (m : Mem) (s : Sizes g m) (c : Ordered g m) where
   pub lowest-condemned : (r : ℕ) → lowest m (g .segments) ≡ some r → (r < g .segments) × (tag m r ≡ Tag.condemned)
   lowest-condemned r e = found-condemned m (g .segments) r e
 

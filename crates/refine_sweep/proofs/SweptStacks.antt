@@ -9,7 +9,8 @@ use Rattle.layout.specs.Mem.{Mem, Sizes}
 use Rattle.model.specs.declared.SegmentState.{SegmentState}
 use Rattle.model.specs.Fields.{tag, class}
 use Rattle.model.specs.Segments.{freeStack, partStack, stacked}
-use Rattle.model.specs.Consistent.{Consistent, IsClass, StackOk, isFree, isPart}
+use Rattle.model.specs.Consistent.{IsClass, StackOk, isFree, isPart}
+use Rattle.refine_view.specs.Kept.{Ordered}
 use Rattle.laws.proofs.Stacks.{push-ok}
 use Rattle.laws.proofs.Parted.{Stacks, parted}
 use Rattle.laws.proofs.OtherStacks.{stack-by, push-left}
@@ -18,7 +19,7 @@ use Rattle.refine_sweep.proofs.Settled.{Settled, settledMem, settled-si
 use Rattle.model.specs.declared.SegmentState.the-variants as segment
 use Rattle.model.specs.Tag as Tag
 
-module _ (g : Geometry) (m : Mem) (s : Sizes g m) (c : Consistent g m) (r : ℕ) (l : r < g .segments) (k : IsClass (class m r)) (t : tag m r ≡ Tag.condemned) where
+module _ (g : Geometry) (m : Mem) (s : Sizes g m) (c : Ordered g m) (r : ℕ) (l : r < g .segments) (k : IsClass (class m r)) (t : tag m r ≡ Tag.condemned) where
   -- a stack after the segment's state is set, before anything is put on
   kept-stack : (x : SegmentState) (u : ℕ) (p p′ : ℕ → Bool) → StackOk g m u p → ((i : ℕ) → p′ i ≡ p i) → StackOk g (settledMem g m s r l k x) u p′
   kept-stack x u p p′ o e = stack-by g m (settledMem g m s r l k x) u p p′ (settled-stacks g m s r l k x) o (λ i h. e i)

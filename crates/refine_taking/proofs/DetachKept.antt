@@ -12,14 +12,13 @@ use Rattle.theory.proofs.CallKeeps.{by-ok}
 use Rattle.model.specs.Fields.{phase}
 use Rattle.model.specs.Mutators.{detached}
 use Rattle.model.specs.Calls.{observe, act}
-use Rattle.model.specs.Consistent.{Consistent}
 use Rattle.refine_view.specs.View.{view}
-use Rattle.refine_view.specs.Kept.{Moves, Matches, ActKept}
+use Rattle.refine_view.specs.Kept.{Ordered, Moves, Matches, ActKept}
 use Rattle.refine_view.proofs.Keeping.{matches-by, matches-self}
 use Rattle.refine_taking.proofs.Detached.{detached-moves}
 use Rattle.theory.specs.MachineCalls as machine
 
-module _ (g : Geometry) (m : Mem) (s : Sizes g m) (c : Consistent g m) where
+module _ (g : Geometry) (m : Mem) (s : Sizes g m) (c : Ordered g m) where
   pub detach-kept : (k : ℕ) → refusal (observe m) (c-detach k) ≡ 0 → ActKept g m (c-detach k)
   unfolding act
   detach-kept k e = go (inHandshake (phase m)) refl

@@ -9,7 +9,6 @@ use native.Mathlib.Omega.{arith}
 use lib.Dec.{eqb}
 use lib.ListN.{length, getD, replicate, length-replicate, getD-replicate}
 use Rattle.rules.proofs.Order.{same-or-not}
-use Rattle.words.specs.Tree.{Tree}
 use Rattle.classes.specs.Class.{classCount}
 use Rattle.layout.specs.declared.Geometry.{Geometry}
 use Rattle.layout.specs.Geometry.{mutatorCount, mutatorWords, rootCount, blocksIn, segmentOf}
@@ -20,19 +19,19 @@ use Rattle.theory.proofs.Agree.{Agree}
 use Rattle.theory.proofs.Updates.{upd-cases, upd-miss₁}
 use Rattle.theory.proofs.CycleKeeps.{detach-live}
 use Rattle.model.specs.Fields.{traceCount, absent, stateAt, acksAt, state, acks, root, holding, tag, class, place, owner}
-use Rattle.model.specs.Segments.{freeStack, partStack, above, bitmap}
+use Rattle.model.specs.Segments.{freeStack, partStack, bitmap}
 use Rattle.model.specs.Records.{record?}
 use Rattle.model.specs.Mutators.{released, detached}
 use Rattle.model.specs.Calls.{isAttached, isInside}
 use Rattle.model.specs.Reaching.{IsRoot, Live}
-use Rattle.model.specs.Consistent.{Consistent, IsClass, SegmentOk, MutatorOk, isFree, isPart}
+use Rattle.model.specs.Consistent.{IsClass, SegmentOk, TreeOk, MutatorOk, isFree, isPart}
 use Rattle.refine_view.specs.View.{view}
-use Rattle.refine_view.specs.Kept.{Structure, Moves}
+use Rattle.refine_view.specs.Kept.{Ordered, Structure, Moves}
 use Rattle.laws.proofs.Words.{Recorded, recorded-as}
 use Rattle.theory.proofs.Updates.{upd-by}
 use Rattle.laws.proofs.Entries.{holding-word, holding-by, table-below, entry-in, entry-out}
 use Rattle.laws.proofs.Stacks.{stack-same}
-use Rattle.laws.proofs.Segments.{segment-same}
+use Rattle.laws.proofs.Segments.{segment-same, tree-same}
 use Rattle.refine_view.proofs.Seeing.{entries-same}
 use Rattle.refine_view.proofs.Invariants.{to-live, to-inv}
 use Rattle.refine_taking.proofs.Standing.{over, Stood, Stands, marked-live, marked-condemned, collect-same, used-live, steady, records-stand, trace-stands, marks-stand}
@@ -42,7 +41,7 @@ use Rattle.theory.specs.Machine as machine
 use Rattle.layout.specs.Region as Region
 use Rattle.model.specs.Tag as Tag
 
-module _ (g : Geometry) (m : Mem) (s : Sizes g m) (c : Consistent g m) (k : ℕ) (few : k < mutatorCount) (zeros : List ℕ) (is-zeros : zeros ≡ replicate mutatorWords 0) where
+module _ (g : Geometry) (m : Mem) (s : Sizes g m) (c : Ordered g m) (k : ℕ) (few : k < mutatorCount) (zeros : List ℕ) (is-zeros : zeros ≡ replicate mutatorWords 0) where
   abbrev parted : Mem
   parted = released g m k classCount
 
@@ -96,9 +95,9 @@ module _ (g : Geometry) (m : Mem) (s : Sizes g m) (c : Consistent g m) (k : ℕ)
     free = λ e. let y = x .tag in absurd (omega arith);
     unowned = λ f. x .owner;
     classes = λ f. subst IsClass (sym (x .class)) (o .classes used);
-    tree = λ f. subst (λ w. Tree (above g w) (blocksIn g w) (bitmap g m q)) (sym (x .class)) (o .tree used);
     remains = λ a b. let w = z .0 in let y = o .remains (omega arith) (omega arith) in (y .0, subst (λ w. w ≤ y .0) (sym (x .place)) (y .1), subst (λ w. y .0 < blocksIn g w) (sym (x .class)) (y .2), y .3);
-    whole = λ e. let y = x .tag in absurd (omega arith);
+    full = λ e. let y = x .tag in absurd (omega arith);
+    condemned = λ e. let y = x .tag in absurd (omega arith);
     held = λ e. let y = x .tag in absurd (omega arith);
   }
     where
@@ -129,6 +128,13 @@ module _ (g : Geometry) (m : Mem) (s : Sizes g m) (c : Consistent g m) (k : ℕ)
       go : Gone m k classCount q ⊎ (Gone m k classCount q → ⊥) → SegmentOk g m₁ q
       go (inl z) = segment-gone q l z
       go (inr f) = segment-stay q l f
+
+  trees-ok : (q : ℕ) → q < g .segments → TreeOk g m₁ q
+  trees-ok q l = go (gone? m k classCount q)
+    where
+      go : Gone m k classCount q ⊎ (Gone m k classCount q → ⊥) → TreeOk g m₁ q
+      go (inl z) = tree-same g m m₁ q (c .trees q l) (λ e. let y = z .0 in absurd (omega arith)) (gone q z .class) refl
+      go (inr f) = tree-same g m m₁ q (c .trees q l) (λ e. stay q f .tag ∙ e) (stay q f .class) refl
 
   -- ---- mutators
 
@@ -191,6 +197,7 @@ module _ (g : Geometry) (m : Mem) (s : Sizes g m) (c : Consistent g m) (k : ℕ)
   structure = record {
     phases = c .phases;
     segments = segments-ok;
+    trees = trees-ok;
     mutators = mutators-ok;
     freeSegments = stack-same g parted m₁ freeStack (isFree parted) (isFree m₁) (parts .free) refl (λ i l. refl) (λ q l. refl);
     partSegments = λ d i. stack-same g parted m₁ (partStack d) (isPart parted d) (isPart m₁ d) (parts .part d i) refl (λ j l. refl) (λ q l. refl);
@@ -242,6 +249,6 @@ module _ (g : Geometry) (m : Mem) (s : Sizes g m) (c : Consistent g m) (k : ℕ)
   moves-run : Moves g m (setRun parted Region.mutators (k * mutatorWords) zeros) (detach (view g m) k)
   moves-run = subst (λ z. Moves g m z (detach (view g m) k)) (sym same) moves-over
 
-pub detached-moves : (g : Geometry) (m : Mem) → Sizes g m → Consistent g m → (k : ℕ) → k < mutatorCount → Moves g m (detached g m k) (detach (view g m) k)
+pub detached-moves : (g : Geometry) (m : Mem) → Sizes g m → Ordered g m → (k : ℕ) → k < mutatorCount → Moves g m (detached g m k) (detach (view g m) k)
 unfolding detached
 detached-moves g m s c k few = moves-run g m s c k few (replicate mutatorWords 0) refl

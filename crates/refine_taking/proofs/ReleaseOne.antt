@@ -14,7 +14,8 @@ use Rattle.model.specs.declared.SegmentState.the-variants.{Part}
 use Rattle.model.specs.Fields.{holding, tag, class, place, owner}
 use Rattle.model.specs.Segments.{setSegmentState, partStack, stacked}
 use Rattle.model.specs.Mutators.{releasedOne}
-use Rattle.model.specs.Consistent.{Consistent, IsClass}
+use Rattle.model.specs.Consistent.{IsClass}
+use Rattle.refine_view.specs.Kept.{Ordered}
 use Rattle.laws.proofs.Words.{Recorded, recorded-as, recorded-by, state-there, state-other}
 use Rattle.laws.proofs.Parted.{Stacks, parted}
 use Rattle.laws.proofs.Lengths.{sizes-stack, sizes-state}
@@ -22,7 +23,7 @@ use Rattle.refine_taking.proofs.Standing.{over}
 use Rattle.refine_taking.proofs.Releasing.{Gone, Releasing, gone-less, gone-other}
 use Rattle.model.specs.Tag as Tag
 
-module _ (g : Geometry) (m : Mem) (s : Sizes g m) (c : Consistent g m) (k : ℕ) (few : k < mutatorCount) (n : ℕ) (ln : n < classCount) (m′ : Mem) (h : Releasing g m m′ k n) (r : ℕ) (e : holding m k (firstClass + n) ≡ suc r) where
+module _ (g : Geometry) (m : Mem) (s : Sizes g m) (c : Ordered g m) (k : ℕ) (few : k < mutatorCount) (n : ℕ) (ln : n < classCount) (m′ : Mem) (h : Releasing g m m′ k n) (r : ℕ) (e : holding m k (firstClass + n) ≡ suc r) where
   abbrev d : ℕ
   d = firstClass + n
 

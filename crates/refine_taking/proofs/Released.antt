@@ -12,11 +12,11 @@ use Rattle.model.specs.declared.SegmentState.the-variants.{Part}
 use Rattle.model.specs.Fields.{holding, place}
 use Rattle.model.specs.Segments.{setSegmentState, partStack, stacked}
 use Rattle.model.specs.Mutators.{releasedOne, released}
-use Rattle.model.specs.Consistent.{Consistent}
+use Rattle.refine_view.specs.Kept.{Ordered}
 use Rattle.refine_taking.proofs.Releasing.{Releasing, releasing-none, releasing-skip}
 use Rattle.refine_taking.proofs.ReleaseOne.{releasing-one}
 
-module _ (g : Geometry) (m : Mem) (s : Sizes g m) (c : Consistent g m) (k : ℕ) (few : k < mutatorCount) where
+module _ (g : Geometry) (m : Mem) (s : Sizes g m) (c : Ordered g m) (k : ℕ) (few : k < mutatorCount) where
   one-more : (n : ℕ) → n < classCount → (m′ : Mem) → Releasing g m m′ k n → Releasing g m (releasedOne g m′ k (firstClass + n)) k (suc n)
   one-more n l m′ h = go (holding m k (firstClass + n)) refl
     where

@@ -10,7 +10,8 @@ use Rattle.layout.specs.declared.Geometry.{Geometry}
 use Rattle.layout.specs.Mem.{Mem, Sizes}
 use Rattle.model.specs.Fields.{holding, tag, class, place, owner}
 use Rattle.model.specs.Segments.{freeStack, partStack}
-use Rattle.model.specs.Consistent.{Consistent, IsClass, StackOk, isFree, isPart}
+use Rattle.model.specs.Consistent.{IsClass, StackOk, isFree, isPart}
+use Rattle.refine_view.specs.Kept.{Ordered}
 use Rattle.laws.proofs.Words.{Recorded}
 use Rattle.words.proofs.Counts.{lt-of}
 use Rattle.laws.proofs.Segments.{in-range}
@@ -38,7 +39,7 @@ pub record Releasing (g : Geometry) (m m′ : Mem) (k n : ℕ) : Type 0 where
   pub free : StackOk g m′ freeStack (isFree m′)
   pub part : (d : ℕ) → IsClass d → StackOk g m′ (partStack d) (isPart m′ d)
 
-module _ (g : Geometry) (m : Mem) (s : Sizes g m) (c : Consistent g m) where
+module _ (g : Geometry) (m : Mem) (s : Sizes g m) (c : Ordered g m) where
   pub held-range : (q : ℕ) → tag m q ≡ Tag.held → q < g .segments
   held-range q e = in-range g m s q (λ z. omega arith)
 

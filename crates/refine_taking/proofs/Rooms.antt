@@ -12,11 +12,12 @@ use Rattle.layout.specs.Mem.{Mem, Sizes}
 use Rattle.model.specs.Fields.{holding, tag, class, owner}
 use Rattle.model.specs.Segments.{freeStack, partStack, count, entry, top}
 use Rattle.model.specs.Making.{Source, held, part, unused, noRoom, sourceOf, NoRoom}
-use Rattle.model.specs.Consistent.{Consistent, IsClass, isPart}
+use Rattle.model.specs.Consistent.{IsClass, isPart}
+use Rattle.refine_view.specs.Kept.{Ordered}
 use Rattle.laws.proofs.Bools.{and-left, and-right, and-both}
 use Rattle.model.specs.Tag as Tag
 
-module _ (g : Geometry) (m : Mem) (s : Sizes g m) (c : Consistent g m) (k cl : ℕ) (few : k < mutatorCount) (ic : IsClass cl) where
+module _ (g : Geometry) (m : Mem) (s : Sizes g m) (c : Ordered g m) (k cl : ℕ) (few : k < mutatorCount) (ic : IsClass cl) where
   -- ---- from the segments to the words
 
   module _ (o : NoRoom g m k cl) where

@@ -17,9 +17,9 @@ use Rattle.model.specs.Fields.{phase, tag, class, place}
 use Rattle.model.specs.Segments.{bitmap, usedBit}
 use Rattle.model.specs.Records.{blockWords, blockOf, queued, marked}
 use Rattle.model.specs.Reaching.{IsRoot, Live, isMarked}
-use Rattle.model.specs.Consistent.{Consistent, RecordOk, MarksOf}
+use Rattle.model.specs.Consistent.{RecordOk, MarksOf}
 use Rattle.refine_view.specs.View.{view, isHead}
-use Rattle.refine_view.specs.Kept.{QueuedOk, MarksIn, Steady}
+use Rattle.refine_view.specs.Kept.{Ordered, QueuedOk, MarksIn, Steady}
 use Rattle.laws.proofs.Bools.{ne-not, test-same}
 use Rattle.refine_view.proofs.Seeing.{entry-was, edge-was, live-was}
 use Rattle.laws.proofs.Segments.{used-same}
@@ -44,7 +44,7 @@ pub record Stands (g : Geometry) (m m₁ : Mem) : Type 0 where
   pub condemned : (s : ℕ) → tag m₁ s ≡ Tag.condemned → tag m s ≡ Tag.condemned
   pub still : (s : ℕ) → tag m s ≡ Tag.condemned → tag m₁ s ≡ Tag.condemned
 
-module _ (g : Geometry) (m : Mem) (s : Sizes g m) (c : Consistent g m) (mu se st bi : List ℕ) (h : Stands g m (over m mu se st bi)) where
+module _ (g : Geometry) (m : Mem) (s : Sizes g m) (c : Ordered g m) (mu se st bi : List ℕ) (h : Stands g m (over m mu se st bi)) where
   abbrev m₁ : Mem
   m₁ = over m mu se st bi
 

@@ -18,7 +18,8 @@ use Rattle.model.specs.Fields.{holding, tag, class, place, owner}
 use Rattle.model.specs.Segments.{setSegmentState, freeStack, partStack, count, top, pop, above, bitmap}
 use Rattle.model.specs.Making.{takes, freshened}
 use Rattle.model.specs.Calls.{isAttached}
-use Rattle.model.specs.Consistent.{Consistent, IsClass, StackOk, isFree, isPart}
+use Rattle.model.specs.Consistent.{IsClass, StackOk, isFree, isPart}
+use Rattle.refine_view.specs.Kept.{Ordered}
 use Rattle.laws.proofs.Words.{Recorded, recorded-as}
 use Rattle.laws.proofs.Segments.{not-free, free-other, part-left}
 use Rattle.laws.proofs.Windows.{window-there, window-other}
@@ -34,7 +35,7 @@ use Rattle.refine_taking.proofs.Taken.{Taken}
 use Rattle.refine_taking.proofs.Taking.{Took, taken-by}
 use Rattle.model.specs.Tag as Tag
 
-module _ (g : Geometry) (m : Mem) (s : Sizes g m) (c : Consistent g m) (k cl : ℕ) (few : k < mutatorCount) (here : isAttached m k ≡ true) (ic : IsClass cl) (none : holding m k cl ≡ 0) (some : 1 ≤ count g m freeStack) where
+module _ (g : Geometry) (m : Mem) (s : Sizes g m) (c : Ordered g m) (k cl : ℕ) (few : k < mutatorCount) (here : isAttached m k ≡ true) (ic : IsClass cl) (none : holding m k cl ≡ 0) (some : 1 ≤ count g m freeStack) where
   abbrev r : ℕ
   r = top g m freeStack
 

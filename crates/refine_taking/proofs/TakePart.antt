@@ -15,7 +15,8 @@ use Rattle.model.specs.Fields.{holding, tag, class, place, owner}
 use Rattle.model.specs.Segments.{freeStack, partStack, count, top, pop, above, bitmap}
 use Rattle.model.specs.Making.{takes}
 use Rattle.model.specs.Calls.{isAttached}
-use Rattle.model.specs.Consistent.{Consistent, IsClass, SegmentOk, StackOk, isFree, isPart}
+use Rattle.model.specs.Consistent.{IsClass, SegmentOk, StackOk, isFree, isPart}
+use Rattle.refine_view.specs.Kept.{Ordered}
 use Rattle.laws.proofs.Bools.{and-left, and-right}
 use Rattle.laws.proofs.Words.{Recorded}
 use Rattle.laws.proofs.Segments.{not-part, part-other, free-left, part-left}
@@ -27,7 +28,7 @@ use Rattle.refine_taking.proofs.Taken.{Taken}
 use Rattle.refine_taking.proofs.Taking.{Took, taken-by}
 use Rattle.model.specs.Tag as Tag
 
-module _ (g : Geometry) (m : Mem) (s : Sizes g m) (c : Consistent g m) (k cl : ℕ) (few : k < mutatorCount) (here : isAttached m k ≡ true) (ic : IsClass cl) (none : holding m k cl ≡ 0) (some : 1 ≤ count g m (partStack cl)) where
+module _ (g : Geometry) (m : Mem) (s : Sizes g m) (c : Ordered g m) (k cl : ℕ) (few : k < mutatorCount) (here : isAttached m k ≡ true) (ic : IsClass cl) (none : holding m k cl ≡ 0) (some : 1 ≤ count g m (partStack cl)) where
   abbrev r : ℕ
   r = top g m (partStack cl)
 
@@ -71,7 +72,7 @@ module _ (g : Geometry) (m : Mem) (s : Sizes g m) (c : Consistent g m) (k cl : �
     there = there;
     other = other;
     bitmaps = λ q f. refl;
-    tree = subst (λ z. Tree (above g z) (blocksIn g z) (bitmap g m r)) top-class (segment-r .tree (λ e. let z = top-tag in omega arith));
+    tree = subst (λ z. Tree (above g z) (blocksIn g z) (bitmap g m r)) top-class (c .trees r (top-part .0) (λ e. let z = top-tag in omega arith));
     remains = let z = top-tag in let y = segment-r .remains (omega arith) (omega arith) in (y .0, y .1, subst (λ w. y .0 < blocksIn g w) top-class (y .2), y .3);
     holds = subst (λ z. holding z k cl ≡ suc r) same (takes-holds g m s n v k cl r (place m r) few ic);
     entries = takes-entries g m s n v k cl r (place m r) few ic;

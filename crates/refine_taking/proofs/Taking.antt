@@ -23,12 +23,13 @@ use Rattle.model.specs.Segments.{freeStack, partStack, above, bitmap}
 use Rattle.model.specs.Records.{record?}
 use Rattle.model.specs.Calls.{isAttached, isInside}
 use Rattle.model.specs.Reaching.{IsRoot}
-use Rattle.model.specs.Consistent.{Consistent, IsClass, SegmentOk, MutatorOk, StackOk, isFree, isPart}
+use Rattle.model.specs.Consistent.{IsClass, SegmentOk, TreeOk, MutatorOk, StackOk, isFree, isPart}
+use Rattle.refine_view.specs.Kept.{Ordered}
 use Rattle.refine_view.specs.View.{view}
 use Rattle.laws.proofs.Bools.{not-eq}
 use Rattle.laws.proofs.Words.{Recorded}
 use Rattle.laws.proofs.Entries.{holding-by, table-below, mutators-table}
-use Rattle.laws.proofs.Segments.{segment-same}
+use Rattle.laws.proofs.Segments.{segment-same, tree-same}
 use Rattle.refine_view.proofs.Seeing.{entries-same, root-was}
 use Rattle.refine_view.proofs.Invariants.{to-live}
 use Rattle.refine_taking.proofs.Standing.{over, Stood, Stands, marked-live, marked-condemned, collect-same, used-live, steady, records-stand, trace-stands, marks-stand}
@@ -50,7 +51,7 @@ pub record Took (g : Geometry) (m m₁ : Mem) (k cl r p : ℕ) : Type 0 where
   pub before : tag m r ≤ Tag.part
   pub stood : (tag m r ≡ Tag.free → ⊥) → Stood g m m₁ r
 
-module _ (g : Geometry) (m : Mem) (s : Sizes g m) (c : Consistent g m) (mu se st bi : List ℕ) (k cl r p : ℕ) (few : k < mutatorCount)
+module _ (g : Geometry) (m : Mem) (s : Sizes g m) (c : Ordered g m) (mu se st bi : List ℕ) (k cl r p : ℕ) (few : k < mutatorCount)
     (here : isAttached m k ≡ true) (ic : IsClass cl) (none : holding m k cl ≡ 0) (t : Took g m (over m mu se st bi) k cl r p) where
   abbrev m₁ : Mem
   m₁ = over m mu se st bi
@@ -83,9 +84,9 @@ module _ (g : Geometry) (m : Mem) (s : Sizes g m) (c : Consistent g m) (mu se st
     free = λ e. let y = x .tag in absurd (omega arith);
     unowned = λ f. absurd (f (x .tag));
     classes = λ f. subst IsClass (sym (x .class)) ic;
-    tree = λ f. subst (λ z. Tree (above g z) (blocksIn g z) (bitmap g m₁ r)) (sym (x .class)) (t .tree);
     remains = λ a b. let y = t .remains in (y .0, subst (λ z. z ≤ y .0) (sym (x .place)) (y .1), subst (λ z. y .0 < blocksIn g z) (sym (x .class)) (y .2), y .3);
-    whole = λ e. let y = x .tag in absurd (omega arith);
+    full = λ e. let y = x .tag in absurd (omega arith);
+    condemned = λ e. let y = x .tag in absurd (omega arith);
     held = λ e. (subst (λ z. z < mutatorCount) (sym (x .owner)) few, λ f. not-eq _ _ here (sym (state-same k) ∙ ap (state m₁) (sym (x .owner)) ∙ f), ap (λ z. holding m₁ z (class m₁ r)) (x .owner) ∙ ap (holding m₁ k) (x .class) ∙ t .holds);
   }
     where
@@ -110,6 +111,16 @@ module _ (g : Geometry) (m : Mem) (s : Sizes g m) (c : Consistent g m) (mu se st
       go : (q ≡ r) ⊎ (q ≡ r → ⊥) → SegmentOk g m₁ q
       go (inl e) = subst (SegmentOk g m₁) (sym e) segment-there
       go (inr f) = segment-other q l f
+
+  trees-ok : (q : ℕ) → q < g .segments → TreeOk g m₁ q
+  trees-ok q l = go (same-or-not q r)
+    where
+      there : TreeOk g m₁ r
+      there f = subst (λ z. Tree (above g z) (blocksIn g z) (bitmap g m₁ r)) (sym (t .there .class)) (t .tree)
+
+      go : (q ≡ r) ⊎ (q ≡ r → ⊥) → TreeOk g m₁ q
+      go (inl e) = subst (TreeOk g m₁) (sym e) there
+      go (inr f) = let x = t .other q f in tree-same g m m₁ q (c .trees q l) (λ e. x .tag ∙ e) (x .class) (t .bitmaps q f)
 
   -- ---- mutators
 
@@ -185,6 +196,7 @@ module _ (g : Geometry) (m : Mem) (s : Sizes g m) (c : Consistent g m) (mu se st
     structure = record {
       phases = c .phases;
       segments = segments-ok;
+      trees = trees-ok;
       mutators = mutators-ok;
       freeSegments = free;
       partSegments = part;

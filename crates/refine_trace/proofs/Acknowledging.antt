@@ -25,9 +25,9 @@ use Rattle.model.specs.Records.{record?}
 use Rattle.model.specs.Tracing.{pushRoots}
 use Rattle.model.specs.Mutators.{given, acknowledged}
 use Rattle.model.specs.Reaching.{Live}
-use Rattle.model.specs.Consistent.{RecordOk, Consistent}
+use Rattle.model.specs.Consistent.{RecordOk}
 use Rattle.refine_view.specs.View.{view, stackOf}
-use Rattle.refine_view.specs.Kept.{Structure, Moves}
+use Rattle.refine_view.specs.Kept.{Ordered, Structure, Moves}
 use Rattle.laws.proofs.Bools.{ne-not}
 use Rattle.laws.proofs.Words.{mutator-there}
 use Rattle.theory.proofs.Updates.{upd-by}
@@ -45,7 +45,7 @@ use Rattle.theory.specs.Machine as machine
 use Rattle.theory.proofs.Agree as agreeing
 use Rattle.model.specs.Fields as fields
 
-module _ (g : Geometry) (m : Mem) (s : Sizes g m) (c : Consistent g m) (k : ℕ) (few : k < mutatorCount) (there : state m k ≡ absent → ⊥) (v : ℕ) (small : v ≤ 2) where
+module _ (g : Geometry) (m : Mem) (s : Sizes g m) (c : Ordered g m) (k : ℕ) (few : k < mutatorCount) (there : state m k ≡ absent → ⊥) (v : ℕ) (small : v ≤ 2) where
   module _ (control q t : List ℕ) (e : Entered g m control q t) (l : List ℕ) (is : stackOf (over m control q t) (getD control 1 0) ≡ l) where
     abbrev base : Mem
     base = setAcks m k v
@@ -97,7 +97,7 @@ module _ (g : Geometry) (m : Mem) (s : Sizes g m) (c : Consistent g m) (k : ℕ)
   acks-moves : (m′ : Mem) (l : List ℕ) → Pushed g m m′ l → ((x : ℕ) → List·Memᴰ x l → machine.Live (view g m) x) → Moves g m (setAcks m′ k v) (machine.setAcks (view g m) k v l)
   acks-moves m′ l p h = subst (λ z. Moves g m z (machine.setAcks (view g m) k v l)) (sym (ap (λ z. setAcks z k v) (p .is) ∙ mutator-over m (p .control) (p .queued) (p .trace) _ v)) (acks-over (p .control) (p .queued) (p .trace) (p .entered) l (p .stack) h)
 
-module _ (g : Geometry) (m : Mem) (s : Sizes g m) (c : Consistent g m) (k : ℕ) (few : k < mutatorCount) (there : state m k ≡ absent → ⊥) where
+module _ (g : Geometry) (m : Mem) (s : Sizes g m) (c : Ordered g m) (k : ℕ) (few : k < mutatorCount) (there : state m k ≡ absent → ⊥) where
   root-live : (i x : ℕ) → i < rootCount → record? (fields.root m k i) ≡ some x → machine.Live (view g m) x
   root-live i x h e = root (inl (k, (i, ne-not _ _ there, h, e)))
 

@@ -14,9 +14,8 @@ use Rattle.model.specs.Fields.{phase, acks}
 use Rattle.model.specs.Records.{record?, pointers, pointer, setPointer}
 use Rattle.model.specs.Calls.{observe, act, isAttached}
 use Rattle.model.specs.Mutators.{acknowledged}
-use Rattle.model.specs.Consistent.{Consistent}
 use Rattle.refine_view.specs.View.{view}
-use Rattle.refine_view.specs.Kept.{ActKept}
+use Rattle.refine_view.specs.Kept.{Ordered, ActKept}
 use Rattle.laws.proofs.Bools.{not-eq}
 use Rattle.refine_view.proofs.Keeping.{matches-by, wanted-in, on-record}
 use Rattle.laws.proofs.Operations.{sizes-acknowledged}
@@ -27,7 +26,7 @@ use Rattle.theory.specs.MachineCalls as machine
 use Rattle.model.specs.Fields as fields
 use Rattle.model.specs.Tracing as tracing
 
-module _ (g : Geometry) (m : Mem) (s : Sizes g m) (c : Consistent g m) where
+module _ (g : Geometry) (m : Mem) (s : Sizes g m) (c : Ordered g m) where
   pub check-kept : (k : ℕ) → refusal (observe m) (c-check k) ≡ 0 → ActKept g m (c-check k)
   unfolding act
   check-kept k e =

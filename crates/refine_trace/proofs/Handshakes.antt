@@ -21,12 +21,11 @@ use Rattle.model.specs.Fields.{phase, state, acks}
 use Rattle.model.specs.Calls.{isAttached}
 use Rattle.model.specs.Mutators.{acknowledged}
 use Rattle.model.specs.Collector.{outsideAnswered, waiting, moves}
-use Rattle.model.specs.Consistent.{Consistent}
 use Rattle.refine_view.specs.View.{view}
-use Rattle.refine_view.specs.Kept.{Moves, MarksIn, Steady}
+use Rattle.refine_view.specs.Kept.{Ordered, Moves, MarksIn, Steady}
 use Rattle.laws.proofs.Bools.{not-eq, and-false}
 use Rattle.layout.proofs.Sizes.{within}
-use Rattle.refine_view.proofs.Invariants.{to-inv, consistent-of, structure-of}
+use Rattle.refine_view.proofs.Invariants.{to-inv, ordered-of, structure-of}
 use Rattle.refine_view.proofs.Keeping.{agree-self}
 use Rattle.laws.proofs.Operations.{sizes-acknowledged}
 use Rattle.refine_view.proofs.Phasing.{phase-moves}
@@ -39,7 +38,7 @@ use Rattle.theory.specs.MachineCalls as machine
 -- a memory after answers, beside the machine's state after them
 record Answered (g : Geometry) (m m′ : Mem) (st : State) : Type 0 where
   pub sizes : Sizes g m′
-  pub consistent : Consistent g m′
+  pub ordered : Ordered g m′
   pub agree : Agree (segmentOf g) st (view g m′)
   pub steady : Steady g m m′
 
@@ -48,11 +47,11 @@ module _ (g : Geometry) (m : Mem) where
   one-answers : (m′ : Mem) (st : State) → Answered g m m′ st → (k : ℕ) → k < mutatorCount → st .attached k ≡ true → Answered g m (acknowledged g m′ k) (check st k)
   one-answers m′ st w k l h =
       let there : isAttached m′ k ≡ true = w .agree .attached k ∙ h in
-      let v = acknowledged-moves g m′ (w .sizes) (w .consistent) k l (not-eq _ _ there) in
+      let v = acknowledged-moves g m′ (w .sizes) (w .ordered) k l (not-eq _ _ there) in
       let z = sizes-acknowledged g m′ (w .sizes) k in
       record {
         sizes = z;
-        consistent = consistent-of g (acknowledged g m′ k) z (v .structure) (agree-inv (segmentOf g) (check (view g m′) k) (view g (acknowledged g m′ k)) (v .agree) (check-inv (segmentOf g) (view g m′) (to-inv g m′ (w .sizes) (w .consistent)) k there));
+        ordered = ordered-of g (acknowledged g m′ k) z (v .structure) (agree-inv (segmentOf g) (check (view g m′) k) (view g (acknowledged g m′ k)) (v .agree) (check-inv (segmentOf g) (view g m′) (to-inv g m′ (w .sizes) (w .ordered)) k there));
         agree = agree-trans (segmentOf g) (check st k) (check (view g m′) k) (check-agree (segmentOf g) st (view g m′) (w .agree) k h) (view g (acknowledged g m′ k)) (v .agree);
         steady = λ x d e. let a = v .steady x d e in let b = w .steady x d (a .0) in (b .0, a .1 ∙ b .1);
       }
@@ -72,9 +71,9 @@ module _ (g : Geometry) (m : Mem) where
   unfolding outsideAnswered
   answered-none = refl
 
-  module _ (s : Sizes g m) (c : Consistent g m) where
+  module _ (s : Sizes g m) (c : Ordered g m) where
     all-answered : (n : ℕ) → n ≤ mutatorCount → Answered g m (outsideAnswered g m n) (answerOutside n (view g m))
-    all-answered zero h = subst (λ z. Answered g m z (view g m)) (sym answered-none) (record { sizes = s; consistent = c; agree = agree-self g m; steady = λ x l e. (e, refl) })
+    all-answered zero h = subst (λ z. Answered g m z (view g m)) (sym answered-none) (record { sizes = s; ordered = c; agree = agree-self g m; steady = λ x l e. (e, refl) })
     all-answered (suc n) h =
         let w = all-answered n (omega arith) in
         let u = outside-later n (view g m) in
@@ -105,7 +104,7 @@ module _ (g : Geometry) (m : Mem) (st : State) (a : Agree (segmentOf g) st (view
 
 module _ (g : Geometry) (m m′ : Mem) (st : State) (w : Answered g m m′ st) (p : Phase) (tracing : Tracing p → Tracing (st .phase)) (marks : MarksIn p g m′) where
   now : Moves g m m′ st
-  now = record { structure = structure-of g m′ (w .consistent); agree = w .agree; steady = w .steady }
+  now = record { structure = structure-of g m′ (w .ordered); agree = w .agree; steady = w .steady }
 
   by-waiting : (n : ℕ) → Moves g m (moves n m′ p .1) (move n st p .1)
   by-waiting zero = phase-moves g m m′ st now (w .sizes) p tracing marks
@@ -114,13 +113,13 @@ module _ (g : Geometry) (m m′ : Mem) (st : State) (w : Answered g m m′ st) (
   stepped : (n : ℕ) → Moves g m (moves (waiting m′ n) m′ p .1) (move (machine.waiting n st) st p .1)
   stepped n = subst (λ z. Moves g m (moves (waiting m′ n) m′ p .1) (move z st p .1)) (waiting-same g m′ st (w .agree) n) (by-waiting (waiting m′ n))
 
-module _ (g : Geometry) (m : Mem) (s : Sizes g m) (c : Consistent g m) where
+module _ (g : Geometry) (m : Mem) (s : Sizes g m) (c : Ordered g m) where
   -- the phase after the answers
   phase-kept : (n : ℕ) → n ≤ mutatorCount → phase (outsideAnswered g m n) ≡ phase m
   phase-kept n h = all-answered g m s c n h .agree .phase ∙ outside-later n (view g m) .phase
 
   marks-kept : (n : ℕ) → n ≤ mutatorCount → (p : Phase) → phase m ≡ p → MarksIn p g (outsideAnswered g m n)
-  marks-kept n h p e = subst (λ z. MarksIn z g (outsideAnswered g m n)) (phase-kept n h ∙ e) (structure-of g (outsideAnswered g m n) (all-answered g m s c n h .consistent) .marks)
+  marks-kept n h p e = subst (λ z. MarksIn z g (outsideAnswered g m n)) (phase-kept n h ∙ e) (structure-of g (outsideAnswered g m n) (all-answered g m s c n h .ordered) .marks)
 
   tracing-kept : (n : ℕ) (p : Phase) → phase m ≡ p → Tracing p → Tracing (answerOutside n (view g m) .phase)
   tracing-kept n p e t = subst Tracing (sym (outside-later n (view g m) .phase ∙ e)) t

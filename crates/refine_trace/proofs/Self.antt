@@ -8,13 +8,13 @@ use Rattle.layout.specs.Mem.{Mem, traceWord, Sizes}
 use Rattle.theory.specs.Reach.{root}
 use Rattle.model.specs.Fields.{traceCount}
 use Rattle.model.specs.Reaching.{IsEntry}
-use Rattle.model.specs.Consistent.{Consistent}
+use Rattle.refine_view.specs.Kept.{Ordered}
 use Rattle.refine_view.specs.View.{stackOf}
 use Rattle.refine_trace.proofs.Over.{over-self}
 use Rattle.refine_trace.proofs.Entered.{Entered}
 use Rattle.refine_trace.proofs.Push.{Pushed}
 
-module _ (g : Geometry) (m : Mem) (s : Sizes g m) (c : Consistent g m) where
+module _ (g : Geometry) (m : Mem) (s : Sizes g m) (c : Ordered g m) where
   pub entry-at : (i : ℕ) → i < traceCount m → IsEntry m (traceWord m i - 1)
   entry-at i l = record { index = i; within = l; names = let n = c .trace .named i l in omega arith }
 

@@ -10,13 +10,12 @@ use Rattle.theory.specs.Phases.{sync1, sync2, mark}
 use Rattle.theory.specs.MachineCalls.{stepBy}
 use Rattle.model.specs.Fields.{phase, traceCount}
 use Rattle.model.specs.Collector.{stepIn}
-use Rattle.model.specs.Consistent.{Consistent}
 use Rattle.refine_view.specs.View.{view}
-use Rattle.refine_view.specs.Kept.{Moves}
+use Rattle.refine_view.specs.Kept.{Ordered, Moves}
 use Rattle.refine_trace.proofs.TraceStep.{trace-by}
 use Rattle.refine_trace.proofs.Handshakes.{first-by, second-by}
 
-module _ (g : Geometry) (m : Mem) (s : Sizes g m) (c : Consistent g m) where
+module _ (g : Geometry) (m : Mem) (s : Sizes g m) (c : Ordered g m) where
   pub handshake1-moves : (v : Option ℕ) → phase m ≡ sync1 → Moves g m (stepIn sync1 g m .1) (stepBy (segmentOf g) (λ _. v) sync1 (view g m) .1)
   handshake1-moves v e = first-by g m s c mutatorCount (omega arith) e
 

@@ -15,9 +15,9 @@ use Rattle.theory.proofs.Agree.{Agree}
 use Rattle.model.specs.Rules.{phaseOf}
 use Rattle.model.specs.Fields.{phase, acks}
 use Rattle.model.specs.Records.{record?, pointers, values, pointer, setPointer}
-use Rattle.model.specs.Consistent.{RecordOk, Consistent}
+use Rattle.model.specs.Consistent.{RecordOk}
 use Rattle.refine_view.specs.View.{view, stackOf}
-use Rattle.refine_view.specs.Kept.{Structure, Moves}
+use Rattle.refine_view.specs.Kept.{Ordered, Structure, Moves}
 use Rattle.refine_view.proofs.Seeing.{entries-same, live-on, live-back}
 use Rattle.refine_view.proofs.Frames.{held-self, mutator-beside, marks-beside}
 use Rattle.refine_view.proofs.Invariants.{to-record, to-inv, structure-of}
@@ -31,7 +31,7 @@ use Rattle.theory.proofs.Agree as agreeing
 use Rattle.theory.proofs.StoreKeeps as storing
 use Rattle.model.specs.Tracing as tracing
 
-module _ (g : Geometry) (m : Mem) (s : Sizes g m) (c : Consistent g m) where
+module _ (g : Geometry) (m : Mem) (s : Sizes g m) (c : Ordered g m) where
   -- mutator k stores the word w of one of its roots into pointer f of the record at a word that another of its roots names
   module _ (k at f w : ℕ) (holds : Holds (view g m) k at) (few : f < pointers m at) (from : (x : ℕ) → record? w ≡ some x → Holds (view g m) k x) where
     at-live : machine.Live (view g m) at

@@ -26,9 +26,9 @@ use Rattle.model.specs.Fields.{phase, traceCount, tag, class}
 use Rattle.model.specs.Records.{record?, pointers, pointer, recordBit, setMarked, clearQueued}
 use Rattle.model.specs.Tracing.{popped, traced}
 use Rattle.model.specs.Collector.{traces}
-use Rattle.model.specs.Consistent.{IsClass, RecordOk, Consistent}
+use Rattle.model.specs.Consistent.{IsClass, RecordOk}
 use Rattle.refine_view.specs.View.{view, stackOf}
-use Rattle.refine_view.specs.Kept.{Structure, Moves, MarksIn}
+use Rattle.refine_view.specs.Kept.{Ordered, Structure, Moves, MarksIn}
 use Rattle.refine_view.proofs.Seeing.{entries-same, live-on, live-back}
 use Rattle.refine_view.proofs.Invariants.{to-record, to-inv, structure-of}
 use Rattle.refine_view.proofs.Keeping.{moves-self}
@@ -49,7 +49,7 @@ use Rattle.theory.proofs.Agree as agreeing
 use Rattle.theory.proofs.CycleKeeps as cycle
 use Rattle.model.specs.Tag as Tag
 
-module _ (g : Geometry) (m : Mem) (s : Sizes g m) (c : Consistent g m) (marking : phase m ≡ mark) where
+module _ (g : Geometry) (m : Mem) (s : Sizes g m) (c : Ordered g m) (marking : phase m ≡ mark) where
   marks-now : MarksIn mark g m
   marks-now = subst (λ p. MarksIn p g m) marking (structure-of g m c .marks)
 

@@ -44,9 +44,9 @@ module _ (g : Geometry) (m : Mem) (co mu ma qu tr he : List ℕ) where
     free = o .free;
     unowned = o .unowned;
     classes = o .classes;
-    tree = o .tree;
     remains = o .remains;
-    whole = o .whole;
+    full = o .full;
+    condemned = o .condemned;
     held = λ e. let q = o .held e in let z = h _ _ (q .0) (o .classes (λ y. let w = sym y ∙ e in omega arith)) (q .1) in (q .0, z .0, z .1 ∙ q .2);
   }
 
@@ -63,6 +63,7 @@ module _ (g : Geometry) (m : Mem) (co mu ma qu tr he : List ℕ) where
   structure-beside o p h u r q k = record {
     phases = p;
     segments = λ s l. segment-beside h s (o .segments s l);
+    trees = o .trees;
     mutators = u;
     freeSegments = stack-beside _ _ (o .freeSegments);
     partSegments = λ c i. stack-beside _ _ (o .partSegments c i);

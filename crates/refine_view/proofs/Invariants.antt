@@ -24,7 +24,7 @@ use Rattle.model.specs.Calls.{isAttached}
 use Rattle.model.specs.Reaching.{IsRoot, IsEntry, Live, Reached, Covered, isMarked}
 use Rattle.model.specs.Consistent.{Consistent, InPhase, AcksIn, Tricolour, RecordOk}
 use Rattle.refine_view.specs.View.{view, stackOf, isHead, isUsed}
-use Rattle.refine_view.specs.Kept.{Structure, MarksIn}
+use Rattle.refine_view.specs.Kept.{Ordered, Structure, MarksIn}
 use Rattle.words.proofs.Counts.{lt-of}
 use Rattle.laws.proofs.Bools.{not-eq, ne-not, and-both, and-right, and-not, and-false}
 use Rattle.layout.proofs.Sizes.{segment-below}
@@ -41,10 +41,27 @@ marks-in sync2 g m h = h .0
 marks-in mark g m h = h .0
 marks-in sweep g m h = h .1
 
-pub structure-of : (g : Geometry) (m : Mem) → Consistent g m → Structure g m
+pub consistent-ordered : (g : Geometry) (m : Mem) → Consistent g m → Ordered g m
+consistent-ordered g m c =
+    let s = c .sound in
+    record {
+      phases = s .phases;
+      segments = s .segments;
+      trees = c .summed .trees;
+      mutators = s .mutators;
+      acknowledgements = s .acknowledgements;
+      freeSegments = c .summed .freeSegments;
+      partSegments = c .summed .partSegments;
+      records = s .records;
+      trace = s .trace;
+      cycle = s .cycle;
+    }
+
+pub structure-of : (g : Geometry) (m : Mem) → Ordered g m → Structure g m
 structure-of g m c = record {
   phases = c .phases;
   segments = c .segments;
+  trees = c .trees;
   mutators = c .mutators;
   freeSegments = c .freeSegments;
   partSegments = c .partSegments;
@@ -91,7 +108,7 @@ not-marked g m at e = ne-eqb (marked g m at) 1 (λ q. omega arith)
 pub used-record : (g : Geometry) (m : Mem) (at : ℕ) → RecordOk g m at → isUsed g m at ≡ true
 used-record g m at r = and-both _ _ (ne-not _ _ (r .used)) (eq-eqb _ _ (r .block))
 
-module _ (g : Geometry) (m : Mem) (s : Sizes g m) (c : Consistent g m) where
+module _ (g : Geometry) (m : Mem) (s : Sizes g m) (c : Ordered g m) where
   pub to-live : {at : ℕ} → machine.Live (view g m) at → Live m at
   to-live p = live-back g m s (c .trace .named) p
 
@@ -219,10 +236,11 @@ module _ (g : Geometry) (m : Mem) (s : Sizes g m) (o : Structure g m) (inv : Inv
   from-acks mark e k a = inv .all e k (ne-not _ _ a)
   from-acks sweep e k a = tt
 
-  pub consistent-of : Consistent g m
-  consistent-of = record {
+  pub ordered-of : Ordered g m
+  ordered-of = record {
     phases = o .phases;
     segments = o .segments;
+    trees = o .trees;
     mutators = o .mutators;
     acknowledgements = λ k l a. from-acks (phase m) refl k a;
     freeSegments = o .freeSegments;
@@ -236,4 +254,10 @@ module _ (g : Geometry) (m : Mem) (s : Sizes g m) (o : Structure g m) (inv : Inv
       number = o .trace .number;
     };
     cycle = from-phase (phase m) refl (o .marks);
+  }
+
+  pub consistent-of : Consistent g m
+  consistent-of = let c = ordered-of in record {
+    summed = record { trees = c .trees; freeSegments = c .freeSegments; partSegments = c .partSegments };
+    sound = record { phases = c .phases; segments = c .segments; mutators = c .mutators; acknowledgements = c .acknowledgements; records = c .records; trace = c .trace; cycle = c .cycle };
   }

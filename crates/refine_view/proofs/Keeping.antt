@@ -22,10 +22,9 @@ use Rattle.model.specs.Fields.{phase, acks}
 use Rattle.model.specs.Records.{record?, pointers, values, pointer}
 use Rattle.model.specs.Calls.{isAttached, isInside, observe, act, exec}
 use Rattle.model.specs.Reaching.{Live, IsRoot}
-use Rattle.model.specs.Consistent.{Consistent}
 use Rattle.laws.proofs.Bools.{not-eq}
 use Rattle.refine_view.specs.View.{view, valuesOf}
-use Rattle.refine_view.specs.Kept.{Moves, Matches, ActKept, CallKept}
+use Rattle.refine_view.specs.Kept.{Ordered, Moves, Matches, ActKept, CallKept}
 use Rattle.laws.proofs.Tables.{length-tab}
 use Rattle.refine_view.proofs.Seeing.{few-mutators}
 use Rattle.refine_view.proofs.Invariants.{to-live, to-inv, structure-of}
@@ -64,7 +63,7 @@ agree-self g m = record {
   used = λ b l. refl;
 }
 
-pub moves-self : (g : Geometry) (m : Mem) → Consistent g m → Moves g m m (view g m)
+pub moves-self : (g : Geometry) (m : Mem) → Ordered g m → Moves g m m (view g m)
 moves-self g m c = record { structure = structure-of g m c; agree = agree-self g m; steady = λ s l e. (e, refl) }
 
 no-block : (g : Geometry) (m : Mem) → Alloc (segmentOf g) (λ _ _ _ _. none) (view g m)
@@ -76,7 +75,7 @@ pub matches-by : (g : Geometry) (m : Mem) (r : Answer × Mem) (by : (machine.Sta
 matches-by g m r by e v = record { ready = m; prepared = agree-self g m; shows = refl; block = none; alloc = no-block g m; answer = e; moves = v }
 
 -- nothing changes
-pub matches-self : (g : Geometry) (m : Mem) → Consistent g m → (r : Answer × Mem) (by : (machine.State → ℕ → ℕ → ℕ → Option ℕ) → machine.State → Answer × machine.State)
+pub matches-self : (g : Geometry) (m : Mem) → Ordered g m → (r : Answer × Mem) (by : (machine.State → ℕ → ℕ → ℕ → Option ℕ) → machine.State → Answer × machine.State)
     → r .0 ≡ by (λ _ _ _ _. none) (view g m) .0 → r .1 ≡ m → by (λ _ _ _ _. none) (view g m) .1 ≡ view g m → Matches g m r by
 matches-self g m c r by e h k = matches-by g m r by e (subst (λ z. Moves g m z (by (λ _ _ _ _. none) (view g m) .1)) (sym h) (subst (λ z. Moves g m m z) (sym k) (moves-self g m c)))
 
@@ -109,7 +108,7 @@ module _ (g : Geometry) (m : Mem) where
 
 -- ---- a call is refused by a number from 2 to 9, alike on both sides, or it acts
 
-pub call-kept : (g : Geometry) (m : Mem) (c : Call) → Consistent g m → (refusal (observe m) c ≡ 0 → ActKept g m c) → CallKept g m c
+pub call-kept : (g : Geometry) (m : Mem) (c : Call) → Ordered g m → (refusal (observe m) c ≡ 0 → ActKept g m c) → CallKept g m c
 unfolding exec
 call-kept g m c ok k = go (refusal (observe m) c) refl
   where
@@ -162,7 +161,7 @@ module _ (g : Geometry) (m : Mem) where
       go true h q = (Option·some-injective b r q, ltb-true _ _ h)
       go false h q = none-some q
 
-  module _ (s : Sizes g m) (c : Consistent g m) where
+  module _ (s : Sizes g m) (c : Ordered g m) where
     put-live : (b : ℕ) → Live m b → selfPut b ≡ some b
     put-live b l = rw (lt-ltb _ _ (c .records b l .inside)) refl
 

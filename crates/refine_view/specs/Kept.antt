@@ -3,10 +3,9 @@
 use mathlib.Core.Path.{_≡_}
 use mathlib.Core.Option.{Option}
 use Prim.Native.Nat.{ℕ, _*_, _≤_, _<_}
-use lib.ListN.{length}
 use Rattle.words.specs.Bits.{bitAt, onesAmong}
 use Rattle.layout.specs.declared.Geometry.{Geometry}
-use Rattle.layout.specs.Geometry.{len, mutatorCount, mostBlocks, segmentOf}
+use Rattle.layout.specs.Geometry.{mutatorCount, mostBlocks, segmentOf}
 use Rattle.layout.specs.Mem.{Mem, Sizes, controlWord, traceWord}
 use Rattle.theory.specs.Phases.{Phase, idle, sync1, sync2, mark, sweep}
 use Rattle.theory.specs.Calls.{Call, Answer}
@@ -14,17 +13,29 @@ use Rattle.theory.specs.Machine.{State, start}
 use Rattle.theory.proofs.Agree.{Agree}
 use Rattle.theory.proofs.CallKeeps.{Alloc}
 use Rattle.theory.proofs.CollectorKeeps.{Pick}
-use Rattle.model.specs.Fields.{phase, traceCount, tag, class}
+use Rattle.model.specs.Fields.{phase, traceCount, absent, state, acks, tag, class}
 use Rattle.model.specs.Segments.{freeStack, partStack}
 use Rattle.model.specs.Records.{queued}
 use Rattle.model.specs.Collector.{isFull, started, lowest, stepOf}
 use Rattle.model.specs.Reaching.{IsEntry, Live}
-use Rattle.model.specs.Consistent.{Consistent, IsClass, SegmentOk, MutatorOk, StackOk, isFree, isPart, RecordOk, MarksOf}
+use Rattle.model.specs.Consistent.{Consistent, IsClass, SegmentOk, MutatorOk, AcksIn, StackOk, isFree, isPart, TreeOk, RecordOk, TraceOk, MarksOf, InPhase}
 use Rattle.refine_view.specs.View.{view}
 use Rattle.model.specs.Calls as model
 use Rattle.theory.specs.MachineCalls as machine
-use Rattle.layout.specs.Region as Region
 use Rattle.model.specs.Tag as Tag
+
+-- consistency, part by part
+pub record Ordered (g : Geometry) (m : Mem) : Type 0 where
+  pub phases : controlWord m 0 ≤ 4
+  pub segments : (s : ℕ) → s < g .segments → SegmentOk g m s
+  pub trees : (s : ℕ) → s < g .segments → TreeOk g m s
+  pub mutators : (k : ℕ) → k < mutatorCount → MutatorOk g m k
+  pub acknowledgements : (k : ℕ) → k < mutatorCount → (state m k ≡ absent → ⊥) → AcksIn (phase m) (acks m k)
+  pub freeSegments : StackOk g m freeStack (isFree m)
+  pub partSegments : (c : ℕ) → IsClass c → StackOk g m (partStack c) (isPart m c)
+  pub records : (at : ℕ) → Live m at → RecordOk g m at
+  pub trace : TraceOk g m
+  pub cycle : InPhase (phase m) g m
 
 -- ---- the parts of consistency that the abstract machine does not see
 
@@ -43,6 +54,7 @@ MarksIn sweep g m = MarksOf g m (λ s. tag m s ≡ Tag.condemned)
 pub record Structure (g : Geometry) (m : Mem) : Type 0 where
   pub phases : controlWord m 0 ≤ 4
   pub segments : (s : ℕ) → s < g .segments → SegmentOk g m s
+  pub trees : (s : ℕ) → s < g .segments → TreeOk g m s
   pub mutators : (k : ℕ) → k < mutatorCount → MutatorOk g m k
   pub freeSegments : StackOk g m freeStack (isFree m)
   pub partSegments : (c : ℕ) → IsClass c → StackOk g m (partStack c) (isPart m c)

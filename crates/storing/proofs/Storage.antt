@@ -100,7 +100,7 @@ module _ (g : Geometry) (xs : List ℕ) (k i f j at : ℕ) (q : Reaches (c-store
     new-ok x e = rooted g m k j x c (q .known) l (q .attached) e
 
     old-ok : (x : ℕ) → pointer m at f ≡ suc x → RecordOk g m x
-    old-ok x e = c .records x (next (live-root g m k i at (q .known) (q .within) (q .attached) (w .word)) (record { field = f; within = h; names = e }))
+    old-ok x e = c .sound .records x (next (live-root g m k i at (q .known) (q .within) (q .attached) (w .word)) (record { field = f; within = h; names = e }))
 
     free : Hinders g m (fields.root m k j) (pointer m at f) → ⊥
     free (inl x) = push-succeeds g m c (fields.root m k j) new-ok x

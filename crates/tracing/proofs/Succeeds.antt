@@ -68,7 +68,7 @@ module _ (g : Geometry) (m : Mem) (c : Consistent g m) where
     of-class : (3 ≤ class m (segmentOf g at)) × (class m (segmentOf g at) ≤ 12)
     of-class =
         let i = r .inside in
-        let p = c .segments (segmentOf g at) (segment-below g at i) .classes (r .used) in
+        let p = c .sound .segments (segmentOf g at) (segment-below g at i) .classes (r .used) in
         (p .0, omega arith)
 
     has-bit : bitPlace g m at ≡ Torn → ⊥
@@ -84,7 +84,7 @@ module _ (g : Geometry) (m : Mem) (c : Consistent g m) where
     pub room : (queued g m at ≡ 1 → ⊥) → traceCount m < len g Region.trace
     room f =
         let h = zero-less (bitAt (m .queued)) (at-lt (m .queued)) (g .segments * mostBlocks g) (recordBit g m at) bit-below (zero-of _ (at-lt (m .queued) (recordBit g m at)) f) in
-        let e = c .trace .number in
+        let e = c .sound .trace .number in
         omega arith
 
   pub push-succeeds : (w : ℕ) → ((at : ℕ) → w ≡ suc at → RecordOk g m at) → PushFails g m w → ⊥
@@ -122,7 +122,7 @@ module _ (g : Geometry) (m : Mem) (c : Consistent g m) where
           let u : bitAt (m .queued) (recordBit g m at) ≡ 1 → ⊥ = λ e. f (bits-after ∙ set-elsewhere (m .queued) (recordBit g m a) in-words (recordBit g m at) d ∙ e) in
           let h = two-less (bitAt (m .queued)) (at-lt (m .queued)) (g .segments * mostBlocks g) (recordBit g m a) (recordBit g m at) (bit-below a ra) (bit-below at r) d
           (zero-of _ (at-lt (m .queued) (recordBit g m a)) ua) (zero-of _ (at-lt (m .queued) (recordBit g m at)) u) in
-          let e = c .trace .number in
+          let e = c .sound .trace .number in
           let z = count-more in
           omega arith
 
