@@ -24,7 +24,7 @@ use Rattle.model.specs.Fields.{phase, traceCount, tag, class}
 use Rattle.model.specs.Segments.{usedBit}
 use Rattle.model.specs.Records.{headerOf, blockWords}
 use Rattle.model.specs.Reaching.{isMarked}
-use Rattle.model.specs.Collector.{stepOf, stepIn, moves, traces, sweeps, swept, lowest, waiting, outsideAnswered}
+use Rattle.model.specs.Collector.{collects, stepOf, stepIn, moves, traces, sweeps, swept, lowest, waiting, outsideAnswered}
 use Rattle.model.specs.Consistent.{IsClass}
 use Rattle.model.specs.Lists.{Element, started, Meets, KeepsLength, Gets, wrongSized, onward, Chain, Ghost, ghostStep, ghostAfter, BlockReached}
 use Rattle.refine_view.specs.View.{view, isHead}
@@ -86,10 +86,10 @@ swept-by g m s f e = go (phase m) refl (ap sweptOf e)
 -- ---- in the cycle
 
 module _ (all : AllKept) (g : Geometry) (m₀ : Mem) where
-  -- the condemned segments were full at the start, and they keep their classes
+  -- the condemned segments are some that the start collected, and they keep their classes
   pub record During (words : List ℕ) (w : Ghost) (P : ℕ → Type 0) : Type 0 where
     pub point : Point g words w P
-    pub full : (s : ℕ) → s < g .segments → tag (memOf g words) s ≡ Tag.condemned → (tag m₀ s ≡ Tag.full) × (class (memOf g words) s ≡ class m₀ s)
+    pub collected : (s : ℕ) → s < g .segments → tag (memOf g words) s ≡ Tag.condemned → (collects m₀ s ≡ true) × (class (memOf g words) s ≡ class m₀ s)
 
   -- no start that is not refused
   abbrev pub NoStart : List Element → Type 0
@@ -99,7 +99,7 @@ module _ (all : AllKept) (g : Geometry) (m₀ : Mem) where
   during-on words w P e d f q l h = go (element-on all g words w P (d .point) e q l h)
     where
       go : Onward all g words w P (d .point) e → During (onward words e) (ghostStep struckOut w e) P
-      go (goes z t) = record { point = z; full = λ s k i. let y = t s k i in let x = d .full s k (y .0) in (x .0, y .1 ∙ x .1) }
+      go (goes z t) = record { point = z; collected = λ s k i. let y = t s k i in let x = d .collected s k (y .0) in (x .0, y .1 ∙ x .1) }
       go (begins after i o b) = absurd (f after i)
 
   pub walk-during : (ds ys : List Element) (words : List ℕ) (w : Ghost) (P : ℕ → Type 0) → During words w P → NoStart ds → Chain g words (ds ++ ys) → During (wordsAfter words ds) (ghostAfter struckOut w ds) P × Chain g (wordsAfter words ds) ys
@@ -148,7 +148,7 @@ module _ (all : AllKept) (g : Geometry) (words₀ : List ℕ) (w : Ghost) (p : P
         let c = consistent-ordered g m (q .consistent) in
         let h = sizes-of g words (q .long) in
         let o = lowest-condemned g m h c s (y .is-lowest) in
-        let n = d .full s (o .0) (o .1) .1 in
+        let n = d .collected s (o .0) (o .1) .1 in
         let k : IsClass (class m s) = c .segments s (o .0) .classes (λ i. absurd (let j : _≡_ {A = ℕ} 0 4 = sym i ∙ o .1 in omega arith)) in
         let l : b < blocksIn g (class m s) = subst (λ x. b < blocksIn g x) (sym n) (z .block) in
         free-of (swept g m s) (swept-free g m h c (y .in-sweep) s b (y .is-lowest) l (unmarked k l (o .1) (λ r. z .unreached (subst (λ x. BlockReached w (headerOf g s x b)) n r))))

@@ -96,7 +96,7 @@ freed-in g content words es o ch c s b f z e =
     at-start w₀ v p ch z =
         let s = accepted g w₀ v p (c .startBefore) (c .startAfter) (ch .0) (ch .1) (ch .2) in
         let n : onward w₀ (started g (c .startBefore) Ok (c .startAfter)) ≡ c .startAfter = ap (λ (x : List ℕ). pick (wrongSize g (length x)) w₀ (c .startAfter)) (s .0) ∙ ap (λ (x : Bool). pick x w₀ (c .startAfter)) (right-size g (length w₀) (p .long)) in
-        let y = walk-during all-kept g (memOf g w₀) (c .during) _ (c .startAfter) v (machine.Live (view g (memOf g w₀))) (record { point = s .1 .point; full = s .1 .full }) (c .oneStart) (subst (λ x. Chain g x (c .during ++ (stepped g (c .stepBefore) (stepAnswer.Swept (c .segment) (c .freed)) (c .stepAfter) ∷ c .rest))) n (ch .3)) in
+        let y = walk-during all-kept g (memOf g w₀) (c .during) _ (c .startAfter) v (machine.Live (view g (memOf g w₀))) (record { point = s .1 .point; collected = s .1 .collected }) (c .oneStart) (subst (λ x. Chain g x (c .during ++ (stepped g (c .stepBefore) (stepAnswer.Swept (c .segment) (c .freed)) (c .stepAfter) ∷ c .rest))) n (ch .3)) in
         at-sweep w₀ v p (s .1 .quiet) _ _ (y .0) (y .1) (subst (λ x. Unreached g (memOf g x) v (c .segment) b) (s .0) z)
 
 pub guarantee : Demand3

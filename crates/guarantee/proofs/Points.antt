@@ -25,7 +25,7 @@ use Rattle.model.specs.Answers.{answerOf}
 use Rattle.model.specs.Fields.{phase, tag, class}
 use Rattle.model.specs.Calls.{exec}
 use Rattle.model.specs.declared.Step.{Step}
-use Rattle.model.specs.Collector.{started, startOf, startIn, stepOf, lowest, isFull, anyFull}
+use Rattle.model.specs.Collector.{started, startOf, startIn, stepOf, lowest, collects, anyFull}
 use Rattle.model.specs.Consistent.{Consistent}
 use Rattle.model.specs.Promise.{Promise, StartPromise, StepPromise}
 use Rattle.model.specs.Lists.{Ghost, struck, putIf}
@@ -109,7 +109,7 @@ module _ (all : AllKept) (g : Geometry) where
     pub record Begun (after : List ℕ) : Type 0 where
       pub quiet : phase m ≡ idle
       pub point : Point g after w (machine.Live (view g m))
-      pub full : (s : ℕ) → s < g .segments → tag (memOf g after) s ≡ Tag.condemned → (tag m s ≡ Tag.full) × (class (memOf g after) s ≡ class m s)
+      pub collected : (s : ℕ) → s < g .segments → tag (memOf g after) s ≡ Tag.condemned → (collects m s ≡ true) × (class (memOf g after) s ≡ class m s)
 
     pub data Started (r : Answer) (after : List ℕ) : Type 0 where
       refused : (r ≡ Ok → ⊥) → memOf g after ≡ m → Point g after w P → Started r after
@@ -125,11 +125,11 @@ module _ (all : AllKept) (g : Geometry) where
         begins : phase m ≡ idle → answerOf r ≡ a-ok → memOf g after ≡ started g m → Started r after
         begins i x h =
             let k = all .starts g m here (p .consistent) i in
-            let o = agree-ok (segmentOf g) (machine.Live (view g m)) (w .put) _ (view g (started g m)) (w .heap) (k .agree) (start-ok (segmentOf g) (λ _. none) (isFull m) P (w .put) (view g m) (w .heap) (p .good) idle) in
+            let o = agree-ok (segmentOf g) (machine.Live (view g m)) (w .put) _ (view g (started g m)) (w .heap) (k .agree) (start-ok (segmentOf g) (λ _. none) (collects m) P (w .put) (view g m) (w .heap) (p .good) idle) in
             ghostStart (is-ok r x) (record {
               quiet = i;
               point = point-at (started g m) after w (machine.Live (view g m)) e h (consistent-of g (started g m) (sizes-at (started g m) after e h) (k .structure) (o .inv)) o;
-              full = subst (λ z. (s : ℕ) → s < g .segments → tag z s ≡ Tag.condemned → (tag m s ≡ Tag.full) × (class z s ≡ class m s)) (sym h) (k .full);
+              collected = subst (λ z. (s : ℕ) → s < g .segments → tag z s ≡ Tag.condemned → (collects m s ≡ true) × (class z s ≡ class m s)) (sym h) (k .collected);
             })
 
         any : (b : Bool) → phase m ≡ idle → (answerOf r ≡ pick {A = theory.Answer × Mem} b (a-ok, started g m) (a-no 12, m) .0) × (memOf g after ≡ pick {A = theory.Answer × Mem} b (a-ok, started g m) (a-no 12, m) .1) → Started r after

@@ -7,7 +7,7 @@ use mathlib.Core.List.{List, _∷_, _++_}
 use Prim.Native.Nat.{ℕ, suc, _-_, _<_}
 use native.Mathlib.Omega.{arith}
 use lib.ListN.{length}
-use borrow.Author.Tests.{lt-ltb, eq-eqb}
+use borrow.Author.Tests.{lt-ltb, eqb-true}
 use Rattle.rules.specs.Pick.{pick}
 use Rattle.words.specs.Bits.{bitAt}
 use Rattle.layout.specs.declared.Geometry.{Geometry}
@@ -24,6 +24,7 @@ use Rattle.model.specs.Fields.{tag, class, place}
 use Rattle.model.specs.Segments.{bitmap, usedBit, inUse}
 use Rattle.model.specs.Records.{headerOf}
 use Rattle.model.specs.Collector.{isFull, stepOf, stepIn, sweeps, swept}
+use Rattle.model.proofs.Collecting.{collects-full}
 use Rattle.model.specs.Consistent.{Consistent, IsClass}
 use Rattle.model.specs.Lists.{Element, started, stepped, Meets, KeepsLength, Gets, wrongSized, onward, Chain, Ghost, ghostAfter, BlockReached}
 use Rattle.refine_view.specs.View.{view, isUsed}
@@ -93,14 +94,15 @@ module _ (g : Geometry) (w₀ : List ℕ) (v : Ghost) (p : Point g w₀ v Any) (
       let z = sizes-of g w₁ (d .point .long) in
       let y = swept-by g m s (suc n) (x .answer) in
       let o = lowest-condemned g m z c s (y .is-lowest) in
-      let t = d .full s (o .0) (o .1) .0 in
-      let e = d .full s (o .0) (o .1) .1 in
+      let u = sym (collects-full (memOf g w₀) s) ∙ d .collected s (o .0) (o .1) .0 in
+      let t : tag (memOf g w₀) s ≡ Tag.full = eqb-true _ _ u in
+      let e = d .collected s (o .0) (o .1) .1 in
       let k : IsClass (class m s) = c .segments s (o .0) .classes (λ i. absurd (let j : _≡_ {A = ℕ} 0 4 = sym i ∙ o .1 in omega arith)) in
       let b = some-free g m z c s (o .0) (o .1) n (sym (freed-is g m s (suc n) (x .answer) y)) in
       let h : b .0 < blocksIn g (class (memOf g w₀) s) = subst (λ x. b .0 < blocksIn g x) e (b .1) in
       record {
         block = b .0;
-        full = eq-eqb _ _ t;
+        full = u;
         unreached = record {
           block = h;
           unreached = λ r. free-unused g m z c s (o .0) (o .1) k (b .0) (b .1) (b .2)
@@ -118,7 +120,7 @@ module _ (g : Geometry) (content words : List ℕ) (es : List Element) (o : Open
   at-start w₀ v p ch still =
       let s = accepted g w₀ v p (c .startBefore) (c .startAfter) (ch .0) (ch .1) (ch .2) in
       let k : onward w₀ (started g (c .startBefore) Ok (c .startAfter)) ≡ c .startAfter = ap (λ (x : List ℕ). pick (wrongSize g (length x)) w₀ (c .startAfter)) (s .0) ∙ ap (λ (x : Bool). pick x w₀ (c .startAfter)) (right-size g (length w₀) (p .long)) in
-      let y = walk-during all-kept g (memOf g w₀) (c .during) (stepped g (c .stepBefore) (Swept (c .segment) (c .freed)) (c .stepAfter) ∷ c .rest) (c .startAfter) v (machine.Live (view g (memOf g w₀))) (record { point = s .1 .point; full = s .1 .full }) (c .oneStart)
+      let y = walk-during all-kept g (memOf g w₀) (c .during) (stepped g (c .stepBefore) (Swept (c .segment) (c .freed)) (c .stepAfter) ∷ c .rest) (c .startAfter) v (machine.Live (view g (memOf g w₀))) (record { point = s .1 .point; collected = s .1 .collected }) (c .oneStart)
       (subst (λ x. Chain g x (c .during ++ (stepped g (c .stepBefore) (Swept (c .segment) (c .freed)) (c .stepAfter) ∷ c .rest))) k (ch .3)) in
       let w₁ = wordsAfter (c .startAfter) (c .during) in
       let v₁ = ghostAfter struckOut v (c .during) in

@@ -11,14 +11,14 @@ use Rattle.layout.specs.Geometry.{mutatorCount, mutatorWords, rootCount}
 use Rattle.layout.specs.Mem.{Mem, setTrace, setStack, Sizes}
 use Rattle.theory.specs.Phases.{Phase, idle, sync1, sync2, mark, sweep, Duty, nothing, both, old, owes}
 use Rattle.model.specs.Rules.{phaseNumber}
-use Rattle.model.specs.Fields.{phase, traceCount, setTraceCount, acksAt, acks, root, class}
-use Rattle.model.specs.Segments.{setSegmentState, stacked, count}
+use Rattle.model.specs.Fields.{phase, traceCount, setTraceCount, acksAt, acks, root, setTag}
+use Rattle.model.specs.Segments.{stacked, count}
 use Rattle.model.specs.Records.{record?, pointers, pointer, marked, queued, setQueued, clearQueued}
 use Rattle.model.specs.Tracing.{push, barrier, pushRoots, pushPointers, popped, traced, onTop}
 use Rattle.model.specs.Mutators.{given, acknowledged}
-use Rattle.model.specs.Collector.{isFull, condemned, acksReset, marksCleared, started}
-use Rattle.laws.proofs.Lengths.{sizes-control, sizes-mutator, sizes-stack, sizes-queued, sizes-unqueued, sizes-marked, sizes-trace, sizes-state}
-use Rattle.model.specs.declared.SegmentState.the-variants as segment
+use Rattle.model.specs.Collector.{collects, condemned, acksReset, marksCleared, started}
+use Rattle.laws.proofs.Lengths.{sizes-control, sizes-mutator, sizes-segment, sizes-stack, sizes-queued, sizes-unqueued, sizes-marked, sizes-trace}
+use Rattle.model.specs.Tag as Tag
 
 module _ (g : Geometry) where
   -- one of two memories
@@ -82,12 +82,12 @@ module _ (g : Geometry) where
 
   -- ---- a start
 
-  pub sizes-condemned : (m : Mem) → Sizes g m → (n : ℕ) → Sizes g (condemned g m n)
+  pub sizes-condemned : (m : Mem) → Sizes g m → (n : ℕ) → Sizes g (condemned m n)
   unfolding condemned
   sizes-condemned m z zero = z
   sizes-condemned m z (suc s) =
-      let y : Sizes g (condemned g m s) = sizes-condemned m z s in
-      sizes-pick (isFull m s) (setSegmentState g (condemned g m s) s (segment.Condemned (class m s))) (condemned g m s) (sizes-state g (condemned g m s) y s (segment.Condemned (class m s))) y
+      let y : Sizes g (condemned m s) = sizes-condemned m z s in
+      sizes-pick (collects m s) (setTag (condemned m s) s Tag.condemned) (condemned m s) (sizes-segment g (condemned m s) y _ _) y
 
   pub sizes-reset : (m : Mem) → Sizes g m → (n : ℕ) → Sizes g (acksReset m n)
   unfolding acksReset
@@ -110,6 +110,6 @@ module _ (g : Geometry) where
   pub sizes-started : (m : Mem) → Sizes g m → Sizes g (started g m)
   unfolding started
   sizes-started m z =
-      let m₁ : Mem = condemned g m (g .segments) in
+      let m₁ : Mem = condemned m (g .segments) in
       let m₂ : Mem = acksReset m₁ mutatorCount in
       sizes-control g (marksCleared m₂) (sizes-cleared m₂ (sizes-reset m₁ (sizes-condemned m z (g .segments)) mutatorCount)) 0 (phaseNumber sync1)

@@ -9,9 +9,10 @@ use Rattle.layout.specs.Geometry.{mutatorCount, mutatorWords, segmentRecordWord
 use Rattle.layout.specs.Mem.{Mem, mutatorWord, segmentWord, stackWord, setMutator, setSegment, setStack, Sizes}
 use Rattle.layout.proofs.Sizes.{one-way, within}
 use Rattle.model.specs.declared.SegmentState.{SegmentState}
-use Rattle.model.specs.Fields.{tag, class, place, owner}
+use Rattle.model.specs.Fields.{tag, setTag, class, place, owner}
 use Rattle.model.specs.Segments.{setSegmentState, setRecord}
 use Rattle.model.specs.declared.SegmentState.the-variants as state
+use Rattle.model.specs.Tag as Tag
 
 -- ---- mutators' entries: word o of entry k
 
@@ -34,7 +35,7 @@ pub record Recorded (m : Mem) (s t c p k : ℕ) : Type 0 where
 
 -- it is read from the segments' records only
 pub recorded-as : (m m′ : Mem) (q t c p k : ℕ) → m′ .segments ≡ m .segments → Recorded m q t c p k → Recorded m′ q t c p k
-recorded-as m m′ q t c p k e x = let w : (i : ℕ) → segmentWord m′ i ≡ segmentWord m i = λ i. ap (λ l. getD l i 0) e in record { tag = w (q * 4) ∙ x .tag; class = w (q * 4 + 1) ∙ x .class; place = w (q * 4 + 2) ∙ x .place; owner = w (q * 4 + 3) ∙ x .owner }
+recorded-as m m′ q t c p k e x = let w : (i : ℕ) → segmentWord m′ i ≡ segmentWord m i = λ i. ap (λ l. getD l i 0) e in record { tag = w (q * segmentRecordWords) ∙ x .tag; class = w (q * segmentRecordWords + 1) ∙ x .class; place = w (q * segmentRecordWords + 2) ∙ x .place; owner = w (q * segmentRecordWords + 3) ∙ x .owner }
 
 -- a record with the words of another's
 pub recorded-by : (m m′ : Mem) (x t c p k : ℕ) → Recorded m x t c p k → Recorded m′ x (tag m x) (class m x) (place m x) (owner m x) → Recorded m′ x t c p k
@@ -64,29 +65,36 @@ module _ (m : Mem) (s t c p k : ℕ) where
 
   pub record-there : s * segmentRecordWords + 3 < length (m .segments) → Recorded (setRecord m s t c p k) s t c p k
   record-there h =
-      let a = word-length m (s * 4) t in
-      let b = word-length m₁ (s * 4 + 1) c in
-      let d = word-length m₂ (s * 4 + 2) p in
+      let a = word-length m (s * segmentRecordWords) t in
+      let b = word-length m₁ (s * segmentRecordWords + 1) c in
+      let d = word-length m₂ (s * segmentRecordWords + 2) p in
       record {
-        tag = word-other m₃ (s * 4 + 3) k (s * 4) (λ e. omega arith) ∙ word-other m₂ (s * 4 + 2) p (s * 4) (λ e. omega arith) ∙ word-other m₁ (s * 4 + 1) c (s * 4) (λ e. omega arith) ∙ word-there m (s * 4) t (omega arith);
-        class = word-other m₃ (s * 4 + 3) k (s * 4 + 1) (λ e. omega arith) ∙ word-other m₂ (s * 4 + 2) p (s * 4 + 1) (λ e. omega arith) ∙ word-there m₁ (s * 4 + 1) c (omega arith);
-        place = word-other m₃ (s * 4 + 3) k (s * 4 + 2) (λ e. omega arith) ∙ word-there m₂ (s * 4 + 2) p (omega arith);
-        owner = word-there m₃ (s * 4 + 3) k (omega arith);
+        tag = word-other m₃ (s * segmentRecordWords + 3) k (s * segmentRecordWords) (λ e. omega arith) ∙ word-other m₂ (s * segmentRecordWords + 2) p (s * segmentRecordWords) (λ e. omega arith) ∙ word-other m₁ (s * segmentRecordWords + 1) c (s * segmentRecordWords) (λ e. omega arith) ∙ word-there m (s * segmentRecordWords) t (omega arith);
+        class = word-other m₃ (s * segmentRecordWords + 3) k (s * segmentRecordWords + 1) (λ e. omega arith) ∙ word-other m₂ (s * segmentRecordWords + 2) p (s * segmentRecordWords + 1) (λ e. omega arith) ∙ word-there m₁ (s * segmentRecordWords + 1) c (omega arith);
+        place = word-other m₃ (s * segmentRecordWords + 3) k (s * segmentRecordWords + 2) (λ e. omega arith) ∙ word-there m₂ (s * segmentRecordWords + 2) p (omega arith);
+        owner = word-there m₃ (s * segmentRecordWords + 3) k (omega arith);
       }
 
-  word-far : (j : ℕ) → (j / 4 ≡ s → ⊥) → segmentWord (setRecord m s t c p k) j ≡ segmentWord m j
-  word-far j f = word-other m₃ (s * 4 + 3) k j (λ e. f (omega arith)) ∙ word-other m₂ (s * 4 + 2) p j (λ e. f (omega arith)) ∙ word-other m₁ (s * 4 + 1) c j (λ e. f (omega arith)) ∙ word-other m (s * 4) t j (λ e. f (omega arith))
+  word-far : (j : ℕ) → (j / segmentRecordWords ≡ s → ⊥) → segmentWord (setRecord m s t c p k) j ≡ segmentWord m j
+  word-far j f = word-other m₃ (s * segmentRecordWords + 3) k j (λ e. f (omega arith)) ∙ word-other m₂ (s * segmentRecordWords + 2) p j (λ e. f (omega arith)) ∙ word-other m₁ (s * segmentRecordWords + 1) c j (λ e. f (omega arith)) ∙ word-other m (s * segmentRecordWords) t j (λ e. f (omega arith))
 
   pub record-other : (r : ℕ) → (r ≡ s → ⊥) → Recorded (setRecord m s t c p k) r (tag m r) (class m r) (place m r) (owner m r)
-  record-other r f = record { tag = word-far (r * 4) (λ e. f (omega arith)); class = word-far (r * 4 + 1) (λ e. f (omega arith)); place = word-far (r * 4 + 2) (λ e. f (omega arith)); owner = word-far (r * 4 + 3) (λ e. f (omega arith)) }
+  record-other r f = record { tag = word-far (r * segmentRecordWords) (λ e. f (omega arith)); class = word-far (r * segmentRecordWords + 1) (λ e. f (omega arith)); place = word-far (r * segmentRecordWords + 2) (λ e. f (omega arith)); owner = word-far (r * segmentRecordWords + 3) (λ e. f (omega arith)) }
+
+-- the tag alone: the rest of the record stays, and other records
+pub tag-there : (m : Mem) (s t : ℕ) → s * segmentRecordWords < length (m .segments) → Recorded (setTag m s t) s t (class m s) (place m s) (owner m s)
+tag-there m s t h = record { tag = word-there m _ t h; class = word-other m _ t _ (λ e. omega arith); place = word-other m _ t _ (λ e. omega arith); owner = word-other m _ t _ (λ e. omega arith) }
+
+pub tag-other : (m : Mem) (s t r : ℕ) → (r ≡ s → ⊥) → Recorded (setTag m s t) r (tag m r) (class m r) (place m r) (owner m r)
+tag-other m s t r f = record { tag = word-other m _ t _ (λ e. f (omega arith)); class = word-other m _ t _ (λ e. omega arith); place = word-other m _ t _ (λ e. omega arith); owner = word-other m _ t _ (λ e. omega arith) }
 
 -- the words of a state
 abbrev pub tagOf : SegmentState → ℕ
-tagOf state.Free = 0
-tagOf (state.Part c p) = 1
-tagOf (state.Held c p k) = 2
-tagOf (state.Full c) = 3
-tagOf (state.Condemned c) = 4
+tagOf state.Free = Tag.free
+tagOf (state.Part c p) = Tag.part
+tagOf (state.Held c p k) = Tag.held
+tagOf (state.Full c) = Tag.full
+tagOf (state.Condemned c) = Tag.condemned
 
 abbrev pub classIn : SegmentState → ℕ
 classIn state.Free = 0
@@ -138,6 +146,10 @@ pub record OtherRegions (m m′ : Mem) : Type 0 where
 record-others : (m : Mem) (s t c p k : ℕ) → OtherRegions m (setRecord m s t c p k)
 unfolding setSegment
 record-others m s t c p k = record { control = refl; mutators = refl; stacks = refl; bitmaps = refl; marks = refl; queued = refl; trace = refl; heap = refl }
+
+pub tag-others : (m : Mem) (s t : ℕ) → OtherRegions m (setTag m s t)
+unfolding setSegment
+tag-others m s t = record { control = refl; mutators = refl; stacks = refl; bitmaps = refl; marks = refl; queued = refl; trace = refl; heap = refl }
 
 pub state-others : (g : Geometry) (m : Mem) (s : ℕ) (x : SegmentState) → OtherRegions m (setSegmentState g m s x)
 state-others g m s x = rw (state-is g m s x) (record-others m s (tagOf x) (classIn x) (placeIn g x) (ownerIn x))

@@ -14,7 +14,7 @@ use Rattle.theory.specs.Phases.{Phase, idle, sync1, sync2, mark, sweep, owes}
 use Rattle.theory.specs.Calls.{Answer, a-ok, a-no}
 use Rattle.model.specs.declared.Step.{Step}
 use Rattle.model.specs.declared.Step.the-variants as stepAnswer
-use Rattle.model.specs.Fields.{phase, setPhase, traceCount, inside, outside, state, acks, setAcks, tag, class}
+use Rattle.model.specs.Fields.{phase, setPhase, traceCount, inside, outside, state, acks, setAcks, tag, setTag, class}
 use Rattle.model.specs.Segments.{setSegmentState, freeStack, partStack, stacked, above, bitmap, setBitmap, marksOf, inUse}
 use Rattle.model.specs.Tracing.{traced}
 use Rattle.model.specs.Mutators.{acknowledged}
@@ -27,10 +27,14 @@ use Rattle.model.specs.Tag as Tag
 abbrev pub isFull : Mem → ℕ → Bool
 isFull m s = eqb (tag m s) Tag.full
 
--- the full ones of the first n segments become condemned
-unfoldable pub condemned : Geometry → Mem → ℕ → Mem
-condemned g m zero = m
-condemned g m (suc s) = pick (isFull m s) (setSegmentState g (condemned g m s) s (segment.Condemned (class m s))) (condemned g m s)
+-- which segments a start condemns: the full ones (proofs/Collecting.antt)
+unfoldable pub collects : Mem → ℕ → Bool
+collects m s = isFull m s
+
+-- those of the first n segments become condemned: the tag says so, and the rest of the record stays
+unfoldable pub condemned : Mem → ℕ → Mem
+condemned m zero = m
+condemned m (suc s) = pick (collects m s) (setTag (condemned m s) s Tag.condemned) (condemned m s)
 
 -- whether any of the first n segments is full
 unfoldable pub anyFull : Mem → ℕ → Bool
@@ -46,7 +50,7 @@ abbrev pub marksCleared : Mem → Mem
 marksCleared m = withRegion m Region.marks (replicate (length (m .marks)) 0)
 
 unfoldable pub started : Geometry → Mem → Mem
-started g m = setPhase (marksCleared (acksReset (condemned g m (g .segments)) mutatorCount)) sync1
+started g m = setPhase (marksCleared (acksReset (condemned m (g .segments)) mutatorCount)) sync1
 
 -- "11, not now: start outside idle"; "12, none full: start in idle with no full segment"
 abbrev pub startIn : Phase → Geometry → Mem → Answer × Mem

@@ -2,7 +2,7 @@
 use Prim.Native.Nat.{ℕ, _+_, _-_, _*_}
 use Rattle.classes.specs.Class.{firstClass}
 use Rattle.layout.specs.Geometry.{mutatorWords, rootCount, segmentRecordWords}
-use Rattle.layout.specs.Mem.{Mem, controlWord, mutatorWord, segmentWord, setControl, setMutator}
+use Rattle.layout.specs.Mem.{Mem, controlWord, mutatorWord, segmentWord, setControl, setMutator, setSegment}
 use Rattle.theory.specs.Phases.{Phase}
 use Rattle.model.specs.Rules.{phaseOf, phaseNumber}
 
@@ -69,6 +69,9 @@ setHolding m k c v = setMutator m (k * mutatorWords + heldFrom + (c - firstClass
 
 abbrev pub tag : Mem → ℕ → ℕ
 tag m s = segmentWord m (s * segmentRecordWords)
+
+abbrev pub setTag : Mem → ℕ → ℕ → Mem
+setTag m s t = setSegment m (s * segmentRecordWords) t
 
 abbrev pub class : Mem → ℕ → ℕ
 class m s = segmentWord m (s * segmentRecordWords + 1)

@@ -12,7 +12,7 @@ use Rattle.layout.specs.Mem.{Mem, stackWord, setSegment, setStack, readRun, set
 use Rattle.bitmap_search.specs.declared.Found.{Found}
 use Rattle.bitmap_search.specs.Scan.{nextFree}
 use Rattle.model.specs.declared.SegmentState.{SegmentState}
-use Rattle.model.specs.Fields.{tag, class, place, owner}
+use Rattle.model.specs.Fields.{tag, setTag, class, place, owner}
 use Rattle.model.specs.declared.SegmentState.the-variants as state
 use Rattle.layout.specs.Region as Region
 use Rattle.model.specs.Tag as Tag
@@ -28,12 +28,12 @@ stateOf (suc (suc (suc (suc t)))) c p k = state.Condemned c
 abbrev pub segment : Mem → ℕ → SegmentState
 segment m s = stateOf (tag m s) (class m s) (place m s) (owner m s)
 
--- the four words of a segment's record
+-- the tag, class, place and mutator of a segment's record; a further word of the record stays
 abbrev pub setRecord : Mem → ℕ → ℕ → ℕ → ℕ → ℕ → Mem
 setRecord m s t c p k =
-    setSegment (setSegment (setSegment (setSegment m (s * segmentRecordWords) t) (s * segmentRecordWords + 1) c) (s * segmentRecordWords + 2) p) (s * segmentRecordWords + 3) k
+    setSegment (setSegment (setSegment (setTag m s t) (s * segmentRecordWords + 1) c) (s * segmentRecordWords + 2) p) (s * segmentRecordWords + 3) k
 
--- "A full segment's place is its number of blocks, kept when it is condemned."
+-- what a state has of these, and 0 for what it has not. "A full segment's place is its number of blocks, kept when it is condemned."
 unfoldable pub setSegmentState : Geometry → Mem → ℕ → SegmentState → Mem
 setSegmentState g m s state.Free = setRecord m s Tag.free 0 0 0
 setSegmentState g m s (state.Part c p) = setRecord m s Tag.part c p 0

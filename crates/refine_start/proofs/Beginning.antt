@@ -10,7 +10,6 @@ use Rattle.layout.specs.Geometry.{mutatorCount, mutatorWords}
 use Rattle.layout.specs.Mem.{Mem, controlWord, mutatorWord, setControl, Sizes}
 use Rattle.model.specs.Fields.{traceCount, acksAt, acks}
 use Rattle.model.specs.Collector.{condemned, acksReset, started}
-use Rattle.model.specs.Consistent.{SegmentOk}
 use Rattle.laws.proofs.Words.{recorded-as, OtherRegions}
 use Rattle.laws.proofs.Operations.{sizes-condemned, sizes-reset}
 use Rattle.words.proofs.Zeros.{zeros-bit}
@@ -33,7 +32,7 @@ pub record Begun (m m′ : Mem) : Type 0 where
 module _ (g : Geometry) (m : Mem) (z : Sizes g m) where
   -- condemned, and then the acknowledgements anew
   abbrev m₁ : Mem
-  m₁ = condemned g m (g .segments)
+  m₁ = condemned m (g .segments)
 
   abbrev m₂ : Mem
   m₂ = acksReset m₁ mutatorCount
@@ -45,19 +44,19 @@ module _ (g : Geometry) (m : Mem) (z : Sizes g m) where
   reset-sizes = sizes-reset g m₁ condemned-sizes mutatorCount
 
   condemned-others : OtherRegions m m₁
-  condemned-others = others-condemned g m (g .segments)
+  condemned-others = others-condemned m (g .segments)
 
   reset-others : BesideMutators m₁ m₂
   reset-others = beside-reset m₁ mutatorCount
 
-  pub begun : ((s : ℕ) → s < g .segments → SegmentOk g m s) → Begun m (started g m)
+  pub begun : Begun m (started g m)
   unfolding started setControl
-  begun ok = record {
+  begun = record {
     phase = let y = reset-sizes .control in getD-set-same (m₂ .control) 0 1 0 (omega arith);
     traced = getD-set-other (m₂ .control) 0 1 1 0 (λ e. omega arith) ∙ ap (λ l. getD l 1 0) (reset-others .control ∙ condemned-others .control);
     acks = reset-acks g m₁ condemned-sizes;
     mutators = λ k o l f. reset-kept g m₁ condemned-sizes k o l f ∙ ap (λ x. getD x (k * mutatorWords + o) 0) (condemned-others .mutators);
-    segments = λ s. recorded-as m₁ (started g m) s _ _ _ _ (reset-others .segments) (segments-condemned g m z ok s);
+    segments = λ s. recorded-as m₁ (started g m) s _ _ _ _ (reset-others .segments) (segments-condemned g m z s);
     stacks = reset-others .stacks ∙ condemned-others .stacks;
     bitmaps = reset-others .bitmaps ∙ condemned-others .bitmaps;
     marks = zeros-bit (length (m₂ .marks));

@@ -1,4 +1,4 @@
--- A start keeps the words in order, agrees with the abstract machine's start, and condemns the full segments only. Assumes nothing.
+-- A start keeps the words in order, agrees with the abstract machine's start, and condemns the segments that it collects. Assumes nothing.
 use mathlib.Core.Path.{_≡_, refl, sym, _∙_, ap, subst}
 use mathlib.Core.Logic.{_⊎_, inl, inr}
 use mathlib.Core.Bool.{Bool, true, false, not, _&&_}
@@ -19,7 +19,8 @@ use Rattle.model.specs.Rules.{phaseOf}
 use Rattle.model.specs.Fields.{phase, traceCount, absent, stateAt, acksAt, state, tag, class, place, owner, root, holding}
 use Rattle.model.specs.Segments.{freeStack, partStack, usedBit}
 use Rattle.model.specs.Records.{record?, pointers, values, pointer, blockOf, recordBit, marked}
-use Rattle.model.specs.Collector.{isFull, started}
+use Rattle.model.specs.Collector.{isFull, collects, started}
+use Rattle.model.proofs.Collecting.{collects-full}
 use Rattle.model.specs.Reaching.{Live, isMarked}
 use Rattle.model.specs.Consistent.{InPhase, IsClass, SegmentOk, MutatorOk, RecordOk, isFree, isPart}
 use Rattle.refine_view.specs.View.{view, stackOf, isHead, isUsed}
@@ -55,11 +56,11 @@ module _ (g : Geometry) (m m′ : Mem) (z : Sizes g m) (ok : Ordered g m) (quiet
   Changed s = ((tag m s ≡ Tag.full) × (tag m′ s ≡ Tag.condemned)) ⊎ ((tag m s ≡ Tag.full → ⊥) × (tag m′ s ≡ tag m s))
 
   changed : (s : ℕ) → Changed s
-  changed s = go (isFull m s) refl (b .segments s .tag)
+  changed s = go (collects m s) refl (b .segments s .tag)
     where
-      go : (t : Bool) → isFull m s ≡ t → tag m′ s ≡ pick t 4 (tag m s) → Changed s
-      go true e h = inl (eqb-true _ _ e, h)
-      go false e h = inr (eqb-false _ _ e, h)
+      go : (t : Bool) → collects m s ≡ t → tag m′ s ≡ pick t Tag.condemned (tag m s) → Changed s
+      go true e h = inl (eqb-true _ _ (sym (collects-full m s) ∙ e), h)
+      go false e h = inr (eqb-false _ _ (sym (collects-full m s) ∙ e), h)
 
   -- free, part and held stay so
   tag-back : (s t : ℕ) → t ≤ 2 → tag m′ s ≡ t → tag m s ≡ t
@@ -82,19 +83,13 @@ module _ (g : Geometry) (m m′ : Mem) (z : Sizes g m) (ok : Ordered g m) (quiet
   never-condemned : (s : ℕ) → tag m s ≡ Tag.condemned → ⊥
   never-condemned s e = was-idle .1 s (in-range g m z s (λ t. omega arith)) e
 
-  full-test : (s : ℕ) → eqb (tag m′ s) Tag.condemned ≡ isFull m s
-  full-test s = go (changed s)
+  -- the condemned ones are those that the start collects
+  collected : (s : ℕ) → eqb (tag m′ s) Tag.condemned ≡ collects m s
+  collected s = go (changed s) ∙ sym (collects-full m s)
     where
       go : Changed s → eqb (tag m′ s) Tag.condemned ≡ isFull m s
       go (inl q) = eq-eqb _ _ (q .1) ∙ sym (eq-eqb _ _ (q .0))
       go (inr q) = ne-eqb _ _ (λ e. never-condemned s (sym (q .1) ∙ e)) ∙ sym (ne-eqb _ _ (q .0))
-
-  was-full : (s : ℕ) → tag m′ s ≡ Tag.condemned → tag m s ≡ Tag.full
-  was-full s e = go (changed s)
-    where
-      go : Changed s → tag m s ≡ Tag.full
-      go (inl q) = q .0
-      go (inr q) = absurd (never-condemned s (sym (q .1) ∙ e))
 
   -- ---- mutators
 
@@ -199,7 +194,7 @@ module _ (g : Geometry) (m m′ : Mem) (z : Sizes g m) (ok : Ordered g m) (quiet
       ap (λ x. not x && eqb (usedBit g m′ (segmentOf g at) (blockOf g m′ at)) 1) (tag-test (segmentOf g at) 0 (omega arith))
       ∙ ap (λ x. not (eqb (tag m (segmentOf g at)) Tag.free) && eqb x 1) u
 
-  agree : Agree (segmentOf g) (start (view g m) (isFull m)) (view g m′)
+  agree : Agree (segmentOf g) (start (view g m) (collects m)) (view g m′)
   agree = record {
     phase = begun-phase;
     stack = ap (stackOf m′) none-left ∙ sym (ap (stackOf m) no-entries);
@@ -209,7 +204,7 @@ module _ (g : Geometry) (m m′ : Mem) (z : Sizes g m) (ok : Ordered g m) (quiet
     root = λ i k a l. ap record? (root-same i k l);
     marked = λ t at l. no-mark at;
     condemnedMarks = λ at e. no-mark at;
-    condemned = full-test;
+    condemned = collected;
     pointers = λ at l. pointers-by m m′ at (word-same at);
     values = λ at l. fields-by m m′ at (word-same at) (λ f h. word-same _);
     pointer = λ at f l h. ap record? (word-same (at + 1 + f));
@@ -218,9 +213,9 @@ module _ (g : Geometry) (m m′ : Mem) (z : Sizes g m) (ok : Ordered g m) (quiet
 
 pub start-kept : (g : Geometry) (m : Mem) → Sizes g m → Ordered g m → phase m ≡ idle → StartKept g m
 start-kept g m z ok quiet =
-    let b = begun g m z (ok .segments) in
+    let b = begun g m z in
     record {
       structure = structure g m (started g m) z ok quiet b;
       agree = agree g m (started g m) z ok quiet b;
-      full = λ s l e. (was-full g m (started g m) z ok quiet b s e, b .segments s .class);
+      collected = λ s l e. (sym (collected g m (started g m) z ok quiet b s) ∙ eq-eqb _ _ e, b .segments s .class);
     }

@@ -1,6 +1,7 @@
 -- What a call must show: the words of its memory afterwards are in order, they agree with the abstract machine's state after the same call,
 -- and no segment came among the condemned. Consistency afterwards follows (`consistent-of`, proofs/Invariants.antt).
 use mathlib.Core.Path.{_≡_}
+use mathlib.Core.Bool.{true}
 use mathlib.Core.Option.{Option}
 use Prim.Native.Nat.{ℕ, _*_, _≤_, _<_}
 use Rattle.words.specs.Bits.{bitAt, onesAmong}
@@ -16,7 +17,7 @@ use Rattle.theory.proofs.CollectorKeeps.{Pick}
 use Rattle.model.specs.Fields.{phase, traceCount, absent, state, acks, tag, class}
 use Rattle.model.specs.Segments.{freeStack, partStack}
 use Rattle.model.specs.Records.{queued}
-use Rattle.model.specs.Collector.{isFull, started, lowest, stepOf}
+use Rattle.model.specs.Collector.{collects, started, lowest, stepOf}
 use Rattle.model.specs.Reaching.{IsEntry, Live}
 use Rattle.model.specs.Consistent.{Consistent, IsClass, SegmentOk, MutatorOk, AcksIn, StackOk, isFree, isPart, TreeOk, RecordOk, TraceOk, MarksOf, InPhase}
 use Rattle.refine_view.specs.View.{view}
@@ -92,11 +93,11 @@ ActKept g m c = Matches g m (model.act g m c) (λ alloc st. machine.act alloc st
 abbrev pub CallKept : Geometry → Mem → Call → Type 0
 CallKept g m c = Matches g m (model.exec g m c) (λ alloc st. machine.exec alloc st c)
 
--- a start that is not refused: the full segments, with their classes, are the condemned segments
+-- a start that is not refused: the segments that it collects, with their classes, are the condemned segments
 pub record StartKept (g : Geometry) (m : Mem) : Type 0 where
   pub structure : Structure g (started g m)
-  pub agree : Agree (segmentOf g) (start (view g m) (isFull m)) (view g (started g m))
-  pub full : (s : ℕ) → s < g .segments → tag (started g m) s ≡ Tag.condemned → (tag m s ≡ Tag.full) × (class (started g m) s ≡ class m s)
+  pub agree : Agree (segmentOf g) (start (view g m) (collects m)) (view g (started g m))
+  pub collected : (s : ℕ) → s < g .segments → tag (started g m) s ≡ Tag.condemned → (collects m s ≡ true) × (class (started g m) s ≡ class m s)
 
 -- a step; in sweep it takes the lowest condemned segment
 pub record StepKept (g : Geometry) (m : Mem) : Type 0 where
