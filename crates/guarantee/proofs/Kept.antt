@@ -69,7 +69,7 @@ module _ (g : Geometry) (m : Mem) (s : Sizes g m) (c : Ordered g m) (k d cl p n 
           block = some (headerOf g r cl (x .0));
           alloc = x .2;
           answer = refl;
-          moves = record { structure = x .3 .structure; agree = x .3 .agree; steady = λ i q y. let z = x .3 .steady i q y in let w = t .steady i q (z .0) in (w .0, z .1 ∙ w .1) };
+          moves = record { structure = x .3 .structure; occupied = λ u. x .3 .occupied (t .occupied u); agree = x .3 .agree; steady = λ i q y. let z = x .3 .steady i q y in let w = t .steady i q (z .0) in (w .0, z .1 ∙ w .1) };
         })
 
   by-source : Matches g m (fromSource g m k d cl p n (sourceOf g m k cl)) By
@@ -80,7 +80,7 @@ module _ (g : Geometry) (m : Mem) (s : Sizes g m) (c : Ordered g m) (k d cl p n 
       some-of (suc x) q = omega arith
 
       own : holding m k cl ≡ suc (holding m k cl - 1) → Taken g m m k cl (holding m k cl - 1)
-      own q = record { sizes = s; structure = moves-self g m c .structure; prepared = agree-self g m; shows = refl; steady = λ i q y. (y, refl); holds = q; known = a }
+      own q = record { sizes = s; structure = moves-self g m c .structure; occupied = λ u i q f. u i q; prepared = agree-self g m; shows = refl; steady = λ i q y. (y, refl); holds = q; known = a }
 
       go : (x y z : Bool) → eqb (holding m k cl) 0 ≡ x → eqb (count g m (partStack cl)) 0 ≡ y → eqb (count g m freeStack) 0 ≡ z
           → Matches g m (fromSource g m k d cl p n (pick x (pick y (pick z noRoom (unused (top g m freeStack))) (part (top g m (partStack cl)))) (held (holding m k cl - 1)))) By

@@ -94,7 +94,7 @@ module _ (all : AllKept) (g : Geometry) where
         steady = subst (Steady g m) (sym (told .1)) (k .moves .steady)
 
         in-order : {Q : ℕ → Type 0} {put : ℕ → Option ℕ} {un : Unbounded} → Coupled (segmentOf g) Q put (view g (exec g m c .1)) un → Consistent g (exec g m c .1)
-        in-order o = consistent-of g (exec g m c .1) (sizes-at (exec g m c .1) after e (told .1)) (k .moves .structure) (o .inv)
+        in-order o = consistent-of g (exec g m c .1) (sizes-at (exec g m c .1) after e (told .1)) (k .moves .structure) (o .inv) (k .moves .occupied (p .consistent .sound .occupied))
 
         go : (Dropped (view g (k .ready)) (calls.exec (λ _ _ _ _. k .block) (view g (k .ready)) c) × Coupled (segmentOf g) P (w .put) (view g (exec g m c .1)) (w .heap))
             ⊎ ((exec g m c .0 ≡ uexec (w .heap) c .0) × Coupled (segmentOf g) P (nextPut (λ _ _ _ _. k .block) (w .put) (view g (k .ready)) (w .heap .count) c) (view g (exec g m c .1)) (uexec (w .heap) c .1)) → Called c r words after w P
@@ -128,7 +128,7 @@ module _ (all : AllKept) (g : Geometry) where
             let o = agree-ok (segmentOf g) (machine.Live (view g m)) (w .put) _ (view g (started g m)) (w .heap) (k .agree) (start-ok (segmentOf g) (λ _. none) (collects m) P (w .put) (view g m) (w .heap) (p .good) idle) in
             ghostStart (is-ok r x) (record {
               quiet = i;
-              point = point-at (started g m) after w (machine.Live (view g m)) e h (consistent-of g (started g m) (sizes-at (started g m) after e h) (k .structure) (o .inv)) o;
+              point = point-at (started g m) after w (machine.Live (view g m)) e h (consistent-of g (started g m) (sizes-at (started g m) after e h) (k .structure) (o .inv) (k .occupied (p .consistent .sound .occupied))) o;
               collected = subst (λ z. (s : ℕ) → s < g .segments → tag z s ≡ Tag.condemned → (collects m s ≡ true) × (class z s ≡ class m s)) (sym h) (k .collected);
             })
 
@@ -157,7 +157,7 @@ module _ (all : AllKept) (g : Geometry) where
         let told = q .exact right (p .consistent) in
         let o = model-step (segmentOf g) P (w .put) (view g m) (view g (stepOf g m .1)) (w .heap) (lowest m (g .segments)) (k .picked) (p .good) (k .moves .agree) in
         record {
-          point = point-at (stepOf g m .1) after w P e (told .1) (consistent-of g (stepOf g m .1) (sizes-at (stepOf g m .1) after e (told .1)) (k .moves .structure) (o .inv)) o;
+          point = point-at (stepOf g m .1) after w P e (told .1) (consistent-of g (stepOf g m .1) (sizes-at (stepOf g m .1) after e (told .1)) (k .moves .structure) (o .inv) (k .moves .occupied (p .consistent .sound .occupied))) o;
           steady = subst (Steady g m) (sym (told .1)) (k .moves .steady);
           answer = told .0;
           memory = told .1;

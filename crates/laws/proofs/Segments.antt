@@ -16,7 +16,7 @@ use Rattle.layout.specs.Geometry.{mutatorCount, blocksIn}
 use Rattle.layout.specs.Mem.{Mem, Sizes}
 use Rattle.model.specs.Fields.{absent, state, holding, tag, class, place, owner}
 use Rattle.model.specs.Segments.{above, bitmap, usedBit}
-use Rattle.model.specs.Consistent.{IsClass, SegmentOk, TreeOk, isFree, isPart}
+use Rattle.model.specs.Consistent.{IsClass, SegmentOk, Occupied, TreeOk, isFree, isPart}
 use Rattle.laws.proofs.Bools.{and-both}
 use Rattle.laws.proofs.Words.{Recorded}
 use Rattle.model.specs.Tag as Tag
@@ -49,6 +49,14 @@ segment-same g m m₁ q o x e h = record {
 -- and one whose class and bitmap stay, and that is free if it was, keeps its bitmap's tree
 pub tree-same : (g : Geometry) (m m₁ : Mem) (q : ℕ) → TreeOk g m q → (tag m q ≡ Tag.free → tag m₁ q ≡ Tag.free) → class m₁ q ≡ class m q → bitmap g m₁ q ≡ bitmap g m q → TreeOk g m₁ q
 tree-same g m m₁ q t u c e f = subst (λ z. Tree (above g z) (blocksIn g z) (bitmap g m₁ q)) (sym c) (subst (Tree (above g (class m q)) (blocksIn g (class m q))) (sym e) (t (λ y. f (u y))))
+
+-- and one whose class, place and bitmap stay, and that was part or held if it is, has a block in use as before
+pub occupied-same : (g : Geometry) (m m₁ : Mem) (q : ℕ) → Occupied g m q → (Tag.part ≤ tag m₁ q → tag m₁ q ≤ Tag.held → (Tag.part ≤ tag m q) × (tag m q ≤ Tag.held)) → class m₁ q ≡ class m q → place m₁ q ≡ place m q → bitmap g m₁ q ≡ bitmap g m q → Occupied g m₁ q
+occupied-same g m m₁ q o t c p e l h = let y = t l h in let b = o (y .0) (y .1) in (b .0, subst (λ z. b .0 < blocksIn g z) (sym c) (b .1), used-same g m m₁ q (b .0) p e ∙ b .2)
+
+-- so one whose record and bitmap stay
+pub occupied-by : (g : Geometry) (m m₁ : Mem) (q : ℕ) → Occupied g m q → Recorded m₁ q (tag m q) (class m q) (place m q) (owner m q) → bitmap g m₁ q ≡ bitmap g m q → Occupied g m₁ q
+occupied-by g m m₁ q o x e = let y = x .tag in occupied-same g m m₁ q o (λ l h. (omega arith, omega arith)) (x .class) (x .place) e
 
 -- ---- free and part
 

@@ -41,6 +41,10 @@ pub record SegmentOk (g : Geometry) (m : Mem) (s : ℕ) : Type 0 where
   -- held: the mutator is attached and holds it
   pub held : tag m s ≡ Tag.held → (owner m s < mutatorCount) × (state m (owner m s) ≡ absent → ⊥) × (holding m (owner m s) (class m s) ≡ suc s)
 
+-- a part or held segment has a block in use: a sweep that finds no mark makes it free, and a make that takes a free one hands out a block of it
+abbrev pub Occupied : Geometry → Mem → ℕ → Type 0
+Occupied g m s = (Tag.part ≤ tag m s) → (tag m s ≤ Tag.held) → (b : ℕ) × (b < blocksIn g (class m s)) × (usedBit g m s b ≡ 1)
+
 -- ---- one mutator
 
 pub record MutatorOk (g : Geometry) (m : Mem) (k : ℕ) : Type 0 where
@@ -138,6 +142,7 @@ InPhase sweep g m =
 pub record Sound (g : Geometry) (m : Mem) : Type 0 where
   pub phases : controlWord m 0 ≤ 4
   pub segments : (s : ℕ) → s < g .segments → SegmentOk g m s
+  pub occupied : (s : ℕ) → s < g .segments → Occupied g m s
   pub mutators : (k : ℕ) → k < mutatorCount → MutatorOk g m k
   pub acknowledgements : (k : ℕ) → k < mutatorCount → (state m k ≡ absent → ⊥) → AcksIn (phase m) (acks m k)
   pub records : (at : ℕ) → Live m at → RecordOk g m at

@@ -11,29 +11,39 @@ use Rattle.layout.specs.declared.Geometry.{Geometry}
 use Rattle.layout.specs.Geometry.{mutatorCount, rootCount, segmentOf}
 use Rattle.layout.specs.Mem.{Mem, Sizes}
 use Rattle.bitmap_search.specs.declared.Found.the-variants.{Block}
-use Rattle.theory.specs.Machine.{make}
+use Rattle.theory.specs.Machine.{State, make}
+use Rattle.theory.proofs.Agree.{Agree}
 use Rattle.theory.proofs.CallKeeps.{Alloc}
-use Rattle.model.specs.Fields.{root, holding, place}
+use Rattle.model.specs.Fields.{holding, place}
 use Rattle.model.specs.Segments.{free}
 use Rattle.model.specs.Records.{headerOf}
 use Rattle.model.specs.Making.{handedOut}
 use Rattle.model.specs.Calls.{isAttached}
+use Rattle.model.specs.Consistent.{Occupied}
 use Rattle.refine_view.specs.View.{view}
-use Rattle.refine_view.specs.Kept.{Ordered, Moves}
+use Rattle.refine_view.specs.Kept.{Ordered, EachOccupied, Structure, Steady}
 use Rattle.refine_making.proofs.Request.{Request, requested}
 use Rattle.refine_making.proofs.Blackened.{result}
 use Rattle.refine_making.proofs.Agreeing.{agree}
+use Rattle.refine_making.proofs.Segments.{occupied-ok}
 use Rattle.refine_making.proofs.Structured.{structure}
 use Rattle.refine_making.proofs.Unused as unused
 use Rattle.refine_making.proofs.Standing as standing
 
+-- the memory that a make out of segment r leaves, beside the machine's state: a move, but that r need have had no block in use before
+pub record HandsOut (g : Geometry) (m m′ : Mem) (r : ℕ) (st : State) : Type 0 where
+  pub structure : Structure g m′
+  pub occupied : ((x : ℕ) → x < g .segments → (x ≡ r → ⊥) → Occupied g m x) → EachOccupied g m′
+  pub agree : Agree (segmentOf g) st (view g m′)
+  pub steady : Steady g m m′
+
 module _ (g : Geometry) (m : Mem) (s : Sizes g m) (c : Ordered g m) where
-  -- the memory afterwards, and the machine's state
-  moves : (k d cl r b p n : ℕ) → Request g m k d cl r b p n → Moves g m (handedOut g m k d cl r b p n) (make (view g m) k d (headerOf g r cl b) p (replicate n 0))
-  moves k d cl r b p n q =
+  hands-out : (k d cl r b p n : ℕ) → Request g m k d cl r b p n → HandsOut g m (handedOut g m k d cl r b p n) r (make (view g m) k d (headerOf g r cl b) p (replicate n 0))
+  hands-out k d cl r b p n q =
       let a = result g m s k d cl r b p n q in
       record {
         structure = structure g m s c (handedOut g m k d cl r b p n) k d cl r b p n q a;
+        occupied = occupied-ok g m c (handedOut g m k d cl r b p n) k d cl r b p n q a;
         agree = agree g m s c (handedOut g m k d cl r b p n) k d cl r b p n q a;
         steady = λ x l e. (standing.tag-back g m (handedOut g m k d cl r b p n) k d cl r b p n q a x e .0, standing.class-same g m (handedOut g m k d cl r b p n) k d cl r b p n q a x);
       }
@@ -41,13 +51,7 @@ module _ (g : Geometry) (m : Mem) (s : Sizes g m) (c : Ordered g m) where
   pub handed : (k d cl r p n : ℕ) → k < mutatorCount → isAttached m k ≡ true → d < rootCount → classOf (p + n) ≡ Class cl → holding m k cl ≡ suc r
       → (b : ℕ) × (free g m r cl (place m r) ≡ Block b)
       × Alloc (segmentOf g) (λ _ _ _ _. some (headerOf g r cl b)) (view g m)
-      × Moves g m (handedOut g m k d cl r b p n) (make (view g m) k d (headerOf g r cl b) p (replicate n 0))
-      × (root (handedOut g m k d cl r b p n) k d ≡ suc (headerOf g r cl b))
+      × HandsOut g m (handedOut g m k d cl r b p n) r (make (view g m) k d (headerOf g r cl b) p (replicate n 0))
   handed k d cl r p n few att within sized holds =
-      let f = requested g m c k d cl r p n few att within sized holds in (
-        f .0,
-        f .1,
-        unused.alloc g m c k d cl r (f .0) p n (f .2),
-        moves k d cl r (f .0) p n (f .2),
-        result g m s k d cl r (f .0) p n (f .2) .named,
-      )
+      let f = requested g m c k d cl r p n few att within sized holds in
+      (f .0, f .1, unused.alloc g m c k d cl r (f .0) p n (f .2), hands-out k d cl r (f .0) p n (f .2))

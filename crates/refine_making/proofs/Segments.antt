@@ -10,9 +10,9 @@ use Rattle.layout.specs.declared.Geometry.{Geometry}
 use Rattle.layout.specs.Geometry.{mutatorCount, blocksIn}
 use Rattle.layout.specs.Mem.{Mem}
 use Rattle.model.specs.Fields.{state, holding, tag, class, place, owner}
-use Rattle.model.specs.Consistent.{IsClass, SegmentOk, TreeOk}
-use Rattle.refine_view.specs.Kept.{Ordered}
-use Rattle.laws.proofs.Segments.{segment-same, tree-same}
+use Rattle.model.specs.Consistent.{IsClass, SegmentOk, Occupied, TreeOk}
+use Rattle.refine_view.specs.Kept.{Ordered, EachOccupied}
+use Rattle.laws.proofs.Segments.{segment-same, tree-same, occupied-by}
 use Rattle.refine_making.proofs.Request.{Request}
 use Rattle.refine_making.proofs.Result.{StillHeld, NowFull, Result}
 use Rattle.refine_making.proofs.Standing as standing
@@ -79,3 +79,10 @@ module _ (g : Geometry) (m : Mem) (c : Ordered g m) (m′ : Mem) (k d cl r b p n
 
   pub trees-ok : (x : ℕ) → x < g .segments → TreeOk g m′ x
   trees-ok x l = tree-same g m m′ x (c .trees x l) (λ e. a .others x (λ f. let y : tag m r ≡ Tag.free = ap (tag m) (sym f) ∙ e in let z = q .isHeld in omega arith) .tag ∙ e) (standing.class-same g m m′ k d cl r b p n q a x) (standing.bitmap-same g m m′ k d cl r b p n q a x)
+
+  -- the block handed out is in use, and the other segments are as they were
+  pub occupied-ok : ((x : ℕ) → x < g .segments → (x ≡ r → ⊥) → Occupied g m x) → EachOccupied g m′
+  occupied-ok u x l = ⊎-elim (λ e. subst (Occupied g m′) (sym e) there) (λ f. occupied-by g m m′ x (u x l f) (a .others x f) (standing.bitmap-same g m m′ k d cl r b p n q a x)) (same-or-not x r)
+    where
+      there : Occupied g m′ r
+      there _ _ = (b, subst (λ z. b < blocksIn g z) (sym (standing.class-there g m m′ k d cl r b p n q a)) (q .below), standing.used-there g m m′ k d cl r b p n q a)

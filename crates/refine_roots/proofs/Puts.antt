@@ -117,7 +117,7 @@ module _ (g : Geometry) (m : Mem) (s : Sizes g m) (c : Ordered g m) (at : ℕ) (
 
   pub value-moves : Moves g m (setValue m at f v) (machine.setValues (view g m) at (set (valuesOf m at) f v))
   unfolding setHeap
-  value-moves = record { structure = heap-structure g m place v (structure-of g m c) (λ x p. header x (c .records x p)) live; agree = agree; steady = λ x q e. (e, refl) }
+  value-moves = record { structure = heap-structure g m place v (structure-of g m c) (λ x p. header x (c .records x p)) live; occupied = λ u. u; agree = agree; steady = λ x q e. (e, refl) }
 
 pub put-kept : (g : Geometry) (m : Mem) → Sizes g m → Ordered g m → (k i f v : ℕ) → refusal (observe m) (c-put k i f v) ≡ 0 → ActKept g m (c-put k i f v)
 unfolding act

@@ -137,6 +137,7 @@ opened-consistent g m s = record {
   sound = record {
     phases = let z = opened-control g m 0 in omega arith;
     segments = λ r l. segment-ok g m r;
+    occupied = λ r l a b. let t : tag (opened g m) r ≡ Tag.free = opened-segment g m (r * segmentRecordWords) in absurd (omega arith);
     mutators = λ k l. mutator-ok g m k;
     acknowledgements = λ k l f. absurd (f (opened-mutator g m (k * mutatorWords + stateAt)));
     records = λ at p. absurd (no-reached g m at p);

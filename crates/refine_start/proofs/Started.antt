@@ -22,9 +22,9 @@ use Rattle.model.specs.Records.{record?, pointers, values, pointer, blockOf, re
 use Rattle.model.specs.Collector.{isFull, collects, started}
 use Rattle.model.proofs.Collecting.{collects-full}
 use Rattle.model.specs.Reaching.{Live, isMarked}
-use Rattle.model.specs.Consistent.{InPhase, IsClass, SegmentOk, MutatorOk, RecordOk, isFree, isPart}
+use Rattle.model.specs.Consistent.{InPhase, IsClass, SegmentOk, Occupied, MutatorOk, RecordOk, isFree, isPart}
 use Rattle.refine_view.specs.View.{view, stackOf, isHead, isUsed}
-use Rattle.refine_view.specs.Kept.{Ordered, QueuedOk, MarksIn, Structure, StartKept}
+use Rattle.refine_view.specs.Kept.{Ordered, EachOccupied, QueuedOk, MarksIn, Structure, StartKept}
 use Rattle.laws.proofs.Bools.{and-false, test-same}
 use Rattle.refine_view.proofs.Contents.{pointers-by, fields-by}
 use Rattle.refine_view.proofs.Seeing.{root-was, edge-was, live-was}
@@ -32,7 +32,7 @@ use Rattle.laws.proofs.OtherStacks.{stack-by}
 use Rattle.refine_view.proofs.Carried.{block-by, bit-by, record-by, queued-by}
 use Rattle.refine_view.proofs.Invariants.{structure-of}
 use Rattle.laws.proofs.Entries.{holding-by, table-below}
-use Rattle.laws.proofs.Segments.{segment-same, tree-same, part-same, used-same, in-range}
+use Rattle.laws.proofs.Segments.{segment-same, tree-same, occupied-same, part-same, used-same, in-range}
 use Rattle.laws.proofs.Bitmaps.{bitmap-by}
 use Rattle.refine_start.proofs.Beginning.{Begun, begun}
 use Rattle.model.specs.Tag as Tag
@@ -130,6 +130,14 @@ module _ (g : Geometry) (m m′ : Mem) (z : Sizes g m) (ok : Ordered g m) (quiet
             held = λ e. absurd (omega arith);
           }
 
+  -- part and held stay so
+  occupied-ok : EachOccupied g m → EachOccupied g m′
+  occupied-ok u s l = go (changed s)
+    where
+      go : Changed s → Occupied g m′ s
+      go (inl q) = λ a b. let x = q .1 in absurd (omega arith)
+      go (inr q) = let w = b .segments s in let x = q .1 in occupied-same g m m′ s (u s l) (λ a b. (omega arith, omega arith)) (w .class) (w .place) (bitmap-by g m m′ (b .bitmaps) s)
+
   -- ---- mutators
 
   mutator-ok : (k : ℕ) → MutatorOk g m k → MutatorOk g m′ k
@@ -216,6 +224,7 @@ start-kept g m z ok quiet =
     let b = begun g m z in
     record {
       structure = structure g m (started g m) z ok quiet b;
+      occupied = occupied-ok g m (started g m) z ok quiet b;
       agree = agree g m (started g m) z ok quiet b;
       collected = λ s l e. (sym (collected g m (started g m) z ok quiet b s) ∙ eq-eqb _ _ e, b .segments s .class);
     }

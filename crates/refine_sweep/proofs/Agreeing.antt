@@ -28,7 +28,7 @@ use Rattle.refine_view.proofs.Invariants.{to-live, used-of, used-record}
 use Rattle.refine_sweep.proofs.Frames.{mutator-same, heap-same}
 use Rattle.refine_sweep.proofs.Outcome.{Outcome}
 use Rattle.refine_sweep.proofs.Survivors.{empty, empty-after, phase-after, live-marked}
-use Rattle.refine_sweep.proofs.Structured.{record-after, structure-after, steady-after}
+use Rattle.refine_sweep.proofs.Structured.{record-after, structure-after, occupied-after, steady-after}
 use Rattle.theory.specs.Machine as machine
 use Rattle.model.specs.Tag as Tag
 
@@ -83,4 +83,4 @@ module _ (g : Geometry) (m : Mem) (s : Sizes g m) (c : Ordered g m) (ph : phase 
       }
 
   pub moves-after : Moves g m m′ after
-  moves-after = record { structure = structure-after g m s c ph m′ r l t o; agree = agree-after; steady = steady-after g m s c ph m′ r l t o }
+  moves-after = record { structure = structure-after g m s c ph m′ r l t o; occupied = occupied-after g m s c ph m′ r l t o; agree = agree-after; steady = steady-after g m s c ph m′ r l t o }

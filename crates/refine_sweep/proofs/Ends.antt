@@ -13,13 +13,13 @@ use Rattle.layout.specs.declared.Geometry.{Geometry}
 use Rattle.layout.specs.Mem.{Mem, Sizes}
 use Rattle.model.specs.declared.SegmentState.{SegmentState}
 use Rattle.model.specs.Fields.{tag, class, place, owner}
-use Rattle.model.specs.Segments.{above, bitmap, marksOf}
+use Rattle.model.specs.Segments.{above, bitmap, usedBit, marksOf}
 use Rattle.model.specs.Collector.{keptBy}
 use Rattle.model.specs.Consistent.{IsClass}
 use Rattle.laws.proofs.Words.{tagOf, classIn, placeIn, ownerIn}
 use Rattle.laws.proofs.Parted.{Stacks}
 use Rattle.laws.proofs.Blocks.{blocks-most}
-use Rattle.words.proofs.Counts.{none-one, all-one, one-missing}
+use Rattle.words.proofs.Counts.{none-one, all-one, one-missing, one-there}
 use Rattle.refine_sweep.proofs.Rebuilding.{mark-bit}
 use Rattle.refine_sweep.proofs.Settled.{Settled}
 use Rattle.refine_sweep.proofs.Outcome.{Outcome}
@@ -47,6 +47,7 @@ module _ (g : Geometry) (m : Mem) (s : Sizes g m) (r : ℕ) (l : r < g .segments
           held = λ a. absurd (omega arith);
         };
         tree = λ d. absurd (d z);
+        occupied = λ a b. absurd (omega arith);
         unheld = λ a. omega arith;
         uncondemned = λ a. omega arith;
         classed = λ d. absurd (d z);
@@ -56,11 +57,12 @@ module _ (g : Geometry) (m : Mem) (s : Sizes g m) (r : ℕ) (l : r < g .segments
       }
 
   -- a segment that stays in use, with its class
-  kept-end : (x : SegmentState) → Settled g m m′ r x → classIn x ≡ class m r → ownerIn x ≡ 0 → 1 ≤ tagOf x → (tagOf x ≡ 2 → ⊥) → tagOf x ≤ 3 → (tagOf x ≤ 2 → (b : ℕ) × (placeIn g x ≤ b) × (b < blocksIn g (class m r)) × (bitAt (bitmap g m′ r) b ≡ 0)) → (3 ≤ tagOf x → placeIn g x ≡ blocksIn g (class m r))
+  kept-end : (x : SegmentState) → Settled g m m′ r x → classIn x ≡ class m r → ownerIn x ≡ 0 → 1 ≤ tagOf x → (tagOf x ≡ 2 → ⊥) → tagOf x ≤ 3 → (tagOf x ≤ 2 → (b : ℕ) × (placeIn g x ≤ b) × (b < blocksIn g (class m r)) × (bitAt (bitmap g m′ r) b ≡ 0)) → (3 ≤ tagOf x → placeIn g x ≡ blocksIn g (class m r)) → (tagOf x ≤ 2 → (b : ℕ) × (b < blocksIn g (class m r)) × (bitAt (m .marks) (bitIn g r b) ≡ 1))
       → ((b : ℕ) → b < blocksIn g (class m r) → pick (ltb b (placeIn g x)) 1 (bitAt (bitmap g m′ r) b) ≡ bitAt (m .marks) (bitIn g r b)) → Stacks g m′ → Outcome g m m′ r
-  kept-end x q c o low two top remains whole used p =
+  kept-end x q c o low two top remains whole marked used p =
       let z : tag m′ r ≡ tagOf x = q .there .tag in
       let w : class m′ r ≡ class m r = q .there .class ∙ c in
+      let reads : (b : ℕ) → b < blocksIn g (class m r) → usedBit g m′ r b ≡ bitAt (m .marks) (bitIn g r b) = λ b h. ap (λ y. pick (ltb b y) 1 (bitAt (bitmap g m′ r) b)) (q .there .place) ∙ used b h in
       record {
         left = q .left;
         segment = record {
@@ -74,20 +76,22 @@ module _ (g : Geometry) (m : Mem) (s : Sizes g m) (r : ℕ) (l : r < g .segments
           held = λ a. absurd (two (sym z ∙ a));
         };
         tree = λ d. subst (λ c. Tree (above g c) (blocksIn g c) (bitmap g m′ r)) (sym w) (q .tree);
+        occupied = λ a b. let y = marked (omega arith) in (y .0, subst (λ c. y .0 < blocksIn g c) (sym w) (y .1), reads (y .0) (y .1) ∙ y .2);
         unheld = λ a. two (sym z ∙ a);
         uncondemned = λ a. omega arith;
         classed = λ d. w;
-        used = λ d b h. ap (λ y. pick (ltb b y) 1 (bitAt (bitmap g m′ r) b)) (q .there .place) ∙ used b h;
+        used = λ d. reads;
         kept = λ b h a y. omega arith;
         stacks = p;
       }
 
   pub full-end : Settled g m m′ r (segment.Full (class m r)) → keptBy g m r ≡ blocksIn g (class m r) → Stacks g m′ → Outcome g m m′ r
-  full-end q e p = kept-end (segment.Full (class m r)) q refl refl (omega arith) (λ a. omega arith) (omega arith) (λ a. absurd (omega arith)) (λ a. refl)
+  full-end q e p = kept-end (segment.Full (class m r)) q refl refl (omega arith) (λ a. omega arith) (omega arith) (λ a. absurd (omega arith)) (λ a. refl) (λ a. absurd (omega arith))
       (λ b h. ap (λ y. pick y 1 (bitAt (bitmap g m′ r) b)) (lt-ltb b (blocksIn g (class m r)) h) ∙ sym (all-one (bitAt (marksOf g m r)) (at-lt (marksOf g m r)) (blocksIn g (class m r)) e b h) ∙ to-mark b h) p
 
-  pub part-end : Settled g m m′ r (segment.Part (class m r) 0) → (keptBy g m r ≡ blocksIn g (class m r) → ⊥) → Stacks g m′ → Outcome g m m′ r
-  part-end q e p =
+  pub part-end : Settled g m m′ r (segment.Part (class m r) 0) → (keptBy g m r ≡ 0 → ⊥) → (keptBy g m r ≡ blocksIn g (class m r) → ⊥) → Stacks g m′ → Outcome g m m′ r
+  part-end q n e p =
       let y = one-missing (bitAt (marksOf g m r)) (at-lt (marksOf g m r)) (blocksIn g (class m r)) e in
-      kept-end (segment.Part (class m r) 0) q refl refl (omega arith) (λ a. omega arith) (omega arith) (λ a. (y .0, omega arith, y .1, q .bits (y .0) (y .1) ∙ sym (to-mark (y .0) (y .1)) ∙ y .2)) (λ a. absurd (omega arith))
+      let x = one-there (bitAt (marksOf g m r)) (at-lt (marksOf g m r)) (blocksIn g (class m r)) n in
+      kept-end (segment.Part (class m r) 0) q refl refl (omega arith) (λ a. omega arith) (omega arith) (λ a. (y .0, omega arith, y .1, q .bits (y .0) (y .1) ∙ sym (to-mark (y .0) (y .1)) ∙ y .2)) (λ a. absurd (omega arith)) (λ a. (x .0, x .1, sym (to-mark (x .0) (x .1)) ∙ x .2))
       (λ b h. ap (λ x. pick x 1 (bitAt (bitmap g m′ r) b)) (le-ltb b 0 (omega arith)) ∙ q .bits b h) p

@@ -8,7 +8,7 @@ use Rattle.layout.specs.declared.Geometry.{Geometry}
 use Rattle.layout.specs.Mem.{Mem}
 use Rattle.model.specs.Fields.{tag, class, place, owner}
 use Rattle.model.specs.Segments.{bitmap, usedBit}
-use Rattle.model.specs.Consistent.{SegmentOk, TreeOk}
+use Rattle.model.specs.Consistent.{SegmentOk, Occupied, TreeOk}
 use Rattle.laws.proofs.Words.{Recorded}
 use Rattle.laws.proofs.Parted.{Stacks}
 use Rattle.model.specs.Tag as Tag
@@ -29,6 +29,7 @@ pub record Outcome (g : Geometry) (m m′ : Mem) (r : ℕ) : Type 0 where
   -- the segment itself: free, part or full; in use is what is marked
   pub segment : SegmentOk g m′ r
   pub tree : TreeOk g m′ r
+  pub occupied : Occupied g m′ r
   pub unheld : tag m′ r ≡ Tag.held → ⊥
   pub uncondemned : tag m′ r ≡ Tag.condemned → ⊥
   pub classed : (tag m′ r ≡ Tag.free → ⊥) → class m′ r ≡ class m r

@@ -1,6 +1,6 @@
 -- After the sweep of a segment the words are in order. Assumes nothing.
 use mathlib.Core.Path.{_≡_, sym, _∙_, ap, subst}
-use mathlib.Core.Logic.{_⊎_, inl, inr}
+use mathlib.Core.Logic.{_⊎_, inl, inr, ⊎-elim}
 use mathlib.Core.List.{List}
 use Prim.Native.Nat.{ℕ, _≤_, _<_}
 use native.Mathlib.Omega.{arith}
@@ -13,9 +13,9 @@ use Rattle.layout.specs.Mem.{Mem, Sizes}
 use Rattle.theory.specs.Phases.{sweep}
 use Rattle.model.specs.Fields.{phase, tag}
 use Rattle.model.specs.Reaching.{Live}
-use Rattle.model.specs.Consistent.{InPhase, SegmentOk, TreeOk, MutatorOk, RecordOk, BlockInUse}
-use Rattle.refine_view.specs.Kept.{Ordered, Structure, MarksIn, Steady}
-use Rattle.laws.proofs.Segments.{segment-same, tree-same}
+use Rattle.model.specs.Consistent.{InPhase, SegmentOk, Occupied, TreeOk, MutatorOk, RecordOk, BlockInUse}
+use Rattle.refine_view.specs.Kept.{Ordered, EachOccupied, Structure, MarksIn, Steady}
+use Rattle.laws.proofs.Segments.{segment-same, tree-same, occupied-by}
 use Rattle.refine_view.proofs.Carried.{record-by, use-by, queued-by}
 use Rattle.refine_view.proofs.Invariants.{structure-of}
 use Rattle.refine_sweep.proofs.Frames.{mutator-same, heap-same}
@@ -36,6 +36,9 @@ module _ (g : Geometry) (m : Mem) (s : Sizes g m) (c : Ordered g m) (ph : phase 
   tree-after : (x : ℕ) → x < g .segments → (x ≡ r) ⊎ (x ≡ r → ⊥) → TreeOk g m′ x
   tree-after x h (inl e) = subst (TreeOk g m′) (sym e) (o .tree)
   tree-after x h (inr d) = let w = o .left .other x d in tree-same g m m′ x (c .trees x h) (λ e. w .tag ∙ e) (w .class) (o .left .bitmaps x d)
+
+  pub occupied-after : EachOccupied g m → EachOccupied g m′
+  occupied-after u x h = ⊎-elim (λ e. subst (Occupied g m′) (sym e) (o .occupied)) (λ d. occupied-by g m m′ x (u x h) (o .left .other x d) (o .left .bitmaps x d)) (same-or-not x r)
 
   mutator-after : (k : ℕ) → k < mutatorCount → MutatorOk g m′ k
   mutator-after k h =

@@ -40,17 +40,17 @@ module _ (g : Geometry) (m : Mem) (s : Sizes g m) (c : Ordered g m) (r : ℕ) (l
   filled-is : keptBy g m r ≡ blocksIn g (class m r) → Outcome g m filled r
   filled-is e = full-end g m s r l classed filled (settled-state g m s r l classed (segment.Full (class m r))) e (full-stacks g m s c r l classed t)
 
-  parted-is : (keptBy g m r ≡ blocksIn g (class m r) → ⊥) → Outcome g m parted r
-  parted-is e = part-end g m s r l classed parted (part-state g m s c r l classed t) e (part-stacks g m s c r l classed t)
+  parted-is : (keptBy g m r ≡ 0 → ⊥) → (keptBy g m r ≡ blocksIn g (class m r) → ⊥) → Outcome g m parted r
+  parted-is n e = part-end g m s r l classed parted (part-state g m s c r l classed t) n e (part-stacks g m s c r l classed t)
 
   pub swept-outcome : Outcome g m (swept g m r) r
   unfolding swept
   swept-outcome = none? (eqb (keptBy g m r) 0) refl
     where
-      all? : (b : Bool) → eqb (keptBy g m r) (blocksIn g (class m r)) ≡ b → Outcome g m (pick b filled parted) r
-      all? true e = filled-is (eqb-true _ _ e)
-      all? false e = parted-is (eqb-false _ _ e)
+      all? : (keptBy g m r ≡ 0 → ⊥) → (b : Bool) → eqb (keptBy g m r) (blocksIn g (class m r)) ≡ b → Outcome g m (pick b filled parted) r
+      all? n true e = filled-is (eqb-true _ _ e)
+      all? n false e = parted-is n (eqb-false _ _ e)
 
       none? : (b : Bool) → eqb (keptBy g m r) 0 ≡ b → Outcome g m (pick b freed (pick (eqb (keptBy g m r) (blocksIn g (class m r))) filled parted)) r
       none? true e = freed-is (eqb-true _ _ e)
-      none? false e = all? (eqb (keptBy g m r) (blocksIn g (class m r))) refl
+      none? false e = all? (eqb-false _ _ e) (eqb (keptBy g m r) (blocksIn g (class m r))) refl

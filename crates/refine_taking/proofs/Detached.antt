@@ -24,14 +24,14 @@ use Rattle.model.specs.Records.{record?}
 use Rattle.model.specs.Mutators.{released, detached}
 use Rattle.model.specs.Calls.{isAttached, isInside}
 use Rattle.model.specs.Reaching.{IsRoot, Live}
-use Rattle.model.specs.Consistent.{IsClass, SegmentOk, TreeOk, MutatorOk, isFree, isPart}
+use Rattle.model.specs.Consistent.{IsClass, SegmentOk, Occupied, TreeOk, MutatorOk, isFree, isPart}
 use Rattle.refine_view.specs.View.{view}
-use Rattle.refine_view.specs.Kept.{Ordered, Structure, Moves}
+use Rattle.refine_view.specs.Kept.{Ordered, EachOccupied, Structure, Moves}
 use Rattle.laws.proofs.Words.{Recorded, recorded-as}
 use Rattle.theory.proofs.Updates.{upd-by}
 use Rattle.laws.proofs.Entries.{holding-word, holding-by, table-below, entry-in, entry-out}
 use Rattle.laws.proofs.Stacks.{stack-same}
-use Rattle.laws.proofs.Segments.{segment-same, tree-same}
+use Rattle.laws.proofs.Segments.{segment-same, tree-same, occupied-same, occupied-by}
 use Rattle.refine_view.proofs.Seeing.{entries-same}
 use Rattle.refine_view.proofs.Invariants.{to-live, to-inv}
 use Rattle.refine_taking.proofs.Standing.{over, Stood, Stands, marked-live, marked-condemned, collect-same, used-live, steady, records-stand, trace-stands, marks-stand}
@@ -135,6 +135,14 @@ module _ (g : Geometry) (m : Mem) (s : Sizes g m) (c : Ordered g m) (k : ℕ) (f
       go : Gone m k classCount q ⊎ (Gone m k classCount q → ⊥) → TreeOk g m₁ q
       go (inl z) = tree-same g m m₁ q (c .trees q l) (λ e. let y = z .0 in absurd (omega arith)) (gone q z .class) refl
       go (inr f) = tree-same g m m₁ q (c .trees q l) (λ e. stay q f .tag ∙ e) (stay q f .class) refl
+
+  -- a held segment that goes to part keeps its block in use
+  occupied-ok : EachOccupied g m → EachOccupied g m₁
+  occupied-ok u q l = go (gone? m k classCount q)
+    where
+      go : Gone m k classCount q ⊎ (Gone m k classCount q → ⊥) → Occupied g m₁ q
+      go (inl z) = let y = z .0 in let x = gone q z in occupied-same g m m₁ q (u q l) (λ a b. (omega arith, omega arith)) (x .class) (x .place) refl
+      go (inr f) = occupied-by g m m₁ q (u q l) (stay q f) refl
 
   -- ---- mutators
 
@@ -240,7 +248,7 @@ module _ (g : Geometry) (m : Mem) (s : Sizes g m) (c : Ordered g m) (k : ℕ) (f
   }
 
   moves-over : Moves g m m₁ (detach (view g m) k)
-  moves-over = record { structure = structure; agree = agree; steady = steady g m s c emptied (parted .segments) (parted .stacks) (m .bitmaps) stands }
+  moves-over = record { structure = structure; occupied = occupied-ok; agree = agree; steady = steady g m s c emptied (parted .segments) (parted .stacks) (m .bitmaps) stands }
 
   same : setRun parted Region.mutators (k * mutatorWords) zeros ≡ m₁
   unfolding setRun

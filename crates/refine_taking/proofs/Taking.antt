@@ -29,7 +29,7 @@ use Rattle.refine_view.specs.View.{view}
 use Rattle.laws.proofs.Bools.{not-eq}
 use Rattle.laws.proofs.Words.{Recorded}
 use Rattle.laws.proofs.Entries.{holding-by, table-below, mutators-table}
-use Rattle.laws.proofs.Segments.{segment-same, tree-same}
+use Rattle.laws.proofs.Segments.{segment-same, tree-same, occupied-by}
 use Rattle.refine_view.proofs.Seeing.{entries-same, root-was}
 use Rattle.refine_view.proofs.Invariants.{to-live}
 use Rattle.refine_taking.proofs.Standing.{over, Stood, Stands, marked-live, marked-condemned, collect-same, used-live, steady, records-stand, trace-stands, marks-stand}
@@ -204,6 +204,7 @@ module _ (g : Geometry) (m : Mem) (s : Sizes g m) (c : Ordered g m) (mu se st bi
       trace = trace-stands g m s c mu se st bi stands;
       marks = marks-stand g m s c mu se st bi stands;
     };
+    occupied = λ u q l f. occupied-by g m m₁ q (u q l) (t .other q f) (t .bitmaps q f);
     prepared = agree;
     shows = face-same;
     steady = steady g m s c mu se st bi stands;

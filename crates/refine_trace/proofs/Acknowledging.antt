@@ -91,7 +91,7 @@ module _ (g : Geometry) (m : Mem) (s : Sizes g m) (c : Ordered g m) (k : ℕ) (f
 
       acks-over : Moves g m next-memory next-state
       unfolding setMutator
-      acks-over = record { structure = next-structure; agree = acks-agree; steady = λ x h z. (z, refl) }
+      acks-over = record { structure = next-structure; occupied = λ u. u; agree = acks-agree; steady = λ x h z. (z, refl) }
 
   -- the trace stack pushed to l, then the acknowledgements set
   acks-moves : (m′ : Mem) (l : List ℕ) → Pushed g m m′ l → ((x : ℕ) → List·Memᴰ x l → machine.Live (view g m) x) → Moves g m (setAcks m′ k v) (machine.setAcks (view g m) k v l)

@@ -22,7 +22,7 @@ use Rattle.model.specs.Calls.{isAttached}
 use Rattle.model.specs.Mutators.{acknowledged}
 use Rattle.model.specs.Collector.{outsideAnswered, waiting, moves}
 use Rattle.refine_view.specs.View.{view}
-use Rattle.refine_view.specs.Kept.{Ordered, Moves, MarksIn, Steady}
+use Rattle.refine_view.specs.Kept.{Ordered, EachOccupied, Moves, MarksIn, Steady}
 use Rattle.laws.proofs.Bools.{not-eq, and-false}
 use Rattle.layout.proofs.Sizes.{within}
 use Rattle.refine_view.proofs.Invariants.{to-inv, ordered-of, structure-of}
@@ -39,6 +39,7 @@ use Rattle.theory.specs.MachineCalls as machine
 record Answered (g : Geometry) (m m′ : Mem) (st : State) : Type 0 where
   pub sizes : Sizes g m′
   pub ordered : Ordered g m′
+  pub occupied : EachOccupied g m → EachOccupied g m′
   pub agree : Agree (segmentOf g) st (view g m′)
   pub steady : Steady g m m′
 
@@ -53,6 +54,7 @@ module _ (g : Geometry) (m : Mem) where
         sizes = z;
         ordered = ordered-of g (acknowledged g m′ k) z (v .structure) (agree-inv (segmentOf g) (check (view g m′) k) (view g (acknowledged g m′ k)) (v .agree) (check-inv (segmentOf g) (view g m′) (to-inv g m′ (w .sizes) (w .ordered)) k there));
         agree = agree-trans (segmentOf g) (check st k) (check (view g m′) k) (check-agree (segmentOf g) st (view g m′) (w .agree) k h) (view g (acknowledged g m′ k)) (v .agree);
+        occupied = λ u. v .occupied (w .occupied u);
         steady = λ x d e. let a = v .steady x d e in let b = w .steady x d (a .0) in (b .0, a .1 ∙ b .1);
       }
 
@@ -73,7 +75,7 @@ module _ (g : Geometry) (m : Mem) where
 
   module _ (s : Sizes g m) (c : Ordered g m) where
     all-answered : (n : ℕ) → n ≤ mutatorCount → Answered g m (outsideAnswered g m n) (answerOutside n (view g m))
-    all-answered zero h = subst (λ z. Answered g m z (view g m)) (sym answered-none) (record { sizes = s; ordered = c; agree = agree-self g m; steady = λ x l e. (e, refl) })
+    all-answered zero h = subst (λ z. Answered g m z (view g m)) (sym answered-none) (record { sizes = s; ordered = c; occupied = λ u. u; agree = agree-self g m; steady = λ x l e. (e, refl) })
     all-answered (suc n) h =
         let w = all-answered n (omega arith) in
         let u = outside-later n (view g m) in
@@ -104,7 +106,7 @@ module _ (g : Geometry) (m : Mem) (st : State) (a : Agree (segmentOf g) st (view
 
 module _ (g : Geometry) (m m′ : Mem) (st : State) (w : Answered g m m′ st) (p : Phase) (tracing : Tracing p → Tracing (st .phase)) (marks : MarksIn p g m′) where
   now : Moves g m m′ st
-  now = record { structure = structure-of g m′ (w .ordered); agree = w .agree; steady = w .steady }
+  now = record { structure = structure-of g m′ (w .ordered); occupied = w .occupied; agree = w .agree; steady = w .steady }
 
   by-waiting : (n : ℕ) → Moves g m (moves n m′ p .1) (move n st p .1)
   by-waiting zero = phase-moves g m m′ st now (w .sizes) p tracing marks

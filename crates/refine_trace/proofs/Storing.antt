@@ -98,7 +98,7 @@ module _ (g : Geometry) (m : Mem) (s : Sizes g m) (c : Ordered g m) where
 
       store-over : Moves g m next-memory next-state
       unfolding setHeap
-      store-over = record { structure = next-structure; agree = store-agree; steady = λ x h z. (z, refl) }
+      store-over = record { structure = next-structure; occupied = λ u. u; agree = store-agree; steady = λ x h z. (z, refl) }
 
     pub store-moves : Moves g m (setPointer (tracing.barrier g (duty (phase m) (acks m k)) m new old-value) at f w) next-state
     store-moves =

@@ -149,7 +149,7 @@ module _ (g : Geometry) (m : Mem) (s : Sizes g m) (c : Ordered g m) (marking : p
 
       trace-over : Moves g m next-memory next-state
       unfolding setMarked
-      trace-over = record { structure = next-structure; agree = trace-agree; steady = λ x h z. (z, refl) }
+      trace-over = record { structure = next-structure; occupied = λ u. u; agree = trace-agree; steady = λ x h z. (z, refl) }
 
     one-traced : Moves g m (traces g (suc n) m .1) (traceStep (stackOf m (suc n)) (view g m) .1)
     one-traced = let p = all-pushed in subst (λ z. Moves g m z next-state) (sym (p .is)) (trace-over (p .control) (p .queued) (p .trace) (p .entered) (p .stack))

@@ -64,5 +64,6 @@ module _ (g : Geometry) (m : Mem) (l : List ℕ) (A I : ℕ → Bool) (K : ℕ �
       structure = structure-beside g m (m .control) l (m .marks) (m .queued) (m .trace) (m .heap) o (o .phases) (e .held) (e .mutators) (λ x p. (o .records x (was-live x p), refl))
           (queued-by g m now (o .trace) refl (λ i. refl) refl (λ x q. refl)) (marks-beside g m (m .control) l (m .queued) (m .trace) (m .heap) (phase m) (o .marks));
       agree = agree;
+      occupied = λ u. u;
       steady = λ x q h. (h, refl);
     }

@@ -24,7 +24,7 @@ use Rattle.model.specs.Calls.{isAttached}
 use Rattle.model.specs.Reaching.{IsRoot, IsEntry, Live, Reached, Covered, isMarked}
 use Rattle.model.specs.Consistent.{Consistent, InPhase, AcksIn, Tricolour, RecordOk}
 use Rattle.refine_view.specs.View.{view, stackOf, isHead, isUsed}
-use Rattle.refine_view.specs.Kept.{Ordered, Structure, MarksIn}
+use Rattle.refine_view.specs.Kept.{Ordered, EachOccupied, Structure, MarksIn}
 use Rattle.words.proofs.Counts.{lt-of}
 use Rattle.laws.proofs.Bools.{not-eq, ne-not, and-both, and-right, and-not, and-false}
 use Rattle.layout.proofs.Sizes.{segment-below}
@@ -256,8 +256,8 @@ module _ (g : Geometry) (m : Mem) (s : Sizes g m) (o : Structure g m) (inv : Inv
     cycle = from-phase (phase m) refl (o .marks);
   }
 
-  pub consistent-of : Consistent g m
-  consistent-of = let c = ordered-of in record {
+  pub consistent-of : EachOccupied g m → Consistent g m
+  consistent-of u = let c = ordered-of in record {
     summed = record { trees = c .trees; freeSegments = c .freeSegments; partSegments = c .partSegments };
-    sound = record { phases = c .phases; segments = c .segments; mutators = c .mutators; acknowledgements = c .acknowledgements; records = c .records; trace = c .trace; cycle = c .cycle };
+    sound = record { phases = c .phases; segments = c .segments; occupied = u; mutators = c .mutators; acknowledgements = c .acknowledgements; records = c .records; trace = c .trace; cycle = c .cycle };
   }

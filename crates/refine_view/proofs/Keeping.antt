@@ -64,7 +64,7 @@ agree-self g m = record {
 }
 
 pub moves-self : (g : Geometry) (m : Mem) → Ordered g m → Moves g m m (view g m)
-moves-self g m c = record { structure = structure-of g m c; agree = agree-self g m; steady = λ s l e. (e, refl) }
+moves-self g m c = record { structure = structure-of g m c; occupied = λ u. u; agree = agree-self g m; steady = λ s l e. (e, refl) }
 
 no-block : (g : Geometry) (m : Mem) → Alloc (segmentOf g) (λ _ _ _ _. none) (view g m)
 no-block g m = record { free = λ i p n b e. cc; sound = λ i p n b e. cc }

@@ -82,4 +82,4 @@ module _ (g : Geometry) (m m′ : Mem) (st : State) (v : Moves g m m′ st) (s :
 
   pub phase-moves : Moves g m (setPhase m′ p) (machine.setPhase st p)
   unfolding setControl
-  phase-moves = record { structure = next-structure; agree = next-agree; steady = v .steady }
+  phase-moves = record { structure = next-structure; occupied = v .occupied; agree = next-agree; steady = v .steady }

@@ -19,13 +19,13 @@ use Rattle.model.specs.Segments.{freeStack, partStack}
 use Rattle.model.specs.Records.{queued}
 use Rattle.model.specs.Collector.{collects, started, lowest, stepOf}
 use Rattle.model.specs.Reaching.{IsEntry, Live}
-use Rattle.model.specs.Consistent.{Consistent, IsClass, SegmentOk, MutatorOk, AcksIn, StackOk, isFree, isPart, TreeOk, RecordOk, TraceOk, MarksOf, InPhase}
+use Rattle.model.specs.Consistent.{Consistent, IsClass, SegmentOk, Occupied, MutatorOk, AcksIn, StackOk, isFree, isPart, TreeOk, RecordOk, TraceOk, MarksOf, InPhase}
 use Rattle.refine_view.specs.View.{view}
 use Rattle.model.specs.Calls as model
 use Rattle.theory.specs.MachineCalls as machine
 use Rattle.model.specs.Tag as Tag
 
--- consistency, part by part
+-- consistency but for `occupied`, which a make breaks between taking a free segment and handing out a block of it
 pub record Ordered (g : Geometry) (m : Mem) : Type 0 where
   pub phases : controlWord m 0 ≤ 4
   pub segments : (s : ℕ) → s < g .segments → SegmentOk g m s
@@ -63,6 +63,10 @@ pub record Structure (g : Geometry) (m : Mem) : Type 0 where
   pub trace : QueuedOk g m
   pub marks : MarksIn (phase m) g m
 
+-- the part that is left out of both
+abbrev pub EachOccupied : Geometry → Mem → Type 0
+EachOccupied g m = (s : ℕ) → s < g .segments → Occupied g m s
+
 -- ---- from one memory to the next
 
 -- a condemned segment was condemned before, with its class
@@ -72,6 +76,7 @@ Steady g m m′ = (s : ℕ) → s < g .segments → tag m′ s ≡ Tag.condemned
 -- the memory afterwards, beside the machine's state afterwards
 pub record Moves (g : Geometry) (m m′ : Mem) (st : State) : Type 0 where
   pub structure : Structure g m′
+  pub occupied : EachOccupied g m → EachOccupied g m′
   pub agree : Agree (segmentOf g) st (view g m′)
   pub steady : Steady g m m′
 
@@ -96,6 +101,7 @@ CallKept g m c = Matches g m (model.exec g m c) (λ alloc st. machine.exec alloc
 -- a start that is not refused: the segments that it collects, with their classes, are the condemned segments
 pub record StartKept (g : Geometry) (m : Mem) : Type 0 where
   pub structure : Structure g (started g m)
+  pub occupied : EachOccupied g m → EachOccupied g (started g m)
   pub agree : Agree (segmentOf g) (start (view g m) (collects m)) (view g (started g m))
   pub collected : (s : ℕ) → s < g .segments → tag (started g m) s ≡ Tag.condemned → (collects m s ≡ true) × (class (started g m) s ≡ class m s)
 
