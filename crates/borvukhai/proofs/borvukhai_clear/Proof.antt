@@ -1,0 +1,26 @@
+-- `borvukhai::borvukhai_clear` meets its contract. Assumes nothing.
+use mathlib.Core.Path.{refl}
+use borrow.Author.Needs.{needs}
+use Rattle.borvukhai.proofs.borvukhai_clear.Statement.{statement}
+use Rattle.theory.specs.Calls.{c-clear}
+use Rattle.borvukhai.proofs.Unpacked.{exports}
+use Rattle.borvukhai.proofs.borvukhai_clear.Tie as tie
+
+geometry-requires : tie.Need-geometry-requires
+geometry-requires c κs = search needs
+
+clear-requires : tie.Need-clear-requires
+clear-requires c κs = search needs
+
+packed-requires : tie.Need-packed-requires
+packed-requires c κs = search needs
+
+same-length : tie.Need-same-length
+same-length c = search needs
+
+returns : tie.Need-returns
+returns c = exports (c-clear _ _) _ _ _ _ _ (c .before .before .before .before .before .geometry .ensures) (c .before .before .before .clear .ensures) tt _ (c .packed .ensures) refl
+
+pub borvukhai-clear-spec : {M : Type 1} → statement M
+borvukhai-clear-spec =
+    tie.close (tie.spec geometry-requires clear-requires packed-requires same-length returns)

@@ -1,0 +1,26 @@
+-- `borvukhai::borvukhai_copy` meets its contract. Assumes nothing.
+use mathlib.Core.Path.{refl}
+use borrow.Author.Needs.{needs}
+use Rattle.borvukhai.proofs.borvukhai_copy.Statement.{statement}
+use Rattle.theory.specs.Calls.{c-copy}
+use Rattle.borvukhai.proofs.Unpacked.{exports}
+use Rattle.borvukhai.proofs.borvukhai_copy.Tie as tie
+
+geometry-requires : tie.Need-geometry-requires
+geometry-requires c κs = search needs
+
+copy-requires : tie.Need-copy-requires
+copy-requires c κs = search needs
+
+packed-requires : tie.Need-packed-requires
+packed-requires c κs = search needs
+
+same-length : tie.Need-same-length
+same-length c = search needs
+
+returns : tie.Need-returns
+returns c = exports (c-copy _ _ _) _ _ _ _ _ (c .before .before .before .before .before .geometry .ensures) (c .before .before .before .copy .ensures) tt _ (c .packed .ensures) refl
+
+pub borvukhai-copy-spec : {M : Type 1} → statement M
+borvukhai-copy-spec =
+    tie.close (tie.spec geometry-requires copy-requires packed-requires same-length returns)

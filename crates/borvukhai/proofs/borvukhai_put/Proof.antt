@@ -1,0 +1,26 @@
+-- `borvukhai::borvukhai_put` meets its contract. Assumes nothing.
+use mathlib.Core.Path.{refl}
+use borrow.Author.Needs.{needs}
+use Rattle.borvukhai.proofs.borvukhai_put.Statement.{statement}
+use Rattle.theory.specs.Calls.{c-put}
+use Rattle.borvukhai.proofs.Unpacked.{exports}
+use Rattle.borvukhai.proofs.borvukhai_put.Tie as tie
+
+geometry-requires : tie.Need-geometry-requires
+geometry-requires c κs = search needs
+
+put-requires : tie.Need-put-requires
+put-requires c κs = search needs
+
+packed-requires : tie.Need-packed-requires
+packed-requires c κs = search needs
+
+same-length : tie.Need-same-length
+same-length c = search needs
+
+returns : tie.Need-returns
+returns c = exports (c-put _ _ _ _) _ _ _ _ _ (c .before .before .before .before .before .geometry .ensures) (c .before .before .before .put .ensures) tt _ (c .packed .ensures) refl
+
+pub borvukhai-put-spec : {M : Type 1} → statement M
+borvukhai-put-spec =
+    tie.close (tie.spec geometry-requires put-requires packed-requires same-length returns)

@@ -1,0 +1,26 @@
+-- `borvukhai::borvukhai_store` meets its contract. Assumes nothing.
+use mathlib.Core.Path.{refl}
+use borrow.Author.Needs.{needs}
+use Rattle.borvukhai.proofs.borvukhai_store.Statement.{statement}
+use Rattle.theory.specs.Calls.{c-store}
+use Rattle.borvukhai.proofs.Unpacked.{exports}
+use Rattle.borvukhai.proofs.borvukhai_store.Tie as tie
+
+geometry-requires : tie.Need-geometry-requires
+geometry-requires c κs = search needs
+
+store-requires : tie.Need-store-requires
+store-requires c κs = search needs
+
+packed-requires : tie.Need-packed-requires
+packed-requires c κs = search needs
+
+same-length : tie.Need-same-length
+same-length c = search needs
+
+returns : tie.Need-returns
+returns c = exports (c-store _ _ _ _) _ _ _ _ _ (c .before .before .before .before .before .geometry .ensures) (c .before .before .before .store .ensures) tt _ (c .packed .ensures) refl
+
+pub borvukhai-store-spec : {M : Type 1} → statement M
+borvukhai-store-spec =
+    tie.close (tie.spec geometry-requires store-requires packed-requires same-length returns)

@@ -1,0 +1,2 @@
+-- The answers as the exported functions give them.
+pub mod Packed

@@ -1,0 +1,133 @@
+// The heap for programs in C and Rust: each call as an exported function over the lent slice, which C passes as a pointer and a length. An
+// answer is packed in a number; `unpack` and its like in specs/ say which answer a number stands for.
+use layout::Geometry;
+use model::Answer;
+ghost use mathlib.Core.Path.{_≡_};
+ghost use Rattle.theory.specs.Calls.{c-load, c-store, c-copy, c-clear, c-put, c-get, c-same};
+ghost use Rattle.model.specs.Promise.{Promise, OpenPromise};
+ghost use Rattle.borvukhai.specs.Packed.{geometryOf, lengthFor, pack, packValue, unpack, unpackNumber, unpackSame};
+
+fn geometry(segments: u32) -> Geometry
+    ensures { λ r. ⌜ r ≡ geometryOf segments ⌝ }
+{
+    Geometry {
+        segments: segments as usize,
+    }
+}
+
+// 0, or the number of the refusal.
+fn packed(a: Answer) -> u32
+    ensures { λ r. ⌜ r ≡ pack a ⌝ }
+{
+    match a {
+        Answer::Ok => 0,
+        Answer::Number(v) => 0,
+        Answer::Same(b) => 0,
+        Answer::Shape(p, n) => 0,
+        Answer::Refused(n) => n,
+    }
+}
+
+// The value in the upper 32 bits, or the number of the refusal.
+fn packed_value(a: Answer) -> u64
+    ensures { λ r. ⌜ r ≡ packValue a ⌝ }
+{
+    match a {
+        Answer::Ok => 0,
+        Answer::Number(v) => v as u64 * 4294967296,
+        Answer::Same(b) => { if b { 4294967296 } else { 0 } }
+        Answer::Shape(p, n) => 0,
+        Answer::Refused(n) => n as u64,
+    }
+}
+
+// The words of the slice to lend for so many segments; 0 for a number that is not 1 to 256.
+#[no_mangle]
+pub extern "C" fn borvukhai_length(segments: u32) -> usize
+    ensures { λ r. ⌜ r ≡ lengthFor segments ⌝ }
+{
+    if segments < 1 {
+        return 0;
+    }
+    if 256 < segments {
+        return 0;
+    }
+    layout::total_words(geometry(segments))
+}
+
+#[no_mangle]
+pub extern "C" fn borvukhai_open(segments: u32, mem: &mut [u32]) -> u32
+    ensures { λ r. ⌜ OpenPromise (geometryOf segments) (now (mem .entry)) (unpack r) (now (mem .exit)) ⌝ }
+{
+    packed(opening::open(geometry(segments), mem))
+}
+
+#[no_mangle]
+pub extern "C" fn borvukhai_copy(segments: u32, mem: &mut [u32], k: u32, to: u32, from: u32) -> u32
+    ensures { λ r. ⌜ Promise (c-copy k to from) (geometryOf segments) (now (mem .entry)) (unpack r) (now (mem .exit)) ⌝ }
+{
+    packed(root_calls::copy(geometry(segments), mem, k, to, from))
+}
+
+#[no_mangle]
+pub extern "C" fn borvukhai_clear(segments: u32, mem: &mut [u32], k: u32, to: u32) -> u32
+    ensures { λ r. ⌜ Promise (c-clear k to) (geometryOf segments) (now (mem .entry)) (unpack r) (now (mem .exit)) ⌝ }
+{
+    packed(root_calls::clear(geometry(segments), mem, k, to))
+}
+
+#[no_mangle]
+pub extern "C" fn borvukhai_same(segments: u32, mem: &[u32], k: u32, i: u32, j: u32) -> u64
+    ensures { λ r. ⌜ Promise (c-same k i j) (geometryOf segments) (now (mem .entry)) (unpackSame r) (now (mem .entry)) ⌝ }
+{
+    packed_value(root_calls::same(geometry(segments), mem, k, i, j))
+}
+
+#[no_mangle]
+pub extern "C" fn borvukhai_load(
+    segments: u32,
+    mem: &mut [u32],
+    k: u32,
+    to: u32,
+    i: u32,
+    f: u32,
+) -> u32
+    ensures { λ r. ⌜ Promise (c-load k to i f) (geometryOf segments) (now (mem .entry)) (unpack r) (now (mem .exit)) ⌝ }
+{
+    packed(field_calls::load(geometry(segments), mem, k, to, i, f))
+}
+
+#[no_mangle]
+pub extern "C" fn borvukhai_store(
+    segments: u32,
+    mem: &mut [u32],
+    k: u32,
+    i: u32,
+    f: u32,
+    j: u32,
+) -> u32
+    ensures { λ r. ⌜ Promise (c-store k i f j) (geometryOf segments) (now (mem .entry)) (unpack r) (now (mem .exit)) ⌝ }
+{
+    packed(storing::store(geometry(segments), mem, k, i, f, j))
+}
+
+#[no_mangle]
+pub extern "C" fn borvukhai_put(
+    segments: u32,
+    mem: &mut [u32],
+    k: u32,
+    i: u32,
+    f: u32,
+    v: u32,
+) -> u32
+    ensures { λ r. ⌜ Promise (c-put k i f v) (geometryOf segments) (now (mem .entry)) (unpack r) (now (mem .exit)) ⌝ }
+{
+    packed(field_calls::put(geometry(segments), mem, k, i, f, v))
+}
+
+#[no_mangle]
+pub extern "C" fn borvukhai_get(segments: u32, mem: &[u32], k: u32, i: u32, f: u32) -> u64
+    ensures { λ r. ⌜ Promise (c-get k i f) (geometryOf segments) (now (mem .entry)) (unpackNumber r) (now (mem .entry)) ⌝ }
+{
+    packed_value(field_calls::get(geometry(segments), mem, k, i, f))
+}
