@@ -8,3 +8,4 @@ pub mod Walks
 pub mod Freeing
 pub mod Guarantee
 pub mod Keeping
+pub mod Independent

@@ -1,4 +1,5 @@
 -- The statement of the guarantee, and what stands beside it.
 pub mod Demand3
 pub mod Keeping
+pub mod Independent
 pub mod Instance

@@ -7,9 +7,8 @@ use mathlib.Core.List.{List, _∷_, _++_}
 use Prim.Native.Nat.{ℕ, suc, _-_, _<_}
 use native.Mathlib.Omega.{arith}
 use lib.ListN.{length}
-use borrow.Author.Tests.{lt-ltb, eqb-true}
+use borrow.Author.Tests.{eqb-true}
 use Rattle.rules.specs.Pick.{pick}
-use Rattle.words.specs.Bits.{bitAt}
 use Rattle.layout.specs.declared.Geometry.{Geometry}
 use Rattle.layout.specs.Geometry.{wrongSize, blocksIn}
 use Rattle.layout.specs.Mem.{Mem, memOf}
@@ -20,12 +19,13 @@ use Rattle.model.specs.declared.Answer.the-variants.{Ok}
 use Rattle.model.specs.declared.Step.{Step}
 use Rattle.model.specs.declared.Step.the-variants.{Waiting, Moved, Traced, Swept, Done, Idle, Refused}
 use Rattle.model.specs.Answers.{stepRefusalOf}
-use Rattle.model.specs.Fields.{tag, class, place}
-use Rattle.model.specs.Segments.{bitmap, usedBit, inUse}
+use Rattle.model.specs.Fields.{tag, class}
+use Rattle.model.specs.Segments.{usedBit, inUse}
 use Rattle.model.specs.Records.{headerOf}
 use Rattle.model.specs.Collector.{isFull, stepOf, stepIn, sweeps, swept}
 use Rattle.model.proofs.Collecting.{collects-full}
-use Rattle.model.specs.Consistent.{Consistent, IsClass}
+use Rattle.model.proofs.InUse.{full-used}
+use Rattle.model.specs.Consistent.{IsClass}
 use Rattle.model.specs.Lists.{Element, started, stepped, Meets, KeepsLength, Gets, wrongSized, onward, Chain, Ghost, ghostAfter, BlockReached}
 use Rattle.refine_view.specs.View.{view, isUsed}
 use Rattle.refine_view.proofs.Invariants.{consistent-ordered}
@@ -46,12 +46,6 @@ reached-used : (g : Geometry) (u : List ℕ) (w : Ghost) (P : ℕ → Type 0) (a
 reached-used g u w P at p r =
     let q = reach-down (w .put) (view g (memOf g u)) (w .heap) (p .good .sim) (r .reached) in
     subst (λ z. isUsed g (memOf g u) z ≡ true) (p .good .sim .inj (q .0) at (r .number) (q .1) (r .last)) (p .good .inv .valid (q .0) (reached-live (view g (memOf g u)) (q .2)))
-
--- every block of a full segment is in use
-full-used : (g : Geometry) (m : Mem) → Consistent g m → (s b : ℕ) → s < g .segments → tag m s ≡ Tag.full → b < blocksIn g (class m s) → usedBit g m s b ≡ 1
-full-used g m c s b l t h =
-    let e : place m s ≡ blocksIn g (class m s) = c .sound .segments s l .full t in
-    ap (λ (x : Bool). pick x 1 (bitAt (bitmap g m s) b)) (lt-ltb b (place m s) (omega arith))
 
 -- the number of blocks that a step says it freed
 abbrev freedIn : Step → ℕ
@@ -109,7 +103,7 @@ module _ (g : Geometry) (w₀ : List ℕ) (v : Ghost) (p : Point g w₀ v Any) (
               (subst (λ u. isUsed g u (headerOf g s (class m s) (b .0)) ≡ true) (x .memory ∙ y .leaves)
               (reached-used g after v₁ Then (headerOf g s (class m s) (b .0)) (x .point) (subst (λ u. BlockReached u (headerOf g s (class m s) (b .0))) (sym still) (subst (λ u. BlockReached v (headerOf g s u (b .0))) (sym e) r))));
         };
-        used = full-used g (memOf g w₀) (p .consistent) s (b .0) (o .0) t h;
+        used = full-used g (memOf g w₀) s (p .consistent .sound .segments s (o .0)) t (b .0) h;
       }
 
 -- ---- from the opening on

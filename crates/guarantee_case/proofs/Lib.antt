@@ -6,3 +6,4 @@ pub mod Case
 pub mod Freed
 pub mod GarbageFound
 pub mod Instance
+pub mod SoundOnly

@@ -1,3 +1,4 @@
 -- Laws of the definitions.
 pub mod Phases
 pub mod Collecting
+pub mod InUse

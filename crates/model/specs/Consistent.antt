@@ -1,6 +1,6 @@
--- The consistency of the memory: what the examination decides, "the consistency definition that an opening establishes and every call
--- keeps. That definition binds the links of records reachable from slots or trace stack only." Two halves: `Summed`, what can be built again
--- from the other words (the bitmaps' trees over their level 0, the stacks of segments), and `Sound`, which reads nothing of that.
+-- The consistency of the memory: what the examination decides, "the consistency definition that an opening
+-- establishes and every call keeps". Two halves: `Summed`, of what can be built again from the other words (the
+-- bitmaps' trees over their level 0, the stacks of segments), and `Sound`, which reads nothing of that.
 use mathlib.Core.Path.{_≡_}
 use mathlib.Core.Bool.{Bool, true, _&&_}
 use Prim.Native.Nat.{ℕ, suc, _+_, _*_, _%_, _≤_, _<_}
@@ -13,6 +13,7 @@ use Rattle.layout.specs.declared.Geometry.{Geometry}
 use Rattle.layout.specs.Geometry.{mutatorCount, mutatorWords, entryWords, segmentWords, mostBlocks, blocksIn, segmentOf, bitIn}
 use Rattle.layout.specs.Mem.{Mem, controlWord, mutatorWord, traceWord}
 use Rattle.theory.specs.Phases.{Phase, idle, sync1, sync2, mark, sweep}
+use Rattle.model.specs.Rules.{phaseNumber}
 use Rattle.model.specs.Fields.{phase, traceCount, absent, outside, state, acks, holding, tag, class, place, owner}
 use Rattle.model.specs.Segments.{freeStack, partStack, count, entry, above, bitmap, usedBit}
 use Rattle.model.specs.Records.{pointers, values, blockWords, blockOf, marked, queued}
@@ -32,31 +33,37 @@ pub record SegmentOk (g : Geometry) (m : Mem) (s : ℕ) : Type 0 where
   pub free : tag m s ≡ Tag.free → (class m s ≡ 0) × (place m s ≡ 0) × (owner m s ≡ 0)
   pub unowned : (tag m s ≡ Tag.held → ⊥) → owner m s ≡ 0
   pub classes : (tag m s ≡ Tag.free → ⊥) → IsClass (class m s)
-  -- part and held: a free block remains at or after the place, for else the segment "becomes full in the same call"
-  pub remains : (Tag.part ≤ tag m s) → (tag m s ≤ Tag.held) → (b : ℕ) × (place m s ≤ b) × (b < blocksIn g (class m s)) × (bitAt (bitmap g m s) b ≡ 0)
-  -- "A full segment's place is its number of blocks,
+  -- part and held: "When no free block remains at or after the new place, the segment becomes full in the same call"
+  pub remains : (Tag.part ≤ tag m s) → (tag m s ≤ Tag.held)
+      → (b : ℕ) × (place m s ≤ b) × (b < blocksIn g (class m s)) × (bitAt (bitmap g m s) b ≡ 0)
+  -- "A full segment's place is its number of blocks, kept when it is condemned."
   pub full : tag m s ≡ Tag.full → place m s ≡ blocksIn g (class m s)
-  -- kept when it is condemned."
   pub condemned : tag m s ≡ Tag.condemned → place m s ≡ blocksIn g (class m s)
-  -- held: the mutator is attached and holds it
-  pub held : tag m s ≡ Tag.held → (owner m s < mutatorCount) × (state m (owner m s) ≡ absent → ⊥) × (holding m (owner m s) (class m s) ≡ suc s)
+  -- the mutator of a held segment is attached, and the segment is the one it holds of that class
+  pub held : tag m s ≡ Tag.held
+      → (owner m s < mutatorCount) × (state m (owner m s) ≡ absent → ⊥) × (holding m (owner m s) (class m s) ≡ suc s)
 
--- a part or held segment has a block in use: a sweep that finds no mark makes it free, and a make that takes a free one hands out a block of it
+-- A part or held segment has a block in use: one that a sweep finds without a mark is free, and a make hands out a
+-- block of the free one that it takes. (So it is no part of `SegmentOk`: between the two steps of a make it does not
+-- hold.)
 abbrev pub Occupied : Geometry → Mem → ℕ → Type 0
 Occupied g m s = (Tag.part ≤ tag m s) → (tag m s ≤ Tag.held) → (b : ℕ) × (b < blocksIn g (class m s)) × (usedBit g m s b ≡ 1)
 
 -- ---- one mutator
 
 pub record MutatorOk (g : Geometry) (m : Mem) (k : ℕ) : Type 0 where
-  -- absent, inside or outside; "roll 1, roll 2": no acknowledgement, one or both
+  -- absent, "inside or outside"; none of the two answers of a cycle, one or both
   pub states : state m k ≤ outside
   pub acknowledged : acks m k ≤ 2
-  -- "detach: slots emptied"; an absent mutator's entry has nothing else either
+  -- "detach: slots emptied; held segments go to part": an absent mutator's words are 0
   pub gone : state m k ≡ absent → (i : ℕ) → i < entryWords → mutatorWord m (k * mutatorWords + i) ≡ 0
-  -- what it holds is held by it, one of each class
-  pub holds : (c s : ℕ) → IsClass c → holding m k c ≡ suc s → (s < g .segments) × (tag m s ≡ Tag.held) × (class m s ≡ c) × (owner m s ≡ k)
+  -- "the script's held segment of that class": what it holds is held by it
+  pub holds : (c s : ℕ) → IsClass c → holding m k c ≡ suc s
+      → (s < g .segments) × (tag m s ≡ Tag.held) × (class m s ≡ c) × (owner m s ≡ k)
 
--- the acknowledgements of an attached mutator, by the phase: none is behind, and none ahead in roll 1
+-- The acknowledgements of an attached mutator, by the phase: "If inside scripts still owe .. waiting", so in roll 2
+-- each has given its first and in mark its second; in roll 1 none has given the second. In idle and sweep they bind
+-- nothing: a start begins anew.
 abbrev pub AcksIn : Phase → ℕ → Type 0
 AcksIn idle a = Unit
 AcksIn sync1 a = a ≤ 1
@@ -64,7 +71,7 @@ AcksIn sync2 a = 1 ≤ a
 AcksIn mark a = 2 ≤ a
 AcksIn sweep a = Unit
 
--- ---- one stack: exactly the segments that pass a test, each once, and its count is their number
+-- ---- one stack: exactly the segments that pass a test, each once; its count is their number, so one more has room
 
 pub record StackOk (g : Geometry) (m : Mem) (t : ℕ) (test : ℕ → Bool) : Type 0 where
   pub number : count g m t ≡ onesAmong (λ s. oneIf (test s)) (g .segments)
@@ -80,8 +87,8 @@ isPart m c s = eqb (tag m s) Tag.part && eqb (class m s) c
 
 -- ---- the first half: bitmap trees and stacks
 
--- "A bit above level 0 is 1 exactly when its word below is all ones. Bits past a level's end are 1." "A free segment has no place, and its
--- bitmap words bind nothing."
+-- "A bit above level 0 is 1 exactly when its word below is all ones. Bits past a level's end are 1." "A free
+-- segment has no place, and its bitmap words bind nothing."
 abbrev pub TreeOk : Geometry → Mem → ℕ → Type 0
 TreeOk g m s = (tag m s ≡ Tag.free → ⊥) → Tree (above g (class m s)) (blocksIn g (class m s)) (bitmap g m s)
 
@@ -91,7 +98,7 @@ pub record Summed (g : Geometry) (m : Mem) : Type 0 where
   pub freeSegments : StackOk g m freeStack (isFree m)
   pub partSegments : (c : ℕ) → IsClass c → StackOk g m (partStack c) (isPart m c)
 
--- ---- one live record: it lies at the head of a block in use, of the segment's class
+-- ---- one live record: at the head of a block in use, whose class is "the smallest whose block holds" it
 
 pub record RecordOk (g : Geometry) (m : Mem) (at : ℕ) : Type 0 where
   pub inside : at < g .segments * segmentWords g
@@ -100,16 +107,19 @@ pub record RecordOk (g : Geometry) (m : Mem) (at : ℕ) : Type 0 where
   pub block : usedBit g m (segmentOf g at) (blockOf g m at) ≡ 1
   pub sized : classOf (pointers m at + values m at) ≡ Class (class m (segmentOf g at))
 
--- ---- the trace stack: entries are records, distinct and unmarked, and the queued bits are theirs
+-- ---- the trace stack
 
 pub record TraceOk (g : Geometry) (m : Mem) : Type 0 where
+  -- "Entering nil, a marked record, or one already on the stack does nothing."
   pub named : (i : ℕ) → i < traceCount m → 1 ≤ traceWord m i
   pub once : (i j : ℕ) → i < j → j < traceCount m → traceWord m i ≡ traceWord m j → ⊥
   pub unmarked : (at : ℕ) → IsEntry m at → marked g m at ≡ 0
+  -- the queued bits are those of the entries: each has its bit, and there are no more bits than entries, so that
+  -- there is room for one more
   pub bits : (at : ℕ) → IsEntry m at → queued g m at ≡ 1
   pub number : traceCount m ≡ onesAmong (bitAt (m .queued)) (g .segments * mostBlocks g)
 
--- ---- marks
+-- ---- marks: of blocks in use only, so that a block that is handed out has none yet
 
 -- bit b of segment s is of a block in use
 pub record BlockInUse (g : Geometry) (m : Mem) (s b : ℕ) : Type 0 where
@@ -119,32 +129,42 @@ pub record BlockInUse (g : Geometry) (m : Mem) (s b : ℕ) : Type 0 where
 
 -- only blocks in use of the segments of a test have marks
 abbrev pub MarksOf : Geometry → Mem → (ℕ → Type 0) → Type 0
-MarksOf g m test = (s b : ℕ) → s < g .segments → test s → b < mostBlocks g → bitAt (m .marks) (bitIn g s b) ≡ 1 → BlockInUse g m s b
+MarksOf g m test =
+    (s b : ℕ) → s < g .segments → test s → b < mostBlocks g → bitAt (m .marks) (bitIn g s b) ≡ 1 → BlockInUse g m s b
 
--- the tricolour invariant: roots of mutators that have acknowledged twice, and pointers of live marked records, are covered
+-- ---- the tricolour invariant: no record is hidden "behind a traced one"
+
+-- roots of mutators that have acknowledged twice, and pointers of live marked records, are covered
 pub record Tricolour (g : Geometry) (m : Mem) : Type 0 where
   pub roots : (at : ℕ) → (r : IsRoot m at) → 2 ≤ acks m (r .mutator) → Covered g m at
   pub edges : (x y : ℕ) → Live m x → marked g m x ≡ 1 → PointsTo m x y → Covered g m y
 
--- what the phase asks besides
+-- ---- by the phase
+
 abbrev pub InPhase : Phase → Geometry → Mem → Type 0
+-- "the trace stack empty and the phase idle"; no segment is condemned: "With none left: idle"
 InPhase idle g m = (traceCount m ≡ 0) × ((s : ℕ) → s < g .segments → tag m s ≡ Tag.condemned → ⊥)
+-- "all marks are cleared, the phase is roll 1", and none is set before roll 2
 InPhase sync1 g m = (k : ℕ) → k < g .segments * mostBlocks g → bitAt (m .marks) k ≡ 0
 InPhase sync2 g m = MarksOf g m (λ s. Unit {0}) × Tricolour g m
 InPhase mark g m = MarksOf g m (λ s. Unit {0}) × Tricolour g m
+-- "With an empty stack: sweep": what is reached is marked, and that is asked only of the condemned segments, whose
+-- marks are still to be read
 InPhase sweep g m =
     (traceCount m ≡ 0)
     × MarksOf g m (λ s. tag m s ≡ Tag.condemned)
     × ((at : ℕ) → Reached m at → tag m (segmentOf g at) ≡ Tag.condemned → marked g m at ≡ 1)
 
--- ---- the second half: all the rest
+-- ---- the second half: all the rest; no upper level of a bitmap, no bit past a level's end and no stack of segments
 
 pub record Sound (g : Geometry) (m : Mem) : Type 0 where
-  pub phases : controlWord m 0 ≤ 4
+  -- "Phases are idle, roll 1, roll 2, mark and sweep"
+  pub phases : controlWord m 0 ≤ phaseNumber sweep
   pub segments : (s : ℕ) → s < g .segments → SegmentOk g m s
   pub occupied : (s : ℕ) → s < g .segments → Occupied g m s
   pub mutators : (k : ℕ) → k < mutatorCount → MutatorOk g m k
   pub acknowledgements : (k : ℕ) → k < mutatorCount → (state m k ≡ absent → ⊥) → AcksIn (phase m) (acks m k)
+  -- "That definition binds the links of records reachable from slots or trace stack only."
   pub records : (at : ℕ) → Live m at → RecordOk g m at
   pub trace : TraceOk g m
   pub cycle : InPhase (phase m) g m
