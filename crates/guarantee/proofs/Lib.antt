@@ -1,10 +1,14 @@
 -- The proof of the guarantee.
 pub mod Kept
-pub mod Striking
+pub mod Numbers
+pub mod Putting
 pub mod Refused
-pub mod Points
+pub mod Acting
+pub mod Coupling
 pub mod Elements
 pub mod Walks
+pub mod Beginning
+pub mod Cycle
 pub mod Freeing
 pub mod Guarantee
 pub mod Keeping

@@ -1,8 +1,8 @@
 -- A refusal leaves the memory as it was, by the definitions alone, and "no room" by where a make finds no segment. Assumes nothing.
-use mathlib.Core.Path.{_≡_, refl, _∙_, ap}
+use mathlib.Core.Path.{_≡_, refl, sym, _∙_, ap}
 use mathlib.Core.Logic.{_⊎_, inl, inr}
 use mathlib.Core.Bool.{Bool, true, false}
-use mathlib.Core.Option.{Option, none, some}
+use mathlib.Core.Option.{Option, none, some, Option·some-injective}
 use Prim.Native.Nat.{ℕ, zero, suc, _+_, _≤_}
 use native.Mathlib.Omega.{arith}
 use Rattle.rules.specs.Pick.{pick}
@@ -15,28 +15,29 @@ use Rattle.bitmap_search.specs.declared.Found.{Found}
 use Rattle.bitmap_search.specs.declared.Found.the-variants.{Block, Nothing, Torn}
 use Rattle.theory.specs.Phases.{Phase, idle, sync1, sync2, mark, sweep, inHandshake}
 use Rattle.theory.specs.Calls.{Call, c-attach, c-detach, c-check, c-leave, c-enter, c-spawn, c-make, c-load, c-store, c-copy, c-clear, c-put, c-get, c-same, c-shape, Answer, a-ok, a-no, refusal, refuse, unless, onRecord}
+use Rattle.theory.proofs.Invariant.{none-some}
 use Rattle.model.specs.Fields.{phase, place, root}
 use Rattle.model.specs.Segments.{free, freeStack, partStack, pop}
 use Rattle.model.specs.Records.{record?}
 use Rattle.model.specs.Making.{Source, held, part, unused, noRoom, sourceOf, takes, freshened, inBlock, fromSource, made}
 use Rattle.model.specs.Calls.{observe, act, exec, ofClass}
 use Rattle.model.specs.Collector.{startIn, startOf, started, anyFull}
-use Rattle.guarantee.proofs.Striking.{kindOf, refusal-stays}
+use Rattle.guarantee.proofs.Numbers.{numberIn, refusal-stays}
 
 -- no result is a refusal
-result : {A : Type 0} (a : Answer) (n : ℕ) → kindOf a ≤ 1 → a ≡ a-no n → A
-result a n l e = absurd (let z : kindOf a ≡ suc (suc n) = ap kindOf e in omega arith)
+result : {A : Type 0} (a : Answer) (n : ℕ) → numberIn a ≡ none → a ≡ a-no n → A
+result a n l e = none-some (sym l ∙ ap numberIn e)
 
 unless-same : (b : Bool) (m m′ : Mem) (n : ℕ) → unless b 11 m m′ .0 ≡ a-no n → unless b 11 m m′ .1 ≡ m
 unless-same true m m′ n e = refl
-unless-same false m m′ n e = result a-ok n (omega arith) e
+unless-same false m m′ n e = result a-ok n refl e
 
-record-same : (o : Option ℕ) (m : Mem) (K : ℕ → Answer × Mem) (n : ℕ) → ((at : ℕ) → kindOf (K at .0) ≤ 1) → onRecord o m K .0 ≡ a-no n → onRecord o m K .1 ≡ m
+record-same : (o : Option ℕ) (m : Mem) (K : ℕ → Answer × Mem) (n : ℕ) → ((at : ℕ) → numberIn (K at .0) ≡ none) → onRecord o m K .0 ≡ a-no n → onRecord o m K .1 ≡ m
 record-same none m K n h e = refl
 record-same (some at) m K n h e = result (K at .0) n (h at) e
 
 block-same : (g : Geometry) (m m₁ : Mem) (f : Found) (k d c s p q n : ℕ) → inBlock g m m₁ f k d c s p q .0 ≡ a-no n → inBlock g m m₁ f k d c s p q .1 ≡ m
-block-same g m m₁ (Block b) k d c s p q n e = result a-ok n (omega arith) e
+block-same g m m₁ (Block b) k d c s p q n e = result a-ok n refl e
 block-same g m m₁ Nothing k d c s p q n e = refl
 block-same g m m₁ Torn k d c s p q n e = refl
 
@@ -56,18 +57,18 @@ unfolding act
 act-same g m (c-attach k) n e = unless-same (inHandshake (phase m)) m _ n e
 act-same g m (c-spawn k p i) n e = unless-same (inHandshake (phase m)) m _ n e
 act-same g m (c-detach k) n e = unless-same (inHandshake (phase m)) m _ n e
-act-same g m (c-check k) n e = result a-ok n (omega arith) e
-act-same g m (c-leave k) n e = result a-ok n (omega arith) e
-act-same g m (c-enter k) n e = result a-ok n (omega arith) e
+act-same g m (c-check k) n e = result a-ok n refl e
+act-same g m (c-leave k) n e = result a-ok n refl e
+act-same g m (c-enter k) n e = result a-ok n refl e
 act-same g m (c-make k d p q) n e = made-same g m k d p q (classOf (p + q)) n e
-act-same g m (c-load k d i f) n e = record-same (record? (root m k i)) m _ n (λ at. omega arith) e
-act-same g m (c-store k i f j) n e = record-same (record? (root m k i)) m _ n (λ at. omega arith) e
-act-same g m (c-copy k d i) n e = result a-ok n (omega arith) e
-act-same g m (c-clear k d) n e = result a-ok n (omega arith) e
-act-same g m (c-put k i f v) n e = record-same (record? (root m k i)) m _ n (λ at. omega arith) e
-act-same g m (c-get k i f) n e = record-same (record? (root m k i)) m _ n (λ at. omega arith) e
+act-same g m (c-load k d i f) n e = record-same (record? (root m k i)) m _ n (λ at. refl) e
+act-same g m (c-store k i f j) n e = record-same (record? (root m k i)) m _ n (λ at. refl) e
+act-same g m (c-copy k d i) n e = result a-ok n refl e
+act-same g m (c-clear k d) n e = result a-ok n refl e
+act-same g m (c-put k i f v) n e = record-same (record? (root m k i)) m _ n (λ at. refl) e
+act-same g m (c-get k i f) n e = record-same (record? (root m k i)) m _ n (λ at. refl) e
 act-same g m (c-same k i j) n e = refl
-act-same g m (c-shape k i) n e = record-same (record? (root m k i)) m _ n (λ at. omega arith) e
+act-same g m (c-shape k i) n e = record-same (record? (root m k i)) m _ n (λ at. refl) e
 
 pub exec-same : (g : Geometry) (m : Mem) (c : Call) (n : ℕ) → exec g m c .0 ≡ a-no n → exec g m c .1 ≡ m
 unfolding exec
@@ -77,28 +78,33 @@ exec-same g m c n e = go (refusal (observe m) c) e
     go zero e = act-same g m c n e
     go (suc x) e = refl
 
-pub start-same : (g : Geometry) (m : Mem) (n : ℕ) → startOf g m .0 ≡ a-no n → (startOf g m .1 ≡ m) × (n ≤ 12)
+-- a start begins a cycle, or is refused 11 or 12
+pub start-either : (g : Geometry) (m : Mem) → ((phase m ≡ idle) × (startOf g m ≡ (a-ok, started g m))) ⊎ ((n : ℕ) × (n ≤ 12) × (startOf g m ≡ (a-no n, m)))
 unfolding startOf
-start-same g m n e = go (phase m) e
+start-either g m = go (phase m) refl
   where
-    number : (x : ℕ) → x ≤ 12 → a-no x ≡ a-no n → n ≤ 12
-    number x l q = let z : suc (suc x) ≡ suc (suc n) = ap kindOf q in omega arith
+    any : (b : Bool) → phase m ≡ idle → ((phase m ≡ idle) × (pick {A = Answer × Mem} b (a-ok, started g m) (a-no 12, m) ≡ (a-ok, started g m))) ⊎ ((n : ℕ) × (n ≤ 12) × (pick {A = Answer × Mem} b (a-ok, started g m) (a-no 12, m) ≡ (a-no n, m)))
+    any true i = inl (i, refl)
+    any false i = inr (12, omega arith, refl)
 
-    any : (b : Bool) → pick {A = Answer × Mem} b (a-ok, started g m) (a-no 12, m) .0 ≡ a-no n → (pick {A = Answer × Mem} b (a-ok, started g m) (a-no 12, m) .1 ≡ m) × (n ≤ 12)
-    any true q = result a-ok n (omega arith) q
-    any false q = (refl, number 12 (omega arith) q)
+    go : (p : Phase) → phase m ≡ p → ((phase m ≡ idle) × (startIn p g m ≡ (a-ok, started g m))) ⊎ ((n : ℕ) × (n ≤ 12) × (startIn p g m ≡ (a-no n, m)))
+    go idle i = any (anyFull m (g .segments)) i
+    go sync1 i = inr (11, omega arith, refl)
+    go sync2 i = inr (11, omega arith, refl)
+    go mark i = inr (11, omega arith, refl)
+    go sweep i = inr (11, omega arith, refl)
 
-    go : (p : Phase) → startIn p g m .0 ≡ a-no n → (startIn p g m .1 ≡ m) × (n ≤ 12)
-    go idle q = any (anyFull m (g .segments)) q
-    go sync1 q = (refl, number 11 (omega arith) q)
-    go sync2 q = (refl, number 11 (omega arith) q)
-    go mark q = (refl, number 11 (omega arith) q)
-    go sweep q = (refl, number 11 (omega arith) q)
+pub start-number : (g : Geometry) (m : Mem) (n : ℕ) → startOf g m .0 ≡ a-no n → n ≤ 12
+start-number g m n e = go (start-either g m)
+  where
+    go : ((phase m ≡ idle) × (startOf g m ≡ (a-ok, started g m))) ⊎ ((x : ℕ) × (x ≤ 12) × (startOf g m ≡ (a-no x, m))) → n ≤ 12
+    go (inl h) = result a-ok n refl (sym (ap (λ y. y .0) (h .1)) ∙ e)
+    go (inr h) = let z : h .0 ≡ n = Option·some-injective (h .0) n (ap numberIn (sym (ap (λ y. y .0) (h .2)) ∙ e)) in omega (arith, h .1)
 
 -- ---- 10: no lower number applies, and there is no segment to take from
 
 other : {A : Type 0} (x y : ℕ) → (x ≡ y → ⊥) → a-no x ≡ a-no y → A
-other x y f e = absurd (f (let z : suc (suc x) ≡ suc (suc y) = ap kindOf e in omega arith))
+other x y f e = absurd (f (Option·some-injective x y (ap numberIn e)))
 
 pub record Roomless (g : Geometry) (m : Mem) (k d p q : ℕ) : Type 0 where
   pub lower : refusal (observe m) (c-make k d p q) ≡ 0
@@ -111,7 +117,7 @@ unfolding exec act made
 roomless-of g m k d p q e = go (refusal (observe m) (c-make k d p q)) refl (refusal-stays (observe m) (c-make k d p q) .either) e
   where
     block : (m₁ : Mem) (f : Found) (c s : ℕ) → inBlock g m m₁ f k d c s p q .0 ≡ a-no 10 → ⊥
-    block m₁ (Block b) c s e = result a-ok 10 (omega arith) e
+    block m₁ (Block b) c s e = result a-ok 10 refl e
     block m₁ Nothing c s e = other 13 10 (λ z. omega arith) e
     block m₁ Torn c s e = other 13 10 (λ z. omega arith) e
 

@@ -3,17 +3,15 @@
 -- keeps its length.
 use mathlib.Core.Path.{_≡_}
 use mathlib.Core.Logic.{_⊎_}
-use mathlib.Core.Bool.{Bool, true, false}
-use mathlib.Core.Option.{none}
-use mathlib.Core.List.{List, [], _∷_, _++_}
+use mathlib.Core.Bool.{Bool, true}
+use mathlib.Core.List.{List, _∷_, _++_}
 use Prim.Native.Nat.{ℕ, _<_}
 use lib.Dec.{eqb}
-use lib.ListN.{length}
 use Rattle.rules.specs.Pick.{pick}
 use Rattle.layout.specs.declared.Geometry.{Geometry}
-use Rattle.layout.specs.Geometry.{wrongSize, blocksIn}
+use Rattle.layout.specs.Geometry.{blocksIn}
 use Rattle.layout.specs.Mem.{Mem, memOf}
-use Rattle.theory.specs.Unbounded.{empty, uanswers}
+use Rattle.theory.specs.Unbounded.{uanswers}
 use Rattle.model.specs.declared.Answer.the-variants.{Ok}
 use Rattle.model.specs.declared.Step.the-variants.{Swept}
 use Rattle.model.specs.Fields.{class}
@@ -21,21 +19,11 @@ use Rattle.model.specs.Segments.{usedBit}
 use Rattle.model.specs.Records.{headerOf}
 use Rattle.model.specs.Collector.{isFull}
 use Rattle.model.specs.Consistent.{isFree}
-use Rattle.model.specs.Promise.{OpenPromise}
-use Rattle.model.specs.Lists.{Element, started, stepped, Chain, onward, remainingCalls, remainingAnswers, Ghost, ghostAfter, BlockReached}
+use Rattle.model.specs.Lists.{Element, started, stepped, Chain, Ghost, BlockReached, Begins, remainingCalls, remainingAnswers, ghostAfter}
 
 -- "Strike out .. every call refused "size", "no room" or "not now""
 abbrev pub struckOut : ℕ → Bool
 struckOut n = pick (eqb n 1) true (pick (eqb n 10) true (eqb n 11))
-
--- the unbounded heap at an opening: no record, and none put into a block
-abbrev pub ghostStart : Ghost
-ghostStart = record { heap = empty; put = λ at. none }
-
--- the memory after a list of calls
-abbrev pub wordsAfter : List ℕ → List Element → List ℕ
-wordsAfter words [] = words
-wordsAfter words (e ∷ es) = wordsAfter (onward words e) es
 
 -- "Free .. : the block is not in use, or its segment is free."
 abbrev pub BlockFree : Geometry → Mem → ℕ → ℕ → Type 0
@@ -61,23 +49,17 @@ pub record SweptIn (g : Geometry) (es : List Element) : Type 0 where
   pub whole : es ≡ before ++ (started g startBefore Ok startAfter ∷ (during ++ (stepped g stepBefore (Swept segment freed) stepAfter ∷ rest)))
   pub oneStart : (xs ys : List Element) (u v : List ℕ) → during ≡ xs ++ (started g u Ok v ∷ ys) → ⊥
 
--- the opening: of memory of any content, not refused
-pub record Opened (g : Geometry) (content words : List ℕ) : Type 0 where
-  pub sized : wrongSize g (length content) ≡ false
-  pub opening : OpenPromise g content Ok words
-  pub long : length words ≡ length content
-
 -- "the remaining answers, one by one and in order, equal those that document 01's endless rack .. gives to the same calls"
 abbrev pub SameAnswers : Type 0
 SameAnswers =
-    (g : Geometry) (content words : List ℕ) (es : List Element) → Opened g content words → Chain g words es
-    → remainingAnswers struckOut es ≡ uanswers empty (remainingCalls struckOut es)
+    (g : Geometry) (words : List ℕ) (w : Ghost) (es : List Element) → Begins g words w → Chain g words es
+    → remainingAnswers struckOut es ≡ uanswers (w .heap) (remainingCalls struckOut es)
 
 -- "a block in a segment that was full when the cycle began, which no script could then reach, is free once that segment is swept"
 abbrev pub GarbageFreed : Type 0
 GarbageFreed =
-    (g : Geometry) (content words : List ℕ) (es : List Element) → Opened g content words → Chain g words es → (c : SweptIn g es) (s b : ℕ)
-    → isFull (memOf g (c .startBefore)) s ≡ true → Unreached g (memOf g (c .startBefore)) (ghostAfter struckOut ghostStart (c .before)) s b → s ≡ c .segment
+    (g : Geometry) (words : List ℕ) (w : Ghost) (es : List Element) → Begins g words w → Chain g words es → (c : SweptIn g es) (s b : ℕ)
+    → isFull (memOf g (c .startBefore)) s ≡ true → Unreached g (memOf g (c .startBefore)) (ghostAfter struckOut w (c .before)) s b → s ≡ c .segment
     → BlockFree g (memOf g (c .stepAfter)) s b
 
 pub record Demand3 : Type 0 where

@@ -10,8 +10,8 @@ use Rattle.theory.specs.Calls.{c-check, c-clear, c-load, c-put, c-get, a-ok}
 use Rattle.model.specs.declared.Answer.the-variants.{Ok, Number}
 use Rattle.model.specs.Segments.{usedBit}
 use Rattle.model.specs.Collector.{isFull}
-use Rattle.model.specs.Lists.{Element, called, Chain, remainingCalls, remainingAnswers, ghostAfter}
-use Rattle.guarantee.specs.Demand3.{struckOut, ghostStart, Unreached, SweptIn, Opened}
+use Rattle.model.specs.Lists.{Element, called, Chain, Opened, ghostStart, remainingCalls, remainingAnswers, ghostAfter}
+use Rattle.guarantee.specs.Demand3.{struckOut, Unreached, SweptIn}
 
 pub record Instance : Type 0 where
   pub geometry : Geometry

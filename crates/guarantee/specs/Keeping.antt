@@ -18,10 +18,9 @@ use Rattle.model.specs.Answers.{refusalOf}
 use Rattle.model.specs.Calls.{observe}
 use Rattle.model.specs.Making.{NoRoom}
 use Rattle.model.specs.Opening.{opened}
-use Rattle.model.specs.Run.{Request, run}
+use Rattle.model.specs.Run.{Command, run}
 use Rattle.model.specs.Consistent.{Consistent}
-use Rattle.model.specs.Lists.{Element, called, Meets, KeepsLength, Gets, Chain, lent, left, wrongSized, numberOf}
-use Rattle.guarantee.specs.Demand3.{Opened, wordsAfter}
+use Rattle.model.specs.Lists.{Element, called, Meets, KeepsLength, Gets, wrongSized, numberOf, Chain, wordsAfter, Ghost, Opened, Begins}
 
 -- "the consistency definition that an opening establishes and every call keeps"
 abbrev pub OpeningEstablishes : Type 0
@@ -36,7 +35,7 @@ pub record Applied (g : Geometry) (words : List ℕ) (e : Element) : Type 0 wher
   pub gets : Gets g words e
 
 abbrev pub EveryCallKeeps : Type 0
-EveryCallKeeps = (g : Geometry) (words : List ℕ) (e : Element) → Applied g words e → Consistent g (memOf g (left e))
+EveryCallKeeps = (g : Geometry) (words : List ℕ) (e : Element) → Applied g words e → Consistent g (memOf g (e .after))
 
 -- "Memory that passes the examination never meets 13"
 abbrev pub NeverTorn : Type 0
@@ -45,13 +44,13 @@ NeverTorn = (g : Geometry) (words : List ℕ) (e : Element) → Applied g words 
 -- the memory is consistent at every point of every list from an opening, so that the promises apply to each call
 abbrev pub AlwaysConsistent : Type 0
 AlwaysConsistent =
-    (g : Geometry) (content words : List ℕ) (xs ys : List Element) → Opened g content words → Chain g words (xs ++ ys)
+    (g : Geometry) (words : List ℕ) (w : Ghost) (xs ys : List Element) → Begins g words w → Chain g words (xs ++ ys)
     → Consistent g (memOf g (wordsAfter words xs))
 
 -- "a refusal changes no word of it": nor does one for a size
 abbrev pub RefusedUnchanged : Type 0
 RefusedUnchanged =
-    (g : Geometry) (words : List ℕ) (e : Element) → Meets e → (wrongSized e ≡ true) ⊎ Applied g words e → (n : ℕ) → numberOf e ≡ some n → left e ≡ lent e
+    (g : Geometry) (words : List ℕ) (e : Element) → Meets e → (wrongSized e ≡ true) ⊎ Applied g words e → (n : ℕ) → numberOf e ≡ some n → e .after ≡ e .before
 
 -- "'No room' comes if and only if document 01's condition for it holds and no number that goes before it applies."
 pub record OutOfRoom (g : Geometry) (m : Mem) (k d p n : ℕ) : Type 0 where
@@ -67,9 +66,9 @@ pub record NoRoomExactly : Type 0 where
       → OutOfRoom g (memOf g words) k d p n → refusalOf r ≡ some 10
 
 -- the model's own run, from the words that its opening leaves, is such a list
-pub record OwnRun (g : Geometry) (content : List ℕ) (rs : List Request) : Type 0 where
+pub record OwnRun (g : Geometry) (content : List ℕ) (rs : List Command) : Type 0 where
   pub opening : Opened g content (flat (opened g (memOf g content)))
   pub chain : Chain g (flat (opened g (memOf g content))) (run g (flat (opened g (memOf g content))) rs)
 
 abbrev pub RunsItself : Type 0
-RunsItself = (g : Geometry) (content : List ℕ) (rs : List Request) → wrongSize g (length content) ≡ false → OwnRun g content rs
+RunsItself = (g : Geometry) (content : List ℕ) (rs : List Command) → wrongSize g (length content) ≡ false → OwnRun g content rs

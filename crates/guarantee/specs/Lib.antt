@@ -1,5 +1,6 @@
 -- The statement of the guarantee, and what stands beside it.
 pub mod Demand3
+pub mod Elements
 pub mod Keeping
 pub mod Independent
 pub mod Instance

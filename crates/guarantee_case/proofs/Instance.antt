@@ -9,11 +9,12 @@ use Rattle.layout.specs.declared.Geometry.{Geometry}
 use Rattle.layout.specs.Geometry.{wrongSize, Sized, len, maxSegments}
 use Rattle.layout.specs.Mem.{Mem, memOf, flat, Sizes}
 use Rattle.layout.proofs.Regions.{right-size, length-flat, memOf-flat}
-use Rattle.model.specs.Lists.{ghostAfter}
+use Rattle.model.specs.Lists.{ghostStart, byOpening, ghostAfter}
 use Rattle.model.specs.Run.{run}
-use Rattle.guarantee.specs.Demand3.{struckOut, ghostStart}
+use Rattle.guarantee.specs.Demand3.{struckOut}
 use Rattle.guarantee.specs.Instance.{Instance}
-use Rattle.model_cases.specs.Events.{replies, inputs, outputs, geometry, sevens}
+use Rattle.guarantee.proofs.Cycle.{cycle-of}
+use Rattle.model_cases.specs.Replies.{replies, inputs, outputs, geometry, sevens}
 use Rattle.model_cases.specs.Whole.{whole}
 use Rattle.model_cases.proofs.Whole.{whole-holds}
 use Rattle.guarantee_case.proofs.Silent.{silent-beside}
@@ -27,7 +28,7 @@ use Rattle.layout.specs.Region as Region
 module _ (g : Geometry) (content : List ℕ) (right : wrongSize g (length content) ≡ false) (told : replies g (memOf g content) (inputs whole) ≡ outputs whole) where
   -- the sweep freed one block: it was garbage
   garbage : Found g (memOf g (startWords g content)) (ghostAfter struckOut ghostStart (run g (words g content) beforeStart)) 0
-  garbage = found g content (words g content) (run g (words g content) asked) (own g content right .opening) (own g content right .chain) (swept-in g content right told) 0 refl (silent-beside (ghostAfter struckOut ghostStart (run g (words g content) beforeStart)) g (startEnd g content) tracing)
+  garbage = found g (words g content) ghostStart (run g (words g content) asked) (swept-in g content right told) (cycle-of g (words g content) ghostStart (run g (words g content) asked) (swept-in g content right told) (byOpening (own g content right .opening)) (own g content right .chain)) 0 refl (silent-beside (ghostAfter struckOut ghostStart (run g (words g content) beforeStart)) g (startEnd g content) tracing)
 
   case-from : Instance
   case-from = record {

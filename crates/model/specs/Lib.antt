@@ -14,5 +14,6 @@ pub mod Reaching
 pub mod Consistent
 pub mod Answers
 pub mod Promise
+pub mod Looks
 pub mod Lists
 pub mod Run

@@ -6,7 +6,7 @@ use lib.Dec.{eqb}
 use lib.ListN.{length, replicate}
 use Rattle.layout.specs.declared.Geometry.{Geometry}
 use Rattle.layout.specs.Geometry.{len, scratchWords}
-use Rattle.layout.specs.Mem.{memOf, flat, controlWord}
+use Rattle.layout.specs.Mem.{Mem, memOf, flat, controlWord}
 use Rattle.theory.specs.Calls.{Call, a-ok, a-moved, a-traced, a-done, a-idle, a-num, a-flag, a-shape, a-no, a-waiting, a-swept}
 use Rattle.model.specs.declared.Answer.{Answer}
 use Rattle.model.specs.declared.Answer.the-variants.{Ok, Number, Same, Shape, Refused}
@@ -14,17 +14,23 @@ use Rattle.model.specs.declared.PhaseLook.the-variants.{Phase}
 use Rattle.model.specs.declared.Examined.the-variants.{Yes}
 use Rattle.model.specs.Calls.{exec}
 use Rattle.model.specs.Collector.{startOf, stepOf}
-use Rattle.model.specs.Lists.{Element, called, started, stepped, sawPhase, sawStates, examinedBy, left}
+use Rattle.model.specs.Looks.{Look, sawPhase, sawStates, examinedBy}
+use Rattle.model.specs.Lists.{Event, mutatorCall, startCall, stepCall, lookCall, Element}
 use Rattle.model.specs.declared.Examined.the-variants as examination
 use Rattle.theory.specs.Calls as theory
 use Rattle.layout.specs.Region as Region
 
--- a mutator's call, the collector's calls, and the looks: at the phase, at the segments' states into an output, and the examination with a scratch
-pub data Request : Type 0 where
-  call : Call → Request
-  start step look : Request
-  lookInto : (output : List ℕ) → Request
-  examine : (scratch : List ℕ) → Request
+-- a look that is asked for: at the phase, at the segments' states into an output, or the examination with a scratch
+pub data Query : Type 0 where
+  ofPhase : Query
+  ofStates : (output : List ℕ) → Query
+  ofExamination : (scratch : List ℕ) → Query
+
+-- a mutator's call, one of the collector's calls, or a look
+pub data Command : Type 0 where
+  call : Call → Command
+  start step : Command
+  look : Query → Command
 
 -- an answer of a definition as the declared enum; a mutator's call and start give none of the abstract machine's answers to step
 abbrev pub declared : theory.Answer → Answer
@@ -41,23 +47,35 @@ declared (a-waiting n) = Ok
 declared (a-swept s) = Ok
 
 -- the segments' states, where the output has their length
-abbrev pub shown : Bool → Geometry → List ℕ → List ℕ → Element
-shown true g words output = sawStates g words output Ok (memOf g words .segments)
-shown false g words output = sawStates g words output (Refused 1) output
+abbrev pub shownStates : Bool → Mem → List ℕ → Look
+shownStates true m output = sawStates output Ok (m .segments)
+shownStates false m output = sawStates output (Refused 1) output
 
 -- yes, as along every list from an opening, where the scratch has its length
-abbrev pub examined : Bool → Geometry → List ℕ → List ℕ → Element
-examined true g words scratch = examinedBy g words scratch Yes (replicate (scratchWords g) 0)
-examined false g words scratch = examinedBy g words scratch (examination.Refused 1) scratch
+abbrev pub examined : Bool → Geometry → List ℕ → Look
+examined true g scratch = examinedBy scratch Yes (replicate (scratchWords g) 0)
+examined false g scratch = examinedBy scratch (examination.Refused 1) scratch
 
-abbrev pub answered : Geometry → List ℕ → Request → Element
-answered g words (call c) = called c g words (declared (exec g (memOf g words) c .0)) (flat (exec g (memOf g words) c .1))
-answered g words start = started g words (declared (startOf g (memOf g words) .0)) (flat (startOf g (memOf g words) .1))
-answered g words step = stepped g words (stepOf g (memOf g words) .0) (flat (stepOf g (memOf g words) .1))
-answered g words look = sawPhase g words (Phase (controlWord (memOf g words) 0))
-answered g words (lookInto output) = shown (eqb (length output) (len g Region.segments)) g words output
-answered g words (examine scratch) = examined (eqb (length scratch) (scratchWords g)) g words scratch
+abbrev pub lookOf : Geometry → Mem → Query → Look
+lookOf g m ofPhase = sawPhase (Phase (controlWord m 0))
+lookOf g m (ofStates output) = shownStates (eqb (length output) (len g Region.segments)) m output
+lookOf g m (ofExamination scratch) = examined (eqb (length scratch) (scratchWords g)) g scratch
 
-abbrev pub run : Geometry → List ℕ → List Request → List Element
+-- the event that answers a command, and the memory that it leaves
+abbrev pub answerTo : Geometry → Mem → Command → Event × Mem
+answerTo g m (call c) = (mutatorCall c (declared (exec g m c .0)), exec g m c .1)
+answerTo g m start = (startCall (declared (startOf g m .0)), startOf g m .1)
+answerTo g m step = (stepCall (stepOf g m .0), stepOf g m .1)
+answerTo g m (look q) = (lookCall (lookOf g m q), m)
+
+abbrev pub answered : Geometry → List ℕ → Command → Element
+answered g words r = record {
+  geometry = g;
+  before = words;
+  event = answerTo g (memOf g words) r .0;
+  after = flat (answerTo g (memOf g words) r .1);
+}
+
+abbrev pub run : Geometry → List ℕ → List Command → List Element
 run g words [] = []
-run g words (r ∷ rs) = answered g words r ∷ run g (left (answered g words r)) rs
+run g words (r ∷ rs) = answered g words r ∷ run g (answered g words r .after) rs

@@ -1,6 +1,6 @@
 -- The cases of the stacks hold, by computing the definitions. Assumes nothing.
 use mathlib.Core.Path.{refl}
-use Rattle.model_cases.specs.Events.{replies, Holds}
+use Rattle.model_cases.specs.Replies.{replies, Holds}
 use Rattle.model_cases.specs.Stacks.{stacks, fills}
 
 pub stacks-hold : Holds 2 stacks

@@ -1,6 +1,6 @@
 -- The whole case holds, by computing the definitions. Assumes nothing.
 use mathlib.Core.Path.{refl}
-use Rattle.model_cases.specs.Events.{replies, Holds}
+use Rattle.model_cases.specs.Replies.{replies, Holds}
 use Rattle.model_cases.specs.Whole.{whole}
 
 pub whole-holds : Holds 2 whole

@@ -1,5 +1,5 @@
--- Events, the replies to a list of them, and the cases.
-pub mod Events
+-- Inputs, the replies to a list of them, and the cases.
+pub mod Replies
 pub mod Whole
 pub mod Refusals
 pub mod Stacks

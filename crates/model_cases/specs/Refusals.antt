@@ -3,7 +3,7 @@
 use mathlib.Core.Bool.{true, false}
 use mathlib.Core.List.{List, [], _∷_}
 use Rattle.theory.specs.Calls.{c-attach, c-detach, c-check, c-leave, c-enter, c-spawn, c-make, c-load, c-store, c-copy, c-clear, c-put, c-get, c-same, c-shape, a-num, a-flag, a-shape}
-use Rattle.model_cases.specs.Events.{Line, _⇒_, opening, start, call, answer, ok, no}
+use Rattle.model_cases.specs.Replies.{Line, _⇒_, opening, start, call, answer, ok, no}
 
 abbrev pub refusals : List Line
 refusals =

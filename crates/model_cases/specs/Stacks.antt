@@ -5,7 +5,7 @@ use Rattle.theory.specs.Phases.{idle, sync1, mark, sweep}
 use Rattle.theory.specs.Calls.{c-attach, c-detach, c-check, c-make, c-clear, c-same, a-flag}
 use Rattle.model.specs.declared.Step.the-variants.{Moved, Swept, Done}
 use Rattle.model.specs.declared.SegmentState.the-variants.{Free, Part, Held, Full, Condemned}
-use Rattle.model_cases.specs.Events.{Line, _⇒_, opening, start, step, look, call, answer, stepped, seen, ok, no}
+use Rattle.model_cases.specs.Replies.{Line, _⇒_, opening, start, step, look, call, answer, stepped, seen, ok, no}
 
 -- two segments: which comes off a stack first, and that a part segment is taken before a free one
 abbrev pub stacks : List Line

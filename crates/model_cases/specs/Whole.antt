@@ -2,7 +2,7 @@
 use mathlib.Core.List.{List, [], _∷_}
 use Rattle.theory.specs.Calls.{c-attach, c-check, c-make, c-load, c-store, c-clear, c-put, c-get, a-num}
 use Rattle.model.specs.declared.Step.the-variants.{Waiting, Moved, Traced, Swept, Done}
-use Rattle.model_cases.specs.Events.{Line, _⇒_, opening, start, step, call, answer, stepped, ok}
+use Rattle.model_cases.specs.Replies.{Line, _⇒_, opening, start, step, call, answer, stepped, ok}
 
 abbrev pub whole : List Line
 whole =

@@ -1,6 +1,6 @@
 -- The cycles hold, by computing the definitions. Assumes nothing.
 use mathlib.Core.Path.{refl}
-use Rattle.model_cases.specs.Events.{replies, Holds}
+use Rattle.model_cases.specs.Replies.{replies, Holds}
 use Rattle.model_cycles.specs.Cycles.{cycle, barriers, mutators}
 
 pub cycle-holds : Holds 1 cycle

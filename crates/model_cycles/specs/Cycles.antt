@@ -5,7 +5,7 @@ use Rattle.theory.specs.Phases.{idle, sync1, sync2, mark, sweep}
 use Rattle.theory.specs.Calls.{c-attach, c-detach, c-check, c-leave, c-enter, c-spawn, c-make, c-store, c-clear}
 use Rattle.model.specs.declared.Step.the-variants.{Waiting, Moved, Traced, Swept, Done, Idle}
 use Rattle.model.specs.declared.SegmentState.the-variants.{Free, Part, Held, Full, Condemned}
-use Rattle.model_cases.specs.Events.{Line, _⇒_, opening, start, step, look, call, stepped, seen, ok, no}
+use Rattle.model_cases.specs.Replies.{Line, _⇒_, opening, start, step, look, call, stepped, seen, ok, no}
 
 -- one segment, four records, two dropped: two blocks become free, and are handed out again from place 0 on
 abbrev pub cycle : List Line

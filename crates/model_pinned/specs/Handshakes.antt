@@ -5,7 +5,7 @@ use Rattle.theory.specs.Phases.{idle, sync1, sync2, mark}
 use Rattle.theory.specs.Calls.{c-attach, c-detach, c-check, c-leave, c-enter, c-spawn, c-make, c-load, c-store, c-clear, c-shape, a-shape}
 use Rattle.model.specs.declared.Step.the-variants.{Waiting, Moved, Traced, Swept, Done}
 use Rattle.model.specs.declared.SegmentState.the-variants.{Free, Part, Full, Condemned}
-use Rattle.model_cases.specs.Events.{Line, _⇒_, opening, start, step, look, call, answer, stepped, seen, ok, no}
+use Rattle.model_cases.specs.Replies.{Line, _⇒_, opening, start, step, look, call, answer, stepped, seen, ok, no}
 
 abbrev pub handshakes : List Line
 handshakes =

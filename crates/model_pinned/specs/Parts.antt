@@ -4,7 +4,7 @@ use Rattle.theory.specs.Phases.{idle, sync2}
 use Rattle.theory.specs.Calls.{c-attach, c-detach, c-check, c-make, c-clear}
 use Rattle.model.specs.declared.Step.the-variants.{Moved, Traced, Swept, Done}
 use Rattle.model.specs.declared.SegmentState.the-variants.{Part, Held, Full, Condemned}
-use Rattle.model_cases.specs.Events.{Line, _⇒_, opening, start, step, look, call, stepped, seen, ok}
+use Rattle.model_cases.specs.Replies.{Line, _⇒_, opening, start, step, look, call, stepped, seen, ok}
 
 abbrev pub parts : List Line
 parts =

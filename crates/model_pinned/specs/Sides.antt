@@ -1,7 +1,7 @@
 -- Which number goes before which: each root of each call, and each call by an outside mutator.
 use mathlib.Core.List.{List, [], _∷_}
 use Rattle.theory.specs.Calls.{c-attach, c-check, c-leave, c-make, c-load, c-store, c-copy, c-clear, c-put, c-same, c-shape}
-use Rattle.model_cases.specs.Events.{Line, _⇒_, opening, call, ok, no}
+use Rattle.model_cases.specs.Replies.{Line, _⇒_, opening, call, ok, no}
 
 abbrev pub sides : List Line
 sides =

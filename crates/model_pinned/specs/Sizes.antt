@@ -4,7 +4,7 @@ use mathlib.Core.Bool.{Bool, true, false}
 use mathlib.Core.List.{List, [], _∷_}
 use Prim.Native.Nat.{ℕ}
 use Rattle.layout.specs.Geometry.{wrongSize}
-use Rattle.model_cases.specs.Events.{geometry}
+use Rattle.model_cases.specs.Replies.{geometry}
 
 -- a segment count, a slice's length, and whether they are refused
 pub record Row : Type 0 where

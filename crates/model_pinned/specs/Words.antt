@@ -2,7 +2,7 @@
 use mathlib.Core.List.{List, [], _∷_}
 use Rattle.theory.specs.Calls.{c-attach, c-detach, c-check, c-leave, c-make, c-store, c-clear, c-put}
 use Rattle.model.specs.declared.Step.the-variants.{Moved, Traced, Swept, Done}
-use Rattle.model_cases.specs.Events.{Line, _⇒_, opening, start, step, call, acknowledgements, marks, heap, stepped, words, ok}
+use Rattle.model_cases.specs.Replies.{Line, _⇒_, opening, start, step, call, acknowledgements, marks, heap, stepped, words, ok}
 
 abbrev pub written : List Line
 written =

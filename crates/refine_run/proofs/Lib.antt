@@ -3,4 +3,5 @@ pub mod Sizing
 pub mod Collecting
 pub mod Answering
 pub mod Meeting
+pub mod Elements
 pub mod Own

@@ -27,12 +27,12 @@ use Rattle.layout.specs.Region as Region
 
 -- an opening, one of the collector's calls, a look, or a mutator's call; and words to be shown: the acknowledgements of the first mutators, a
 -- segment's first mark word, and words of the heap
-pub data Event : Type 0 where
-  opening start step look : Event
-  call : Call → Event
-  acknowledgements : (mutators : ℕ) → Event
-  marks : (segment : ℕ) → Event
-  heap : (from words : ℕ) → Event
+pub data Input : Type 0 where
+  opening start step look : Input
+  call : Call → Input
+  acknowledgements : (mutators : ℕ) → Input
+  marks : (segment : ℕ) → Input
+  heap : (from words : ℕ) → Input
 
 -- an answer; an answer of step; what a look shows: the phase, the segments' states, and the trace stack, its last entry last; and words
 pub data Reply : Type 0 where
@@ -60,8 +60,8 @@ answered r = (answer (r .0), r .1)
 abbrev pub hasStepped : Step × Mem → Reply × Mem
 hasStepped r = (stepped (r .0), r .1)
 
--- one event: its reply, and the memory after it
-abbrev pub does : Geometry → Mem → Event → Reply × Mem
+-- one input: its reply, and the memory after it
+abbrev pub does : Geometry → Mem → Input → Reply × Mem
 does g m opening = (answer a-ok, opened g m)
 does g m start = answered (startOf g m)
 does g m step = hasStepped (stepOf g m)
@@ -71,8 +71,8 @@ does g m (acknowledgements n) = (words (acksOf m n), m)
 does g m (marks s) = (words (take 1 (marksOf g m s)), m)
 does g m (heap i n) = (words (take n (drop i (m .heap))), m)
 
--- the replies to a list of events, in order; to unfold it is to unfold every definition that it stands on
-unfoldable pub replies : Geometry → Mem → List Event → List Reply
+-- the replies to a list of inputs, in order; to unfold it is to unfold every definition that it stands on
+unfoldable pub replies : Geometry → Mem → List Input → List Reply
 unfolding segmentBytes bitOf bitAt withBit withoutBit setBit clearBit onesAmong setControl setMutator setSegment setStack setTrace setHeap setRun spliced nextFree wordFrom packed fullBit summed rebuilt padded completed cleared copied fresh adopted require ifRecord setSegmentState setMarked setQueued clearQueued push pushRoots pushPointers acknowledged attached released detached handedOut made act exec collects condemned anyFull acksReset started startOf outsideAnswered waiting lowest swept stepOf downTo0 opened
 replies g m [] = []
 replies g m (e ∷ es) = let r = does g m e in r .0 ∷ replies g (r .1) es
@@ -95,13 +95,13 @@ sevens g = record {
   heap = replicate (len g Region.heap) 7;
 }
 
--- ---- a case: lines of an event and its reply
+-- ---- a case: lines of an input and its reply, "input left, output right"
 
 pub data Line : Type 0 where
-  _⇒_ : Event → Reply → Line
+  _⇒_ : Input → Reply → Line
 
 infix 80 _⇒_
-abbrev pub inputs : List Line → List Event
+abbrev pub inputs : List Line → List Input
 inputs [] = []
 inputs ((e ⇒ r) ∷ ls) = e ∷ inputs ls
 
@@ -109,7 +109,7 @@ abbrev pub outputs : List Line → List Reply
 outputs [] = []
 outputs ((e ⇒ r) ∷ ls) = r ∷ outputs ls
 
--- from so many segments of sevens on, each event of the case gets its reply
+-- from so many segments of sevens on, each input of the case gets its reply
 abbrev pub Holds : ℕ → List Line → Type 0
 Holds n ls = replies (geometry n) (sevens (geometry n)) (inputs ls) ≡ outputs ls
 
