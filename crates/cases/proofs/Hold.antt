@@ -7,6 +7,7 @@ use lib.Dec.{T, leb, leb→le}
 use lib.ListN.{length}
 use Rattle.words.specs.Bits.{bitOf, bitAt, clearFrom}
 use Rattle.words.specs.Levels.{treeWords}
+use Rattle.classes.specs.Class.{classTest}
 use Rattle.classes.specs.Shape.{segmentSize, blocksOf, shapeFor, shapeOf}
 use Rattle.classes.specs.declared.ClassShape.the-variants.{Of}
 use Rattle.bitmap_search.specs.declared.Found.{Found}
@@ -30,6 +31,6 @@ row {class} {bits} room is search scan = record {
 }
 
 pub all-hold : All rows
-unfolding bitOf bitAt clearFrom nextFree lowered forwarded searched rebuilt completed padded
+unfolding classTest bitOf bitAt clearFrom nextFree lowered forwarded searched rebuilt completed padded
 all-hold =
     (refl, (refl, (refl, (refl, (refl, (refl, (refl, (refl, (refl, (row tt refl refl refl, (row tt refl refl refl, (row tt refl refl refl, tt))))))))))))

@@ -1,3 +1,5 @@
 -- Laws of size classes and of a segment's shape.
+pub mod Every
 pub mod Smallest
 pub mod Shapes
+pub mod Filling

@@ -2,20 +2,18 @@
 -- is no longer than the longest. Assumes nothing.
 use mathlib.Core.Path.{_≡_, refl}
 use mathlib.Core.Bool.{Bool, true, false}
-use Prim.Native.Nat.{ℕ, _+_, _-_, _^_, _≤_, _<_}
+use Prim.Native.Nat.{ℕ, _-_, _^_, _≤_}
 use native.Mathlib.Nat.{le-trans, div-le-self}
 use native.Mathlib.Omega.{arith}
-use lib.Dec.{T, leb, ltb, leb→le}
-use lib.ListN.{replicate}
-use borrow.Author.Tests.{ltb-true, ltb-false}
+use lib.Dec.{T, leb, leb→le}
 use Rattle.rules.specs.Pick.{pick}
-use Rattle.rules.proofs.Table.{every, every-at}
 use Rattle.words.specs.Levels.{Height, treeWords}
 use Rattle.words.proofs.Trees.{levels-pos, levels-le, levels-end}
 use Rattle.classes.specs.declared.Shape.{Shape}
 use Rattle.classes.specs.declared.ClassShape.the-variants.{Of, NoClass}
-use Rattle.classes.specs.Class.{firstClass, classCount}
+use Rattle.classes.specs.Class.{IsClass, classTest}
 use Rattle.classes.specs.Shape.{segmentSize, blocksOf, mostLevels, shapeFor, longestOf, shapeOf}
+use Rattle.classes.proofs.Every.{everyClass, at-class, class-passed}
 
 -- a segment's blocks are no more than three levels hold
 pub blocks-most : (z c : ℕ) → z ≤ 32 ^ mostLevels → blocksOf z c ≤ 32 ^ mostLevels
@@ -33,31 +31,24 @@ shape-height n h = levels-end (mostLevels - 1) n h
 
 -- the shape that is found is that of the class's blocks, and there is such a class
 pub record IsShape (z c : ℕ) (x : Shape) : Type 0 where
-  pub least : firstClass ≤ c
-  pub most : c < firstClass + classCount
+  pub class : IsClass c
   pub shape : x ≡ shapeFor (blocksOf z c)
 
 pub shape-is : (z c : ℕ) (x : Shape) → Of x ≡ shapeOf z c → IsShape z c x
-shape-is z c x e = low (ltb c firstClass) refl e
+shape-is z c x e = go (classTest c) refl e
   where
-    high : firstClass ≤ c → (t : Bool) → ltb c (firstClass + classCount) ≡ t → Of x ≡ pick t (Of (shapeFor (blocksOf z c))) NoClass → IsShape z c x
-    high l true q f = record { least = l; most = ltb-true c (firstClass + classCount) q; shape = (cc) }
-    high l false q f = let u : _≡_ {A = ℕ} 0 1 = cc in absurd (omega arith)
-
-    low : (t : Bool) → ltb c firstClass ≡ t → Of x ≡ pick t NoClass (pick (ltb c (firstClass + classCount)) (Of (shapeFor (blocksOf z c))) NoClass) → IsShape z c x
-    low true q f = let u : _≡_ {A = ℕ} 0 1 = cc in absurd (omega arith)
-    low false q f = high (ltb-false c firstClass q) (ltb c (firstClass + classCount)) refl f
+    go : (t : Bool) → classTest c ≡ t → Of x ≡ pick t (Of (shapeFor (blocksOf z c))) NoClass → IsShape z c x
+    go true q f = record { class = class-passed c q; shape = (cc) }
+    go false q f = let u : _≡_ {A = ℕ} 0 1 = cc in absurd (omega arith)
 
 -- every class's bitmap is within the longest of its size: one test at each class
-unfoldable pub fits : ℕ → ℕ → ℕ → Bool
-fits z k x = leb (treeWords (shapeFor (blocksOf z (firstClass + k)) .levels - 1) (blocksOf z (firstClass + k))) (longestOf z)
+unfoldable pub fits : ℕ → ℕ → Bool
+fits z c = leb (treeWords (shapeFor (blocksOf z c) .levels - 1) (blocksOf z c)) (longestOf z)
 
-pub longest : (z : ℕ) → T (every (fits z) 0 (replicate classCount 0)) → (c : ℕ) → firstClass ≤ c → c < firstClass + classCount → treeWords (shapeFor (blocksOf z c) .levels - 1) (blocksOf z c) ≤ longestOf z
+pub longest : (z : ℕ) → T (everyClass (fits z)) → (c : ℕ) → IsClass c → treeWords (shapeFor (blocksOf z c) .levels - 1) (blocksOf z c) ≤ longestOf z
 unfolding fits
-longest z t c l h =
-    let k : firstClass + (c - firstClass) ≡ c = omega arith in
-    rw (← k) (leb→le _ _ (every-at (fits z) 0 (replicate classCount 0) t (c - firstClass) (omega arith)))
+longest z t c k = leb→le _ _ (at-class (fits z) t c k)
 
 pub class-fits : (c : ℕ) (x : Shape) → IsShape segmentSize c x → treeWords (x .levels - 1) (x .blocks) ≤ longestOf segmentSize
 unfolding fits
-class-fits c x i = rw (i .shape) (longest segmentSize tt c (i .least) (i .most))
+class-fits c x i = rw (i .shape) (longest segmentSize tt c (i .class))

@@ -11,7 +11,7 @@ use lib.Pow.{pow-mono}
 use borrow.Author.Tests.{lt-leb, leb-true, leb-false}
 use Rattle.classes.specs.declared.SizeClass.the-variants.{Class, TooBig}
 use Rattle.rules.specs.Pick.{pick}
-use Rattle.classes.specs.Class.{firstClass, classCount, maxFields, recordBytes, smallestFrom, classOf}
+use Rattle.classes.specs.Class.{firstClass, classCount, IsClass, blockWords, maxFields, recordBytes, smallestFrom, classOf}
 
 pub none-holds : (n c b : ℕ) → ((k : ℕ) → c ≤ k → k < c + n → 2 ^ k < b) → smallestFrom n c b ≡ TooBig
 none-holds zero c b h = refl
@@ -75,3 +75,10 @@ pub past-limit : (fields : ℕ) → maxFields < fields → classOf fields ≡ To
 past-limit fields h =
     none-holds classCount firstClass (recordBytes fields)
     (λ k l m. lt-of-le-of-lt (pow-mono {i = k} {j = firstClass + classCount - 1} (omega arith)) (omega arith))
+
+-- what a record's class says: it is a class, and its block holds the header and the fields
+pub class-found : (fields c : ℕ) → classOf fields ≡ Class c → IsClass c
+class-found fields c e = let s = is-smallest classCount firstClass (recordBytes fields) c e in (s .1 .from, s .0)
+
+pub class-holds : (fields c : ℕ) → classOf fields ≡ Class c → fields < blockWords c
+class-holds fields c e = let h : recordBytes fields ≤ 2 ^ c = is-smallest classCount firstClass (recordBytes fields) c e .1 .holds in omega arith

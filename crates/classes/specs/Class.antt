@@ -1,7 +1,8 @@
 -- The size class of a record. Document 01: "Class c, 3 to 12, has blocks of 2^c bytes. A record's class is the smallest whose
 -- block holds 1 + P + N words", and "P + N at most 1,023"; and the number that document 01 gives each answer.
-use Prim.Native.Nat.{ℕ, zero, suc, _+_, _-_, _*_, _/_, _^_}
-use lib.Dec.{leb}
+use mathlib.Core.Bool.{Bool, false}
+use Prim.Native.Nat.{ℕ, zero, suc, _+_, _-_, _*_, _/_, _^_, _≤_, _<_}
+use lib.Dec.{leb, ltb}
 use Rattle.rules.specs.Pick.{pick}
 use Rattle.classes.specs.declared.SizeClass.{SizeClass}
 use Rattle.classes.specs.declared.SizeClass.the-variants.{Class, TooBig}
@@ -13,13 +14,24 @@ firstClass = 3
 abbrev pub classCount : ℕ
 classCount = 10
 
+-- a class number, and the test of one
+abbrev pub IsClass : ℕ → Type 0
+IsClass c = (firstClass ≤ c) × (c < firstClass + classCount)
+
+unfoldable pub classTest : ℕ → Bool
+classTest c = pick (ltb c firstClass) false (ltb c (firstClass + classCount))
+
 -- a word has 32 bits
 abbrev pub wordBytes : ℕ
 wordBytes = 4
 
+-- the words of a block of class c
+abbrev pub blockWords : ℕ → ℕ
+blockWords c = 2 ^ c / wordBytes
+
 -- the most fields that a block of the largest class holds: "P + N at most 1,023"
 abbrev pub maxFields : ℕ
-maxFields = 2 ^ (firstClass + classCount - 1) / wordBytes - 1
+maxFields = blockWords (firstClass + classCount - 1) - 1
 
 -- the smallest of the n classes from c on whose block of 2 ^ c bytes holds b bytes
 abbrev pub smallestFrom : ℕ → ℕ → ℕ → SizeClass

@@ -1,11 +1,10 @@
 -- The shape of a segment of a class: its blocks and the levels of their bitmap. Document 01: "segments of 16,384 bytes",
 -- "Class c, 3 to 12, has blocks of 2^c bytes", and the table of blocks and bitmap levels.
-use Prim.Native.Nat.{ℕ, _+_, _-_, _/_, _^_}
-use lib.Dec.{ltb}
+use Prim.Native.Nat.{ℕ, _-_, _/_, _^_}
 use lib.ListN.{getD}
 use Rattle.rules.specs.Pick.{pick}
 use Rattle.words.specs.Levels.{levelCount, levelWords, treeWords}
-use Rattle.classes.specs.Class.{firstClass, classCount}
+use Rattle.classes.specs.Class.{firstClass, classTest}
 use Rattle.classes.specs.declared.Shape.{Shape}
 use Rattle.classes.specs.declared.ClassShape.{ClassShape}
 use Rattle.classes.specs.declared.ClassShape.the-variants.{Of, NoClass}
@@ -38,4 +37,4 @@ longestOf z = treeWords (levelCount mostLevels (blocksOf z firstClass) - 1) (blo
 
 -- the shape of a segment of z bytes of class c, where there is such a class
 abbrev pub shapeOf : ℕ → ℕ → ClassShape
-shapeOf z c = pick (ltb c firstClass) NoClass (pick (ltb c (firstClass + classCount)) (Of (shapeFor (blocksOf z c))) NoClass)
+shapeOf z c = pick (classTest c) (Of (shapeFor (blocksOf z c))) NoClass

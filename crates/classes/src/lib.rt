@@ -1,8 +1,12 @@
 // Size classes: the class of a record by its number of fields, and for each class the shape of a segment: its blocks, the
 // levels of its bitmap and the words in each level. Both are read from constant tables, and proved by their rule.
 ghost use mathlib.Core.Path.{_≡_};
-ghost use Rattle.classes.specs.Class.{classOf};
+ghost use Rattle.classes.specs.Class.{IsClass, classTest, blockWords, classOf};
 ghost use Rattle.classes.specs.Shape.{segmentSize, shapeOf};
+
+pub const FIRST_CLASS: u32 = 3;
+
+pub const CLASS_COUNT: u32 = 10;
 
 // The class of a record, or none: the record has too many fields.
 pub enum SizeClass {
@@ -1127,6 +1131,24 @@ const SHAPES: [Shape; 10] = [
     },
 ];
 
+// Whether a number is a class's.
+pub fn is_class(class: u32) -> bool
+    ensures { λ r. ⌜ r ≡ classTest class ⌝ }
+{
+    if class < FIRST_CLASS {
+        return false;
+    }
+    class < FIRST_CLASS + CLASS_COUNT
+}
+
+// The words of a block of a class; a word has 2^2 bytes.
+pub fn block_words(class: u32) -> usize
+    requires { ⌜ IsClass class ⌝ }
+    ensures { λ r. ⌜ r ≡ blockWords class ⌝ }
+{
+    1 << (class - 2)
+}
+
 // The class of a record of so many pointer and data fields (document 01: links and numbers) together.
 pub fn class_of(fields: u32) -> SizeClass
     ensures { λ r. ⌜ r ≡ classOf fields ⌝ }
@@ -1144,14 +1166,10 @@ pub fn class_of(fields: u32) -> SizeClass
 pub fn shape_of(class: u32) -> ClassShape
     ensures { λ r. ⌜ r ≡ shapeOf segmentSize class ⌝ }
 {
-    if class < 3 {
-        return ClassShape::NoClass;
-    }
-    let i = (class - 3) as usize;
-    if i < 10 {
+    if is_class(class) {
+        let i = (class - FIRST_CLASS) as usize;
         let shape = SHAPES[i];
-        ClassShape::Of(shape)
-    } else {
-        ClassShape::NoClass
+        return ClassShape::Of(shape);
     }
+    ClassShape::NoClass
 }

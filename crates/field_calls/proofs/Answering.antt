@@ -1,92 +1,63 @@
 -- Each call on a field: refused as its mutator and roots stand, reaching the record in its root, and done. Assumes nothing.
 use mathlib.Core.Path.{_≡_, refl, sym, _∙_, ap}
 use mathlib.Core.Bool.{false}
+use mathlib.Core.Logic.{inr}
 use mathlib.Core.List.{List}
 use Prim.Native.Nat.{ℕ, _/_, _%_}
 use lib.ListN.{length}
 use Rattle.layout.specs.declared.Geometry.{Geometry}
 use Rattle.layout.specs.Geometry.{wrongSize}
 use Rattle.layout.specs.Mem.{Mem, memOf, heapWord, setHeap}
-use Rattle.theory.specs.Calls.{Call, c-load, c-get, c-put, c-shape, a-ok, a-num, a-shape, ifRecord, ifRoot, pointer?, value?, refusal}
+use Rattle.theory.specs.Calls.{c-load, c-get, c-put, c-shape, a-ok, a-num, a-shape, ifRoot, pointer?, value?}
 use Rattle.model.specs.declared.Answer.the-variants.{Ok, Number, Shape, Refused}
 use Rattle.model.specs.Fields.{setRoot}
 use Rattle.model.specs.Records.{pointers, values, pointer, value, setValue}
-use Rattle.model.specs.Calls.{observe, act}
+use Rattle.model.specs.Calls.{act}
 use Rattle.model.specs.Promise.{Promise}
-use Rattle.laws.proofs.Promised.{refused, done}
+use Rattle.laws.proofs.Promised.{done}
+use Rattle.laws.proofs.Reaching.{Names, Reaches, by-test}
 use Rattle.roots.specs.Inside.{insideThen}
-use Rattle.roots.proofs.Inside.{passed, in-range, in-range-at, with-rest, with-refused, at-rest, at-refused}
+use Rattle.roots.proofs.Inside.{refused-at, reaches-at, refused-with, reaches-with}
 use Rattle.records.specs.declared.Place.the-variants.{At}
 use Rattle.records.specs.Places.{pointerPlace, valuePlace}
 use Rattle.records.proofs.Found.{pointer-stands, value-stands}
-use Rattle.field_calls.proofs.Reaching.{Names, Reaches, by-test, pointer-0, value-0}
+use Rattle.records.proofs.Reaching.{pointer-0, value-0}
 
--- ---- from the answer of the standing: two roots
+-- ---- n is the refusal of the mutator and its roots: it refuses the call, or the call reaches the record
 
 module _ (g : Geometry) (xs : List ℕ) (k d i f n : ℕ) (e : wrongSize g (length xs) ≡ false) (s : n ≡ insideThen (memOf g xs) k (ifRoot d (ifRoot i 0))) where
-  abbrev load-rest : ℕ
-  load-rest = ifRecord (observe (memOf g xs) .shape k i) (pointer? f)
-
-  pub load-standing : (n ≡ 0 → ⊥) → Promise (c-load k d i f) g xs (Refused n) xs
+  pub load-refused : (n ≡ 0 → ⊥) → Promise (c-load k d i f) g xs (Refused n) xs
   unfolding insideThen
-  load-standing z = refused (c-load k d i f) g xs e (with-refused (memOf g xs) k d i n load-rest s z) z
+  load-refused = refused-with g xs k d i n s (c-load k d i f) e i (pointer? f) refl
 
   pub load-reaches : n ≡ 0 → Reaches (c-load k d i f) g xs k i (pointer? f)
   unfolding insideThen
-  load-reaches z =
-      let p = in-range (memOf g xs) k d i n s z in
-      record {
-        size = e;
-        known = p .0;
-        within = p .2;
-        attached = passed (memOf g xs) k (ifRoot d (ifRoot i 0)) (sym z ∙ s) .attached;
-        rest = with-rest (memOf g xs) k d i n load-rest s z;
-      }
-
--- ---- one root
+  load-reaches z = reaches-with g xs k d i n s (c-load k d i f) e i (pointer? f) refl z (inr refl)
 
 module _ (g : Geometry) (xs : List ℕ) (k i n : ℕ) (e : wrongSize g (length xs) ≡ false) (s : n ≡ insideThen (memOf g xs) k (ifRoot i 0)) where
-  abbrev one-rest : (ℕ × ℕ → ℕ) → ℕ
-  one-rest test = ifRecord (observe (memOf g xs) .shape k i) test
-
-  module _ (c : Call) (test : ℕ × ℕ → ℕ) (is : insideThen (memOf g xs) k (ifRoot i (one-rest test)) ≡ refusal (observe (memOf g xs)) c) where
-    one-standing : (n ≡ 0 → ⊥) → Promise c g xs (Refused n) xs
-    one-standing z = refused c g xs e (at-refused (memOf g xs) k i n (one-rest test) s z ∙ is) z
-
-    one-reaches : n ≡ 0 → Reaches c g xs k i test
-    one-reaches z =
-        let p = in-range-at (memOf g xs) k i n s z in
-        record {
-          size = e;
-          known = p .0;
-          within = p .1;
-          attached = passed (memOf g xs) k (ifRoot i 0) (sym z ∙ s) .attached;
-          rest = at-rest (memOf g xs) k i n (one-rest test) s z ∙ is;
-        }
-
-  pub get-standing : (f : ℕ) → (n ≡ 0 → ⊥) → Promise (c-get k i f) g xs (Refused n) xs
+  pub get-refused : (f : ℕ) → (n ≡ 0 → ⊥) → Promise (c-get k i f) g xs (Refused n) xs
   unfolding insideThen
-  get-standing f = one-standing (c-get k i f) (value? f) refl
+  get-refused f = refused-at g xs k i n s (c-get k i f) e (value? f) refl
 
   pub get-reaches : (f : ℕ) → n ≡ 0 → Reaches (c-get k i f) g xs k i (value? f)
   unfolding insideThen
-  get-reaches f = one-reaches (c-get k i f) (value? f) refl
+  get-reaches f = reaches-at g xs k i n s (c-get k i f) e (value? f) refl
 
-  pub put-standing : (f v : ℕ) → (n ≡ 0 → ⊥) → Promise (c-put k i f v) g xs (Refused n) xs
+  pub put-refused : (f v : ℕ) → (n ≡ 0 → ⊥) → Promise (c-put k i f v) g xs (Refused n) xs
   unfolding insideThen
-  put-standing f v = one-standing (c-put k i f v) (value? f) refl
+  put-refused f v = refused-at g xs k i n s (c-put k i f v) e (value? f) refl
 
   pub put-reaches : (f v : ℕ) → n ≡ 0 → Reaches (c-put k i f v) g xs k i (value? f)
   unfolding insideThen
-  put-reaches f v = one-reaches (c-put k i f v) (value? f) refl
+  put-reaches f v = reaches-at g xs k i n s (c-put k i f v) e (value? f) refl
 
-  pub shape-standing : (n ≡ 0 → ⊥) → Promise (c-shape k i) g xs (Refused n) xs
+  pub shape-refused : (n ≡ 0 → ⊥) → Promise (c-shape k i) g xs (Refused n) xs
   unfolding insideThen
-  shape-standing = one-standing (c-shape k i) (λ _. 0) refl
+  shape-refused = refused-at g xs k i n s (c-shape k i) e (λ _. 0) refl
 
   pub shape-reaches : n ≡ 0 → Reaches (c-shape k i) g xs k i (λ _. 0)
   unfolding insideThen
-  shape-reaches = one-reaches (c-shape k i) (λ _. 0) refl
+  shape-reaches = reaches-at g xs k i n s (c-shape k i) e (λ _. 0) refl
 
 -- ---- done
 

@@ -1,3 +1,2 @@
 -- Laws of calls on fields.
-pub mod Reaching
 pub mod Answering

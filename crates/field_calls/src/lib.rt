@@ -14,7 +14,7 @@ pub fn load(g: Geometry, mem: &mut [u32], k: u32, to: u32, i: u32, f: u32) -> An
     if layout::wrong_size(g, mem.len()) {
         return Answer::Refused(1);
     }
-    let refused = roots::standing_with(g, mem, k, to, i);
+    let refused = roots::roots_refusal(g, mem, k, to, i);
     if refused != 0 {
         return Answer::Refused(refused);
     }
@@ -39,7 +39,7 @@ pub fn get(g: Geometry, mem: &[u32], k: u32, i: u32, f: u32) -> Answer
     if layout::wrong_size(g, mem.len()) {
         return Answer::Refused(1);
     }
-    let refused = roots::standing_at(g, mem, k, i);
+    let refused = roots::root_refusal(g, mem, k, i);
     if refused != 0 {
         return Answer::Refused(refused);
     }
@@ -63,7 +63,7 @@ pub fn put(g: Geometry, mem: &mut [u32], k: u32, i: u32, f: u32, v: u32) -> Answ
     if layout::wrong_size(g, mem.len()) {
         return Answer::Refused(1);
     }
-    let refused = roots::standing_at(g, mem, k, i);
+    let refused = roots::root_refusal(g, mem, k, i);
     if refused != 0 {
         return Answer::Refused(refused);
     }
@@ -87,7 +87,7 @@ pub fn shape(g: Geometry, mem: &[u32], k: u32, i: u32) -> Answer
     if layout::wrong_size(g, mem.len()) {
         return Answer::Refused(1);
     }
-    let refused = roots::standing_at(g, mem, k, i);
+    let refused = roots::root_refusal(g, mem, k, i);
     if refused != 0 {
         return Answer::Refused(refused);
     }

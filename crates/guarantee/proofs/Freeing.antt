@@ -18,10 +18,10 @@ use Rattle.theory.proofs.Invariant.{Quiet}
 use Rattle.theory.proofs.Simulation.{reach-up}
 use Rattle.model.specs.Fields.{tag, class}
 use Rattle.model.specs.Segments.{usedBit}
-use Rattle.model.specs.Records.{headerOf, blockWords}
+use Rattle.model.specs.Records.{headerOf}
 use Rattle.model.specs.Reaching.{isMarked}
 use Rattle.model.specs.Collector.{swept}
-use Rattle.model.specs.Consistent.{IsClass}
+use Rattle.classes.specs.Class.{IsClass, blockWords}
 use Rattle.model.specs.Lists.{Element, Ghost, BlockReached}
 use Rattle.refine_view.specs.View.{view, isHead}
 use Rattle.refine_view.proofs.Invariants.{consistent-ordered}

@@ -8,22 +8,20 @@ use Prim.Native.Nat.{ℕ, _+_, _<_}
 use native.Mathlib.Omega.{arith}
 use lib.ListN.{length}
 use Rattle.rules.specs.Pick.{pick}
-use Rattle.classes.specs.Class.{classOf, classCount, firstClass, recordBytes}
-use Rattle.classes.specs.declared.SizeClass.the-variants.{Class}
-use Rattle.classes.proofs.Smallest.{is-smallest}
+use Rattle.classes.proofs.Smallest.{class-found}
 use Rattle.layout.specs.declared.Geometry.{Geometry}
 use Rattle.layout.specs.Geometry.{mutatorCount, Sized, total}
 use Rattle.layout.specs.Mem.{Mem, memOf, flat}
 use Rattle.layout.proofs.Regions.{sized, resized, flat-memOf, right-size, memOf-flat, length-flat}
 use Rattle.theory.specs.Calls.{Call, c-make, refusal}
-use Rattle.theory.proofs.CallKeeps.{by-ok}
+use Rattle.theory.proofs.Refusals.{by-ok}
 use Rattle.theory.proofs.Invariant.{none-some}
 use Rattle.model.specs.declared.Answer.{Answer}
 use Rattle.model.specs.Answers.{refusalOf, stepRefusalOf}
 use Rattle.model.specs.Calls.{observe}
 use Rattle.model.specs.Opening.{opened}
 use Rattle.model.specs.Run.{Command, answered}
-use Rattle.model.specs.Consistent.{Consistent, IsClass}
+use Rattle.model.specs.Consistent.{Consistent}
 use Rattle.model.specs.Looks.{Look, LookPromise, lookSized, lookNumber}
 use Rattle.model.specs.Lists.{Event, Element, Promised, Meets, eventNumber, struck, remains}
 use Rattle.laws.proofs.Lengths.{sizes-of}
@@ -129,15 +127,12 @@ no-room-exactly = record {
   only = λ g words after k d p n r a e.
       let q = a .meets .exact (a .sized) (a .consistent) in
       let x = roomless-of g (memOf g words) k d p n (sym (q .0) ∙ of-number r 10 e) in
-      record { class = x .class; lower = x .lower; sized = x .sized; noRoom = source-room g (memOf g words) (sizes-of g words (sized g (length words) (a .sized))) (consistent-ordered g (memOf g words) (a .consistent)) k (x .class) (known g words k d p n (x .lower)) (is-class (p + n) (x .class) (x .sized)) (x .source) };
+      record { class = x .class; lower = x .lower; sized = x .sized; noRoom = source-room g (memOf g words) (sizes-of g words (sized g (length words) (a .sized))) (consistent-ordered g (memOf g words) (a .consistent)) k (x .class) (known g words k d p n (x .lower)) (class-found (p + n) (x .class) (x .sized)) (x .source) };
   whenever = λ g words after k d p n r a x.
       let q = a .meets .exact (a .sized) (a .consistent) in
-      let s = room-source g (memOf g words) (sizes-of g words (sized g (length words) (a .sized))) (consistent-ordered g (memOf g words) (a .consistent)) k (x .class) (known g words k d p n (x .lower)) (is-class (p + n) (x .class) (x .sized)) (x .noRoom) in
+      let s = room-source g (memOf g words) (sizes-of g words (sized g (length words) (a .sized))) (consistent-ordered g (memOf g words) (a .consistent)) k (x .class) (known g words k d p n (x .lower)) (class-found (p + n) (x .class) (x .sized)) (x .noRoom) in
       to-number r 10 (q .0 ∙ roomless-is g (memOf g words) k d p n (record { lower = x .lower; class = x .class; sized = x .sized; source = s }));
 }
   where
     known : (g : Geometry) (words : List ℕ) (k d p n : ℕ) → refusal (observe (memOf g words)) (c-make k d p n) ≡ 0 → k < mutatorCount
     known g words k d p n e = by-ok (observe (memOf g words)) k _ e .0
-
-    is-class : (x cl : ℕ) → classOf x ≡ Class cl → IsClass cl
-    is-class x cl e = let q = is-smallest classCount firstClass (recordBytes x) cl e in (q .1 .from, q .0)

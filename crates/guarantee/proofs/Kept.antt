@@ -7,16 +7,16 @@ use native.Mathlib.Omega.{arith}
 use lib.Dec.{eqb, leb}
 use borrow.Author.Tests.{eqb-true, eqb-false, leb-true}
 use Rattle.rules.specs.Pick.{pick}
-use Rattle.classes.specs.Class.{classOf, maxFields, firstClass, classCount, recordBytes}
+use Rattle.classes.specs.Class.{classOf, maxFields, IsClass}
 use Rattle.classes.specs.declared.SizeClass.{SizeClass}
 use Rattle.classes.specs.declared.SizeClass.the-variants.{Class, TooBig}
-use Rattle.classes.proofs.Smallest.{class-limit, is-smallest}
+use Rattle.classes.proofs.Smallest.{class-limit, class-found}
 use Rattle.layout.specs.declared.Geometry.{Geometry}
 use Rattle.layout.specs.Geometry.{mutatorCount, rootCount, segmentOf}
 use Rattle.layout.specs.Mem.{Mem, Sizes}
 use Rattle.theory.specs.Phases.{Phase, idle, sync1, sync2, mark, sweep}
 use Rattle.theory.specs.Calls.{Call, c-attach, c-detach, c-check, c-leave, c-enter, c-spawn, c-make, c-load, c-store, c-copy, c-clear, c-put, c-get, c-same, c-shape, Answer, refusal}
-use Rattle.theory.proofs.CallKeeps.{by-ok, root-ok, require-ok}
+use Rattle.theory.proofs.Refusals.{by-ok, root-ok, require-ok}
 use Rattle.theory.proofs.Agree.{agree-inv}
 use Rattle.model.specs.Fields.{phase, holding}
 use Rattle.model.specs.Segments.{count, top, partStack, freeStack}
@@ -24,7 +24,6 @@ use Rattle.model.specs.Records.{headerOf}
 use Rattle.model.specs.Making.{held, part, unused, noRoom, sourceOf, inBlock, inSegment, fromSource, made}
 use Rattle.model.specs.Calls.{isAttached, observe, act, ofClass}
 use Rattle.model.specs.Collector.{lowest, stepOf, stepIn}
-use Rattle.model.specs.Consistent.{IsClass}
 use Rattle.refine_view.specs.View.{view}
 use Rattle.refine_view.specs.Kept.{Ordered, Moves, Matches, ActKept, StepKept, AllKept}
 use Rattle.refine_view.proofs.Invariants.{consistent-ordered, to-inv, ordered-of}
@@ -52,7 +51,7 @@ module _ (g : Geometry) (m : Mem) (s : Sizes g m) (c : Ordered g m) (k d cl p n 
   By alloc st = calls.act alloc st (c-make k d p n)
 
   is-class : IsClass cl
-  is-class = let q = is-smallest classCount firstClass (recordBytes (p + n)) cl e in (q .1 .from, q .0)
+  is-class = class-found (p + n) cl e
 
   -- out of a memory in which the mutator holds segment r
   module _ (m₁ : Mem) (r : ℕ) (t : Taken g m m₁ k cl r) where

@@ -14,7 +14,8 @@ use Rattle.theory.specs.Machine.{State, make}
 use Rattle.theory.specs.MachineCalls.{observe, room}
 use Rattle.theory.proofs.Agree.{Agree}
 use Rattle.theory.proofs.Updates.{upd2-same}
-use Rattle.theory.proofs.CallKeeps.{nextPut, refPut, madePut, by-ok, root-ok}
+use Rattle.theory.proofs.Refusals.{by-ok, root-ok}
+use Rattle.theory.proofs.CallKeeps.{nextPut, refPut, madePut}
 use Rattle.model.specs.declared.Answer.{Answer}
 use Rattle.model.specs.Answers.{answerOf, refusalOf}
 use Rattle.model.specs.Fields.{root}

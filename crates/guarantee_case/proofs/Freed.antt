@@ -18,7 +18,8 @@ use Rattle.model.specs.Fields.{tag, class, place}
 use Rattle.model.specs.Segments.{bitmap, usedBit, inUse}
 use Rattle.model.specs.Records.{blockOf, headerOf}
 use Rattle.model.specs.Collector.{swept}
-use Rattle.model.specs.Consistent.{IsClass, isFree}
+use Rattle.classes.specs.Class.{IsClass}
+use Rattle.model.specs.Consistent.{isFree}
 use Rattle.refine_view.specs.View.{isUsed}
 use Rattle.refine_view.specs.Kept.{Ordered}
 use Rattle.laws.proofs.Bools.{and-right, and-left, not-eq}

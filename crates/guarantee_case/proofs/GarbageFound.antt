@@ -19,7 +19,7 @@ use Rattle.model.specs.Records.{headerOf}
 use Rattle.model.specs.Collector.{isFull, stepOf, stepIn, sweeps, swept}
 use Rattle.model.proofs.Collecting.{collects-full}
 use Rattle.model.proofs.InUse.{full-used}
-use Rattle.model.specs.Consistent.{IsClass}
+use Rattle.classes.specs.Class.{IsClass}
 use Rattle.model.specs.Lists.{Element, Ghost, BlockReached}
 use Rattle.refine_view.specs.View.{view, isUsed}
 use Rattle.refine_view.proofs.Invariants.{consistent-ordered}

@@ -1,23 +1,18 @@
 -- The words of two blocks lie apart: a word of one is a word of the other only where the blocks are one; so for records. Assumes nothing.
 use mathlib.Core.Path.{_≡_, sym, ap, subst}
-use Prim.Native.Nat.{ℕ, _+_, _*_, _%_, _^_, _≤_, _<_}
+use Prim.Native.Nat.{ℕ, _+_, _*_, _%_, _≤_, _<_}
 use native.Mathlib.Nat.{div-add-mod'}
 use native.Mathlib.Omega.{arith}
-use Rattle.classes.specs.Class.{firstClass, classCount, classOf, recordBytes}
-use Rattle.classes.specs.declared.SizeClass.the-variants.{Class}
-use Rattle.classes.proofs.Smallest.{is-smallest}
+use Rattle.classes.specs.Class.{IsClass, blockWords}
+use Rattle.classes.proofs.Smallest.{class-found, class-holds}
 use Rattle.layout.specs.declared.Geometry.{Geometry}
 use Rattle.layout.specs.Geometry.{segmentWords, segmentOf}
 use Rattle.layout.specs.Mem.{Mem}
 use Rattle.model.specs.Fields.{class}
-use Rattle.model.specs.Records.{pointers, values, blockWords, blockOf}
-use Rattle.model.specs.Consistent.{IsClass, SegmentOk, RecordOk}
+use Rattle.model.specs.Records.{pointers, values, blockOf}
+use Rattle.model.specs.Consistent.{RecordOk}
 use Rattle.layout.proofs.Sizes.{one-way, within, segment-below}
 use Rattle.laws.proofs.Blocks.{of-block, block-within}
-
--- a record's words are as many as its block's at most
-pub fits : (n c : ℕ) → classOf n ≡ Class c → n < blockWords c
-fits n c e = let h : recordBytes n ≤ 2 ^ c = is-smallest classCount firstClass (recordBytes n) c e .1 .holds in omega arith
 
 module _ (g : Geometry) (m : Mem) where
   -- the words of a block are words of its segment
@@ -46,16 +41,19 @@ module _ (g : Geometry) (m : Mem) where
       let t : i ≡ j = o .1 in
       omega arith
 
-module _ (g : Geometry) (m : Mem) (ok : (s : ℕ) → s < g .segments → SegmentOk g m s) where
+  -- a record's segment has a class, and header and fields are words of its block
   pub class-of : (at : ℕ) → RecordOk g m at → IsClass (class m (segmentOf g at))
-  class-of at r = ok (segmentOf g at) (segment-below g at (r .inside)) .classes (r .used)
+  class-of at r = class-found (pointers m at + values m at) (class m (segmentOf g at)) (r .sized)
 
-  -- header and fields of a record are words of its block
   field-in : (at : ℕ) → RecordOk g m at → (i : ℕ) → i ≤ pointers m at + values m at → i < blockWords (class m (segmentOf g at))
-  field-in at r i l = let z = fits (pointers m at + values m at) (class m (segmentOf g at)) (r .sized) in omega arith
+  field-in at r i l = let z = class-holds (pointers m at + values m at) (class m (segmentOf g at)) (r .sized) in omega arith
 
   pub fields-apart : (x y : ℕ) → RecordOk g m x → RecordOk g m y → (i j : ℕ) → i ≤ pointers m x + values m x → j ≤ pointers m y + values m y → x + i ≡ y + j → x ≡ y
-  fields-apart x y r q i j l h e = heads-apart g m x y (class-of x r) (class-of y q) (r .aligned) (q .aligned) i j (field-in x r i l) (field-in y q j h) e
+  fields-apart x y r q i j l h e = heads-apart x y (class-of x r) (class-of y q) (r .aligned) (q .aligned) i j (field-in x r i l) (field-in y q j h) e
 
   pub field-inside : (at : ℕ) → RecordOk g m at → (i : ℕ) → i ≤ pointers m at + values m at → at + i < g .segments * segmentWords g
-  field-inside at r i l = let a = head-within g m at (class-of at r) (r .aligned) i (field-in at r i l) in let d = div-add-mod' at (segmentWords g) in let w = within (segmentWords g) (segmentOf g at) (g .segments) (at % segmentWords g + i) (segment-below g at (r .inside)) a in omega arith
+  field-inside at r i l =
+      let a = head-within at (class-of at r) (r .aligned) i (field-in at r i l) in
+      let d = div-add-mod' at (segmentWords g) in
+      let w = within (segmentWords g) (segmentOf g at) (g .segments) (at % segmentWords g + i) (segment-below g at (r .inside)) a in
+      omega arith

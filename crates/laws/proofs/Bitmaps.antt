@@ -11,7 +11,7 @@ use Rattle.layout.specs.Geometry.{blocksIn, bitmapWords}
 use Rattle.layout.proofs.Sizes.{class-fits}
 use Rattle.layout.specs.Mem.{Mem, Sizes}
 use Rattle.model.specs.Segments.{above, bitmap}
-use Rattle.model.specs.Consistent.{IsClass}
+use Rattle.classes.specs.Class.{IsClass}
 use Rattle.laws.proofs.Windows.{length-window}
 
 pub bitmap-by : (g : Geometry) (m m′ : Mem) → m′ .bitmaps ≡ m .bitmaps → (r : ℕ) → bitmap g m′ r ≡ bitmap g m r
@@ -25,4 +25,4 @@ module _ (g : Geometry) (m : Mem) (s : Sizes g m) (r : ℕ) (l : r < g .segments
   length-bitmap = length-window (m .bitmaps) (r * bitmapWords g) (bitmapWords g) bitmap-ends
 
   pub tree-room : (c : ℕ) → IsClass c → treeWords (above g c) (blocksIn g c) ≤ length (bitmap g m r)
-  tree-room c k = subst (λ z. treeWords (above g c) (blocksIn g c) ≤ z) (sym length-bitmap) (class-fits g c (k .0) (k .1))
+  tree-room c k = subst (λ z. treeWords (above g c) (blocksIn g c) ≤ z) (sym length-bitmap) (class-fits g c k)

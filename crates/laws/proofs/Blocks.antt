@@ -4,33 +4,34 @@ use Prim.Native.Nat.{ℕ, suc, _+_, _*_, _/_, _%_, _≤_, _<_}
 use native.Mathlib.Nat.{mod-lt, div-lt-iff-lt-mul, div-add-mod', mul-div-cancel, mul-mod-left, suc-mul, mul-le-mul-right}
 use native.Mathlib.Omega.{arith}
 use lib.Arith.{digits-div, digits-mod}
+use Rattle.classes.proofs.Filling.{two-words}
 use Rattle.layout.specs.declared.Geometry.{Geometry}
 use Rattle.layout.specs.Geometry.{segmentWords, mostBlocks, blocksIn, segmentOf, bitIn}
 use Rattle.layout.specs.Mem.{Mem}
 use Rattle.layout.proofs.Sizes.{one-way, within, whole, words-some}
 use Rattle.model.specs.Fields.{class}
-use Rattle.model.specs.Records.{blockWords, blockOf, headerOf, recordBit}
-use Rattle.model.specs.Consistent.{IsClass}
+use Rattle.model.specs.Records.{blockOf, headerOf, recordBit}
+use Rattle.classes.specs.Class.{IsClass, blockWords}
 
 module _ (g : Geometry) (c : ℕ) (k : IsClass c) where
   pub blocks-words : blocksIn g c * blockWords c ≡ segmentWords g
-  blocks-words = whole g c (k .0) (k .1) .0
-
-  pub words-two : 2 ≤ blockWords c
-  words-two = whole g c (k .0) (k .1) .1
+  blocks-words = whole g c k .words
 
   pub blocks-most : blocksIn g c ≤ mostBlocks g
-  blocks-most = whole g c (k .0) (k .1) .2
+  blocks-most = whole g c k .most
 
   pub blocks-some : 1 ≤ blocksIn g c
-  blocks-some = whole g c (k .0) (k .1) .3
+  blocks-some = whole g c k .some
 
   words-pos : 0 < blockWords c
-  words-pos = let l = words-two in omega arith
+  words-pos = let l = two-words c k in omega arith
 
   -- a word of a segment is of one of its blocks
   pub block-below : (w : ℕ) → w < segmentWords g → w / blockWords c < blocksIn g c
   block-below w l = div-lt-iff-lt-mul words-pos .1 (subst (λ z. w < z) (sym blocks-words) l)
+
+  pub block-most : (w : ℕ) → w < segmentWords g → w / blockWords c < mostBlocks g
+  block-most w l = let b = block-below w l in let m = blocks-most in omega arith
 
   -- a block begins in its segment, with all its words
   pub block-within : (b : ℕ) → b < blocksIn g c → b * blockWords c + blockWords c ≤ segmentWords g

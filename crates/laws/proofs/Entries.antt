@@ -6,12 +6,12 @@ use Prim.Native.Nat.{ℕ, suc, _+_, _-_, _*_, _≤_, _<_}
 use native.Mathlib.Omega.{arith}
 use lib.ListN.{length, getD}
 use Rattle.rules.proofs.Order.{same-or-not, le-or-lt}
-use Rattle.classes.specs.Class.{firstClass}
+use Rattle.classes.specs.Class.{firstClass, IsClass}
 use Rattle.layout.specs.declared.Geometry.{Geometry}
 use Rattle.layout.specs.Geometry.{mutatorCount, mutatorWords, entryWords, rootCount}
 use Rattle.layout.specs.Mem.{Mem, mutatorWord, setMutator, Sizes, spliced}
 use Rattle.model.specs.Fields.{absent, stateAt, acksAt, heldFrom, state, acks, root, holding, setHolding, tag, class, place, owner}
-use Rattle.model.specs.Consistent.{IsClass, MutatorOk}
+use Rattle.model.specs.Consistent.{MutatorOk}
 use Rattle.laws.proofs.Words.{Recorded, mutator-there, mutator-other}
 use Rattle.laws.proofs.Windows.{spliced-in, spliced-out}
 use Rattle.model.specs.Tag as Tag

@@ -13,4 +13,6 @@ pub mod Parted
 pub mod Bitmaps
 pub mod Blocks
 pub mod Apart
+pub mod Rooted
 pub mod Promised
+pub mod Reaching

@@ -9,7 +9,8 @@ use Rattle.layout.specs.declared.Geometry.{Geometry}
 use Rattle.layout.specs.Geometry.{stackCount}
 use Rattle.layout.specs.Mem.{Mem, stackWord, setStack, Sizes}
 use Rattle.model.specs.Segments.{count, entry, partStack, stacked}
-use Rattle.model.specs.Consistent.{StackOk, IsClass}
+use Rattle.classes.specs.Class.{IsClass}
+use Rattle.model.specs.Consistent.{StackOk}
 use Rattle.laws.proofs.Words.{stack-other}
 use Rattle.laws.proofs.Stacks.{count-le, stack-same, push-other}
 

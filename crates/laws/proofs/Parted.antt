@@ -9,7 +9,8 @@ use Rattle.layout.specs.declared.Geometry.{Geometry}
 use Rattle.layout.specs.Mem.{Mem, Sizes}
 use Rattle.model.specs.Fields.{tag, class, place, owner}
 use Rattle.model.specs.Segments.{freeStack, partStack, stacked}
-use Rattle.model.specs.Consistent.{IsClass, StackOk, isFree, isPart}
+use Rattle.classes.specs.Class.{IsClass}
+use Rattle.model.specs.Consistent.{StackOk, isFree, isPart}
 use Rattle.laws.proofs.Words.{Recorded}
 use Rattle.laws.proofs.Stacks.{push-ok}
 use Rattle.laws.proofs.OtherStacks.{part-few, part-apart, stack-by, push-left}

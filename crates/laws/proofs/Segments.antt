@@ -16,7 +16,8 @@ use Rattle.layout.specs.Geometry.{mutatorCount, blocksIn}
 use Rattle.layout.specs.Mem.{Mem, Sizes}
 use Rattle.model.specs.Fields.{absent, state, holding, tag, class, place, owner}
 use Rattle.model.specs.Segments.{above, bitmap, usedBit}
-use Rattle.model.specs.Consistent.{IsClass, SegmentOk, Occupied, TreeOk, isFree, isPart}
+use Rattle.classes.specs.Class.{IsClass}
+use Rattle.model.specs.Consistent.{SegmentOk, Occupied, TreeOk, isFree, isPart}
 use Rattle.laws.proofs.Bools.{and-both}
 use Rattle.laws.proofs.Words.{Recorded}
 use Rattle.model.specs.Tag as Tag

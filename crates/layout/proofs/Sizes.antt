@@ -1,12 +1,13 @@
 -- A segment's bytes, and what follows for its words, blocks, bits and bitmap. Only `bytes-are` and `class-fits` look at how many they
 -- are. Assumes nothing.
-use mathlib.Core.Path.{_≡_, refl, sym, _∙_, ap}
-use Prim.Native.Nat.{ℕ, zero, suc, _+_, _-_, _*_, _/_, _%_, _^_, _≤_, _<_}
+use mathlib.Core.Path.{_≡_, refl, sym, _∙_, ap, subst}
+use Prim.Native.Nat.{ℕ, suc, _+_, _-_, _*_, _/_, _%_, _^_, _≤_, _<_}
 use native.Mathlib.Nat.{mul-assoc, div-lt-iff-lt-mul, mul-add-div-right, div-eq-of-lt, mul-add-mod-self-right, mod-eq-of-lt, suc-mul, mul-le-mul-right}
 use native.Mathlib.Omega.{arith}
 use Rattle.words.specs.Levels.{Height, treeWords}
-use Rattle.classes.specs.Class.{firstClass, classCount, wordBytes}
+use Rattle.classes.specs.Class.{IsClass}
 use Rattle.classes.specs.Shape.{segmentSize, shapeFor}
+use Rattle.classes.proofs.Filling.{divides, Filled, filled}
 use Rattle.classes.proofs.Shapes.{fits, longest, blocks-most, shape-height}
 use Rattle.layout.specs.declared.Geometry.{Geometry}
 use Rattle.layout.specs.Geometry.{segmentBytes, segmentWords, blocksIn, mostBlocks, markWords, bitmapWords, len, maxSegments, segmentOf}
@@ -32,9 +33,9 @@ unfolding segmentBytes
 bytes-are g = (1, refl, omega arith, omega arith)
 
 -- every class's bitmap is within the longest
-pub class-fits : (g : Geometry) (c : ℕ) → firstClass ≤ c → c < firstClass + classCount → treeWords (shapeFor (blocksIn g c) .levels - 1) (blocksIn g c) ≤ bitmapWords g
+pub class-fits : (g : Geometry) (c : ℕ) → IsClass c → treeWords (shapeFor (blocksIn g c) .levels - 1) (blocksIn g c) ≤ bitmapWords g
 unfolding segmentBytes fits
-class-fits g c l h = longest segmentSize tt c l h
+class-fits g c k = longest segmentSize tt c k
 
 -- ---- what follows
 
@@ -42,24 +43,9 @@ pub words-some : (g : Geometry) → 0 < segmentWords g
 words-some g = let z = bytes-are g in let e = z .1 in let l = z .2 in omega arith
 
 -- a segment's blocks, of so many words each, fill it
-whole-of : (z n c : ℕ) → z ≡ n * 16384 → 1 ≤ n → firstClass ≤ c → c < firstClass + classCount → (z / 2 ^ c * (2 ^ c / wordBytes) ≡ z / 4) × (2 ≤ 2 ^ c / wordBytes) × (z / 2 ^ c ≤ z / 8) × (1 ≤ z / 2 ^ c)
-whole-of z n zero e l a h = absurd (omega arith)
-whole-of z n (suc zero) e l a h = absurd (omega arith)
-whole-of z n (suc (suc zero)) e l a h = absurd (omega arith)
-whole-of z n (suc (suc (suc zero))) e l a h = (omega arith, omega arith, omega arith, omega arith)
-whole-of z n (suc (suc (suc (suc zero)))) e l a h = (omega arith, omega arith, omega arith, omega arith)
-whole-of z n (suc (suc (suc (suc (suc zero))))) e l a h = (omega arith, omega arith, omega arith, omega arith)
-whole-of z n (suc (suc (suc (suc (suc (suc zero)))))) e l a h = (omega arith, omega arith, omega arith, omega arith)
-whole-of z n (suc (suc (suc (suc (suc (suc (suc zero))))))) e l a h = (omega arith, omega arith, omega arith, omega arith)
-whole-of z n (suc (suc (suc (suc (suc (suc (suc (suc zero)))))))) e l a h = (omega arith, omega arith, omega arith, omega arith)
-whole-of z n (suc (suc (suc (suc (suc (suc (suc (suc (suc zero))))))))) e l a h = (omega arith, omega arith, omega arith, omega arith)
-whole-of z n (suc (suc (suc (suc (suc (suc (suc (suc (suc (suc zero)))))))))) e l a h = (omega arith, omega arith, omega arith, omega arith)
-whole-of z n (suc (suc (suc (suc (suc (suc (suc (suc (suc (suc (suc zero))))))))))) e l a h = (omega arith, omega arith, omega arith, omega arith)
-whole-of z n (suc (suc (suc (suc (suc (suc (suc (suc (suc (suc (suc (suc zero)))))))))))) e l a h = (omega arith, omega arith, omega arith, omega arith)
-whole-of z n (suc (suc (suc (suc (suc (suc (suc (suc (suc (suc (suc (suc (suc c))))))))))))) e l a h = absurd (omega arith)
-
-pub whole : (g : Geometry) (c : ℕ) → firstClass ≤ c → c < firstClass + classCount → (blocksIn g c * (2 ^ c / wordBytes) ≡ segmentWords g) × (2 ≤ 2 ^ c / wordBytes) × (blocksIn g c ≤ mostBlocks g) × (1 ≤ blocksIn g c)
-whole g c a h = let z = bytes-are g in whole-of (segmentBytes g) (z .0) c (z .1) (z .2) a h
+pub whole : (g : Geometry) (c : ℕ) → IsClass c → Filled (segmentBytes g) c
+unfolding divides
+whole g c k = let z = bytes-are g in subst (λ b. Filled b c) (sym (z .1)) (filled 16384 tt (z .0) c (z .2) k)
 
 -- the bitmap of a class ends in one word
 pub class-height : (g : Geometry) (c : ℕ) → Height (shapeFor (blocksIn g c) .levels - 1) (blocksIn g c)

@@ -16,8 +16,6 @@ pub const MUTATORS: u32 = 32;
 
 pub const ROOTS: u32 = 16;
 
-pub const CLASS_COUNT: u32 = 10;
-
 // The words of a segment, and of what goes with each.
 const SEGMENT_WORDS: usize = 4096;
 
@@ -29,7 +27,7 @@ const BITMAP_WORDS: usize = 67;
 
 pub const SEGMENT_RECORD_WORDS: usize = 4;
 
-pub const STACKS: usize = 11;
+pub const STACKS: usize = 1 + classes::CLASS_COUNT as usize;
 
 // A mutator's entry: its roots, then its state, its acknowledgements and its held segments, and its length.
 pub const STATE_AT: usize = 16;

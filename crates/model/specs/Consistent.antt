@@ -7,7 +7,7 @@ use Prim.Native.Nat.{ℕ, suc, _+_, _*_, _%_, _≤_, _<_}
 use lib.Dec.{eqb}
 use Rattle.words.specs.Bits.{bitAt, onesAmong}
 use Rattle.words.specs.Tree.{Tree}
-use Rattle.classes.specs.Class.{firstClass, classCount, classOf}
+use Rattle.classes.specs.Class.{IsClass, blockWords, classOf}
 use Rattle.classes.specs.declared.SizeClass.the-variants.{Class}
 use Rattle.layout.specs.declared.Geometry.{Geometry}
 use Rattle.layout.specs.Geometry.{mutatorCount, mutatorWords, entryWords, segmentWords, mostBlocks, blocksIn, segmentOf, bitIn}
@@ -16,14 +16,10 @@ use Rattle.theory.specs.Phases.{Phase, idle, sync1, sync2, mark, sweep}
 use Rattle.model.specs.Rules.{phaseNumber}
 use Rattle.model.specs.Fields.{phase, traceCount, absent, outside, state, acks, holding, tag, class, place, owner}
 use Rattle.model.specs.Segments.{freeStack, partStack, count, entry, above, bitmap, usedBit}
-use Rattle.model.specs.Records.{pointers, values, blockWords, blockOf, marked, queued}
+use Rattle.model.specs.Records.{pointers, values, blockOf, marked, queued}
 use Rattle.rules.specs.Pick.{oneIf}
 use Rattle.model.specs.Reaching.{IsEntry, Live, Reached, Covered, IsRoot, PointsTo}
 use Rattle.model.specs.Tag as Tag
-
--- a class number
-abbrev pub IsClass : ℕ → Type 0
-IsClass c = (firstClass ≤ c) × (c < firstClass + classCount)
 
 -- ---- one segment: its words are in range, and those that its state does not use are 0
 

@@ -1,10 +1,10 @@
 -- Records in the heap: references, headers, fields, and the block and the bits of a record. Document 01: "A header word P × 65,536 + N comes
 -- first, then the links, then the numbers. A link is nil or names a record."
 use mathlib.Core.Option.{Option, none, some}
-use Prim.Native.Nat.{ℕ, zero, suc, _+_, _*_, _/_, _%_, _^_}
+use Prim.Native.Nat.{ℕ, zero, suc, _+_, _*_, _/_, _%_}
 use lib.ListN.{replicate}
 use Rattle.words.specs.Bits.{bitAt, setBit, clearBit}
-use Rattle.classes.specs.Class.{wordBytes}
+use Rattle.classes.specs.Class.{blockWords}
 use Rattle.layout.specs.declared.Geometry.{Geometry}
 use Rattle.layout.specs.Geometry.{segmentWords, segmentOf, bitIn}
 use Rattle.layout.specs.Mem.{Mem, heapWord, setHeap, setRun, withRegion}
@@ -42,10 +42,6 @@ abbrev pub written : Mem → ℕ → ℕ → ℕ → Mem
 written m at p n = setRun (setHeap m at (p * 65536 + n)) Region.heap (at + 1) (replicate (p + n) 0)
 
 -- ---- its block
-
--- the words of a block of class c
-abbrev pub blockWords : ℕ → ℕ
-blockWords c = 2 ^ c / wordBytes
 
 abbrev pub headerOf : Geometry → ℕ → ℕ → ℕ → ℕ
 headerOf g s c b = s * segmentWords g + b * blockWords c

@@ -1,4 +1,4 @@
 -- Laws of words and fields.
 pub mod Placing
-pub mod Within
 pub mod Found
+pub mod Reaching

@@ -19,7 +19,8 @@ use Rattle.model.specs.Fields.{phase, acks, root, tag, class}
 use Rattle.model.specs.Segments.{usedBit}
 use Rattle.model.specs.Records.{record?, pointers, values, pointer, marked, blockOf, recordBit, headerOf}
 use Rattle.model.specs.Reaching.{Live, isMarked}
-use Rattle.model.specs.Consistent.{IsClass, RecordOk}
+use Rattle.classes.specs.Class.{IsClass}
+use Rattle.model.specs.Consistent.{RecordOk}
 use Rattle.refine_view.specs.Kept.{Ordered}
 use Rattle.refine_view.specs.View.{view, valuesOf, isHead, isUsed}
 use Rattle.laws.proofs.Bools.{and-both, ne-not}

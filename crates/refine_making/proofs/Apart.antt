@@ -8,11 +8,13 @@ use Rattle.layout.specs.Geometry.{segmentOf}
 use Rattle.layout.specs.declared.Geometry.{Geometry}
 use Rattle.layout.specs.Mem.{Mem, heapWord}
 use Rattle.model.specs.Fields.{class}
-use Rattle.model.specs.Records.{pointers, values, pointer, headerOf, blockWords}
-use Rattle.model.specs.Consistent.{IsClass, RecordOk}
+use Rattle.model.specs.Records.{pointers, values, pointer, headerOf}
+use Rattle.classes.specs.Class.{IsClass, blockWords}
+use Rattle.model.specs.Consistent.{RecordOk}
 use Rattle.refine_view.specs.View.{valuesOf}
 use Rattle.laws.proofs.Blocks.{header-class, header-is-class, header-head}
-use Rattle.laws.proofs.Apart.{fits, heads-apart}
+use Rattle.classes.proofs.Smallest.{class-holds}
+use Rattle.laws.proofs.Apart.{heads-apart}
 use Rattle.refine_view.proofs.Contents.{pointers-by, pointer-by, fields-by}
 use Rattle.refine_making.proofs.Request.{Request}
 use Rattle.refine_making.proofs.Result.{Result}
@@ -26,7 +28,7 @@ module _ (g : Geometry) (m m′ : Mem) (k d cl r b p n : ℕ) (q : Request g m k
     where
       within : h ≤ x + i → x + i ≤ h + (p + n) → ⊥
       within u v =
-          let y = fits (pointers m x + values m x) (class m (segmentOf g x)) (ok .sized) in
+          let y = class-holds (pointers m x + values m x) (class m (segmentOf g x)) (ok .sized) in
           let w = q .fits in
           other (heads-apart g m x h of (header-is-class g cl (q .isClass) r b (q .below) m (q .ofClass)) (ok .aligned) (header-head g cl (q .isClass) r b (q .below) m (q .ofClass)) i (x + i - h) (omega arith)
           (subst (λ z. x + i - h < blockWords z) (sym (header-class g cl (q .isClass) r b (q .below) m (q .ofClass))) (omega arith)) (omega arith))

@@ -14,7 +14,8 @@ use Rattle.theory.specs.TraceStack.{tab}
 use Rattle.theory.proofs.Invariant.{Tracing}
 use Rattle.model.specs.Fields.{phase, acks, tag, class}
 use Rattle.model.specs.Segments.{usedBit}
-use Rattle.model.specs.Records.{pointers, values, pointer, value, marked, blockOf, recordBit, headerOf, blockWords}
+use Rattle.classes.specs.Class.{blockWords}
+use Rattle.model.specs.Records.{pointers, values, pointer, value, marked, blockOf, recordBit, headerOf}
 use Rattle.model.specs.Reaching.{isMarked}
 use Rattle.refine_view.specs.Kept.{Ordered}
 use Rattle.refine_view.specs.View.{valuesOf, isHead, isUsed}

@@ -4,9 +4,9 @@ use mathlib.Core.Bool.{true}
 use Prim.Native.Nat.{ℕ, suc, _+_, _-_, _≤_, _<_}
 use native.Mathlib.Omega.{arith}
 use Rattle.words.specs.Bits.{bitAt}
-use Rattle.classes.specs.Class.{firstClass, classCount, classOf, recordBytes}
+use Rattle.classes.specs.Class.{classOf, IsClass, blockWords}
 use Rattle.classes.specs.declared.SizeClass.the-variants.{Class}
-use Rattle.classes.proofs.Smallest.{is-smallest}
+use Rattle.classes.proofs.Smallest.{class-found, class-holds}
 use Rattle.layout.specs.declared.Geometry.{Geometry}
 use Rattle.layout.specs.Geometry.{mutatorCount, rootCount, blocksIn}
 use Rattle.layout.specs.Mem.{Mem}
@@ -15,12 +15,9 @@ use Rattle.bitmap_search.specs.declared.Found.the-variants.{Block, Nothing, Tor
 use Rattle.bitmap_search.proofs.Scan.{IsNext, next-is}
 use Rattle.model.specs.Fields.{absent, state, holding, tag, class, place, owner}
 use Rattle.model.specs.Segments.{bitmap, free}
-use Rattle.model.specs.Records.{blockWords}
 use Rattle.model.specs.Calls.{isAttached}
-use Rattle.model.specs.Consistent.{IsClass}
 use Rattle.refine_view.specs.Kept.{Ordered}
 use Rattle.laws.proofs.Bools.{not-eq}
-use Rattle.laws.proofs.Apart.{fits}
 use Rattle.model.specs.Tag as Tag
 
 -- mutator k makes a record of p pointers and n values into its root d, out of block b of its segment r of class cl
@@ -48,10 +45,10 @@ found bit n p Torn h i l k z = absurd h
 
 module _ (g : Geometry) (m : Mem) (c : Ordered g m) (k d cl r p n : ℕ) (few : k < mutatorCount) (att : isAttached m k ≡ true) (within : d < rootCount) (sized : classOf (p + n) ≡ Class cl) (holds : holding m k cl ≡ suc r) where
   is-class : IsClass cl
-  is-class = let q = is-smallest classCount firstClass (recordBytes (p + n)) cl sized in let l = q .0 in (q .1 .from, l)
+  is-class = class-found (p + n) cl sized
 
   fit : 1 + (p + n) ≤ blockWords cl
-  fit = let l = fits (p + n) cl sized in omega arith
+  fit = let l = class-holds (p + n) cl sized in omega arith
 
   -- a held segment has a free block at or after its place
   pub requested : (b : ℕ) × (free g m r cl (place m r) ≡ Block b) × Request g m k d cl r b p n

@@ -10,7 +10,8 @@ use Rattle.layout.specs.declared.Geometry.{Geometry}
 use Rattle.layout.specs.Geometry.{mutatorCount, blocksIn}
 use Rattle.layout.specs.Mem.{Mem}
 use Rattle.model.specs.Fields.{state, holding, tag, class, place, owner}
-use Rattle.model.specs.Consistent.{IsClass, SegmentOk, Occupied, TreeOk}
+use Rattle.classes.specs.Class.{IsClass}
+use Rattle.model.specs.Consistent.{SegmentOk, Occupied, TreeOk}
 use Rattle.refine_view.specs.Kept.{Ordered, EachOccupied}
 use Rattle.laws.proofs.Segments.{segment-same, tree-same, occupied-by}
 use Rattle.refine_making.proofs.Request.{Request}

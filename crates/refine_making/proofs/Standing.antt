@@ -11,15 +11,14 @@ use borrow.Author.Tests.{lt-ltb, ltb-true, ne-eqb}
 use Rattle.rules.specs.Pick.{pick}
 use Rattle.rules.proofs.Order.{same-or-not}
 use Rattle.words.specs.Bits.{bitAt}
-use Rattle.classes.specs.Class.{firstClass}
+use Rattle.classes.specs.Class.{firstClass, IsClass, blockWords}
 use Rattle.layout.specs.declared.Geometry.{Geometry}
 use Rattle.layout.specs.Geometry.{rootCount, segmentWords, mostBlocks, segmentOf, bitIn}
 use Rattle.layout.specs.Mem.{Mem, controlWord, traceWord}
 use Rattle.model.specs.Fields.{phase, traceCount, stateAt, acksAt, heldFrom, state, acks, root, holding, tag, class, place}
 use Rattle.model.specs.Segments.{bitmap, usedBit}
-use Rattle.model.specs.Records.{blockOf, recordBit, blockWords, marked}
+use Rattle.model.specs.Records.{blockOf, recordBit, marked}
 use Rattle.model.specs.Reaching.{isMarked}
-use Rattle.model.specs.Consistent.{IsClass}
 use Rattle.model.specs.Rules.{phaseOf}
 use Rattle.refine_view.specs.View.{stackOf, isHead}
 use Rattle.laws.proofs.Blocks.{blocks-most}

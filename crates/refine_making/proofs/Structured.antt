@@ -5,7 +5,7 @@ use Prim.Native.Nat.{ℕ, suc, _+_, _-_, _≤_, _<_}
 use native.Mathlib.Omega.{arith}
 use Rattle.rules.proofs.Order.{same-or-not}
 use Rattle.words.specs.Bits.{bitAt}
-use Rattle.classes.specs.Class.{classOf}
+use Rattle.classes.specs.Class.{classOf, IsClass}
 use Rattle.classes.specs.declared.SizeClass.the-variants.{Class}
 use Rattle.layout.specs.declared.Geometry.{Geometry}
 use Rattle.layout.specs.Geometry.{mutatorCount, blocksIn, segmentOf, bitIn}
@@ -16,7 +16,7 @@ use Rattle.model.specs.Fields.{phase, state, acks, holding, tag, class, owner}
 use Rattle.model.specs.Segments.{freeStack, partStack}
 use Rattle.model.specs.Records.{values, blockOf, headerOf}
 use Rattle.model.specs.Reaching.{Live}
-use Rattle.model.specs.Consistent.{IsClass, MutatorOk, StackOk, isFree, isPart, RecordOk, BlockInUse, MarksOf}
+use Rattle.model.specs.Consistent.{MutatorOk, StackOk, isFree, isPart, RecordOk, BlockInUse, MarksOf}
 use Rattle.refine_view.specs.View.{view}
 use Rattle.refine_view.specs.Kept.{Ordered, QueuedOk, MarksIn, Structure}
 use Rattle.laws.proofs.Blocks.{header-inside}

@@ -4,11 +4,12 @@ use Prim.Native.Nat.{ℕ, suc, _-_}
 use native.Mathlib.Omega.{arith}
 use lib.Dec.{ltb}
 use lib.ListN.{length, getD}
+use borrow.Author.Tests.{ltb-true}
 use Rattle.layout.specs.declared.Geometry.{Geometry}
 use Rattle.layout.specs.Mem.{Mem, Sizes}
 use Rattle.theory.specs.Reach.{root, next}
 use Rattle.theory.specs.Calls.{c-load, c-copy, c-clear, c-get, c-same, c-shape, a-ok, a-num, a-shape, pointer?, value?, refusal}
-use Rattle.theory.proofs.CallKeeps.{by-ok, root-ok, require-ok, lt-of}
+use Rattle.theory.proofs.Refusals.{by-ok, root-ok, require-ok}
 use Rattle.model.specs.Fields.{setRoot}
 use Rattle.model.specs.Records.{record?, pointers, values, pointer, value}
 use Rattle.model.specs.Calls.{observe, act}
@@ -16,7 +17,8 @@ use Rattle.refine_view.specs.View.{view, valuesOf}
 use Rattle.refine_view.specs.Kept.{Ordered, ActKept}
 use Rattle.refine_view.proofs.Seeing.{named}
 use Rattle.laws.proofs.Tables.{getD-tab, length-tab}
-use Rattle.refine_view.proofs.Keeping.{matches-by, moves-self, is-root, wanted-in, on-record}
+use Rattle.refine_view.proofs.Keeping.{matches-by, moves-self, wanted-in, on-record}
+use Rattle.laws.proofs.Rooted.{is-root}
 use Rattle.refine_roots.proofs.Roots.{root-moves}
 use Rattle.theory.specs.Machine as machine
 use Rattle.model.specs.Fields as fields
@@ -30,9 +32,9 @@ module _ (g : Geometry) (m : Mem) (s : Sizes g m) (c : Ordered g m) where
       let r = root-ok i _ (q .1) in
       let w = wanted-in g m k i (pointer? f) (p .1) (r .0) (r .1) in
       let n : fields.root m k i ≡ suc (w .at) = named _ _ (w .is) in
-      let x = lt-of _ _ (require-ok (ltb f (pointers m (w .at))) 8 0 (omega arith) (w .asked) .0) in
+      let x = ltb-true _ _ (require-ok (ltb f (pointers m (w .at))) 8 0 (omega arith) (w .asked) .0) in
       let h = on-record g m (record? (fields.root m k i)) (w .at) (w .is) (λ at. (a-ok, setRoot m k d (pointer m at f))) (λ at. (a-ok, machine.setRoot (view g m) k d (record? (pointer m at f)))) refl
-      (root-moves g m s c k d (pointer m (w .at) f) (p .0) (p .1) (q .0) (λ b y. next (root (is-root g m k i (w .at) (p .0) (r .0) (p .1) n)) (record { field = f; within = x; names = y }))) in
+      (root-moves g m s c k d (pointer m (w .at) f) (p .0) (p .1) (q .0) (λ b y. next (root (is-root m k i (w .at) (p .0) (r .0) (p .1) n)) (record { field = f; within = x; names = y }))) in
       matches-by g m _ _ (h .0) (h .1)
 
   pub copy-kept : (k d i : ℕ) → refusal (observe m) (c-copy k d i) ≡ 0 → ActKept g m (c-copy k d i)
@@ -41,7 +43,7 @@ module _ (g : Geometry) (m : Mem) (s : Sizes g m) (c : Ordered g m) where
       let p = by-ok (observe m) k _ e in
       let q = root-ok d _ (p .3) in
       let r = root-ok i _ (q .1) in
-      matches-by g m _ _ refl (root-moves g m s c k d (fields.root m k i) (p .0) (p .1) (q .0) (λ b y. root (is-root g m k i b (p .0) (r .0) (p .1) y)))
+      matches-by g m _ _ refl (root-moves g m s c k d (fields.root m k i) (p .0) (p .1) (q .0) (λ b y. root (is-root m k i b (p .0) (r .0) (p .1) y)))
 
   pub clear-kept : (k d : ℕ) → refusal (observe m) (c-clear k d) ≡ 0 → ActKept g m (c-clear k d)
   unfolding act
@@ -58,7 +60,7 @@ module _ (g : Geometry) (m : Mem) (s : Sizes g m) (c : Ordered g m) where
       let p = by-ok (observe m) k _ e in
       let r = root-ok i _ (p .3) in
       let w = wanted-in g m k i (value? f) (p .1) (r .0) (r .1) in
-      let x = lt-of _ _ (require-ok (ltb f (values m (w .at))) 8 0 (omega arith) (w .asked) .0) in
+      let x = ltb-true _ _ (require-ok (ltb f (values m (w .at))) 8 0 (omega arith) (w .asked) .0) in
       let h = on-record g m (record? (fields.root m k i)) (w .at) (w .is) (λ at. (a-num (value m at f), m)) (λ at. (a-num (getD (valuesOf m at) f 0), view g m)) (ap a-num (sym (getD-tab (values m (w .at)) (value m (w .at)) f x))) (moves-self g m c) in
       matches-by g m _ _ (h .0) (h .1)
 

@@ -9,15 +9,15 @@ use native.Mathlib.Omega.{arith}
 use lib.Dec.{eqb, ltb}
 use lib.ListN.{length, getD, replicate, getD-replicate, List·getD-append}
 use lib.Seq.{getD-append-add}
-use borrow.Author.Tests.{eqb-true, not-true, not-false}
+use borrow.Author.Tests.{eqb-true, not-true, not-false, ltb-true}
 use Rattle.rules.proofs.Order.{same-or-not}
-use Rattle.classes.specs.Class.{firstClass}
+use Rattle.classes.specs.Class.{firstClass, IsClass}
 use Rattle.layout.specs.declared.Geometry.{Geometry}
 use Rattle.layout.specs.Geometry.{mutatorCount, mutatorWords, rootCount, segmentOf}
 use Rattle.layout.specs.Mem.{Mem, mutatorWord, setRun, Sizes}
 use Rattle.theory.specs.Phases.{Phase, idle, sync1, sync2, mark, sweep, newcomer, inHandshake}
 use Rattle.theory.specs.Calls.{c-attach, c-spawn, refusal, unless}
-use Rattle.theory.proofs.CallKeeps.{require-ok, root-ok, lt-of}
+use Rattle.theory.proofs.Refusals.{require-ok, root-ok}
 use Rattle.theory.specs.Update.{upd}
 use Rattle.theory.proofs.Updates.{upd-hit, upd-other, upd-hit₁, upd-miss₁}
 use Rattle.theory.proofs.CycleKeeps.{attach-live}
@@ -26,12 +26,13 @@ use Rattle.model.specs.Records.{record?}
 use Rattle.model.specs.Mutators.{attached, setEntry}
 use Rattle.model.specs.Calls.{isAttached, isInside, observe, act}
 use Rattle.model.specs.Reaching.{IsRoot}
-use Rattle.model.specs.Consistent.{MutatorOk, IsClass}
+use Rattle.model.specs.Consistent.{MutatorOk}
 use Rattle.refine_view.specs.View.{view}
 use Rattle.refine_view.specs.Kept.{Ordered, Moves, ActKept}
 use Rattle.refine_view.proofs.Seeing.{root-on, named}
 use Rattle.refine_view.proofs.Invariants.{to-inv, structure-of}
-use Rattle.refine_view.proofs.Keeping.{matches-by, moves-self, is-root}
+use Rattle.refine_view.proofs.Keeping.{matches-by, moves-self}
+use Rattle.laws.proofs.Rooted.{is-root}
 use Rattle.theory.proofs.Updates.{upd-by}
 use Rattle.laws.proofs.Entries.{holding-word, holding-by, table-below, entry-in, entry-out}
 use Rattle.refine_view.proofs.EntriesOnly.{entries-moves}
@@ -167,7 +168,7 @@ module _ (g : Geometry) (m : Mem) (s : Sizes g m) (c : Ordered g m) where
   attach-kept k e =
       let p = require-ok (ltb k mutatorCount) 2 _ (omega arith) e in
       let q = require-ok (not (isAttached m k)) 3 _ (omega arith) (p .1) in
-      let h = unless-moves g m (attached m k 0) (machine.attach (view g m) k none) c (inHandshake (phase m)) (λ x. coming-moves g m s c k 0 (lt-of k 32 (p .0)) (not-there k (q .0)) (λ b y. absurd (omega arith)) x) in
+      let h = unless-moves g m (attached m k 0) (machine.attach (view g m) k none) c (inHandshake (phase m)) (λ x. coming-moves g m s c k 0 (ltb-true _ _ (p .0)) (not-there k (q .0)) (λ b y. absurd (omega arith)) x) in
       matches-by g m _ _ (h .0) (h .1)
 
   pub spawn-kept : (k p i : ℕ) → refusal (observe m) (c-spawn k p i) ≡ 0 → ActKept g m (c-spawn k p i)
@@ -179,5 +180,5 @@ module _ (g : Geometry) (m : Mem) (s : Sizes g m) (c : Ordered g m) where
       let f = require-ok (isAttached m p) 4 _ (omega arith) (d .1) in
       let n = require-ok (isInside m p) 5 _ (omega arith) (f .1) in
       let q = root-ok i _ (n .1) in
-      let h = unless-moves g m (attached m k (fields.root m p i)) (machine.attach (view g m) k (record? (fields.root m p i))) c (inHandshake (phase m)) (λ x. coming-moves g m s c k (fields.root m p i) (lt-of k 32 (a .0)) (not-there k (d .0)) (λ at y. is-root g m p i at (lt-of p 32 (b .0)) (q .0) (f .0) y) x) in
+      let h = unless-moves g m (attached m k (fields.root m p i)) (machine.attach (view g m) k (record? (fields.root m p i))) c (inHandshake (phase m)) (λ x. coming-moves g m s c k (fields.root m p i) (ltb-true _ _ (a .0)) (not-there k (d .0)) (λ at y. is-root m p i at (ltb-true _ _ (b .0)) (q .0) (f .0) y) x) in
       matches-by g m _ _ (h .0) (h .1)

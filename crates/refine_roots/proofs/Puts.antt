@@ -1,16 +1,16 @@
 -- A data field of a record set: put. Assumes nothing.
 use mathlib.Core.Path.{_≡_, refl, sym, _∙_, ap}
-use mathlib.Core.Logic.{inl}
 use Prim.Native.Nat.{ℕ, suc, _+_, _-_, _≤_, _<_}
 use native.Mathlib.Omega.{arith}
 use lib.Dec.{ltb}
 use lib.ListN.{set}
 use lib.Seq.{getD-set-same, getD-set-other}
+use borrow.Author.Tests.{ltb-true}
 use Rattle.layout.specs.Geometry.{segmentOf}
 use Rattle.layout.specs.declared.Geometry.{Geometry}
 use Rattle.layout.specs.Mem.{Mem, heapWord, setHeap, Sizes}
 use Rattle.theory.specs.Calls.{c-put, a-ok, value?, refusal}
-use Rattle.theory.proofs.CallKeeps.{by-ok, root-ok, require-ok, lt-of}
+use Rattle.theory.proofs.Refusals.{by-ok, root-ok, require-ok}
 use Rattle.theory.specs.Reach.{root}
 use Rattle.theory.specs.TraceStack.{tab}
 use Rattle.theory.specs.Update.{upd}
@@ -29,7 +29,8 @@ use Rattle.laws.proofs.Tables.{tab-set}
 use Rattle.theory.proofs.Updates.{upd-by}
 use Rattle.refine_view.proofs.Contents.{pointers-by, values-by, pointer-by, value-by, fields-by}
 use Rattle.refine_view.proofs.Invariants.{to-live, to-record, structure-of}
-use Rattle.refine_view.proofs.Keeping.{matches-by, is-root, wanted-in, on-record}
+use Rattle.refine_view.proofs.Keeping.{matches-by, wanted-in, on-record}
+use Rattle.laws.proofs.Rooted.{live-root}
 use Rattle.laws.proofs.Apart.{fields-apart, field-inside}
 use Rattle.theory.proofs.Agree as agreeing
 use Rattle.theory.specs.Machine as machine
@@ -68,11 +69,11 @@ module _ (g : Geometry) (m : Mem) (s : Sizes g m) (c : Ordered g m) (at : ℕ) (
   other x q i l d = getD-set-other (m .heap) place (x + i) v 0 (λ e. clash (e ∙ offset))
     where
       clash : x + i ≡ at + (1 + pointers m at + f) → ⊥
-      clash e = let z = fields-apart g m (c .segments) x at q r i (1 + pointers m at + f) l (omega arith) e in d z (omega arith)
+      clash e = let z = fields-apart g m x at q r i (1 + pointers m at + f) l (omega arith) e in d z (omega arith)
 
   there : heapWord after place ≡ v
   unfolding setHeap
-  there = let z = s .heap in let w = field-inside g m (c .segments) at r (1 + pointers m at + f) (omega arith) in getD-set-same (m .heap) place v 0 (omega arith)
+  there = let z = s .heap in let w = field-inside g m at r (1 + pointers m at + f) (omega arith) in getD-set-same (m .heap) place v 0 (omega arith)
 
   header : (x : ℕ) → RecordOk g m x → heapWord after x ≡ heapWord m x
   header x q = let e : x ≡ x + 0 = omega arith in ap (heapWord after) e ∙ other x q 0 (omega arith) (λ y z. omega arith) ∙ ap (heapWord m) (sym e)
@@ -126,7 +127,7 @@ put-kept g m s c k i f v e =
     let r = root-ok i _ (p .3) in
     let w = wanted-in g m k i (value? f) (p .1) (r .0) (r .1) in
     let n : fields.root m k i ≡ suc (w .at) = named _ _ (w .is) in
-    let x = lt-of _ _ (require-ok (ltb f (values m (w .at))) 8 0 (omega arith) (w .asked) .0) in
+    let x = ltb-true _ _ (require-ok (ltb f (values m (w .at))) 8 0 (omega arith) (w .asked) .0) in
     let h = on-record g m (record? (fields.root m k i)) (w .at) (w .is) (λ at. (a-ok, setValue m at f v)) (λ at. (a-ok, machine.setValues (view g m) at (set (valuesOf m at) f v))) refl
-    (value-moves g m s c (w .at) (c .records (w .at) (root (inl (is-root g m k i (w .at) (p .0) (r .0) (p .1) n)))) f v x) in
+    (value-moves g m s c (w .at) (c .records (w .at) (live-root m k i (w .at) (p .0) (r .0) (p .1) n)) f v x) in
     matches-by g m _ _ (h .0) (h .1)

@@ -3,11 +3,12 @@ use mathlib.Core.Path.{_≡_, refl}
 use Prim.Native.Nat.{ℕ}
 use native.Mathlib.Omega.{arith}
 use lib.Dec.{ltb}
+use borrow.Author.Tests.{ltb-true}
 use Rattle.layout.specs.declared.Geometry.{Geometry}
 use Rattle.layout.specs.Geometry.{mutatorCount}
 use Rattle.layout.specs.Mem.{Mem, Sizes}
 use Rattle.theory.specs.Calls.{c-enter, refusal}
-use Rattle.theory.proofs.CallKeeps.{require-ok, lt-of}
+use Rattle.theory.proofs.Refusals.{require-ok}
 use Rattle.model.specs.Fields.{inside}
 use Rattle.model.specs.Calls.{isAttached, observe, act}
 use Rattle.refine_view.specs.Kept.{Ordered, ActKept}
@@ -21,4 +22,4 @@ unfolding act
 enter-kept g m s c k e =
     let p = require-ok (ltb k mutatorCount) 2 _ (omega arith) e in
     let q = require-ok (isAttached m k) 4 _ (omega arith) (p .1) in
-    matches-by g m _ _ refl (side-moves g m s (structure-of g m c) k inside (lt-of k 32 (p .0)) (not-eq _ _ (q .0)) (omega arith) (omega arith))
+    matches-by g m _ _ refl (side-moves g m s (structure-of g m c) k inside (ltb-true _ _ (p .0)) (not-eq _ _ (q .0)) (omega arith) (omega arith))

@@ -22,7 +22,8 @@ use Rattle.model.specs.Records.{record?, pointers, values, pointer, blockOf, re
 use Rattle.model.specs.Collector.{isFull, collects, started}
 use Rattle.model.proofs.Collecting.{collects-full}
 use Rattle.model.specs.Reaching.{Live, isMarked}
-use Rattle.model.specs.Consistent.{InPhase, IsClass, SegmentOk, Occupied, MutatorOk, RecordOk, isFree, isPart}
+use Rattle.classes.specs.Class.{IsClass}
+use Rattle.model.specs.Consistent.{InPhase, SegmentOk, Occupied, MutatorOk, RecordOk, isFree, isPart}
 use Rattle.refine_view.specs.View.{view, stackOf, isHead, isUsed}
 use Rattle.refine_view.specs.Kept.{Ordered, EachOccupied, QueuedOk, MarksIn, Structure, StartKept}
 use Rattle.laws.proofs.Bools.{and-false, test-same}

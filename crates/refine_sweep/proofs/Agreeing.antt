@@ -17,7 +17,8 @@ use Rattle.theory.proofs.Updates.{upd-cases}
 use Rattle.theory.proofs.Agree.{Agree}
 use Rattle.theory.proofs.Invariant.{Tracing}
 use Rattle.model.specs.Fields.{phase, traceCount, absent, inside, tag, class}
-use Rattle.model.specs.Records.{blockWords, blockOf, record?}
+use Rattle.classes.specs.Class.{blockWords}
+use Rattle.model.specs.Records.{blockOf, record?}
 use Rattle.model.specs.Reaching.{Live, isMarked}
 use Rattle.refine_view.specs.View.{view, stackOf, isHead, isUsed}
 use Rattle.refine_view.specs.Kept.{Ordered, Moves}

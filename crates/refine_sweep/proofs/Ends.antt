@@ -15,7 +15,7 @@ use Rattle.model.specs.declared.SegmentState.{SegmentState}
 use Rattle.model.specs.Fields.{tag, class, place, owner}
 use Rattle.model.specs.Segments.{above, bitmap, usedBit, marksOf}
 use Rattle.model.specs.Collector.{keptBy}
-use Rattle.model.specs.Consistent.{IsClass}
+use Rattle.classes.specs.Class.{IsClass}
 use Rattle.laws.proofs.Words.{tagOf, classIn, placeIn, ownerIn}
 use Rattle.laws.proofs.Parted.{Stacks}
 use Rattle.laws.proofs.Blocks.{blocks-most}

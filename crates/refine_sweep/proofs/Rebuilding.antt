@@ -16,7 +16,7 @@ use Rattle.bitmap_write.proofs.Copied.{adopted-tree, adopted-bit, length-adopte
 use Rattle.model.specs.Fields.{class}
 use Rattle.model.specs.Segments.{above, bitmap, marksOf}
 use Rattle.model.specs.Collector.{rebuiltBy}
-use Rattle.model.specs.Consistent.{IsClass}
+use Rattle.classes.specs.Class.{IsClass}
 use Rattle.layout.proofs.Sizes.{marks-are, class-height}
 use Rattle.laws.proofs.Blocks.{blocks-most}
 use Rattle.laws.proofs.Windows.{window-there, window-other, length-window, window-bit}

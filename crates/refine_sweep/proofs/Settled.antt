@@ -12,7 +12,7 @@ use Rattle.model.specs.declared.SegmentState.{SegmentState}
 use Rattle.model.specs.Fields.{class}
 use Rattle.model.specs.Segments.{setSegmentState, above, bitmap, stacked}
 use Rattle.model.specs.Collector.{rebuiltBy}
-use Rattle.model.specs.Consistent.{IsClass}
+use Rattle.classes.specs.Class.{IsClass}
 use Rattle.laws.proofs.Words.{Recorded, recorded-as, tagOf, classIn, placeIn, ownerIn, OtherRegions, state-others, state-there, state-other}
 use Rattle.laws.proofs.Bitmaps.{bitmap-by}
 use Rattle.laws.proofs.Lengths.{sizes-bitmap, sizes-state}

@@ -16,7 +16,8 @@ use Rattle.model.specs.Fields.{phase, traceCount, tag, class}
 use Rattle.model.specs.Segments.{usedBit}
 use Rattle.model.specs.Records.{blockOf, marked}
 use Rattle.model.specs.Reaching.{Live}
-use Rattle.model.specs.Consistent.{InPhase, IsClass}
+use Rattle.classes.specs.Class.{IsClass}
+use Rattle.model.specs.Consistent.{InPhase}
 use Rattle.refine_view.specs.Kept.{Ordered}
 use Rattle.laws.proofs.Blocks.{of-block}
 use Rattle.laws.proofs.Segments.{used-same}

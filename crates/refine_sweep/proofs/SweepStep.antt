@@ -12,7 +12,7 @@ use Rattle.layout.specs.Mem.{Mem, Sizes}
 use Rattle.model.specs.Fields.{tag, class}
 use Rattle.model.specs.Segments.{freeStack, partStack, stacked}
 use Rattle.model.specs.Collector.{keptBy, swept}
-use Rattle.model.specs.Consistent.{IsClass}
+use Rattle.classes.specs.Class.{IsClass}
 use Rattle.refine_view.specs.Kept.{Ordered}
 use Rattle.refine_sweep.proofs.Settled.{settledMem, settled-state}
 use Rattle.refine_sweep.proofs.SweptStacks.{full-stacks, free-state, free-stacks, part-state, part-stacks}

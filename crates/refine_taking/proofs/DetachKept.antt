@@ -8,7 +8,7 @@ use Rattle.layout.specs.Mem.{Mem, Sizes}
 use Rattle.theory.specs.Phases.{inHandshake}
 use Rattle.theory.specs.Calls.{c-detach, a-ok, refusal, unless}
 use Rattle.theory.specs.Machine.{detach}
-use Rattle.theory.proofs.CallKeeps.{by-ok}
+use Rattle.theory.proofs.Refusals.{by-ok}
 use Rattle.model.specs.Fields.{phase}
 use Rattle.model.specs.Mutators.{detached}
 use Rattle.model.specs.Calls.{observe, act}

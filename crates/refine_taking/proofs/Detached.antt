@@ -9,7 +9,7 @@ use native.Mathlib.Omega.{arith}
 use lib.Dec.{eqb}
 use lib.ListN.{length, getD, replicate, length-replicate, getD-replicate}
 use Rattle.rules.proofs.Order.{same-or-not}
-use Rattle.classes.specs.Class.{classCount}
+use Rattle.classes.specs.Class.{classCount, IsClass}
 use Rattle.layout.specs.declared.Geometry.{Geometry}
 use Rattle.layout.specs.Geometry.{mutatorCount, mutatorWords, rootCount, blocksIn, segmentOf}
 use Rattle.layout.specs.Mem.{Mem, mutatorWord, setRun, Sizes, spliced}
@@ -24,7 +24,7 @@ use Rattle.model.specs.Records.{record?}
 use Rattle.model.specs.Mutators.{released, detached}
 use Rattle.model.specs.Calls.{isAttached, isInside}
 use Rattle.model.specs.Reaching.{IsRoot, Live}
-use Rattle.model.specs.Consistent.{IsClass, SegmentOk, Occupied, TreeOk, MutatorOk, isFree, isPart}
+use Rattle.model.specs.Consistent.{SegmentOk, Occupied, TreeOk, MutatorOk, isFree, isPart}
 use Rattle.refine_view.specs.View.{view}
 use Rattle.refine_view.specs.Kept.{Ordered, EachOccupied, Structure, Moves}
 use Rattle.laws.proofs.Words.{Recorded, recorded-as}

@@ -6,7 +6,7 @@ use native.Mathlib.Omega.{arith}
 use borrow.Author.Tests.{ne-eqb}
 use Rattle.rules.specs.Pick.{pick}
 use Rattle.rules.proofs.Order.{same-or-not}
-use Rattle.classes.specs.Class.{firstClass, classCount}
+use Rattle.classes.specs.Class.{firstClass, classCount, IsClass}
 use Rattle.layout.specs.declared.Geometry.{Geometry}
 use Rattle.layout.specs.Geometry.{mutatorCount}
 use Rattle.layout.specs.Mem.{Mem, setSegment, setStack, Sizes}
@@ -14,7 +14,6 @@ use Rattle.model.specs.declared.SegmentState.the-variants.{Part}
 use Rattle.model.specs.Fields.{holding, tag, class, place, owner}
 use Rattle.model.specs.Segments.{setSegmentState, partStack, stacked}
 use Rattle.model.specs.Mutators.{releasedOne}
-use Rattle.model.specs.Consistent.{IsClass}
 use Rattle.refine_view.specs.Kept.{Ordered}
 use Rattle.laws.proofs.Words.{Recorded, recorded-as, recorded-by, state-there, state-other}
 use Rattle.laws.proofs.Parted.{Stacks, parted}

@@ -5,12 +5,12 @@ use mathlib.Core.Logic.{_⊎_, inl, inr}
 use Prim.Native.Nat.{ℕ, suc, _+_, _≤_, _<_}
 use native.Mathlib.Omega.{arith}
 use Rattle.rules.proofs.Order.{same-or-not, le-or-lt}
-use Rattle.classes.specs.Class.{firstClass}
+use Rattle.classes.specs.Class.{firstClass, IsClass}
 use Rattle.layout.specs.declared.Geometry.{Geometry}
 use Rattle.layout.specs.Mem.{Mem, Sizes}
 use Rattle.model.specs.Fields.{holding, tag, class, place, owner}
 use Rattle.model.specs.Segments.{freeStack, partStack}
-use Rattle.model.specs.Consistent.{IsClass, StackOk, isFree, isPart}
+use Rattle.model.specs.Consistent.{StackOk, isFree, isPart}
 use Rattle.refine_view.specs.Kept.{Ordered}
 use Rattle.laws.proofs.Words.{Recorded}
 use Rattle.words.proofs.Counts.{lt-of}

@@ -12,7 +12,8 @@ use Rattle.layout.specs.Mem.{Mem, Sizes}
 use Rattle.model.specs.Fields.{holding, tag, class, owner}
 use Rattle.model.specs.Segments.{freeStack, partStack, count, entry, top}
 use Rattle.model.specs.Making.{Source, held, part, unused, noRoom, sourceOf, NoRoom}
-use Rattle.model.specs.Consistent.{IsClass, isPart}
+use Rattle.classes.specs.Class.{IsClass}
+use Rattle.model.specs.Consistent.{isPart}
 use Rattle.refine_view.specs.Kept.{Ordered}
 use Rattle.laws.proofs.Bools.{and-left, and-right, and-both}
 use Rattle.model.specs.Tag as Tag

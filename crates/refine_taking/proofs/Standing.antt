@@ -15,7 +15,8 @@ use Rattle.layout.specs.Mem.{Mem, Sizes}
 use Rattle.theory.specs.Reach.{root}
 use Rattle.model.specs.Fields.{phase, tag, class, place}
 use Rattle.model.specs.Segments.{bitmap, usedBit}
-use Rattle.model.specs.Records.{blockWords, blockOf, queued, marked}
+use Rattle.classes.specs.Class.{blockWords}
+use Rattle.model.specs.Records.{blockOf, queued, marked}
 use Rattle.model.specs.Reaching.{IsRoot, Live, isMarked}
 use Rattle.model.specs.Consistent.{RecordOk, MarksOf}
 use Rattle.refine_view.specs.View.{view, isHead}

@@ -18,7 +18,8 @@ use Rattle.model.specs.Fields.{holding, tag, class, place, owner}
 use Rattle.model.specs.Segments.{setSegmentState, freeStack, partStack, count, top, pop, above, bitmap}
 use Rattle.model.specs.Making.{takes, freshened}
 use Rattle.model.specs.Calls.{isAttached}
-use Rattle.model.specs.Consistent.{IsClass, StackOk, isFree, isPart}
+use Rattle.classes.specs.Class.{IsClass}
+use Rattle.model.specs.Consistent.{StackOk, isFree, isPart}
 use Rattle.refine_view.specs.Kept.{Ordered}
 use Rattle.laws.proofs.Words.{Recorded, recorded-as}
 use Rattle.laws.proofs.Segments.{not-free, free-other, part-left}

@@ -15,7 +15,8 @@ use Rattle.model.specs.Fields.{holding, tag, class, place, owner}
 use Rattle.model.specs.Segments.{freeStack, partStack, count, top, pop, above, bitmap}
 use Rattle.model.specs.Making.{takes}
 use Rattle.model.specs.Calls.{isAttached}
-use Rattle.model.specs.Consistent.{IsClass, SegmentOk, StackOk, isFree, isPart}
+use Rattle.classes.specs.Class.{IsClass}
+use Rattle.model.specs.Consistent.{SegmentOk, StackOk, isFree, isPart}
 use Rattle.refine_view.specs.Kept.{Ordered}
 use Rattle.laws.proofs.Bools.{and-left, and-right}
 use Rattle.laws.proofs.Words.{Recorded}

@@ -4,7 +4,7 @@ use mathlib.Core.List.{List}
 use Prim.Native.Nat.{ℕ, suc, _+_, _-_, _*_, _<_}
 use native.Mathlib.Omega.{arith}
 use lib.ListN.{getD}
-use Rattle.classes.specs.Class.{firstClass}
+use Rattle.classes.specs.Class.{firstClass, IsClass}
 use Rattle.layout.specs.declared.Geometry.{Geometry}
 use Rattle.layout.specs.Geometry.{mutatorCount, mutatorWords}
 use Rattle.layout.specs.Mem.{Mem, mutatorWord, setMutator, setSegment, setStack, Sizes}
@@ -12,7 +12,6 @@ use Rattle.model.specs.declared.SegmentState.the-variants.{Held}
 use Rattle.model.specs.Fields.{holding, heldFrom, tag, class, place, owner}
 use Rattle.model.specs.Segments.{setSegmentState}
 use Rattle.model.specs.Making.{takes}
-use Rattle.model.specs.Consistent.{IsClass}
 use Rattle.laws.proofs.Words.{Recorded, recorded-as, state-there, state-other}
 use Rattle.laws.proofs.Entries.{table-there, table-other}
 use Rattle.laws.proofs.Lengths.{sizes-stack, sizes-state, sizes-mutator}

@@ -12,7 +12,7 @@ use borrow.Author.Tests.{ltb-true}
 use Rattle.rules.proofs.Order.{same-or-not}
 use Rattle.words.specs.Bits.{bitAt}
 use Rattle.words.specs.Tree.{Tree}
-use Rattle.classes.specs.Class.{firstClass}
+use Rattle.classes.specs.Class.{firstClass, IsClass}
 use Rattle.layout.specs.declared.Geometry.{Geometry}
 use Rattle.layout.specs.Geometry.{mutatorCount, mutatorWords, rootCount, blocksIn, segmentOf}
 use Rattle.layout.specs.Mem.{Mem, mutatorWord, Sizes}
@@ -23,7 +23,7 @@ use Rattle.model.specs.Segments.{freeStack, partStack, above, bitmap}
 use Rattle.model.specs.Records.{record?}
 use Rattle.model.specs.Calls.{isAttached, isInside}
 use Rattle.model.specs.Reaching.{IsRoot}
-use Rattle.model.specs.Consistent.{IsClass, SegmentOk, TreeOk, MutatorOk, StackOk, isFree, isPart}
+use Rattle.model.specs.Consistent.{SegmentOk, TreeOk, MutatorOk, StackOk, isFree, isPart}
 use Rattle.refine_view.specs.Kept.{Ordered}
 use Rattle.refine_view.specs.View.{view}
 use Rattle.laws.proofs.Bools.{not-eq}

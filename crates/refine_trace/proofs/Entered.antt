@@ -8,7 +8,7 @@ use lib.ListN.{length, getD, set, length-set}
 use lib.Seq.{getD-set-same, getD-set-other}
 use Rattle.rules.proofs.Order.{le-or-lt, same-or-not}
 use Rattle.words.specs.Bits.{bitAt, setBit, onesAmong}
-use Rattle.words.proofs.Word.{one-of-not-zero}
+use Rattle.words.proofs.Word.{zero-of-not-one}
 use Rattle.words.proofs.Lists.{at-lt, set-there, set-elsewhere, length-setBit}
 use Rattle.words.proofs.Ones.{among-words-le}
 use Rattle.layout.specs.declared.Geometry.{Geometry}
@@ -23,7 +23,7 @@ use Rattle.refine_view.specs.View.{stackOf}
 use Rattle.refine_view.specs.Kept.{QueuedOk, MarksIn, Structure}
 use Rattle.layout.proofs.Sizes.{marks-are}
 use Rattle.laws.proofs.Blocks.{bit-below, same-bit}
-use Rattle.words.proofs.Counts.{among-change, places-all}
+use Rattle.words.proofs.Counts.{set-count, places-all}
 use Rattle.refine_view.proofs.Seeing.{entry-in, entry-of, entries-same}
 use Rattle.laws.proofs.Apart.{class-of}
 use Rattle.refine_view.proofs.Frames.{beside, Held, structure-beside}
@@ -57,26 +57,26 @@ module _ (g : Geometry) (m : Mem) (c q t : List ℕ) (e : Entered g m c q t) whe
     same-entry : (i : ℕ) → i < getD c 1 0 → recordBit g m (getD t i 0 - 1) ≡ recordBit g m at → getD t i 0 ≡ suc at
     same-entry i l b =
         let o = e .records i l in
-        let z = same-bit g m (getD t i 0 - 1) at (class-of g m f _ o) (class-of g m f at r) (o .aligned) (r .aligned) b in
+        let z = same-bit g m (getD t i 0 - 1) at (class-of g m _ o) (class-of g m at r) (o .aligned) (r .aligned) b in
         let n = e .named i l in
         omega arith
 
     below : recordBit g m at < g .segments * mostBlocks g
-    below = bit-below g m at (class-of g m f at r) (r .inside)
+    below = bit-below g m at (class-of g m at r) (r .inside)
 
     -- a bit that is 1 is of an entry
     pub bit-entry : bitAt q (recordBit g m at) ≡ 1 → (List·Memᴰ at (stackOf (over m c q t) (getD c 1 0)) → ⊥) → ⊥
     bit-entry b gone = places-all (getD c 1 0) (bitAt q) (g .segments * mostBlocks g) (λ i. recordBit g m (getD t i 0 - 1)) places apart (let n = e .number in omega arith) (recordBit g m at) below b (λ i l z. gone (entry-in (over m c q t) (getD c 1 0) i at l (same-entry i l z)))
       where
         places : (i : ℕ) → i < getD c 1 0 → (recordBit g m (getD t i 0 - 1) < g .segments * mostBlocks g) × (bitAt q (recordBit g m (getD t i 0 - 1)) ≡ 1)
-        places i l = let o = e .records i l in (bit-below g m (getD t i 0 - 1) (class-of g m f _ o) (o .inside), e .bits i l)
+        places i l = let o = e .records i l in (bit-below g m (getD t i 0 - 1) (class-of g m _ o) (o .inside), e .bits i l)
 
         apart : (i j : ℕ) → i < j → j < getD c 1 0 → recordBit g m (getD t i 0 - 1) ≡ recordBit g m (getD t j 0 - 1) → ⊥
         apart i j l h z =
             let k : i < getD c 1 0 = omega arith in
             let o = e .records i k in
             let u = e .records j h in
-            let y = same-bit g m (getD t i 0 - 1) (getD t j 0 - 1) (class-of g m f _ o) (class-of g m f _ u) (o .aligned) (u .aligned) z in
+            let y = same-bit g m (getD t i 0 - 1) (getD t j 0 - 1) (class-of g m _ o) (class-of g m _ u) (o .aligned) (u .aligned) z in
             let a = e .named i k in
             let b = e .named j h in
             e .once i j l h (omega arith)
@@ -100,18 +100,13 @@ module _ (g : Geometry) (m : Mem) (c q t : List ℕ) (e : Entered g m c q t) whe
       t′ = set t count (suc at)
 
       zero-bit : bitAt q (recordBit g m at) ≡ 0
-      zero-bit = ⊎-elim (λ z. z) (λ n. absurd (free (one-of-not-zero _ (at-lt q (recordBit g m at)) n))) (same-or-not (bitAt q (recordBit g m at)) 0)
+      zero-bit = zero-of-not-one _ (at-lt q (recordBit g m at)) free
 
       in-words : recordBit g m at / 32 < length q
       in-words = let b = below in let l = e .lengthQueued in let w = marks-are g (g .segments) in omega arith
 
       more : onesAmong (bitAt q′) (g .segments * mostBlocks g) ≡ count + 1
-      more =
-          let z = among-change (bitAt q) (bitAt q′) (g .segments * mostBlocks g) (recordBit g m at) below (λ i l d. set-elsewhere q (recordBit g m at) in-words i d) in
-          let a = zero-bit in
-          let b = set-there q (recordBit g m at) in-words in
-          let n = e .number in
-          omega arith
+      more = let z = set-count q (recordBit g m at) (g .segments * mostBlocks g) in-words below zero-bit in let n = e .number in omega arith
 
       room : count < length t
       room = let a = more in let b = among-words-le q′ (g .segments * mostBlocks g) in let l = e .lengthTrace in omega arith

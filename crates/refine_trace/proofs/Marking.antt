@@ -20,7 +20,8 @@ use Rattle.theory.proofs.Updates.{upd-cases}
 use Rattle.model.specs.Fields.{class}
 use Rattle.model.specs.Records.{blockOf, recordBit, setMarked}
 use Rattle.model.specs.Reaching.{isMarked}
-use Rattle.model.specs.Consistent.{IsClass, RecordOk, BlockInUse}
+use Rattle.classes.specs.Class.{IsClass}
+use Rattle.model.specs.Consistent.{RecordOk, BlockInUse}
 use Rattle.refine_view.specs.View.{view, isHead}
 use Rattle.refine_view.specs.Kept.{MarksIn}
 use Rattle.layout.proofs.Sizes.{one-way, marks-are}
@@ -35,7 +36,7 @@ module _ (g : Geometry) (m : Mem) (s : Sizes g m) (f : Segments g m) (at : ℕ) 
   after = setMarked g m at
 
   in-words : recordBit g m at / 32 < length (m .marks)
-  in-words = let b = bit-below g m at (class-of g m f at r) (r .inside) in let l = s .marks in let w = marks-are g (g .segments) in omega arith
+  in-words = let b = bit-below g m at (class-of g m at r) (r .inside) in let l = s .marks in let w = marks-are g (g .segments) in omega arith
 
   mark-there : bitAt (after .marks) (recordBit g m at) ≡ 1
   unfolding setMarked
@@ -55,7 +56,7 @@ module _ (g : Geometry) (m : Mem) (s : Sizes g m) (f : Segments g m) (at : ℕ) 
 
       elsewhere : (x ≡ at → ⊥) → (b : Bool) → isHead g m x ≡ b → (b && eqb (bitAt (after .marks) (recordBit g m x)) 1) ≡ (b && isMarked g m x)
       elsewhere d false e = refl
-      elsewhere d true e = ap (λ z. eqb z 1) (mark-else (recordBit g m x) (λ z. d (same-bit g m x at k (class-of g m f at r) (eqb-true _ _ e) (r .aligned) z)))
+      elsewhere d true e = ap (λ z. eqb z 1) (mark-else (recordBit g m x) (λ z. d (same-bit g m x at k (class-of g m at r) (eqb-true _ _ e) (r .aligned) z)))
 
   pub segments-marked : Segments g after
   unfolding setMarked
@@ -86,7 +87,7 @@ module _ (g : Geometry) (m : Mem) (s : Sizes g m) (f : Segments g m) (at : ℕ) 
       go : (x b : ℕ) → x < g .segments → b < mostBlocks g → bitAt (after .marks) (bitIn g x b) ≡ 1 → (bitIn g x b ≡ recordBit g m at) ⊎ (bitIn g x b ≡ recordBit g m at → ⊥) → BlockInUse g after x b
       go x b l k e (inr d) = let o = h x b l tt k (sym (mark-else (bitIn g x b) d) ∙ e) in record { used = o .used; within = o .within; block = o .block }
       go x b l k e (inl d) =
-          let n = class-of g m f at r in
+          let n = class-of g m at r in
           let w = of-block g m at n in
           let u = blocks-most g (class m (segmentOf g at)) n in
           let z = one-way (mostBlocks g) x b (segmentOf g at) (blockOf g m at) k (omega arith) d in

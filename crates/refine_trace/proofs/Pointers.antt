@@ -24,19 +24,19 @@ module _ (g : Geometry) (m : Mem) (s : Sizes g m) (f : Segments g m) (at p v : �
 
   word-there : heapWord after (at + 1 + p) ≡ v
   unfolding setHeap
-  word-there = let h = field-inside g m f at r (1 + p) (omega arith) in let l = s .heap in getD-set-same (m .heap) (at + 1 + p) v 0 (omega arith)
+  word-there = let h = field-inside g m at r (1 + p) (omega arith) in let l = s .heap in getD-set-same (m .heap) (at + 1 + p) v 0 (omega arith)
 
   module _ (x : ℕ) (o : RecordOk g m x) where
     pub header-kept : heapWord after x ≡ heapWord m x
-    header-kept = word-other x (λ e. let z = fields-apart g m f x at o r 0 (1 + p) (omega arith) (omega arith) (omega arith) in omega arith)
+    header-kept = word-other x (λ e. let z = fields-apart g m x at o r 0 (1 + p) (omega arith) (omega arith) (omega arith) in omega arith)
 
     pub pointers-kept : pointers after x ≡ pointers m x
     pointers-kept = pointers-by m after x header-kept
 
     pub values-kept : valuesOf after x ≡ valuesOf m x
-    values-kept = fields-by m after x header-kept (λ i l. word-other (x + (1 + pointers m x + i)) (λ e. let z = fields-apart g m f x at o r (1 + pointers m x + i) (1 + p) (omega arith) (omega arith) (omega arith) in let y : pointers m x ≡ pointers m at = ap (pointers m) z in omega arith))
+    values-kept = fields-by m after x header-kept (λ i l. word-other (x + (1 + pointers m x + i)) (λ e. let z = fields-apart g m x at o r (1 + pointers m x + i) (1 + p) (omega arith) (omega arith) (omega arith) in let y : pointers m x ≡ pointers m at = ap (pointers m) z in omega arith))
 
     pub pointer-kept : (i : ℕ) → i < pointers m x → record? (pointer after x i) ≡ upd2 (λ a b. record? (pointer m a b)) at p (record? v) x i
     pointer-kept i l = upd2-by (λ a b. record? (pointer m a b)) at p (record? v) x i (record? (pointer after x i))
         (λ e h. rw (e, h) (ap record? word-there))
-        (λ d. ap record? (word-other (x + 1 + i) (λ e. let z = fields-apart g m f x at o r (1 + i) (1 + p) (omega arith) (omega arith) (omega arith) in d z (omega arith))))
+        (λ d. ap record? (word-other (x + 1 + i) (λ e. let z = fields-apart g m x at o r (1 + i) (1 + p) (omega arith) (omega arith) (omega arith) in d z (omega arith))))

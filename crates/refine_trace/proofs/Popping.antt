@@ -38,7 +38,7 @@ module _ (g : Geometry) (m : Mem) (f : Segments g m) (c q t : List ℕ) (e : Ent
   last = omega arith
 
   below : recordBit g m at < g .segments * mostBlocks g
-  below = let r = e .records n last in bit-below g m at (class-of g m f at r) (r .inside)
+  below = let r = e .records n last in bit-below g m at (class-of g m at r) (r .inside)
 
   in-words : recordBit g m at / 32 < length q
   in-words = let b = below in let l = e .lengthQueued in let w = marks-are g (g .segments) in omega arith
@@ -65,7 +65,7 @@ module _ (g : Geometry) (m : Mem) (f : Segments g m) (c q t : List ℕ) (e : Ent
       let j = before i l in
       let o = e .records i j in
       let r = e .records n last in
-      let y = same-bit g m (getD t i 0 - 1) at (class-of g m f _ o) (class-of g m f at r) (o .aligned) (r .aligned) z in
+      let y = same-bit g m (getD t i 0 - 1) at (class-of g m _ o) (class-of g m at r) (o .aligned) (r .aligned) z in
       let a = e .named i j in
       let b = e .named n last in
       e .once i n (still i l) last (omega arith)

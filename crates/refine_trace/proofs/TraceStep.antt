@@ -26,7 +26,8 @@ use Rattle.model.specs.Fields.{phase, traceCount, tag, class}
 use Rattle.model.specs.Records.{record?, pointers, pointer, recordBit, setMarked, clearQueued}
 use Rattle.model.specs.Tracing.{popped, traced}
 use Rattle.model.specs.Collector.{traces}
-use Rattle.model.specs.Consistent.{IsClass, RecordOk}
+use Rattle.classes.specs.Class.{IsClass}
+use Rattle.model.specs.Consistent.{RecordOk}
 use Rattle.refine_view.specs.View.{view, stackOf}
 use Rattle.refine_view.specs.Kept.{Ordered, Structure, Moves, MarksIn}
 use Rattle.refine_view.proofs.Seeing.{entries-same, live-on, live-back}
@@ -100,7 +101,7 @@ module _ (g : Geometry) (m : Mem) (s : Sizes g m) (c : Ordered g m) (marking : p
     pointers-in = pointers-pushed g base (segments-marked g m s (c .segments) at at-record) (popped g m at) (stackOf m n) popped-pushed at (pointers m at) (λ i x l e. record-marked g m s (c .segments) at at-record x (to-record g m s c x (pointer-live i x l e)))
 
     same-marks : (x : ℕ) → machine.Live (view g m) x → view g base .marked x ≡ upd (view g m .marked) at true x
-    same-marks x p = marked-view g m s (c .segments) at at-record x (class-of g m (c .segments) x (to-record g m s c x p))
+    same-marks x p = marked-view g m s (c .segments) at at-record x (class-of g m x (to-record g m s c x p))
 
     all-pushed : Pushed g base (traced g m at) (next-state .stack)
     all-pushed = subst (Pushed g base (traced g m at)) (pushes-alike (view g base .marked) (upd (view g m .marked) at true) (tab (pointers m at) (λ i. record? (pointer m at i))) (stackOf m n) (λ x h. let z = tab-inv (pointers m at) (λ i. record? (pointer m at i)) h in same-marks x (pointer-live (z .0) x (z .1) (z .2)))) pointers-in

@@ -3,7 +3,7 @@ use mathlib.Core.Path.{_≡_, refl, sym, _∙_, ap, subst}
 use mathlib.Core.List.{List}
 use Prim.Native.Nat.{ℕ, _+_, _*_, _/_, _%_, _≤_, _<_}
 use Rattle.words.specs.Bits.{bitAt, onesAmong}
-use Rattle.classes.specs.Class.{classOf}
+use Rattle.classes.specs.Class.{classOf, blockWords}
 use Rattle.classes.specs.declared.SizeClass.the-variants.{Class}
 use Rattle.layout.specs.declared.Geometry.{Geometry}
 use Rattle.layout.specs.Geometry.{segmentWords, mostBlocks, blocksIn, segmentOf, bitIn}
@@ -11,7 +11,7 @@ use Rattle.layout.specs.Mem.{Mem, traceWord, heapWord}
 use Rattle.theory.specs.Phases.{Phase, idle, sync1, sync2, mark, sweep}
 use Rattle.model.specs.Fields.{traceCount, tag, class}
 use Rattle.model.specs.Segments.{usedBit}
-use Rattle.model.specs.Records.{blockWords, blockOf, recordBit}
+use Rattle.model.specs.Records.{blockOf, recordBit}
 use Rattle.model.specs.Reaching.{IsEntry}
 use Rattle.model.specs.Consistent.{RecordOk, BlockInUse, MarksOf}
 use Rattle.refine_view.specs.Kept.{QueuedOk, MarksIn}

@@ -5,7 +5,7 @@ use mathlib.Core.List.{List}
 use Prim.Native.Nat.{ℕ, _+_, _/_, _%_, _≤_, _<_}
 use native.Mathlib.Omega.{arith}
 use lib.ListN.{getD}
-use Rattle.classes.specs.Class.{classOf}
+use Rattle.classes.specs.Class.{classOf, IsClass}
 use Rattle.layout.specs.declared.Geometry.{Geometry}
 use Rattle.layout.specs.Geometry.{mutatorCount}
 use Rattle.layout.specs.Mem.{Mem, heapWord}
@@ -13,7 +13,7 @@ use Rattle.theory.specs.Phases.{Phase}
 use Rattle.model.specs.Rules.{phaseOf}
 use Rattle.model.specs.Fields.{absent, state, holding}
 use Rattle.model.specs.Reaching.{Live}
-use Rattle.model.specs.Consistent.{IsClass, SegmentOk, MutatorOk, StackOk, RecordOk, BlockInUse}
+use Rattle.model.specs.Consistent.{SegmentOk, MutatorOk, StackOk, RecordOk, BlockInUse}
 use Rattle.refine_view.specs.Kept.{Structure, QueuedOk, MarksIn}
 use Rattle.refine_view.proofs.Carried.{marks-by}
 

@@ -9,7 +9,7 @@ use lib.Dec.{ltb}
 use borrow.Author.Tests.{lt-ltb, ltb-true}
 use Rattle.rules.specs.Pick.{pick}
 use Rattle.layout.specs.declared.Geometry.{Geometry}
-use Rattle.layout.specs.Geometry.{rootCount, segmentWords, mutatorCount, segmentOf}
+use Rattle.layout.specs.Geometry.{rootCount, segmentWords, segmentOf}
 use Rattle.layout.specs.Mem.{Mem, Sizes}
 use Rattle.theory.specs.Reach.{root, next}
 use Rattle.theory.specs.Calls.{Call, Answer, a-no, shapeIf, refusal, refuse, ifRecord, onRecord}
@@ -21,8 +21,7 @@ use Rattle.theory.proofs.Invariant.{none-some}
 use Rattle.model.specs.Fields.{phase, acks}
 use Rattle.model.specs.Records.{record?, pointers, values, pointer}
 use Rattle.model.specs.Calls.{isAttached, isInside, observe, act, exec}
-use Rattle.model.specs.Reaching.{Live, IsRoot}
-use Rattle.laws.proofs.Bools.{not-eq}
+use Rattle.model.specs.Reaching.{Live}
 use Rattle.refine_view.specs.View.{view, valuesOf}
 use Rattle.refine_view.specs.Kept.{Ordered, Moves, Matches, ActKept, CallKept}
 use Rattle.laws.proofs.Tables.{length-tab}
@@ -93,10 +92,6 @@ pub on-record : (g : Geometry) (m : Mem) (o : Option ℕ) (at : ℕ) → o ≡ s
 on-record g m o at e K L h v = subst (λ o. (onRecord o m K .0 ≡ onRecord o (view g m) L .0) × Moves g m (onRecord o m K .1) (onRecord o (view g m) L .1)) (sym e) (h, v)
 
 module _ (g : Geometry) (m : Mem) where
-  -- an inside mutator's root
-  pub is-root : (k i at : ℕ) → k < mutatorCount → i < rootCount → isAttached m k ≡ true → fields.root m k i ≡ suc at → IsRoot m at
-  is-root k i at l h a e = record { mutator = k; index = i; few = l; within = h; attached = not-eq _ _ a; names = e }
-
   -- the record in root i of mutator k, and what is asked of it
   pub record Wanted (k i : ℕ) (rest : ℕ × ℕ → ℕ) : Type 0 where
     pub at : ℕ

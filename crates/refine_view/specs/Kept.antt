@@ -19,7 +19,8 @@ use Rattle.model.specs.Segments.{freeStack, partStack}
 use Rattle.model.specs.Records.{queued}
 use Rattle.model.specs.Collector.{collects, started, lowest, stepOf}
 use Rattle.model.specs.Reaching.{IsEntry, Live}
-use Rattle.model.specs.Consistent.{Consistent, IsClass, SegmentOk, Occupied, MutatorOk, AcksIn, StackOk, isFree, isPart, TreeOk, RecordOk, TraceOk, MarksOf, InPhase}
+use Rattle.classes.specs.Class.{IsClass}
+use Rattle.model.specs.Consistent.{Consistent, SegmentOk, Occupied, MutatorOk, AcksIn, StackOk, isFree, isPart, TreeOk, RecordOk, TraceOk, MarksOf, InPhase}
 use Rattle.refine_view.specs.View.{view}
 use Rattle.model.specs.Calls as model
 use Rattle.theory.specs.MachineCalls as machine

@@ -10,7 +10,8 @@ use Rattle.theory.specs.TraceStack.{tab}
 use Rattle.theory.specs.Machine.{State}
 use Rattle.model.specs.Fields.{phase, traceCount, acks, root, tag, class}
 use Rattle.model.specs.Segments.{usedBit}
-use Rattle.model.specs.Records.{record?, pointers, values, pointer, value, blockWords, blockOf}
+use Rattle.classes.specs.Class.{blockWords}
+use Rattle.model.specs.Records.{record?, pointers, values, pointer, value, blockOf}
 use Rattle.model.specs.Calls.{isAttached, isInside}
 use Rattle.model.specs.Reaching.{isMarked}
 use Rattle.model.specs.Tag as Tag

@@ -11,7 +11,7 @@ pub fn copy(g: Geometry, mem: &mut [u32], k: u32, to: u32, from: u32) -> Answer
     if layout::wrong_size(g, mem.len()) {
         return Answer::Refused(1);
     }
-    let refused = roots::standing_with(g, mem, k, to, from);
+    let refused = roots::roots_refusal(g, mem, k, to, from);
     if refused != 0 {
         return Answer::Refused(refused);
     }
@@ -27,7 +27,7 @@ pub fn clear(g: Geometry, mem: &mut [u32], k: u32, to: u32) -> Answer
     if layout::wrong_size(g, mem.len()) {
         return Answer::Refused(1);
     }
-    let refused = roots::standing_at(g, mem, k, to);
+    let refused = roots::root_refusal(g, mem, k, to);
     if refused != 0 {
         return Answer::Refused(refused);
     }
@@ -42,7 +42,7 @@ pub fn same(g: Geometry, mem: &[u32], k: u32, i: u32, j: u32) -> Answer
     if layout::wrong_size(g, mem.len()) {
         return Answer::Refused(1);
     }
-    let refused = roots::standing_with(g, mem, k, i, j);
+    let refused = roots::roots_refusal(g, mem, k, i, j);
     if refused != 0 {
         return Answer::Refused(refused);
     }

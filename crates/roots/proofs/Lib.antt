@@ -1,2 +1,2 @@
--- Laws of a mutator's standing.
+-- Laws of the refusals of a mutator and of its roots.
 pub mod Inside

@@ -10,7 +10,7 @@ ghost use Rattle.model.specs.Fields.{root, setRoot};
 ghost use Rattle.roots.specs.Inside.{insideThen};
 
 // The refusal 2, 4 or 5 of a call by a mutator that must be inside, or 0 for none.
-pub fn standing(g: Geometry, mem: &[u32], k: u32) -> u32
+pub fn inside_refusal(g: Geometry, mem: &[u32], k: u32) -> u32
     requires { ⌜ Sized g (length (now mem)) ⌝ }
     ensures { λ r. ⌜ r ≡ insideThen (memOf g (now (mem .entry))) k 0 ⌝ }
 {
@@ -32,11 +32,11 @@ pub fn standing(g: Geometry, mem: &[u32], k: u32) -> u32
 }
 
 // The same, and 6 unless i is a root's index.
-pub fn standing_at(g: Geometry, mem: &[u32], k: u32, i: u32) -> u32
+pub fn root_refusal(g: Geometry, mem: &[u32], k: u32, i: u32) -> u32
     requires { ⌜ Sized g (length (now mem)) ⌝ }
     ensures { λ r. ⌜ r ≡ insideThen (memOf g (now (mem .entry))) k (ifRoot i 0) ⌝ }
 {
-    let refused = standing(g, mem, k);
+    let refused = inside_refusal(g, mem, k);
     if refused != 0 {
         return refused;
     }
@@ -47,11 +47,11 @@ pub fn standing_at(g: Geometry, mem: &[u32], k: u32, i: u32) -> u32
 }
 
 // The same, and 6 unless i and j are roots' indices.
-pub fn standing_with(g: Geometry, mem: &[u32], k: u32, i: u32, j: u32) -> u32
+pub fn roots_refusal(g: Geometry, mem: &[u32], k: u32, i: u32, j: u32) -> u32
     requires { ⌜ Sized g (length (now mem)) ⌝ }
     ensures { λ r. ⌜ r ≡ insideThen (memOf g (now (mem .entry))) k (ifRoot i (ifRoot j 0)) ⌝ }
 {
-    let refused = standing(g, mem, k);
+    let refused = inside_refusal(g, mem, k);
     if refused != 0 {
         return refused;
     }

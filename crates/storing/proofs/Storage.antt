@@ -12,7 +12,7 @@ use Rattle.layout.specs.Mem.{Mem, memOf, controlWord, heapWord, setHeap}
 use Rattle.layout.proofs.Regions.{sized, length-region}
 use Rattle.theory.specs.Phases.{duty}
 use Rattle.theory.specs.Reach.{root, next}
-use Rattle.theory.specs.Calls.{c-store, a-ok, ifRecord, ifRoot, pointer?}
+use Rattle.theory.specs.Calls.{c-store, a-ok, ifRoot, pointer?}
 use Rattle.model.specs.declared.Answer.{Answer}
 use Rattle.model.specs.declared.Answer.the-variants.{Ok, Refused}
 use Rattle.model.specs.declared.Duty.{Duty}
@@ -20,17 +20,18 @@ use Rattle.model.specs.Rules.{phaseOf, dutyOf}
 use Rattle.model.specs.Fields.{phase, acks}
 use Rattle.model.specs.Records.{record?, pointers, pointer}
 use Rattle.model.specs.Tracing.{barrier}
-use Rattle.model.specs.Calls.{observe, act}
+use Rattle.model.specs.Calls.{act}
 use Rattle.model.specs.Consistent.{RecordOk, Consistent}
 use Rattle.model.specs.Promise.{Promise}
-use Rattle.laws.proofs.Promised.{refused, done, torn-13}
+use Rattle.laws.proofs.Promised.{done, torn-13}
+use Rattle.laws.proofs.Rooted.{rooted, live-root}
+use Rattle.laws.proofs.Reaching.{Names, Reaches}
 use Rattle.roots.specs.Inside.{insideThen}
-use Rattle.roots.proofs.Inside.{passed, in-range, with-rest, with-refused}
+use Rattle.roots.proofs.Inside.{refused-with, reaches-with}
 use Rattle.records.specs.declared.Place.the-variants.{At}
 use Rattle.records.specs.Places.{pointerPlace}
 use Rattle.records.proofs.Found.{Stands, pointer-stands}
-use Rattle.records.proofs.Within.{rooted, live-root}
-use Rattle.field_calls.proofs.Reaching.{Names, Reaches, pointer-0}
+use Rattle.records.proofs.Reaching.{pointer-0}
 use Rattle.tracing.specs.Pushing.{BarrierRuns, ruleOf}
 use Rattle.tracing.proofs.Succeeds.{push-succeeds, push-succeeds-next}
 use Rattle.storing.specs.Stored.{stored, Hinders, Stores}
@@ -63,27 +64,16 @@ module _ (g : Geometry) (m : Mem) (k p new : ℕ) (n a o : ℕ) (d : Duty) (r : 
   pub stores-13 : r ≡ false → Stores g m k p new (Refused 13) m₁
   stores-13 t = record { either = inr (refl, subst (Hinders g m new) eo (b .fails t)) }
 
--- ---- refused as its mutator and roots stand
+-- ---- n is the refusal of the mutator and its roots: it refuses the call, or the call reaches the record
 
 module _ (g : Geometry) (xs : List ℕ) (k i f j n : ℕ) (e : wrongSize g (length xs) ≡ false) (s : n ≡ insideThen (memOf g xs) k (ifRoot i (ifRoot j 0))) where
-  abbrev rest : ℕ
-  rest = ifRecord (observe (memOf g xs) .shape k i) (pointer? f)
-
-  pub store-standing : (n ≡ 0 → ⊥) → Promise (c-store k i f j) g xs (Refused n) xs
+  pub store-refused : (n ≡ 0 → ⊥) → Promise (c-store k i f j) g xs (Refused n) xs
   unfolding insideThen
-  store-standing z = refused (c-store k i f j) g xs e (with-refused (memOf g xs) k i j n rest s z) z
+  store-refused = refused-with g xs k i j n s (c-store k i f j) e i (pointer? f) refl
 
   pub store-reaches : n ≡ 0 → Reaches (c-store k i f j) g xs k i (pointer? f)
   unfolding insideThen
-  store-reaches z =
-      let p = in-range (memOf g xs) k i j n s z in
-      record {
-        size = e;
-        known = p .0;
-        within = p .1;
-        attached = passed (memOf g xs) k (ifRoot i (ifRoot j 0)) (sym z ∙ s) .attached;
-        rest = with-rest (memOf g xs) k i j n rest s z;
-      }
+  store-reaches z = reaches-with g xs k i j n s (c-store k i f j) e i (pointer? f) refl z (inl refl)
 
 -- ---- done, or hindered
 
@@ -97,10 +87,10 @@ module _ (g : Geometry) (xs : List ℕ) (k i f j at : ℕ) (q : Reaches (c-store
 
   module _ (c : Consistent g m) (h : f < pointers m at) where
     new-ok : (x : ℕ) → fields.root m k j ≡ suc x → RecordOk g m x
-    new-ok x e = rooted g m k j x c (q .known) l (q .attached) e
+    new-ok x e = rooted m k j x (q .known) l (q .attached) e g c
 
     old-ok : (x : ℕ) → pointer m at f ≡ suc x → RecordOk g m x
-    old-ok x e = c .sound .records x (next (live-root g m k i at (q .known) (q .within) (q .attached) (w .word)) (record { field = f; within = h; names = e }))
+    old-ok x e = c .sound .records x (next (live-root m k i at (q .known) (q .within) (q .attached) (w .word)) (record { field = f; within = h; names = e }))
 
     free : Hinders g m (fields.root m k j) (pointer m at f) → ⊥
     free (inl x) = push-succeeds g m c (fields.root m k j) new-ok x

@@ -43,7 +43,7 @@ pub fn store(g: Geometry, mem: &mut [u32], k: u32, i: u32, f: u32, j: u32) -> An
     if layout::wrong_size(g, mem.len()) {
         return Answer::Refused(1);
     }
-    let refused = roots::standing_with(g, mem, k, i, j);
+    let refused = roots::roots_refusal(g, mem, k, i, j);
     if refused != 0 {
         return Answer::Refused(refused);
     }

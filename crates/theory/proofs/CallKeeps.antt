@@ -7,7 +7,8 @@ use mathlib.Core.Option.{Option, none, some, Option·map, Option·some-injective
 use mathlib.Core.List.{List}
 use Prim.Native.Nat.{ℕ, zero, suc, _<_}
 use native.Mathlib.Omega.{arith}
-use lib.Dec.{T, ltb, eqb, ltb→lt, lt→ltb, eqb→eq, eqb-refl}
+use borrow.Author.Tests.{lt-ltb, ltb-true}
+use lib.Dec.{T, ltb, eqb, eqb→eq, eqb-refl}
 use lib.ListN.{length, getD, set, replicate}
 use Rattle.theory.proofs.Completeness.{Complete, same-comp, root-comp, store-comp, values-comp, make-comp, side-comp, attach-comp, detach-comp}
 use Rattle.theory.proofs.CycleKeeps.{check-inv, detach-inv, attach-inv, side-inv, values-inv, acknowledge-live}
@@ -16,25 +17,16 @@ use Rattle.theory.proofs.Invariant.{Inv, none-some, load-inv, copy-inv,
 use Rattle.theory.specs.Machine.{State, Holds, Root, Live, make, attach, detach, setInside, setValues, acknowledge, check}
 use Rattle.theory.specs.MachineCalls.{shapeAt, observe, room, act, exec}
 use Rattle.theory.proofs.MakeKeeps.{make-inv}
+use Rattle.theory.proofs.Refusals.{require-ok, by-ok, root-ok, shape-ok}
 use Rattle.theory.proofs.Simulation.{Simulates, Same, root-sim, store-sim, make-sim, attach-sim, detach-sim, side-sim, values-sim, gc-sim}
 use Rattle.theory.proofs.StoreKeeps.{store-inv}
 use Rattle.theory.proofs.Updates.{upd-cases}
-use Rattle.theory.specs.Calls.{Call, c-attach, c-detach, c-check, c-leave, c-enter, c-spawn, c-make, c-load, c-store, c-copy, c-clear, c-put, c-get, c-same, c-shape, Answer, a-ok, a-num, a-flag, a-no, Observation, shapeIf, require, ifRecord, ifInside, pointer?, refusal, sameRef, onRecord, refuse, unless}
+use Rattle.theory.specs.Calls.{Call, c-attach, c-detach, c-check, c-leave, c-enter, c-spawn, c-make, c-load, c-store, c-copy, c-clear, c-put, c-get, c-same, c-shape, Answer, a-ok, a-num, a-flag, a-no, shapeIf, pointer?, refusal, sameRef, onRecord, refuse, unless}
 use Rattle.theory.specs.Phases.{Phase, idle, sync1, sync2, mark, sweep, inHandshake}
 use Rattle.theory.specs.Reach.{root, next}
 use Rattle.theory.specs.Unbounded.{Unbounded, uAttach, uDetach, uSetInside, uSetValues, ushapeAt, uobserve, uact, uexec}
 use Rattle.theory.specs.Update.{upd}
 use Rattle.layout.specs.Geometry.{rootCount, mutatorCount}
-
--- ---- facts out of a refusal that is 0
-
-pub require-ok : (b : Bool) (n k : ℕ) → 0 < n → require b n k ≡ 0 → (b ≡ true) × (k ≡ 0)
-unfolding require
-require-ok true n k h e = (refl, e)
-require-ok false n k h e = absurd (omega arith)
-
-pub lt-of : (m n : ℕ) → ltb m n ≡ true → m < n
-lt-of m n e = ltb→lt m n (subst T (sym e) tt)
 
 -- ---- both sides show the same face
 
@@ -52,7 +44,7 @@ module _ (put : ℕ → Option ℕ) (st : State) (un : Unbounded) (s : Simulates
   sh-eq i k = go (st .attached i) (un .attached i) (ltb k rootCount) refl (s .attached i) refl
     where
       go : (a b c : Bool) → st .attached i ≡ a → a ≡ b → ltb k rootCount ≡ c → shapeIf a c (Option·map (shapeAt st) (st .root i k)) ≡ shapeIf b c (Option·map (ushapeAt un) (un .root i k))
-      go true true true e f h = shape-eq (st .root i k) (un .root i k) (s .root i k e (lt-of k 16 h)) (λ b q. root (inl (i, (k, e, lt-of k 16 h, q))))
+      go true true true e f h = shape-eq (st .root i k) (un .root i k) (s .root i k e (ltb-true _ _ h)) (λ b q. root (inl (i, (k, e, ltb-true _ _ h, q))))
       go true true false e f h = refl
       go true false c e f h = clash refl f
       go false true c e f h = clash f refl
@@ -113,27 +105,6 @@ nextPut alloc put st n c = refPut (refusal (observe st) c) put (actPut alloc put
 pub record Alloc (segmentOf : ℕ → ℕ) (alloc : State → ℕ → ℕ → ℕ → Option ℕ) (st : State) : Type 0 where
   pub free : (i p n b : ℕ) → alloc st i p n ≡ some b → st .used b ≡ false
   pub sound : (i p n b : ℕ) → alloc st i p n ≡ some b → st .condemned (segmentOf b) ≡ false
-
-pub by-ok : (F : Observation) (i k : ℕ) → ifInside F i k ≡ 0 → (i < mutatorCount) × (F .attached i ≡ true) × (F .inside i ≡ true) × (k ≡ 0)
-by-ok F i k e =
-    let a = require-ok (ltb i mutatorCount) 2 _ (omega arith) e in
-    let b = require-ok (F .attached i) 4 _ (omega arith) (a .1) in
-    let c = require-ok (F .inside i) 5 _ (omega arith) (b .1) in
-    (lt-of i 32 (a .0), b .0, c .0, c .1)
-
-pub root-ok : (d k : ℕ) → require (ltb d rootCount) 6 k ≡ 0 → (d < rootCount) × (k ≡ 0)
-root-ok d k e = let a = require-ok (ltb d rootCount) 6 k (omega arith) e in (lt-of d 16 (a .0), a .1)
-
-pub shape-ok : (b c : Bool) (v : Option ℕ) (g : ℕ → ℕ × ℕ) (k : ℕ × ℕ → ℕ) (a : ℕ) → b ≡ true → c ≡ true → v ≡ some a → ifRecord (shapeIf b c (Option·map g v)) k ≡ 0 → k (g a) ≡ 0
-unfolding ifRecord
-shape-ok b c v g k a p q e h = rw (p, q, e) at h
-
-pub lt-true : (m n : ℕ) → m < n → ltb m n ≡ true
-lt-true m n h = go (ltb m n) (lt→ltb m n h)
-  where
-    go : (b : Bool) → T b → b ≡ true
-    go true t = refl
-    go false t = absurd t
 
 T-true : (b : Bool) → T b → b ≡ true
 T-true true t = refl
@@ -206,7 +177,7 @@ module _ (segmentOf : ℕ → ℕ) (alloc : State → ℕ → ℕ → ℕ → Op
       let c = root-ok s _ (b .1) in
       onRecord-ok (st .root i s) (un .root i s) (same-at i s (a .1) (c .0)) _ _ (λ x r p q u.
       let h : Holds st i x = (s, a .1, c .0, p) in
-      let l : f < st .pointers x = lt-of f (st .pointers x) (require-ok _ 8 0 (omega arith) (shape-ok (st .attached i) (ltb s rootCount) (st .root i s) (shapeAt st) (pointer? f) x (a .1) (lt-true s 16 (c .0)) p (c .1)) .0) in
+      let l : f < st .pointers x = ltb-true f (st .pointers x) (require-ok _ 8 0 (omega arith) (shape-ok (st .attached i) (ltb s rootCount) (st .root i s) (shapeAt st) (pointer? f) x (a .1) (lt-ltb _ _ (c .0)) p (c .1)) .0) in
       let v : Same put (st .pointer x f) (un .pointer r f) = subst (λ z. Same put (st .pointer x f) (un .pointer z f)) (same-id x r (root (inl (i, h))) u) (o .sim .rec x (root (inl (i, h))) .pointer f l) in
       inr (record { same = refl; ok = record { inv = load-inv segmentOf st (o .inv) i d x f h l; sim = root-sim segmentOf put st un (o .inv) (o .sim) i d (st .pointer x f) (un .pointer r f) v (λ b k. next (root (i, h)) (f, l, k)); few = o .few; comp = root-comp segmentOf P st (o .inv) (o .comp) i d (st .pointer x f) (λ b k. next (root (i, h)) (f, l, k)) } }))
 
@@ -217,7 +188,7 @@ module _ (segmentOf : ℕ → ℕ) (alloc : State → ℕ → ℕ → ℕ → Op
       let c = root-ok t _ (b .1) in
       onRecord-ok (st .root i s) (un .root i s) (same-at i s (a .1) (b .0)) _ _ (λ x r p q u.
       let h : Holds st i x = (s, a .1, b .0, p) in
-      let l : f < st .pointers x = lt-of f (st .pointers x) (require-ok _ 8 0 (omega arith) (shape-ok (st .attached i) (ltb s rootCount) (st .root i s) (shapeAt st) (pointer? f) x (a .1) (lt-true s 16 (b .0)) p (c .1)) .0) in
+      let l : f < st .pointers x = ltb-true f (st .pointers x) (require-ok _ 8 0 (omega arith) (shape-ok (st .attached i) (ltb s rootCount) (st .root i s) (shapeAt st) (pointer? f) x (a .1) (lt-ltb _ _ (b .0)) p (c .1)) .0) in
       let n : (y : ℕ) → st .root i t ≡ some y → Holds st i y = (λ y k. (t, a .1, c .0, k)) in
       inr (record { same = refl; ok = record { inv = store-inv segmentOf st (o .inv) i x f (st .root i t) h l n; sim = store-sim segmentOf put st un (o .inv) (o .sim) i x f r (st .root i t) (un .root i t) h l n u (same-at i t (a .1) (c .0)); few = o .few; comp = store-comp segmentOf P st (o .inv) (o .comp) i x f (st .root i t) h l n } }))
 
@@ -293,7 +264,7 @@ side-ok segmentOf P put st un o i v = record { inv = side-inv segmentOf st (o .i
 
 module _ (segmentOf : ℕ → ℕ) (alloc : State → ℕ → ℕ → ℕ → Option ℕ) (P : ℕ → Type 0) (put : ℕ → Option ℕ) (st : State) (al : Alloc segmentOf alloc st) (un : Unbounded) (o : Coupled segmentOf P put st un) where
   act-ok : (c : Call) → refusal (observe st) c ≡ 0 → Agrees segmentOf P put (actPut alloc put st (un .count) c) st (act alloc st c) (uact un c)
-  act-ok (c-attach i) e = act-attach segmentOf alloc P put st al un o i none none (lt-of i 32 (require-ok _ 2 _ (omega arith) e .0)) refl (λ b k. none-some k)
+  act-ok (c-attach i) e = act-attach segmentOf alloc P put st al un o i none none (ltb-true _ _ (require-ok _ 2 _ (omega arith) e .0)) refl (λ b k. none-some k)
   act-ok (c-spawn i p k) e =
       let a = require-ok (ltb i mutatorCount) 2 _ (omega arith) e in
       let b = require-ok (ltb p mutatorCount) 2 _ (omega arith) (a .1) in
@@ -301,7 +272,7 @@ module _ (segmentOf : ℕ → ℕ) (alloc : State → ℕ → ℕ → ℕ → Op
       let d = require-ok (st .attached p) 4 _ (omega arith) (c .1) in
       let f = require-ok (st .inside p) 5 _ (omega arith) (d .1) in
       let g = root-ok k _ (f .1) in
-      act-attach segmentOf alloc P put st al un o i (st .root p k) (un .root p k) (lt-of i 32 (a .0)) (o .sim .root p k (d .0) (g .0)) (λ x q. (p, (k, d .0, g .0, q)))
+      act-attach segmentOf alloc P put st al un o i (st .root p k) (un .root p k) (ltb-true _ _ (a .0)) (o .sim .root p k (d .0) (g .0)) (λ x q. (p, (k, d .0, g .0, q)))
   act-ok (c-detach i) e = act-detach segmentOf alloc P put st al un o i
   act-ok (c-check i) e = inr (record { same = refl; ok = check-ok segmentOf P put st un o i (by-ok (observe st) i _ e .1) })
   act-ok (c-leave i) e = inr (record { same = refl; ok = side-ok segmentOf P put (check st i) un (check-ok segmentOf P put st un o i (by-ok (observe st) i _ e .1)) i false })

@@ -1,6 +1,7 @@
 -- The invariants of the abstract machine, and the collector argument.
 pub mod Graph
 pub mod Updates
+pub mod Refusals
 pub mod Invariant
 pub mod StoreKeeps
 pub mod MakeKeeps

@@ -1,3 +1,4 @@
 -- Laws of bits and pushes.
 pub mod Bits
+pub mod Pushed
 pub mod Succeeds

@@ -7,83 +7,46 @@ use native.Mathlib.Omega.{arith}
 use lib.Dec.{eqb}
 use lib.ListN.{length}
 use lib.Seq.{getD-set-same}
-use borrow.Author.Tests.{lt-ltb, le-ltb, eqb-false}
+use borrow.Author.Tests.{lt-ltb, eqb-false}
 use Rattle.rules.specs.Pick.{pick}
-use Rattle.rules.proofs.Order.{same-or-not}
-use Rattle.words.specs.Bits.{bitAt, setBit, onesAmong}
-use Rattle.words.proofs.Word.{one-of-not-zero}
-use Rattle.words.proofs.Ones.{among-le}
-use Rattle.words.proofs.Counts.{lt-of}
-use Rattle.words.proofs.Lists.{at-lt, set-there, set-elsewhere}
+use Rattle.words.specs.Bits.{bitAt, setBit}
+use Rattle.words.proofs.Word.{zero-of-not-one}
+use Rattle.words.proofs.Counts.{zero-less, set-count}
+use Rattle.words.proofs.Lists.{at-lt}
+use Rattle.classes.proofs.Every.{class-passes}
 use Rattle.layout.specs.declared.Geometry.{Geometry}
-use Rattle.layout.specs.Geometry.{mostBlocks, markWords, len, segmentOf}
+use Rattle.layout.specs.Geometry.{mostBlocks, markWords, len}
 use Rattle.layout.specs.Mem.{Mem, setTrace, setControl}
-use Rattle.layout.proofs.Sizes.{marks-are, segment-below}
-use Rattle.model.specs.Fields.{class, traceCount}
+use Rattle.layout.proofs.Sizes.{marks-are}
+use Rattle.model.specs.Fields.{traceCount}
 use Rattle.model.specs.Records.{record?, recordBit, marked, queued, setQueued}
 use Rattle.model.specs.Tracing.{push, onTop}
 use Rattle.model.specs.Consistent.{RecordOk, Consistent}
+use Rattle.laws.proofs.Blocks.{bit-below}
+use Rattle.laws.proofs.Apart.{class-of}
 use Rattle.tracing.specs.declared.Bit.the-variants.{At, Torn}
 use Rattle.tracing.specs.Pushing.{bitPlace, PushFails}
-use Rattle.tracing.proofs.Bits.{bit-of-class, isAt}
+use Rattle.tracing.proofs.Bits.{isAt}
 use Rattle.layout.specs.Region as Region
-
--- ---- counting
 
 same-at : {a b : ℕ} → suc a ≡ suc b → a ≡ b
 same-at e = omega arith
 
-module _ (f : ℕ → ℕ) (two : (i : ℕ) → f i < 2) where
-  zero-less : (n k : ℕ) → k < n → f k ≡ 0 → onesAmong f n < n
-  unfolding onesAmong
-  zero-less zero k l e = absurd (omega arith)
-  zero-less (suc n) k l e = go (same-or-not k n) (λ h. zero-less n k h e)
-    where
-      go : (k ≡ n) ⊎ (k ≡ n → ⊥) → (k < n → onesAmong f n < n) → onesAmong f n + f n < suc n
-      go (inl q) ih = let z : f n ≡ 0 = ap f (sym q) ∙ e in let b = among-le f two n in omega arith
-      go (inr q) ih = let h = ih (lt-of l q) in let t = two n in omega arith
-
-  two-less : (n k j : ℕ) → k < n → j < n → (j ≡ k → ⊥) → f k ≡ 0 → f j ≡ 0 → onesAmong f n + 1 < n
-  unfolding onesAmong
-  two-less zero k j l h d e u = absurd (omega arith)
-  two-less (suc n) k j l h d e u = go (same-or-not k n) (same-or-not j n) (λ a b. two-less n k j a b d e u)
-    where
-      go : (k ≡ n) ⊎ (k ≡ n → ⊥) → (j ≡ n) ⊎ (j ≡ n → ⊥) → (k < n → j < n → onesAmong f n + 1 < n) → onesAmong f n + f n + 1 < suc n
-      go (inl q) (inl r) ih = absurd (d (r ∙ sym q))
-      go (inl q) (inr r) ih = let z : f n ≡ 0 = ap f (sym q) ∙ e in let b = zero-less n j (lt-of h r) u in omega arith
-      go (inr q) (inl r) ih = let z : f n ≡ 0 = ap f (sym r) ∙ u in let b = zero-less n k (lt-of l q) e in omega arith
-      go (inr q) (inr r) ih = let b = ih (lt-of l q) (lt-of h r) in let t = two n in omega arith
-
--- ---- one push
-
-zero-of : (b : ℕ) → b < 2 → (b ≡ 1 → ⊥) → b ≡ 0
-zero-of b l f = go (same-or-not b 0)
-  where
-    go : (b ≡ 0) ⊎ (b ≡ 0 → ⊥) → b ≡ 0
-    go (inl e) = e
-    go (inr g) = absurd (f (one-of-not-zero b l g))
-
 module _ (g : Geometry) (m : Mem) (c : Consistent g m) where
   module _ (at : ℕ) (r : RecordOk g m at) where
-    of-class : (3 ≤ class m (segmentOf g at)) × (class m (segmentOf g at) ≤ 12)
-    of-class =
-        let i = r .inside in
-        let p = c .sound .segments (segmentOf g at) (segment-below g at i) .classes (r .used) in
-        (p .0, omega arith)
-
     has-bit : bitPlace g m at ≡ Torn → ⊥
     unfolding bitPlace
-    has-bit e = let z : At (recordBit g m at) ≡ Torn = sym (placed) ∙ e in true≢false (ap isAt z)
+    has-bit e = let z : At (recordBit g m at) ≡ Torn = sym placed ∙ e in true≢false (ap isAt z)
       where
         placed : bitPlace g m at ≡ At (recordBit g m at)
-        placed = rw (lt-ltb _ _ (r .inside), le-ltb _ _ (of-class .0), le-ltb _ _ (of-class .1)) refl
+        placed = rw (lt-ltb _ _ (r .inside), class-passes _ (class-of g m at r)) refl
 
-    bit-below : recordBit g m at < g .segments * mostBlocks g
-    bit-below = bit-of-class g m at (of-class .0) (of-class .1) (r .inside)
+    below : recordBit g m at < g .segments * mostBlocks g
+    below = bit-below g m at (class-of g m at r) (r .inside)
 
     pub room : (queued g m at ≡ 1 → ⊥) → traceCount m < len g Region.trace
     room f =
-        let h = zero-less (bitAt (m .queued)) (at-lt (m .queued)) (g .segments * mostBlocks g) (recordBit g m at) bit-below (zero-of _ (at-lt (m .queued) (recordBit g m at)) f) in
+        let h = zero-less (bitAt (m .queued)) (at-lt (m .queued)) (g .segments * mostBlocks g) (recordBit g m at) below (zero-of-not-one _ (at-lt (m .queued) (recordBit g m at)) f) in
         let e = c .sound .trace .number in
         omega arith
 
@@ -114,14 +77,13 @@ module _ (g : Geometry) (m : Mem) (c : Consistent g m) where
       bits-after = refl
 
       in-words : recordBit g m a / 32 < length (m .queued)
-      in-words = let l = bit-below a ra in let z = marks-are g (g .segments) in omega arith
+      in-words = let l = below a ra in let z = marks-are g (g .segments) in omega arith
 
       room-after : (queued g (onTop g m a) at ≡ 1 → ⊥) → traceCount (onTop g m a) < len g Region.trace
       room-after f =
-          let d : recordBit g m at ≡ recordBit g m a → ⊥ = λ e. f (bits-after ∙ ap (bitAt (setBit (m .queued) (recordBit g m a))) e ∙ set-there (m .queued) (recordBit g m a) in-words) in
-          let u : bitAt (m .queued) (recordBit g m at) ≡ 1 → ⊥ = λ e. f (bits-after ∙ set-elsewhere (m .queued) (recordBit g m a) in-words (recordBit g m at) d ∙ e) in
-          let h = two-less (bitAt (m .queued)) (at-lt (m .queued)) (g .segments * mostBlocks g) (recordBit g m a) (recordBit g m at) (bit-below a ra) (bit-below at r) d
-          (zero-of _ (at-lt (m .queued) (recordBit g m a)) ua) (zero-of _ (at-lt (m .queued) (recordBit g m at)) u) in
+          let q = setBit (m .queued) (recordBit g m a) in
+          let h = zero-less (bitAt q) (at-lt q) (g .segments * mostBlocks g) (recordBit g m at) (below at r) (zero-of-not-one _ (at-lt q (recordBit g m at)) (λ e. f (bits-after ∙ e))) in
+          let n = set-count (m .queued) (recordBit g m a) (g .segments * mostBlocks g) in-words (below a ra) (zero-of-not-one _ (at-lt (m .queued) (recordBit g m a)) ua) in
           let e = c .sound .trace .number in
           let z = count-more in
           omega arith

@@ -6,6 +6,7 @@ use Prim.Native.Nat.{ℕ, suc, _+_, _≤_}
 use lib.Dec.{eqb, ltb}
 use Rattle.rules.specs.Pick.{pick}
 use Rattle.words.specs.Bits.{bitAt, setBit}
+use Rattle.classes.specs.Class.{classTest}
 use Rattle.layout.specs.declared.Geometry.{Geometry}
 use Rattle.layout.specs.Geometry.{len, segmentOf}
 use Rattle.layout.specs.Mem.{Mem, setTrace, withRegion}
@@ -22,7 +23,7 @@ use Rattle.layout.specs.Region as Region
 -- the bit of the record at a word; none off the heap, or in a segment of no class
 unfoldable pub bitPlace : Geometry → Mem → ℕ → Bit
 bitPlace g m at =
-    pick (ltb at (len g Region.heap)) (pick (ltb (class m (segmentOf g at)) 3) Torn (pick (ltb 12 (class m (segmentOf g at))) Torn (At (recordBit g m at)))) Torn
+    pick (ltb at (len g Region.heap)) (pick (classTest (class m (segmentOf g at))) (At (recordBit g m at)) Torn) Torn
 
 -- the word w on top of the stack, with bit k, unless the bit is marked or queued
 unfoldable pub pushedBit : Mem → ℕ → ℕ → Mem

@@ -15,9 +15,6 @@ pub enum Bit {
     Torn,
 }
 
-// The words of a block, by the class less 3.
-const BLOCK_WORDS: [usize; 10] = [2, 4, 8, 16, 32, 64, 128, 256, 512, 1024];
-
 // The bit of the record at a word.
 pub fn bit_of(g: Geometry, mem: &[u32], at: usize) -> Bit
     requires { ⌜ Sized g (length (now mem)) ⌝ }
@@ -27,16 +24,12 @@ pub fn bit_of(g: Geometry, mem: &[u32], at: usize) -> Bit
         return Bit::Torn;
     }
     let s = layout::segment_of(g, at);
-    let class = layout::segment(g, mem, s * layout::SEGMENT_RECORD_WORDS + 1) as usize;
-    if class < 3 {
-        return Bit::Torn;
+    let class = layout::segment(g, mem, s * layout::SEGMENT_RECORD_WORDS + 1);
+    if classes::is_class(class) {
+        let b = layout::offset_of(g, at) / classes::block_words(class);
+        return Bit::At(layout::bit_in(g, s, b));
     }
-    if 12 < class {
-        return Bit::Torn;
-    }
-    let words = BLOCK_WORDS[class - 3];
-    let b = layout::offset_of(g, at) / words;
-    Bit::At(layout::bit_in(g, s, b))
+    Bit::Torn
 }
 
 // Pushes the record of a word and a bit, unless it is marked or queued; false where the stack has no room.

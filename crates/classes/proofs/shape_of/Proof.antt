@@ -3,18 +3,17 @@
 use mathlib.Core.Path.{_≡_, sym, ap, _∙_}
 use mathlib.Core.List.{List, [], _∷_}
 use mathlib.Core.Bool.{Bool, _&&_}
-use Prim.Native.Nat.{ℕ, _+_, _-_, _<_, _≤_}
+use Prim.Native.Nat.{ℕ, _+_, _-_}
 use native.Mathlib.Omega.{arith}
 use lib.Dec.{T, eqb, eqb→eq}
 use lib.ListN.{getD}
 use borrow.Author.Needs.{needs}
-use borrow.Author.Tests.{lt-ltb, le-ltb}
-use Rattle.rules.proofs.Tests.{tests}
 use Rattle.rules.proofs.Table.{and-left, and-right, every-at}
 use Rattle.classes.specs.declared.Shape.{Shape}
 use Rattle.classes.specs.declared.ClassShape.the-variants.{Of}
-use Rattle.classes.specs.Class.{firstClass, classCount}
+use Rattle.classes.specs.Class.{firstClass, IsClass}
 use Rattle.classes.specs.Shape.{segmentSize, blocksOf, shapeFor, shapeOf}
+use Rattle.classes.proofs.Every.{class-passes, class-passed}
 use Rattle.classes.proofs.shape_of.Tie as tie
 use Rattle.classes.proofs.shape_of.Statement.{statement}
 
@@ -56,16 +55,19 @@ right : ℕ → Shape → Bool
 unfolding same
 right k x = same x (shapeFor (blocksOf segmentSize (firstClass + k)))
 
-in-table : (class : ℕ) → firstClass ≤ class → class - firstClass < classCount → Of (getD table (class - firstClass) past) ≡ shapeOf segmentSize class
+in-table : (class : ℕ) → IsClass class → Of (getD table (class - firstClass) past) ≡ shapeOf segmentSize class
 unfolding table past right
-in-table class l h =
+in-table class k =
     let e : firstClass + (class - firstClass) ≡ class = omega arith in
-    ap Of (same-eq (getD table (class - firstClass) past) (shapeFor (blocksOf segmentSize (firstClass + (class - firstClass)))) (every-at right past table tt (class - firstClass) h)
+    ap Of (same-eq (getD table (class - firstClass) past) (shapeFor (blocksOf segmentSize (firstClass + (class - firstClass)))) (every-at right past table tt (class - firstClass) (omega arith))
     ∙ ap (λ (n : ℕ). shapeFor (blocksOf segmentSize n)) e)
-    ∙ sym (rw (le-ltb class firstClass l, lt-ltb class (firstClass + classCount) (omega arith)))
+    ∙ sym (rw (class-passes class k))
 
-returns : tie.Need-returns
-returns c = search tests
+is-class-requires : tie.Need-is-class-requires
+is-class-requires c κs = search needs
+
+sub-i : tie.Need-sub-i
+sub-i c = let k = class-passed _ (sym (c .before .is-class .ensures) ∙ c .if1 .taken) in omega arith
 
 cast-i : tie.Need-cast-i
 cast-i c = search needs
@@ -74,15 +76,15 @@ mul-shape : tie.Need-mul-shape
 mul-shape c = search needs
 
 array-copy-out-shape : tie.Need-array-copy-out-shape
-array-copy-out-shape c = search needs
+array-copy-out-shape c = let k = class-passed _ (sym (c .before .is-class .ensures) ∙ c .if1 .taken) in omega arith
+
+returns : tie.Need-returns
+unfolding table past
+returns c = in-table _ (class-passed _ (sym (c .before .before .is-class .ensures) ∙ c .before .if1 .taken))
 
 returns-2 : tie.Need-returns-2
-unfolding table past
-returns-2 c = in-table (c .before .before .before .args .class) (c .before .before .if1 .left) (c .before .if2 .taken)
-
-returns-3 : tie.Need-returns-3
-returns-3 c = rw (le-ltb _ _ (c .before .if1 .left), le-ltb (c .before .before .args .class) (firstClass + classCount) (omega (arith, c .if2 .left)))
+returns-2 c = rw (sym (c .before .is-class .ensures) ∙ c .if1 .left)
 
 pub shape-of-spec : {M : Type 1} → statement M
 shape-of-spec =
-    tie.close (tie.spec returns cast-i mul-shape array-copy-out-shape returns-2 returns-3)
+    tie.close (tie.spec is-class-requires sub-i cast-i mul-shape array-copy-out-shape returns returns-2)

@@ -6,8 +6,8 @@ use Rattle.theory.specs.Calls.{c-get}
 use Rattle.laws.proofs.Promised.{size-1}
 use Rattle.roots.proofs.Inside.{in-range-at}
 use Rattle.records.proofs.Found.{value-stands}
-use Rattle.field_calls.proofs.Reaching.{names, nil-7, value-refused}
-use Rattle.field_calls.proofs.Answering.{get-standing, get-reaches, get-done}
+use Rattle.records.proofs.Reaching.{names, held-7, value-refused}
+use Rattle.field_calls.proofs.Answering.{get-refused, get-reaches, get-done}
 use Rattle.field_calls.proofs.get.Tie as tie
 use Rattle.field_calls.proofs.get.Statement.{statement}
 
@@ -17,15 +17,15 @@ wrong-size-requires c κs = search needs
 returns : tie.Need-returns
 returns c = size-1 _ _ _ (sym (c .before .wrong-size .ensures) ∙ c .if1 .taken)
 
-standing-at-requires : tie.Need-standing-at-requires
-standing-at-requires c κs = sized _ _ (sym (c .before .wrong-size .ensures) ∙ c .if1 .left)
+root-refusal-requires : tie.Need-root-refusal-requires
+root-refusal-requires c κs = sized _ _ (sym (c .before .wrong-size .ensures) ∙ c .if1 .left)
 
 returns-2 : tie.Need-returns-2
-returns-2 c = get-standing _ _ _ _ _ (sym (c .before .before .before .wrong-size .ensures) ∙ c .before .before .if1 .left) (c .before .standing-at .ensures) _ (c .if2 .taken)
+returns-2 c = get-refused _ _ _ _ _ (sym (c .before .before .before .wrong-size .ensures) ∙ c .before .before .if1 .left) (c .before .root-refusal .ensures) _ (c .if2 .taken)
 
 root-requires : tie.Need-root-requires
 root-requires c κs =
-    let p = in-range-at _ _ (c .before .before .before .before .before .args .i) _ (c .before .standing-at .ensures) (c .if2 .left) in
+    let p = in-range-at _ _ _ (c .before .before .before .before .before .args .i) _ (c .before .root-refusal .ensures) (c .if2 .left) in
     (sized _ _ (sym (c .before .before .before .wrong-size .ensures) ∙ c .before .before .if1 .left), p .0, p .1)
 
 held-of-requires : tie.Need-held-of-requires
@@ -39,8 +39,8 @@ enum-told c = search needs
 
 returns-3 : tie.Need-returns-3
 returns-3 c =
-    nil-7 (c-get _ _ _) _ _ _ _ _
-    (get-reaches _ _ _ _ _ (sym (c .before .before .before .before .before .before .before .wrong-size .ensures) ∙ c .before .before .before .before .before .before .if1 .left) (c .before .before .before .before .before .standing-at .ensures) _ (c .before .before .before .before .if2 .left))
+    held-7 (c-get _ _ _) _ _ _ _ _
+    (get-reaches _ _ _ _ _ (sym (c .before .before .before .before .before .before .before .wrong-size .ensures) ∙ c .before .before .before .before .before .before .if1 .left) (c .before .before .before .before .before .root-refusal .ensures) _ (c .before .before .before .before .if2 .left))
     _
     (c .before .before .before .root .ensures)
     (sym (c .enum-told .given .1) ∙ c .before .before .held-of .ensures)
@@ -63,14 +63,14 @@ returns-4 : tie.Need-returns-4
 returns-4 c =
     value-refused (c-get _ _ _) _ _ _ _ _ _
     (names _ _ _ _ _ _ (c .before .before .before .before .before .before .before .before .root .ensures) (sym (c .before .before .before .before .before .slot .given .1) ∙ c .before .before .before .before .before .before .before .held-of .ensures))
-    (get-reaches _ _ _ _ _ (sym (c .before .before .before .before .before .before .before .before .before .before .before .before .wrong-size .ensures) ∙ c .before .before .before .before .before .before .before .before .before .before .before .if1 .left) (c .before .before .before .before .before .before .before .before .before .before .standing-at .ensures) _ (c .before .before .before .before .before .before .before .before .before .if2 .left))
+    (get-reaches _ _ _ _ _ (sym (c .before .before .before .before .before .before .before .before .before .before .before .before .wrong-size .ensures) ∙ c .before .before .before .before .before .before .before .before .before .before .before .if1 .left) (c .before .before .before .before .before .before .before .before .before .before .root-refusal .ensures) _ (c .before .before .before .before .before .before .before .before .before .if2 .left))
     _
     (sym (c .before .n .given .1) ∙ c .before .before .before .value-place .ensures)
 
 returns-5 : tie.Need-returns-5
 returns-5 c =
     get-done _ _ _ _ _ _ _ _
-    (get-reaches _ _ _ _ _ (sym (c .before .before .before .before .before .before .before .before .before .before .before .before .before .wrong-size .ensures) ∙ c .before .before .before .before .before .before .before .before .before .before .before .before .if1 .left) (c .before .before .before .before .before .before .before .before .before .before .before .standing-at .ensures) _ (c .before .before .before .before .before .before .before .before .before .before .if2 .left))
+    (get-reaches _ _ _ _ _ (sym (c .before .before .before .before .before .before .before .before .before .before .before .before .before .wrong-size .ensures) ∙ c .before .before .before .before .before .before .before .before .before .before .before .before .if1 .left) (c .before .before .before .before .before .before .before .before .before .before .before .root-refusal .ensures) _ (c .before .before .before .before .before .before .before .before .before .before .if2 .left))
     (names _ _ _ _ _ _ (c .before .before .before .before .before .before .before .before .before .root .ensures) (sym (c .before .before .before .before .before .before .slot .given .1) ∙ c .before .before .before .before .before .before .before .before .held-of .ensures))
     (sym (c .before .before .place .given .1) ∙ c .before .before .before .before .value-place .ensures)
     (c .word .ensures)
@@ -81,7 +81,7 @@ get-spec =
     (tie.spec
     wrong-size-requires
     returns
-    standing-at-requires
+    root-refusal-requires
     returns-2
     root-requires
     held-of-requires

@@ -6,8 +6,8 @@ use Rattle.theory.specs.Calls.{c-load}
 use Rattle.laws.proofs.Promised.{size-1}
 use Rattle.roots.proofs.Inside.{in-range}
 use Rattle.records.proofs.Found.{pointer-stands}
-use Rattle.field_calls.proofs.Reaching.{names, nil-7, pointer-refused}
-use Rattle.field_calls.proofs.Answering.{load-standing, load-reaches, load-done}
+use Rattle.records.proofs.Reaching.{names, held-7, pointer-refused}
+use Rattle.field_calls.proofs.Answering.{load-refused, load-reaches, load-done}
 use Rattle.field_calls.proofs.load.Tie as tie
 use Rattle.field_calls.proofs.load.Statement.{statement}
 
@@ -17,18 +17,18 @@ wrong-size-requires c κs = search needs
 returns : tie.Need-returns
 returns c = size-1 _ _ _ (sym (c .before .wrong-size .ensures) ∙ c .if1 .taken)
 
-standing-with-requires : tie.Need-standing-with-requires
-standing-with-requires c κs = sized _ _ (sym (c .before .before .wrong-size .ensures) ∙ c .before .if1 .left)
+roots-refusal-requires : tie.Need-roots-refusal-requires
+roots-refusal-requires c κs = sized _ _ (sym (c .before .before .wrong-size .ensures) ∙ c .before .if1 .left)
 
 same-length : tie.Need-same-length
 same-length c = search needs
 
 returns-2 : tie.Need-returns-2
-returns-2 c = load-standing _ _ _ _ _ _ _ (sym (c .before .before .before .before .wrong-size .ensures) ∙ c .before .before .before .if1 .left) (c .before .standing-with .ensures) (c .if2 .taken)
+returns-2 c = load-refused _ _ _ _ _ _ _ (sym (c .before .before .before .before .wrong-size .ensures) ∙ c .before .before .before .if1 .left) (c .before .roots-refusal .ensures) (c .if2 .taken)
 
 root-requires : tie.Need-root-requires
 root-requires c κs =
-    let p = in-range _ _ (c .before .before .before .before .before .before .before .args .to) (c .before .before .before .before .before .before .before .args .i) _ (c .before .before .standing-with .ensures) (c .before .if2 .left) in
+    let p = in-range _ _ _ (c .before .before .before .before .before .before .before .args .to) (c .before .before .before .before .before .before .before .args .i) _ (c .before .before .roots-refusal .ensures) (c .before .if2 .left) in
     (sized _ _ (sym (c .before .before .before .before .before .wrong-size .ensures) ∙ c .before .before .before .before .if1 .left), p .0, p .2)
 
 held-of-requires : tie.Need-held-of-requires
@@ -45,8 +45,8 @@ same-length-2 c = search needs
 
 returns-3 : tie.Need-returns-3
 returns-3 c =
-    nil-7 (c-load _ _ _ _) _ _ _ _ _
-    (load-reaches _ _ _ _ _ _ _ (sym (c .before .before .before .before .before .before .before .before .before .wrong-size .ensures) ∙ c .before .before .before .before .before .before .before .before .if1 .left) (c .before .before .before .before .before .before .standing-with .ensures) (c .before .before .before .before .before .if2 .left))
+    held-7 (c-load _ _ _ _) _ _ _ _ _
+    (load-reaches _ _ _ _ _ _ _ (sym (c .before .before .before .before .before .before .before .before .before .wrong-size .ensures) ∙ c .before .before .before .before .before .before .before .before .if1 .left) (c .before .before .before .before .before .before .roots-refusal .ensures) (c .before .before .before .before .before .if2 .left))
     _
     (c .before .before .before .root .ensures)
     (sym (c .enum-told .given .1) ∙ c .before .before .held-of .ensures)
@@ -67,7 +67,7 @@ word-requires c κs =
 
 set-root-requires : tie.Need-set-root-requires
 set-root-requires c κs =
-    let p = in-range _ _ (c .before .before .before .before .before .before .before .before .before .before .before .before .before .before .before .before .before .before .before .before .args .to) (c .before .before .before .before .before .before .before .before .before .before .before .before .before .before .before .before .before .before .before .before .args .i) _ (c .before .before .before .before .before .before .before .before .before .before .before .before .before .before .before .standing-with .ensures) (c .before .before .before .before .before .before .before .before .before .before .before .before .before .before .if2 .left) in
+    let p = in-range _ _ _ (c .before .before .before .before .before .before .before .before .before .before .before .before .before .before .before .before .before .before .before .before .args .to) (c .before .before .before .before .before .before .before .before .before .before .before .before .before .before .before .before .before .before .before .before .args .i) _ (c .before .before .before .before .before .before .before .before .before .before .before .before .before .before .before .roots-refusal .ensures) (c .before .before .before .before .before .before .before .before .before .before .before .before .before .before .if2 .left) in
     (sized _ _ (sym (c .before .before .before .before .before .before .before .before .before .before .before .before .before .before .before .before .before .before .wrong-size .ensures) ∙ c .before .before .before .before .before .before .before .before .before .before .before .before .before .before .before .before .before .if1 .left), p .0, p .1)
 
 same-length-3 : tie.Need-same-length-3
@@ -77,7 +77,7 @@ returns-4 : tie.Need-returns-4
 returns-4 c =
     pointer-refused (c-load _ _ _ _) _ _ _ _ _ _
     (names _ _ _ _ _ _ (c .before .before .before .before .before .before .before .before .before .root .ensures) (sym (c .before .before .before .before .before .before .slot .given .1) ∙ c .before .before .before .before .before .before .before .before .held-of .ensures))
-    (load-reaches _ _ _ _ _ _ _ (sym (c .before .before .before .before .before .before .before .before .before .before .before .before .before .before .before .wrong-size .ensures) ∙ c .before .before .before .before .before .before .before .before .before .before .before .before .before .before .if1 .left) (c .before .before .before .before .before .before .before .before .before .before .before .before .standing-with .ensures) (c .before .before .before .before .before .before .before .before .before .before .before .if2 .left))
+    (load-reaches _ _ _ _ _ _ _ (sym (c .before .before .before .before .before .before .before .before .before .before .before .before .before .before .before .wrong-size .ensures) ∙ c .before .before .before .before .before .before .before .before .before .before .before .before .before .before .if1 .left) (c .before .before .before .before .before .before .before .before .before .before .before .before .roots-refusal .ensures) (c .before .before .before .before .before .before .before .before .before .before .before .if2 .left))
     _
     (sym (c .before .n .given .1) ∙ c .before .before .before .pointer-place .ensures)
 
@@ -87,7 +87,7 @@ same-length-4 c = search needs
 returns-5 : tie.Need-returns-5
 returns-5 c =
     load-done _ _ _ _ _ _ _ _ _ _
-    (load-reaches _ _ _ _ _ _ _ (sym (c .before .before .before .before .before .before .before .before .before .before .before .before .before .before .before .before .before .before .before .before .before .wrong-size .ensures) ∙ c .before .before .before .before .before .before .before .before .before .before .before .before .before .before .before .before .before .before .before .before .if1 .left) (c .before .before .before .before .before .before .before .before .before .before .before .before .before .before .before .before .before .before .standing-with .ensures) (c .before .before .before .before .before .before .before .before .before .before .before .before .before .before .before .before .before .if2 .left))
+    (load-reaches _ _ _ _ _ _ _ (sym (c .before .before .before .before .before .before .before .before .before .before .before .before .before .before .before .before .before .before .before .before .before .wrong-size .ensures) ∙ c .before .before .before .before .before .before .before .before .before .before .before .before .before .before .before .before .before .before .before .before .if1 .left) (c .before .before .before .before .before .before .before .before .before .before .before .before .before .before .before .before .before .before .roots-refusal .ensures) (c .before .before .before .before .before .before .before .before .before .before .before .before .before .before .before .before .before .if2 .left))
     (names _ _ _ _ _ _ (c .before .before .before .before .before .before .before .before .before .before .before .before .before .before .before .root .ensures) (sym (c .before .before .before .before .before .before .before .before .before .before .before .before .slot .given .1) ∙ c .before .before .before .before .before .before .before .before .before .before .before .before .before .before .held-of .ensures))
     (sym (c .before .before .before .before .before .before .before .place .given .1) ∙ c .before .before .before .before .before .before .before .before .before .pointer-place .ensures)
     (c .before .before .before .before .word .ensures)
@@ -99,7 +99,7 @@ load-spec =
     (tie.spec
     wrong-size-requires
     returns
-    standing-with-requires
+    roots-refusal-requires
     same-length
     returns-2
     root-requires

@@ -6,8 +6,8 @@ use Rattle.theory.specs.Calls.{c-put}
 use Rattle.laws.proofs.Promised.{size-1}
 use Rattle.roots.proofs.Inside.{in-range-at}
 use Rattle.records.proofs.Found.{value-stands}
-use Rattle.field_calls.proofs.Reaching.{names, nil-7, value-refused}
-use Rattle.field_calls.proofs.Answering.{put-standing, put-reaches, put-done}
+use Rattle.records.proofs.Reaching.{names, held-7, value-refused}
+use Rattle.field_calls.proofs.Answering.{put-refused, put-reaches, put-done}
 use Rattle.field_calls.proofs.put.Tie as tie
 use Rattle.field_calls.proofs.put.Statement.{statement}
 
@@ -17,18 +17,18 @@ wrong-size-requires c κs = search needs
 returns : tie.Need-returns
 returns c = size-1 _ _ _ (sym (c .before .wrong-size .ensures) ∙ c .if1 .taken)
 
-standing-at-requires : tie.Need-standing-at-requires
-standing-at-requires c κs = sized _ _ (sym (c .before .before .wrong-size .ensures) ∙ c .before .if1 .left)
+root-refusal-requires : tie.Need-root-refusal-requires
+root-refusal-requires c κs = sized _ _ (sym (c .before .before .wrong-size .ensures) ∙ c .before .if1 .left)
 
 same-length : tie.Need-same-length
 same-length c = search needs
 
 returns-2 : tie.Need-returns-2
-returns-2 c = put-standing _ _ _ _ _ (sym (c .before .before .before .before .wrong-size .ensures) ∙ c .before .before .before .if1 .left) (c .before .standing-at .ensures) _ _ (c .if2 .taken)
+returns-2 c = put-refused _ _ _ _ _ (sym (c .before .before .before .before .wrong-size .ensures) ∙ c .before .before .before .if1 .left) (c .before .root-refusal .ensures) _ _ (c .if2 .taken)
 
 root-requires : tie.Need-root-requires
 root-requires c κs =
-    let p = in-range-at _ _ (c .before .before .before .before .before .before .before .args .i) _ (c .before .before .standing-at .ensures) (c .before .if2 .left) in
+    let p = in-range-at _ _ _ (c .before .before .before .before .before .before .before .args .i) _ (c .before .before .root-refusal .ensures) (c .before .if2 .left) in
     (sized _ _ (sym (c .before .before .before .before .before .wrong-size .ensures) ∙ c .before .before .before .before .if1 .left), p .0, p .1)
 
 held-of-requires : tie.Need-held-of-requires
@@ -45,8 +45,8 @@ same-length-2 c = search needs
 
 returns-3 : tie.Need-returns-3
 returns-3 c =
-    nil-7 (c-put _ _ _ _) _ _ _ _ _
-    (put-reaches _ _ _ _ _ (sym (c .before .before .before .before .before .before .before .before .before .wrong-size .ensures) ∙ c .before .before .before .before .before .before .before .before .if1 .left) (c .before .before .before .before .before .before .standing-at .ensures) _ _ (c .before .before .before .before .before .if2 .left))
+    held-7 (c-put _ _ _ _) _ _ _ _ _
+    (put-reaches _ _ _ _ _ (sym (c .before .before .before .before .before .before .before .before .before .wrong-size .ensures) ∙ c .before .before .before .before .before .before .before .before .if1 .left) (c .before .before .before .before .before .before .root-refusal .ensures) _ _ (c .before .before .before .before .before .if2 .left))
     _
     (c .before .before .before .root .ensures)
     (sym (c .enum-told .given .1) ∙ c .before .before .held-of .ensures)
@@ -72,7 +72,7 @@ returns-4 : tie.Need-returns-4
 returns-4 c =
     value-refused (c-put _ _ _ _) _ _ _ _ _ _
     (names _ _ _ _ _ _ (c .before .before .before .before .before .before .before .before .before .root .ensures) (sym (c .before .before .before .before .before .before .slot .given .1) ∙ c .before .before .before .before .before .before .before .before .held-of .ensures))
-    (put-reaches _ _ _ _ _ (sym (c .before .before .before .before .before .before .before .before .before .before .before .before .before .before .before .wrong-size .ensures) ∙ c .before .before .before .before .before .before .before .before .before .before .before .before .before .before .if1 .left) (c .before .before .before .before .before .before .before .before .before .before .before .before .standing-at .ensures) _ _ (c .before .before .before .before .before .before .before .before .before .before .before .if2 .left))
+    (put-reaches _ _ _ _ _ (sym (c .before .before .before .before .before .before .before .before .before .before .before .before .before .before .before .wrong-size .ensures) ∙ c .before .before .before .before .before .before .before .before .before .before .before .before .before .before .if1 .left) (c .before .before .before .before .before .before .before .before .before .before .before .before .root-refusal .ensures) _ _ (c .before .before .before .before .before .before .before .before .before .before .before .if2 .left))
     _
     (sym (c .before .n .given .1) ∙ c .before .before .before .value-place .ensures)
 
@@ -82,7 +82,7 @@ same-length-4 c = search needs
 returns-5 : tie.Need-returns-5
 returns-5 c =
     put-done _ _ _ _ _ _ _ _ _
-    (put-reaches _ _ _ _ _ (sym (c .before .before .before .before .before .before .before .before .before .before .before .before .before .before .before .before .before .before .before .wrong-size .ensures) ∙ c .before .before .before .before .before .before .before .before .before .before .before .before .before .before .before .before .before .before .if1 .left) (c .before .before .before .before .before .before .before .before .before .before .before .before .before .before .before .before .standing-at .ensures) _ _ (c .before .before .before .before .before .before .before .before .before .before .before .before .before .before .before .if2 .left))
+    (put-reaches _ _ _ _ _ (sym (c .before .before .before .before .before .before .before .before .before .before .before .before .before .before .before .before .before .before .before .wrong-size .ensures) ∙ c .before .before .before .before .before .before .before .before .before .before .before .before .before .before .before .before .before .before .if1 .left) (c .before .before .before .before .before .before .before .before .before .before .before .before .before .before .before .before .root-refusal .ensures) _ _ (c .before .before .before .before .before .before .before .before .before .before .before .before .before .before .before .if2 .left))
     (names _ _ _ _ _ _ (c .before .before .before .before .before .before .before .before .before .before .before .before .before .root .ensures) (sym (c .before .before .before .before .before .before .before .before .before .before .slot .given .1) ∙ c .before .before .before .before .before .before .before .before .before .before .before .before .held-of .ensures))
     (sym (c .before .before .before .before .before .place .given .1) ∙ c .before .before .before .before .before .before .before .value-place .ensures)
     (c .before .before .set-word .ensures)
@@ -93,7 +93,7 @@ put-spec =
     (tie.spec
     wrong-size-requires
     returns
-    standing-at-requires
+    root-refusal-requires
     same-length
     returns-2
     root-requires

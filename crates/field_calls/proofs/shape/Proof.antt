@@ -6,8 +6,9 @@ use Rattle.layout.proofs.Regions.{sized}
 use Rattle.theory.specs.Calls.{c-shape}
 use Rattle.laws.proofs.Promised.{size-1}
 use Rattle.roots.proofs.Inside.{in-range-at}
-use Rattle.field_calls.proofs.Reaching.{names, nil-7, header-13}
-use Rattle.field_calls.proofs.Answering.{shape-standing, shape-reaches, shape-done}
+use Rattle.laws.proofs.Reaching.{header-13}
+use Rattle.records.proofs.Reaching.{names, held-7}
+use Rattle.field_calls.proofs.Answering.{shape-refused, shape-reaches, shape-done}
 use Rattle.field_calls.proofs.shape.Tie as tie
 use Rattle.field_calls.proofs.shape.Statement.{statement}
 
@@ -17,15 +18,15 @@ wrong-size-requires c κs = search needs
 returns : tie.Need-returns
 returns c = size-1 _ _ _ (sym (c .before .wrong-size .ensures) ∙ c .if1 .taken)
 
-standing-at-requires : tie.Need-standing-at-requires
-standing-at-requires c κs = sized _ _ (sym (c .before .wrong-size .ensures) ∙ c .if1 .left)
+root-refusal-requires : tie.Need-root-refusal-requires
+root-refusal-requires c κs = sized _ _ (sym (c .before .wrong-size .ensures) ∙ c .if1 .left)
 
 returns-2 : tie.Need-returns-2
-returns-2 c = shape-standing _ _ _ _ _ (sym (c .before .before .before .wrong-size .ensures) ∙ c .before .before .if1 .left) (c .before .standing-at .ensures) (c .if2 .taken)
+returns-2 c = shape-refused _ _ _ _ _ (sym (c .before .before .before .wrong-size .ensures) ∙ c .before .before .if1 .left) (c .before .root-refusal .ensures) (c .if2 .taken)
 
 root-requires : tie.Need-root-requires
 root-requires c κs =
-    let p = in-range-at _ _ (c .before .before .before .before .before .args .i) _ (c .before .standing-at .ensures) (c .if2 .left) in
+    let p = in-range-at _ _ _ (c .before .before .before .before .before .args .i) _ (c .before .root-refusal .ensures) (c .if2 .left) in
     (sized _ _ (sym (c .before .before .before .wrong-size .ensures) ∙ c .before .before .if1 .left), p .0, p .1)
 
 held-of-requires : tie.Need-held-of-requires
@@ -39,8 +40,8 @@ enum-told c = search needs
 
 returns-3 : tie.Need-returns-3
 returns-3 c =
-    nil-7 (c-shape _ _) _ _ _ _ _
-    (shape-reaches _ _ _ _ _ (sym (c .before .before .before .before .before .before .before .wrong-size .ensures) ∙ c .before .before .before .before .before .before .if1 .left) (c .before .before .before .before .before .standing-at .ensures) (c .before .before .before .before .if2 .left))
+    held-7 (c-shape _ _) _ _ _ _ _
+    (shape-reaches _ _ _ _ _ (sym (c .before .before .before .before .before .before .before .wrong-size .ensures) ∙ c .before .before .before .before .before .before .if1 .left) (c .before .before .before .before .before .root-refusal .ensures) (c .before .before .before .before .if2 .left))
     _
     (c .before .before .before .root .ensures)
     (sym (c .enum-told .given .1) ∙ c .before .before .held-of .ensures)
@@ -51,7 +52,7 @@ heap-words-requires c κs = sized _ _ (sym (c .before .before .before .before .b
 returns-4 : tie.Need-returns-4
 returns-4 c =
     header-13 (c-shape _ _) _ _ _ _ _
-    (shape-reaches _ _ _ _ _ (sym (c .before .before .before .before .before .before .before .before .before .before .wrong-size .ensures) ∙ c .before .before .before .before .before .before .before .before .before .if1 .left) (c .before .before .before .before .before .before .before .before .standing-at .ensures) (c .before .before .before .before .before .before .before .if2 .left))
+    (shape-reaches _ _ _ _ _ (sym (c .before .before .before .before .before .before .before .before .before .before .wrong-size .ensures) ∙ c .before .before .before .before .before .before .before .before .before .if1 .left) (c .before .before .before .before .before .before .before .before .root-refusal .ensures) (c .before .before .before .before .before .before .before .if2 .left))
     _
     (names _ _ _ _ _ _ (c .before .before .before .before .before .before .root .ensures) (sym (c .before .before .before .slot .given .1) ∙ c .before .before .before .before .before .held-of .ensures))
     (omega (arith, c .before .heap-words .ensures, c .if3 .taken))
@@ -62,7 +63,7 @@ word-requires c κs = (sized _ _ (sym (c .before .before .before .before .before
 returns-5 : tie.Need-returns-5
 returns-5 c =
     shape-done _ _ _ _ _ _
-    (shape-reaches _ _ _ _ _ (sym (c .before .before .before .before .before .before .before .before .before .before .before .wrong-size .ensures) ∙ c .before .before .before .before .before .before .before .before .before .before .if1 .left) (c .before .before .before .before .before .before .before .before .before .standing-at .ensures) (c .before .before .before .before .before .before .before .before .if2 .left))
+    (shape-reaches _ _ _ _ _ (sym (c .before .before .before .before .before .before .before .before .before .before .before .wrong-size .ensures) ∙ c .before .before .before .before .before .before .before .before .before .before .if1 .left) (c .before .before .before .before .before .before .before .before .before .root-refusal .ensures) (c .before .before .before .before .before .before .before .before .if2 .left))
     (names _ _ _ _ _ _ (c .before .before .before .before .before .before .before .root .ensures) (sym (c .before .before .before .before .slot .given .1) ∙ c .before .before .before .before .before .before .held-of .ensures))
     (c .word .ensures)
 
@@ -72,7 +73,7 @@ shape-spec =
     (tie.spec
     wrong-size-requires
     returns
-    standing-at-requires
+    root-refusal-requires
     returns-2
     root-requires
     held-of-requires

@@ -16,19 +16,19 @@ wrong-size-requires c κs = search needs
 returns : tie.Need-returns
 returns c = size-1 _ _ _ (sym (c .before .wrong-size .ensures) ∙ c .if1 .taken)
 
-standing-at-requires : tie.Need-standing-at-requires
-standing-at-requires c κs = sized _ _ (sym (c .before .before .wrong-size .ensures) ∙ c .before .if1 .left)
+root-refusal-requires : tie.Need-root-refusal-requires
+root-refusal-requires c κs = sized _ _ (sym (c .before .before .wrong-size .ensures) ∙ c .before .if1 .left)
 
 same-length : tie.Need-same-length
 same-length c = search needs
 
 returns-2 : tie.Need-returns-2
 unfolding insideThen
-returns-2 c = refused (c-clear _ _) _ _ (sym (c .before .before .before .before .wrong-size .ensures) ∙ c .before .before .before .if1 .left) (c .before .standing-at .ensures) (c .if2 .taken)
+returns-2 c = refused (c-clear _ _) _ _ (sym (c .before .before .before .before .wrong-size .ensures) ∙ c .before .before .before .if1 .left) (c .before .root-refusal .ensures) (c .if2 .taken)
 
 set-root-requires : tie.Need-set-root-requires
 set-root-requires c κs =
-    let p = in-range-at _ _ _ _ (c .before .before .standing-at .ensures) (c .before .if2 .left) in
+    let p = in-range-at _ _ _ _ _ (c .before .before .root-refusal .ensures) (c .before .if2 .left) in
     (sized _ _ (sym (c .before .before .before .before .before .wrong-size .ensures) ∙ c .before .before .before .before .if1 .left), p .0, p .1)
 
 same-length-2 : tie.Need-same-length-2
@@ -37,7 +37,7 @@ same-length-2 c = search needs
 returns-3 : tie.Need-returns-3
 unfolding insideThen act
 returns-3 c =
-    done (c-clear _ _) _ _ (sym (c .before .before .before .before .before .before .before .before .wrong-size .ensures) ∙ c .before .before .before .before .before .before .before .if1 .left) (sym (c .before .before .before .before .if2 .left) ∙ c .before .before .before .before .before .standing-at .ensures) refl refl refl (c .before .before .set-root .ensures)
+    done (c-clear _ _) _ _ (sym (c .before .before .before .before .before .before .before .before .wrong-size .ensures) ∙ c .before .before .before .before .before .before .before .if1 .left) (sym (c .before .before .before .before .if2 .left) ∙ c .before .before .before .before .before .root-refusal .ensures) refl refl refl (c .before .before .set-root .ensures)
 
 pub clear-spec : {M : Type 1} → statement M
 clear-spec =
@@ -45,7 +45,7 @@ clear-spec =
     (tie.spec
     wrong-size-requires
     returns
-    standing-at-requires
+    root-refusal-requires
     same-length
     returns-2
     set-root-requires

@@ -17,24 +17,24 @@ wrong-size-requires c κs = search needs
 returns : tie.Need-returns
 returns c = size-1 _ _ _ (sym (c .before .wrong-size .ensures) ∙ c .if1 .taken)
 
-standing-with-requires : tie.Need-standing-with-requires
-standing-with-requires c κs = sized _ _ (sym (c .before .before .wrong-size .ensures) ∙ c .before .if1 .left)
+roots-refusal-requires : tie.Need-roots-refusal-requires
+roots-refusal-requires c κs = sized _ _ (sym (c .before .before .wrong-size .ensures) ∙ c .before .if1 .left)
 
 same-length : tie.Need-same-length
 same-length c = search needs
 
 returns-2 : tie.Need-returns-2
 unfolding insideThen
-returns-2 c = refused (c-copy _ _ _) _ _ (sym (c .before .before .before .before .wrong-size .ensures) ∙ c .before .before .before .if1 .left) (c .before .standing-with .ensures) (c .if2 .taken)
+returns-2 c = refused (c-copy _ _ _) _ _ (sym (c .before .before .before .before .wrong-size .ensures) ∙ c .before .before .before .if1 .left) (c .before .roots-refusal .ensures) (c .if2 .taken)
 
 root-requires : tie.Need-root-requires
 root-requires c κs =
-    let p = in-range _ _ (c .before .before .before .before .before .before .before .args .to) _ _ (c .before .before .standing-with .ensures) (c .before .if2 .left) in
+    let p = in-range _ _ _ (c .before .before .before .before .before .before .before .args .to) _ _ (c .before .before .roots-refusal .ensures) (c .before .if2 .left) in
     (sized _ _ (sym (c .before .before .before .before .before .wrong-size .ensures) ∙ c .before .before .before .before .if1 .left), p .0, p .2)
 
 set-root-requires : tie.Need-set-root-requires
 set-root-requires c κs =
-    let p = in-range _ _ _ (c .before .before .before .before .before .before .before .before .before .args .from) _ (c .before .before .before .before .standing-with .ensures) (c .before .before .before .if2 .left) in
+    let p = in-range _ _ _ _ (c .before .before .before .before .before .before .before .before .before .args .from) _ (c .before .before .before .before .roots-refusal .ensures) (c .before .before .before .if2 .left) in
     (sized _ _ (sym (c .before .before .before .before .before .before .before .wrong-size .ensures) ∙ c .before .before .before .before .before .before .if1 .left), p .0, p .1)
 
 same-length-2 : tie.Need-same-length-2
@@ -43,7 +43,7 @@ same-length-2 c = search needs
 returns-3 : tie.Need-returns-3
 unfolding insideThen act
 returns-3 c =
-    done (c-copy _ _ _) _ _ (sym (c .before .before .before .before .before .before .before .before .before .before .wrong-size .ensures) ∙ c .before .before .before .before .before .before .before .before .before .if1 .left) (sym (c .before .before .before .before .before .before .if2 .left) ∙ c .before .before .before .before .before .before .before .standing-with .ensures) refl refl refl
+    done (c-copy _ _ _) _ _ (sym (c .before .before .before .before .before .before .before .before .before .before .wrong-size .ensures) ∙ c .before .before .before .before .before .before .before .before .before .if1 .left) (sym (c .before .before .before .before .before .before .if2 .left) ∙ c .before .before .before .before .before .before .before .roots-refusal .ensures) refl refl refl
     (c .before .before .set-root .ensures ∙ ap (setRoot _ _ _) (c .before .before .before .before .root .ensures))
 
 pub copy-spec : {M : Type 1} → statement M
@@ -52,7 +52,7 @@ copy-spec =
     (tie.spec
     wrong-size-requires
     returns
-    standing-with-requires
+    roots-refusal-requires
     same-length
     returns-2
     root-requires

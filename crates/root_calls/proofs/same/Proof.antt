@@ -17,27 +17,27 @@ wrong-size-requires c κs = search needs
 returns : tie.Need-returns
 returns c = size-1 _ _ _ (sym (c .before .wrong-size .ensures) ∙ c .if1 .taken)
 
-standing-with-requires : tie.Need-standing-with-requires
-standing-with-requires c κs = sized _ _ (sym (c .before .wrong-size .ensures) ∙ c .if1 .left)
+roots-refusal-requires : tie.Need-roots-refusal-requires
+roots-refusal-requires c κs = sized _ _ (sym (c .before .wrong-size .ensures) ∙ c .if1 .left)
 
 returns-2 : tie.Need-returns-2
 unfolding insideThen
-returns-2 c = refused (c-same _ _ _) _ _ (sym (c .before .before .before .wrong-size .ensures) ∙ c .before .before .if1 .left) (c .before .standing-with .ensures) (c .if2 .taken)
+returns-2 c = refused (c-same _ _ _) _ _ (sym (c .before .before .before .wrong-size .ensures) ∙ c .before .before .if1 .left) (c .before .roots-refusal .ensures) (c .if2 .taken)
 
 root-requires : tie.Need-root-requires
 root-requires c κs =
-    let p = in-range _ _ _ (c .before .before .before .before .before .args .j) _ (c .before .standing-with .ensures) (c .if2 .left) in
+    let p = in-range _ _ _ _ (c .before .before .before .before .before .args .j) _ (c .before .roots-refusal .ensures) (c .if2 .left) in
     (sized _ _ (sym (c .before .before .before .wrong-size .ensures) ∙ c .before .before .if1 .left), p .0, p .1)
 
 root-requires-2 : tie.Need-root-requires-2
 root-requires-2 c κs =
-    let p = in-range _ _ (c .before .before .before .before .before .before .args .i) _ _ (c .before .before .standing-with .ensures) (c .before .if2 .left) in
+    let p = in-range _ _ _ (c .before .before .before .before .before .before .args .i) _ _ (c .before .before .roots-refusal .ensures) (c .before .if2 .left) in
     (sized _ _ (sym (c .before .before .before .before .wrong-size .ensures) ∙ c .before .before .before .if1 .left), p .0, p .2)
 
 returns-3 : tie.Need-returns-3
 unfolding insideThen act
 returns-3 c =
-    done (c-same _ _ _) _ _ (sym (c .before .before .before .before .before .wrong-size .ensures) ∙ c .before .before .before .before .if1 .left) (sym (c .before .before .if2 .left) ∙ c .before .before .before .standing-with .ensures) refl refl
+    done (c-same _ _ _) _ _ (sym (c .before .before .before .before .before .wrong-size .ensures) ∙ c .before .before .before .before .if1 .left) (sym (c .before .before .if2 .left) ∙ c .before .before .before .roots-refusal .ensures) refl refl
     (ap a-flag (same-words (c .before .root .ensures) (c .root2 .ensures)))
     refl
 
@@ -47,7 +47,7 @@ same-spec =
     (tie.spec
     wrong-size-requires
     returns
-    standing-with-requires
+    roots-refusal-requires
     returns-2
     root-requires
     root-requires-2

@@ -6,8 +6,8 @@ use Rattle.theory.specs.Calls.{c-store}
 use Rattle.laws.proofs.Promised.{size-1}
 use Rattle.roots.proofs.Inside.{in-range}
 use Rattle.records.proofs.Found.{pointer-stands}
-use Rattle.field_calls.proofs.Reaching.{names, nil-7, pointer-refused}
-use Rattle.storing.proofs.Storage.{store-standing, store-reaches, store-by}
+use Rattle.records.proofs.Reaching.{names, held-7, pointer-refused}
+use Rattle.storing.proofs.Storage.{store-refused, store-reaches, store-by}
 use Rattle.storing.proofs.store.Tie as tie
 use Rattle.storing.proofs.store.Statement.{statement}
 
@@ -17,19 +17,19 @@ wrong-size-requires c κs = search needs
 returns : tie.Need-returns
 returns c = size-1 _ _ _ (sym (c .before .wrong-size .ensures) ∙ c .if1 .taken)
 
-standing-with-requires : tie.Need-standing-with-requires
-standing-with-requires c κs = sized _ _ (sym (c .before .before .wrong-size .ensures) ∙ c .before .if1 .left)
+roots-refusal-requires : tie.Need-roots-refusal-requires
+roots-refusal-requires c κs = sized _ _ (sym (c .before .before .wrong-size .ensures) ∙ c .before .if1 .left)
 
 same-length : tie.Need-same-length
 same-length c = search needs
 
 returns-2 : tie.Need-returns-2
-returns-2 c = store-standing _ _ _ _ _ _ _ (sym (c .before .before .before .before .wrong-size .ensures) ∙ c .before .before .before .if1 .left) (c .before .standing-with .ensures) (c .if2 .taken)
+returns-2 c = store-refused _ _ _ _ _ _ _ (sym (c .before .before .before .before .wrong-size .ensures) ∙ c .before .before .before .if1 .left) (c .before .roots-refusal .ensures) (c .if2 .taken)
 
 root-requires : tie.Need-root-requires
 root-requires c κs =
     let a = c .before .before .before .before .before .before .before .args in
-    let p = in-range _ _ (a .i) (a .j) _ (c .before .before .standing-with .ensures) (c .before .if2 .left) in
+    let p = in-range _ _ _ (a .i) (a .j) _ (c .before .before .roots-refusal .ensures) (c .before .if2 .left) in
     (sized _ _ (sym (c .before .before .before .before .before .wrong-size .ensures) ∙ c .before .before .before .before .if1 .left), p .0, p .1)
 
 held-of-requires : tie.Need-held-of-requires
@@ -46,7 +46,7 @@ same-length-2 c = search needs
 
 returns-3 : tie.Need-returns-3
 returns-3 c =
-    nil-7 (c-store _ _ _ _) _ _ _ _ _ (store-reaches _ _ _ _ _ _ _ (sym (c .before .before .before .before .before .before .before .before .before .wrong-size .ensures) ∙ c .before .before .before .before .before .before .before .before .if1 .left) (c .before .before .before .before .before .before .standing-with .ensures) (c .before .before .before .before .before .if2 .left)) _ (c .before .before .before .root .ensures) (sym (c .enum-told .given .1) ∙ c .before .before .held-of .ensures)
+    held-7 (c-store _ _ _ _) _ _ _ _ _ (store-reaches _ _ _ _ _ _ _ (sym (c .before .before .before .before .before .before .before .before .before .wrong-size .ensures) ∙ c .before .before .before .before .before .before .before .before .if1 .left) (c .before .before .before .before .before .before .roots-refusal .ensures) (c .before .before .before .before .before .if2 .left)) _ (c .before .before .before .root .ensures) (sym (c .enum-told .given .1) ∙ c .before .before .held-of .ensures)
 
 pointer-place-requires : tie.Need-pointer-place-requires
 pointer-place-requires c κs = sized _ _ (sym (c .before .before .before .before .before .before .before .before .before .before .before .wrong-size .ensures) ∙ c .before .before .before .before .before .before .before .before .before .before .if1 .left)
@@ -60,13 +60,13 @@ enum-known-place c = search needs
 root-requires-2 : tie.Need-root-requires-2
 root-requires-2 c κs =
     let a = c .before .before .before .before .before .before .before .before .before .before .before .before .before .before .before .before .before .before .args in
-    let p = in-range _ _ (a .i) (a .j) _ (c .before .before .before .before .before .before .before .before .before .before .before .before .before .standing-with .ensures) (c .before .before .before .before .before .before .before .before .before .before .before .before .if2 .left) in
+    let p = in-range _ _ _ (a .i) (a .j) _ (c .before .before .before .before .before .before .before .before .before .before .before .before .before .roots-refusal .ensures) (c .before .before .before .before .before .before .before .before .before .before .before .before .if2 .left) in
     (sized _ _ (sym (c .before .before .before .before .before .before .before .before .before .before .before .before .before .before .before .before .wrong-size .ensures) ∙ c .before .before .before .before .before .before .before .before .before .before .before .before .before .before .before .if1 .left), p .0, p .2)
 
 store-at-requires : tie.Need-store-at-requires
 store-at-requires c κs =
     let a = c .before .before .before .before .before .before .before .before .before .before .before .before .before .before .before .before .before .before .before .before .args in
-    let p = in-range _ _ (a .i) (a .j) _ (c .before .before .before .before .before .before .before .before .before .before .before .before .before .before .before .standing-with .ensures) (c .before .before .before .before .before .before .before .before .before .before .before .before .before .before .if2 .left) in
+    let p = in-range _ _ _ (a .i) (a .j) _ (c .before .before .before .before .before .before .before .before .before .before .before .before .before .before .before .roots-refusal .ensures) (c .before .before .before .before .before .before .before .before .before .before .before .before .before .before .if2 .left) in
     let t = pointer-stands _ _ _ _ _ (sym (c .before .before .before .before .place .given .1) ∙ c .before .before .before .before .before .before .pointer-place .ensures) in
     (sized _ _ (sym (c .before .before .before .before .before .before .before .before .before .before .before .before .before .before .before .before .before .before .wrong-size .ensures) ∙ c .before .before .before .before .before .before .before .before .before .before .before .before .before .before .before .before .before .if1 .left), p .0, t .within)
 
@@ -77,7 +77,7 @@ returns-4 : tie.Need-returns-4
 returns-4 c =
     pointer-refused (c-store _ _ _ _) _ _ _ _ _ _
     (names _ _ _ _ _ _ (c .before .before .before .before .before .before .before .before .before .root .ensures) (sym (c .before .before .before .before .before .before .slot .given .1) ∙ c .before .before .before .before .before .before .before .before .held-of .ensures))
-    (store-reaches _ _ _ _ _ _ _ (sym (c .before .before .before .before .before .before .before .before .before .before .before .before .before .before .before .wrong-size .ensures) ∙ c .before .before .before .before .before .before .before .before .before .before .before .before .before .before .if1 .left) (c .before .before .before .before .before .before .before .before .before .before .before .before .standing-with .ensures) (c .before .before .before .before .before .before .before .before .before .before .before .if2 .left)) _ (sym (c .before .n .given .1) ∙ c .before .before .before .pointer-place .ensures)
+    (store-reaches _ _ _ _ _ _ _ (sym (c .before .before .before .before .before .before .before .before .before .before .before .before .before .before .before .wrong-size .ensures) ∙ c .before .before .before .before .before .before .before .before .before .before .before .before .before .before .if1 .left) (c .before .before .before .before .before .before .before .before .before .before .before .before .roots-refusal .ensures) (c .before .before .before .before .before .before .before .before .before .before .before .if2 .left)) _ (sym (c .before .n .given .1) ∙ c .before .before .before .pointer-place .ensures)
 
 same-length-4 : tie.Need-same-length-4
 same-length-4 c = search needs
@@ -85,8 +85,8 @@ same-length-4 c = search needs
 returns-5 : tie.Need-returns-5
 returns-5 c =
     let a = c .before .before .before .before .before .before .before .before .before .before .before .before .before .before .before .before .before .before .before .before .before .before .before .args in
-    let p = in-range _ _ (a .i) (a .j) _ (c .before .before .before .before .before .before .before .before .before .before .before .before .before .before .before .before .before .before .standing-with .ensures) (c .before .before .before .before .before .before .before .before .before .before .before .before .before .before .before .before .before .if2 .left) in
-    store-by _ _ _ _ _ _ _ (store-reaches _ _ _ _ _ _ _ (sym (c .before .before .before .before .before .before .before .before .before .before .before .before .before .before .before .before .before .before .before .before .before .wrong-size .ensures) ∙ c .before .before .before .before .before .before .before .before .before .before .before .before .before .before .before .before .before .before .before .before .if1 .left) (c .before .before .before .before .before .before .before .before .before .before .before .before .before .before .before .before .before .before .standing-with .ensures) (c .before .before .before .before .before .before .before .before .before .before .before .before .before .before .before .before .before .if2 .left))
+    let p = in-range _ _ _ (a .i) (a .j) _ (c .before .before .before .before .before .before .before .before .before .before .before .before .before .before .before .before .before .before .roots-refusal .ensures) (c .before .before .before .before .before .before .before .before .before .before .before .before .before .before .before .before .before .if2 .left) in
+    store-by _ _ _ _ _ _ _ (store-reaches _ _ _ _ _ _ _ (sym (c .before .before .before .before .before .before .before .before .before .before .before .before .before .before .before .before .before .before .before .before .before .wrong-size .ensures) ∙ c .before .before .before .before .before .before .before .before .before .before .before .before .before .before .before .before .before .before .before .before .if1 .left) (c .before .before .before .before .before .before .before .before .before .before .before .before .before .before .before .before .before .before .roots-refusal .ensures) (c .before .before .before .before .before .before .before .before .before .before .before .before .before .before .before .before .before .if2 .left))
     (names _ _ _ _ _ _ (c .before .before .before .before .before .before .before .before .before .before .before .before .before .before .before .root .ensures) (sym (c .before .before .before .before .before .before .before .before .before .before .before .before .slot .given .1) ∙ c .before .before .before .before .before .before .before .before .before .before .before .before .before .before .held-of .ensures))
     (p .2) _ _ _ _ (sym (c .before .before .before .before .before .before .before .place .given .1) ∙ c .before .before .before .before .before .before .before .before .before .pointer-place .ensures) (c .before .before .before .before .root2 .ensures) (c .before .before .store-at .ensures)
 
@@ -96,7 +96,7 @@ store-spec =
     (tie.spec
     wrong-size-requires
     returns
-    standing-with-requires
+    roots-refusal-requires
     same-length
     returns-2
     root-requires

@@ -1,6 +1,6 @@
 -- `tracing::barrier` meets its contract. Assumes nothing.
 use borrow.Author.Needs.{needs}
-use Rattle.tracing.proofs.Bits.{barrier-nothing, barrier-old, barrier-stops, barrier-both}
+use Rattle.tracing.proofs.Pushed.{barrier-nothing, barrier-old, barrier-stops, barrier-both}
 use Rattle.tracing.proofs.barrier.Tie as tie
 use Rattle.tracing.proofs.barrier.Statement.{statement}
 

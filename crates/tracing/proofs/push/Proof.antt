@@ -1,7 +1,8 @@
 -- `tracing::push` meets its contract. Assumes nothing.
 use mathlib.Core.Path.{sym, _∙_}
 use borrow.Author.Needs.{needs}
-use Rattle.tracing.proofs.Bits.{bit-within, push-nil, push-torn, push-by}
+use Rattle.tracing.proofs.Bits.{bit-within}
+use Rattle.tracing.proofs.Pushed.{push-nil, push-torn, push-by}
 use Rattle.tracing.proofs.push.Tie as tie
 use Rattle.tracing.proofs.push.Statement.{statement}
 

@@ -2,7 +2,7 @@
 use native.Mathlib.Omega.{arith}
 use borrow.Author.Needs.{needs}
 use Rattle.layout.proofs.Sizes.{mark-word, trace-most}
-use Rattle.tracing.proofs.Bits.{push-marked, push-queued, push-full, push-done}
+use Rattle.tracing.proofs.Pushed.{push-marked, push-queued, push-full, push-done}
 use Rattle.tracing.proofs.push_bit.Tie as tie
 use Rattle.tracing.proofs.push_bit.Statement.{statement}
 

@@ -1,9 +1,9 @@
--- `roots::standing` meets its contract. Assumes nothing.
+-- `roots::inside_refusal` meets its contract. Assumes nothing.
 use mathlib.Core.Path.{sym, _∙_}
 use borrow.Author.Needs.{needs}
 use Rattle.roots.proofs.Inside.{unknown-2, absent-4, outside-5, inside-rest}
-use Rattle.roots.proofs.standing.Tie as tie
-use Rattle.roots.proofs.standing.Statement.{statement}
+use Rattle.roots.proofs.inside_refusal.Tie as tie
+use Rattle.roots.proofs.inside_refusal.Statement.{statement}
 
 returns : tie.Need-returns
 returns c = unknown-2 _ _ _ (c .if1 .taken)
@@ -29,6 +29,6 @@ returns-3 c =
 returns-4 : tie.Need-returns-4
 returns-4 c = inside-rest _ _ _ (c .before .before .before .if1 .left) (sym (c .before .before .mutator .ensures) ∙ c .if3 .left)
 
-pub standing-spec : {M : Type 1} → statement M
-standing-spec =
+pub inside-refusal-spec : {M : Type 1} → statement M
+inside-refusal-spec =
     tie.close (tie.spec returns mul-mutator add-mutator mutator-requires returns-2 returns-3 returns-4)
