@@ -1,13 +1,76 @@
-// Mutators' entries in the lent slice: whether a mutator may call, and its roots.
+// Mutators' entries in the lent slice: whether a mutator may call, its roots, its state and its acknowledgements; and the phase, which says
+// what a mutator owes.
 use layout::Geometry;
+use model::Phase;
 ghost use mathlib.Core.Path.{_≡_};
 ghost use Prim.Native.Nat.{_<_};
 ghost use lib.ListN.{length};
 ghost use Rattle.layout.specs.Geometry.{Sized, mutatorCount, rootCount};
-ghost use Rattle.layout.specs.Mem.{memOf};
+ghost use Rattle.layout.specs.Mem.{memOf, controlWord};
 ghost use Rattle.theory.specs.Calls.{ifRoot};
-ghost use Rattle.model.specs.Fields.{root, setRoot};
+ghost use Rattle.model.specs.Fields.{root, setRoot, state, setMutatorState, acks, setAcks};
 ghost use Rattle.roots.specs.Inside.{insideThen};
+
+// The states of a mutator, as its entry has them.
+pub const ABSENT: u32 = 0;
+
+pub const INSIDE: u32 = 1;
+
+pub const OUTSIDE: u32 = 2;
+
+// The phase.
+pub fn phase(g: Geometry, mem: &[u32]) -> Phase
+    requires { ⌜ Sized g (length (now mem)) ⌝ }
+    ensures { λ r. ⌜ r .number ≡ controlWord (memOf g (now (mem .entry))) 0 ⌝ }
+{
+    Phase {
+        number: layout::control(g, mem, 0),
+    }
+}
+
+// The state of mutator k.
+pub fn state(g: Geometry, mem: &[u32], k: u32) -> u32
+    requires { ⌜ (Sized g (length (now mem))) × (k < mutatorCount) ⌝ }
+    ensures { λ r. ⌜ r ≡ state (memOf g (now (mem .entry))) k ⌝ }
+{
+    layout::mutator(
+        g,
+        mem,
+        k as usize * layout::MUTATOR_WORDS + layout::STATE_AT,
+    )
+}
+
+pub fn set_state(g: Geometry, mem: &mut [u32], k: u32, v: u32)
+    requires { ⌜ (Sized g (length (now mem))) × (k < mutatorCount) ⌝ }
+    ensures { λ _. ⌜ memOf g (now (mem .exit)) ≡ setMutatorState (memOf g (now (mem .entry))) k v ⌝ }
+{
+    layout::set_mutator(
+        g,
+        mem,
+        k as usize * layout::MUTATOR_WORDS + layout::STATE_AT,
+        v,
+    );
+}
+
+// How many of a cycle's two handshakes mutator k has acknowledged.
+pub fn acks(g: Geometry, mem: &[u32], k: u32) -> u32
+    requires { ⌜ (Sized g (length (now mem))) × (k < mutatorCount) ⌝ }
+    ensures { λ r. ⌜ r ≡ acks (memOf g (now (mem .entry))) k ⌝ }
+{
+    layout::mutator(g, mem, k as usize * layout::MUTATOR_WORDS + layout::ACKS_AT)
+}
+
+pub fn set_acks(g: Geometry, mem: &mut [u32], k: u32, v: u32)
+    requires { ⌜ (Sized g (length (now mem))) × (k < mutatorCount) ⌝ }
+    ensures { λ _. ⌜ memOf g (now (mem .exit)) ≡ setAcks (memOf g (now (mem .entry))) k v ⌝ }
+{
+    layout::set_mutator(
+        g,
+        mem,
+        k as usize * layout::MUTATOR_WORDS + layout::ACKS_AT,
+        v,
+    );
+}
 
 // The refusal 2, 4 or 5 of a call by a mutator that must be inside, or 0 for none.
 pub fn inside_refusal(g: Geometry, mem: &[u32], k: u32) -> u32
@@ -17,15 +80,11 @@ pub fn inside_refusal(g: Geometry, mem: &[u32], k: u32) -> u32
     if layout::MUTATORS <= k {
         return 2;
     }
-    let state = layout::mutator(
-        g,
-        mem,
-        k as usize * layout::MUTATOR_WORDS + layout::STATE_AT,
-    );
-    if state == 0 {
+    let state = state(g, mem, k);
+    if state == ABSENT {
         return 4;
     }
-    if state != 1 {
+    if state != INSIDE {
         return 5;
     }
     0
