@@ -1,35 +1,34 @@
 -- The memory beside an unbounded heap: what one event does to the one, and the calls that remain to the other, keeps them coupled. Assumes
 -- nothing.
 use mathlib.Core.Path.{_≡_, refl, sym, _∙_, ap, subst}
-use mathlib.Core.Logic.{_⊎_, inl, inr, ⊎-elim}
-use mathlib.Core.Bool.{Bool, true, false, true≢false}
+use mathlib.Core.Bool.{true}
 use mathlib.Core.Option.{Option, none, some, Option·none-ne-some, Option·some-injective}
 use mathlib.Core.List.{List}
-use Prim.Native.Nat.{ℕ, _<_}
+use Prim.Native.Nat.{ℕ, zero, suc, _<_}
 use Rattle.rules.specs.Pick.{pick}
 use Rattle.layout.specs.declared.Geometry.{Geometry}
 use Rattle.layout.specs.Geometry.{segmentOf}
 use Rattle.layout.specs.Mem.{Mem, memOf, Sizes}
 use Rattle.theory.specs.Phases.{idle}
-use Rattle.theory.specs.Calls.{Call, a-no}
-use Rattle.theory.specs.Unbounded.{uexec}
-use Rattle.theory.proofs.CallKeeps.{Coupled, Dropped, nextPut}
-use Rattle.theory.proofs.Bridge.{model-call, model-step, agree-ok}
+use Rattle.theory.specs.Calls.{Call, a-no, refusal, refuse}
+use Rattle.theory.specs.Unbounded.{uexec, puts}
+use Rattle.theory.proofs.CallKeeps.{Coupled}
+use Rattle.theory.proofs.Bridge.{model-call, model-refused, model-step, agree-ok}
 use Rattle.theory.proofs.CollectorKeeps.{start-ok}
 use Rattle.theory.proofs.Agree.{Agree}
 use Rattle.theory.proofs.Invariant.{Inv}
 use Rattle.model.specs.declared.Answer.{Answer}
 use Rattle.model.specs.declared.Answer.the-variants.{Ok}
-use Rattle.model.specs.Answers.{answerOf, refusalOf}
+use Rattle.model.specs.Answers.{answerOf}
 use Rattle.model.specs.Fields.{phase, tag, class}
-use Rattle.model.specs.Calls.{exec}
+use Rattle.model.specs.Calls.{observe, act, exec}
 use Rattle.model.specs.Collector.{started, stepOf, lowest, collects}
 use Rattle.model.specs.Consistent.{Consistent}
-use Rattle.model.specs.Lists.{Event, mutatorCall, startCall, stepCall, openingCall, lookCall, eventNumber, Ghost, fed, struck, remains}
+use Rattle.model.specs.Lists.{Event, mutatorCall, startCall, stepCall, openingCall, lookCall, eventNumber, Ghost, putUnless, blockIn, fed, struck, remains}
 use Rattle.refine_view.specs.View.{view}
-use Rattle.refine_view.specs.Kept.{CallKept, EachOccupied, Steady, Structure}
+use Rattle.refine_view.specs.Kept.{refused, agrees, ActKept, CallKept, EachOccupied, Steady, Structure}
 use Rattle.refine_view.proofs.Invariants.{consistent-ordered, structure-of, consistent-of}
-use Rattle.refine_view.proofs.Keeping.{self, selfPut, self-good}
+use Rattle.refine_view.proofs.Keeping.{face-same, self, selfPut, self-good}
 use Rattle.guarantee.specs.Demand3.{struckOut}
 use Rattle.guarantee.specs.Elements.{Acts, wrong, looks, calls, starts, startRefused, steps}
 use Rattle.guarantee.proofs.Kept.{all-kept}
@@ -75,49 +74,68 @@ module _ (g : Geometry) (m : Mem) (z : Sizes g m) (k : Consistent g m) (w : Ghos
     goes : Next v after → Leads v after
     begins : v ≡ startCall Ok → Begun (memOf g after) → Leads v after
 
-  -- nothing changes
-  stays : (v : Event) (after : List ℕ) → remains struckOut v ≡ none → memOf g after ≡ m → Leads v after
-  stays v after n h = goes (record {
-    couples = subst (λ x. Couples g (memOf g after) (fed w x g after) P) (sym n) (subst (λ x. Couples g x w P) (sym h) o);
+  -- nothing changes beside
+  unmoved : (v : Event) (after : List ℕ) → fed w (remains struckOut v) g after ≡ w → ((x : Call × Answer) → remains struckOut v ≡ some x → answerOf (x .1) ≡ uexec (w .heap) (x .0) .0) → memOf g after ≡ m → Leads v after
+  unmoved v after n a h = goes (record {
+    couples = subst (λ x. Couples g (memOf g after) x P) (sym n) (subst (λ x. Couples g x w P) (sym h) o);
     steady = subst (Steady g m) (sym h) (λ s l e. (e, refl));
-    answer = λ x e. absurd (Option·none-ne-some x (sym n ∙ e));
+    answer = a;
   })
 
-  -- a mutator's call: struck out, and then nothing changes beside; or answered as the unbounded heap does
-  module _ (c : Call) (r : Answer) (after : List ℕ) (e : answerOf r ≡ exec g m c .0) (h : memOf g after ≡ exec g m c .1) where
-    kept : CallKept g m c
-    kept = all-kept .calls g m z k c
+  stays : (v : Event) (after : List ℕ) → remains struckOut v ≡ none → memOf g after ≡ m → Leads v after
+  stays v after n h = unmoved v after (ap (λ x. fed w x g after) n) (λ x e. absurd (Option·none-ne-some x (sym n ∙ e))) h
 
-    told : (b : Bool) → (b ≡ false → answerOf r ≡ uexec (w .heap) c .0) → (x : Call × Answer) → pick b none (some (c, r)) ≡ some x → answerOf (x .1) ≡ uexec (w .heap) (x .0) .0
-    told true a x f = absurd (Option·none-ne-some x f)
-    told false a x f = subst (λ x. answerOf (x .1) ≡ uexec (w .heap) (x .0) .0) (Option·some-injective (c, r) x f) (a refl)
+  -- ---- a mutator's call
 
-    by-struck : (b : Bool) → struck struckOut (refusalOf r) ≡ b → (b ≡ false → answerOf r ≡ uexec (w .heap) c .0) → Couples g (exec g m c .1) (fed w (pick b none (some (c, r))) g after) P → Leads (mutatorCall c r) after
-    by-struck b t a q = goes (record {
-      couples = subst (λ b. Couples g (memOf g after) (fed w (pick b none (some (c, r))) g after) P) (sym t) (subst (λ x. Couples g x (fed w (pick b none (some (c, r))) g after) P) (sym h) q);
-      steady = subst (Steady g m) (sym h) (kept .moves .steady);
-      answer = told (struck struckOut (refusalOf r)) (λ f. a (sym t ∙ f));
-    })
+  module _ (c : Call) (r : Answer) (after : List ℕ) where
+    -- answered as the unbounded heap does, it remains
+    remaining : answerOf r ≡ uexec (w .heap) c .0 → remains struckOut (mutatorCall c r) ≡ some (c, r)
+    remaining a = ap (λ b. pick b none (some (c, r))) (not-struck-out r (w .heap) c a)
 
-    call-leads : Leads (mutatorCall c r) after
-    call-leads = go (model-call (segmentOf g) P (w .put) (view g (kept .ready)) (view g (exec g m c .1)) (w .heap) c (kept .block) (exec g m c .0) (kept .alloc) (agree-ok (segmentOf g) P (w .put) (view g m) (view g (kept .ready)) (w .heap) (kept .prepared) o) (kept .answer) (kept .moves .agree))
+    told : answerOf r ≡ uexec (w .heap) c .0 → (x : Call × Answer) → remains struckOut (mutatorCall c r) ≡ some x → answerOf (x .1) ≡ uexec (w .heap) (x .0) .0
+    told a x f = subst (λ x. answerOf (x .1) ≡ uexec (w .heap) (x .0) .0) (Option·some-injective (c, r) x (sym (remaining a) ∙ f)) a
+
+    -- refused by a number from 2 to 9, on both sides
+    refused-leads : (n : ℕ) → refusal (observe m) c ≡ suc n → answerOf r ≡ a-no (suc n) → memOf g after ≡ m → Leads (mutatorCall c r) after
+    refused-leads n x e h =
+        let u = model-refused (segmentOf g) P (w .put) (view g m) (w .heap) c n o (ap (λ F. refusal F c) (face-same g m) ∙ x) in
+        let a : answerOf r ≡ uexec (w .heap) c .0 = e ∙ sym (ap (λ y. y .0) u) in
+        unmoved (mutatorCall c r) after
+        (ap (λ x. fed w x g after) (remaining a) ∙ λ i. record { heap = u i .1; put = putUnless (to-number r (suc n) e i) (w .put) (puts c (blockIn g after) (w .heap .count) (w .put)) })
+        (told a) h
+
+    -- as on the machine
+    matched-leads : refusal (observe m) c ≡ 0 → (k : ActKept g m c) → answerOf r ≡ act g m c .0 → memOf g after ≡ act g m c .1 → Leads (mutatorCall c r) after
+    matched-leads x k e h =
+        let st = view g (k .ready) in
+        let y : refusal (machineCalls.observe st) c ≡ 0 = ap (λ F. refusal F c) (k .shows ∙ face-same g m) ∙ x in
+        let q : Agree (segmentOf g) (machineCalls.act (k .block) st c .1) (view g (memOf g after)) = subst (λ z. Agree (segmentOf g) (machineCalls.act (k .block) st c .1) (view g z)) (sym h) (k .moves .agree) in
+        let d = model-call (segmentOf g) P (w .put) st (view g (memOf g after)) (w .heap) c (k .block) (agree-ok (segmentOf g) P (w .put) (view g m) st (w .heap) (k .prepared) o) y (k .permitted) q in
+        let a = e ∙ k .answer ∙ d .0 in
+        goes (record {
+          couples = subst (λ x. Couples g (memOf g after) (fed w x g after) P) (sym (remaining a)) (subst (λ (z : ℕ → Option ℕ). Coupled (segmentOf g) P z (view g (memOf g after)) (uexec (w .heap) c .1)) (put-same g after (w .heap .count) (w .put) r (k .block) st c y (e ∙ k .answer) q) (d .1));
+          steady = subst (Steady g m) (sym h) (k .moves .steady);
+          answer = told a;
+        })
+
+    acted-leads : refusal (observe m) c ≡ 0 → CallKept struckOut g m c → answerOf r ≡ act g m c .0 → memOf g after ≡ act g m c .1 → Leads (mutatorCall c r) after
+    acted-leads x (refused n t y) e h = stays (mutatorCall c r) after (ap (λ o. pick (struck struckOut o) none (some (c, r))) (to-number r n (e ∙ ap (λ z. z .0) y)) ∙ ap (λ b. pick b none (some (c, r))) t) (h ∙ ap (λ z. z .1) y)
+    acted-leads x (agrees k) e h = matched-leads x k e h
+
+    call-leads : answerOf r ≡ exec g m c .0 → memOf g after ≡ exec g m c .1 → Leads (mutatorCall c r) after
+    unfolding exec
+    call-leads = go (refusal (observe m) c) refl
       where
-        out : (n : ℕ) → struckOut n ≡ true → exec g m c .0 ≡ a-no n → Couples g (exec g m c .1) w P → Leads (mutatorCall c r) after
-        out n t x q = by-struck true (ap (struck struckOut) (to-number r n (e ∙ x)) ∙ t) (λ f. absurd (true≢false f)) q
-
-        go : (Dropped (view g (kept .ready)) (machineCalls.exec (λ _ _ _ _. kept .block) (view g (kept .ready)) c) × Coupled (segmentOf g) P (w .put) (view g (exec g m c .1)) (w .heap))
-            ⊎ ((exec g m c .0 ≡ uexec (w .heap) c .0) × Coupled (segmentOf g) P (nextPut (λ _ _ _ _. kept .block) (w .put) (view g (kept .ready)) (w .heap .count) c) (view g (exec g m c .1)) (uexec (w .heap) c .1)) → Leads (mutatorCall c r) after
-        go (inl d) = ⊎-elim (λ x. out 10 refl (kept .answer ∙ x) (d .1)) (λ x. out 11 refl (kept .answer ∙ x) (d .1)) (d .0 .0)
-        go (inr d) =
-            let same = put-same g after (w .heap .count) (w .put) c r (view g (kept .ready)) (kept .block) (e ∙ kept .answer) (subst (λ x. Agree (segmentOf g) (machineCalls.exec (λ _ _ _ _. kept .block) (view g (kept .ready)) c .1) (view g x)) (sym h) (kept .moves .agree)) in
-            by-struck false (not-struck-out r (w .heap) c (e ∙ d .0)) (λ f. e ∙ d .0) (subst (λ (x : ℕ → Option ℕ). Coupled (segmentOf g) P x (view g (exec g m c .1)) (uexec (w .heap) c .1)) same (d .1))
+        go : (n : ℕ) → refusal (observe m) c ≡ n → answerOf r ≡ refuse n m (act g m c) .0 → memOf g after ≡ refuse n m (act g m c) .1 → Leads (mutatorCall c r) after
+        go zero x e h = acted-leads x (all-kept .calls g m z k c x) e h
+        go (suc n) x e h = refused-leads n x e h
 
   pub begun : (m′ : Mem) → phase m ≡ idle → m′ ≡ started g m → Begun m′
   begun m′ i h =
       let q = all-kept .starts g m z k i in
       subst Begun (sym h) (record {
         quiet = i;
-        couples = agree-ok (segmentOf g) (machine.Live (view g m)) (w .put) _ (view g (started g m)) (w .heap) (q .agree) (start-ok (segmentOf g) (λ _. none) (collects m) P (w .put) (view g m) (w .heap) o idle);
+        couples = agree-ok (segmentOf g) (machine.Live (view g m)) (w .put) _ (view g (started g m)) (w .heap) (q .agree) (start-ok (segmentOf g) (collects m) P (w .put) (view g m) (w .heap) o);
         collected = q .collected;
       })
 
@@ -138,15 +156,27 @@ module _ (g : Geometry) (m : Mem) (z : Sizes g m) (k : Consistent g m) (w : Ghos
 -- ---- consistency afterwards: the memory beside itself
 
 module _ (g : Geometry) (m : Mem) (z : Sizes g m) (k : Consistent g m) where
-  unmoved : (m′ : Mem) → m′ ≡ m → Structure g m′ × (EachOccupied g m → EachOccupied g m′)
-  unmoved m′ h = subst (λ x. Structure g x × (EachOccupied g m → EachOccupied g x)) (sym h) (structure-of g m (consistent-ordered g m k), λ u. u)
+  unmoved-structure : (m′ : Mem) → m′ ≡ m → Structure g m′ × (EachOccupied g m → EachOccupied g m′)
+  unmoved-structure m′ h = subst (λ x. Structure g x × (EachOccupied g m → EachOccupied g x)) (sym h) (structure-of g m (consistent-ordered g m k), λ u. u)
+
+  acted : (m′ : Mem) (c : Call) → CallKept struckOut g m c → m′ ≡ act g m c .1 → Structure g m′ × (EachOccupied g m → EachOccupied g m′)
+  acted m′ c (refused n t y) h = unmoved-structure m′ (h ∙ ap (λ z. z .1) y)
+  acted m′ c (agrees q) h = subst (λ x. Structure g x × (EachOccupied g m → EachOccupied g x)) (sym h) (q .moves .structure, q .moves .occupied)
+
+  called : (m′ : Mem) (c : Call) → m′ ≡ exec g m c .1 → Structure g m′ × (EachOccupied g m → EachOccupied g m′)
+  unfolding exec
+  called m′ c = go (refusal (observe m) c) refl
+    where
+      go : (n : ℕ) → refusal (observe m) c ≡ n → m′ ≡ refuse n m (act g m c) .1 → Structure g m′ × (EachOccupied g m → EachOccupied g m′)
+      go zero x h = acted m′ c (all-kept .calls g m z k c x) h
+      go (suc n) x h = unmoved-structure m′ h
 
   structured : (v : Event) (m′ : Mem) → Acts g m m′ v → Structure g m′ × (EachOccupied g m → EachOccupied g m′)
-  structured v m′ (wrong n h) = unmoved m′ h
-  structured v m′ (looks h) = unmoved m′ h
-  structured v m′ (calls {c = c} e h) = let q = all-kept .calls g m z k c .moves in subst (λ x. Structure g x × (EachOccupied g m → EachOccupied g x)) (sym h) (q .structure, q .occupied)
+  structured v m′ (wrong n h) = unmoved-structure m′ h
+  structured v m′ (looks h) = unmoved-structure m′ h
+  structured v m′ (calls {c = c} e h) = called m′ c h
   structured v m′ (starts i h) = let q = all-kept .starts g m z k i in subst (λ x. Structure g x × (EachOccupied g m → EachOccupied g x)) (sym h) (q .structure, q .occupied)
-  structured v m′ (startRefused e h) = unmoved m′ h
+  structured v m′ (startRefused e h) = unmoved-structure m′ h
   structured v m′ (steps e h) = let q = all-kept .steps g m z k .moves in subst (λ x. Structure g x × (EachOccupied g m → EachOccupied g x)) (sym h) (q .structure, q .occupied)
 
   abbrev pub alone : Ghost

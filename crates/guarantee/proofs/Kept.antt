@@ -1,7 +1,6 @@
 -- Every call of the model keeps what it must: the calls, start and step of the crates below, together. Assumes nothing.
 use mathlib.Core.Path.{_≡_, refl, sym, _∙_, subst}
 use mathlib.Core.Bool.{Bool, true, false}
-use mathlib.Core.Option.{Option, some}
 use Prim.Native.Nat.{ℕ, _-_, zero, suc, _+_, _≤_, _<_}
 use native.Mathlib.Omega.{arith}
 use lib.Dec.{eqb, leb}
@@ -15,7 +14,7 @@ use Rattle.layout.specs.declared.Geometry.{Geometry}
 use Rattle.layout.specs.Geometry.{mutatorCount, rootCount, segmentOf}
 use Rattle.layout.specs.Mem.{Mem, Sizes}
 use Rattle.theory.specs.Phases.{Phase, idle, sync1, sync2, mark, sweep}
-use Rattle.theory.specs.Calls.{Call, c-attach, c-detach, c-check, c-leave, c-enter, c-spawn, c-make, c-load, c-store, c-copy, c-clear, c-put, c-get, c-same, c-shape, Answer, refusal}
+use Rattle.theory.specs.Calls.{Call, c-attach, c-detach, c-check, c-leave, c-enter, c-spawn, c-make, c-load, c-store, c-copy, c-clear, c-put, c-get, c-same, c-shape, refusal}
 use Rattle.theory.proofs.Refusals.{by-ok, root-ok, require-ok}
 use Rattle.theory.proofs.Agree.{agree-inv}
 use Rattle.model.specs.Fields.{phase, holding}
@@ -25,9 +24,9 @@ use Rattle.model.specs.Making.{held, part, unused, noRoom, sourceOf, inBlock, i
 use Rattle.model.specs.Calls.{isAttached, observe, act, ofClass}
 use Rattle.model.specs.Collector.{lowest, stepOf, stepIn}
 use Rattle.refine_view.specs.View.{view}
-use Rattle.refine_view.specs.Kept.{Ordered, Moves, Matches, ActKept, StepKept, AllKept}
+use Rattle.refine_view.specs.Kept.{Ordered, Moves, Kept, refused, agrees, CallKept, StepKept, AllKept}
 use Rattle.refine_view.proofs.Invariants.{consistent-ordered, to-inv, ordered-of}
-use Rattle.refine_view.proofs.Keeping.{agree-self, matches-by, moves-self, call-kept}
+use Rattle.refine_view.proofs.Keeping.{agree-self, moves-self}
 use Rattle.refine_roots.proofs.Calls.{load-kept, copy-kept, clear-kept, get-kept, same-kept, shape-kept}
 use Rattle.refine_roots.proofs.Sides.{enter-kept}
 use Rattle.refine_roots.proofs.Coming.{attach-kept, spawn-kept}
@@ -41,15 +40,12 @@ use Rattle.refine_taking.proofs.DetachKept.{detach-kept}
 use Rattle.refine_making.proofs.Handed.{handed}
 use Rattle.refine_sweep.proofs.Sweeping.{picked, sweep-moves}
 use Rattle.refine_start.proofs.Started.{start-kept}
-use Rattle.theory.specs.Machine as machine
+use Rattle.guarantee.specs.Demand3.{struckOut}
 use Rattle.theory.specs.MachineCalls as calls
 
 -- ---- make: from a held segment, or from one that is taken first
 
 module _ (g : Geometry) (m : Mem) (s : Sizes g m) (c : Ordered g m) (k d cl p n : ℕ) (l : k < mutatorCount) (a : isAttached m k ≡ true) (h : d < rootCount) (e : classOf (p + n) ≡ Class cl) where
-  abbrev By : (machine.State → ℕ → ℕ → ℕ → Option ℕ) → machine.State → Answer × machine.State
-  By alloc st = calls.act alloc st (c-make k d p n)
-
   is-class : IsClass cl
   is-class = class-found (p + n) cl e
 
@@ -58,20 +54,20 @@ module _ (g : Geometry) (m : Mem) (s : Sizes g m) (c : Ordered g m) (k d cl p n 
     in-order : Ordered g m₁
     in-order = ordered-of g m₁ (t .sizes) (t .structure) (agree-inv (segmentOf g) (view g m) (view g m₁) (t .prepared) (to-inv g m s c))
 
-    from-held : Matches g m (inSegment g m m₁ k d cl r p n) By
+    from-held : Kept struckOut g m (c-make k d p n) (inSegment g m m₁ k d cl r p n)
     from-held =
         let x = handed g m₁ (t .sizes) in-order k d cl r p n l (t .known) h e (t .holds) in
-        subst (λ f. Matches g m (inBlock g m m₁ f k d cl r p n) By) (sym (x .1)) (record {
+        subst (λ f. Kept struckOut g m (c-make k d p n) (inBlock g m m₁ f k d cl r p n)) (sym (x .1)) (agrees (record {
           ready = m₁;
           prepared = t .prepared;
           shows = t .shows;
-          block = some (headerOf g r cl (x .0));
-          alloc = x .2;
+          block = headerOf g r cl (x .0);
+          permitted = x .2;
           answer = refl;
           moves = record { structure = x .3 .structure; occupied = λ u. x .3 .occupied (t .occupied u); agree = x .3 .agree; steady = λ i q y. let z = x .3 .steady i q y in let w = t .steady i q (z .0) in (w .0, z .1 ∙ w .1) };
-        })
+        }))
 
-  by-source : Matches g m (fromSource g m k d cl p n (sourceOf g m k cl)) By
+  by-source : Kept struckOut g m (c-make k d p n) (fromSource g m k d cl p n (sourceOf g m k cl))
   by-source = go (eqb (holding m k cl) 0) (eqb (count g m (partStack cl)) 0) (eqb (count g m freeStack) 0) refl refl refl
     where
       some-of : (x : ℕ) → eqb x 0 ≡ false → 1 ≤ x
@@ -82,13 +78,13 @@ module _ (g : Geometry) (m : Mem) (s : Sizes g m) (c : Ordered g m) (k d cl p n 
       own q = record { sizes = s; structure = moves-self g m c .structure; occupied = λ u i q f. u i q; prepared = agree-self g m; shows = refl; steady = λ i q y. (y, refl); holds = q; known = a }
 
       go : (x y z : Bool) → eqb (holding m k cl) 0 ≡ x → eqb (count g m (partStack cl)) 0 ≡ y → eqb (count g m freeStack) 0 ≡ z
-          → Matches g m (fromSource g m k d cl p n (pick x (pick y (pick z noRoom (unused (top g m freeStack))) (part (top g m (partStack cl)))) (held (holding m k cl - 1)))) By
+          → Kept struckOut g m (c-make k d p n) (fromSource g m k d cl p n (pick x (pick y (pick z noRoom (unused (top g m freeStack))) (part (top g m (partStack cl)))) (held (holding m k cl - 1))))
       go false y z q i j = let w = some-of (holding m k cl) q in from-held m (holding m k cl - 1) (own (omega arith))
       go true false z q i j = from-held _ _ (taken-part g m s c k cl l a is-class (eqb-true _ _ q) (some-of _ i))
       go true true false q i j = from-held _ _ (taken-free g m s c k cl l a is-class (eqb-true _ _ q) (some-of _ j))
-      go true true true q i j = matches-by g m _ _ refl (moves-self g m c)
+      go true true true q i j = refused 10 refl refl
 
-make-kept : (g : Geometry) (m : Mem) → Sizes g m → Ordered g m → (k d p n : ℕ) → refusal (observe m) (c-make k d p n) ≡ 0 → ActKept g m (c-make k d p n)
+make-kept : (g : Geometry) (m : Mem) → Sizes g m → Ordered g m → (k d p n : ℕ) → refusal (observe m) (c-make k d p n) ≡ 0 → CallKept struckOut g m (c-make k d p n)
 unfolding act made
 make-kept g m s c k d p n e =
     let x = by-ok (observe m) k _ e in
@@ -96,28 +92,28 @@ make-kept g m s c k d p n e =
     let z = require-ok (leb (p + n) maxFields) 9 0 (omega arith) (y .1) in
     go (classOf (p + n)) refl (x .0) (x .1) (y .0) (leb-true _ _ (z .0))
   where
-    go : (o : SizeClass) → classOf (p + n) ≡ o → k < mutatorCount → isAttached m k ≡ true → d < rootCount → p + n ≤ maxFields → Matches g m (ofClass m o (λ cl. made g m k d cl p n)) (λ alloc st. calls.act alloc st (c-make k d p n))
+    go : (o : SizeClass) → classOf (p + n) ≡ o → k < mutatorCount → isAttached m k ≡ true → d < rootCount → p + n ≤ maxFields → Kept struckOut g m (c-make k d p n) (ofClass m o (λ cl. made g m k d cl p n))
     go (Class cl) q l a h f = by-source g m s c k d cl p n l a h q
     go TooBig q l a h f = absurd (let w = class-limit (p + n) q in omega arith)
 
 -- ---- all calls
 
-calls-kept : (g : Geometry) (m : Mem) → Sizes g m → Ordered g m → (c : Call) → refusal (observe m) c ≡ 0 → ActKept g m c
-calls-kept g m s c (c-attach k) = attach-kept g m s c k
-calls-kept g m s c (c-spawn k p i) = spawn-kept g m s c k p i
-calls-kept g m s c (c-detach k) = detach-kept g m s c k
-calls-kept g m s c (c-check k) = check-kept g m s c k
-calls-kept g m s c (c-leave k) = leave-kept g m s c k
-calls-kept g m s c (c-enter k) = enter-kept g m s c k
-calls-kept g m s c (c-make k d p n) = make-kept g m s c k d p n
-calls-kept g m s c (c-load k d i f) = load-kept g m s c k d i f
-calls-kept g m s c (c-store k i f j) = store-kept g m s c k i f j
-calls-kept g m s c (c-copy k d i) = copy-kept g m s c k d i
-calls-kept g m s c (c-clear k d) = clear-kept g m s c k d
-calls-kept g m s c (c-put k i f v) = put-kept g m s c k i f v
-calls-kept g m s c (c-get k i f) = get-kept g m s c k i f
-calls-kept g m s c (c-same k i j) = same-kept g m s c k i j
-calls-kept g m s c (c-shape k i) = shape-kept g m s c k i
+calls-kept : (g : Geometry) (m : Mem) → Sizes g m → Ordered g m → (c : Call) → refusal (observe m) c ≡ 0 → CallKept struckOut g m c
+calls-kept g m s c (c-attach k) e = attach-kept struckOut refl g m s c k e
+calls-kept g m s c (c-spawn k p i) e = spawn-kept struckOut refl g m s c k p i e
+calls-kept g m s c (c-detach k) e = detach-kept struckOut refl g m s c k e
+calls-kept g m s c (c-check k) e = agrees (check-kept g m s c k e)
+calls-kept g m s c (c-leave k) e = agrees (leave-kept g m s c k e)
+calls-kept g m s c (c-enter k) e = agrees (enter-kept g m s c k e)
+calls-kept g m s c (c-make k d p n) e = make-kept g m s c k d p n e
+calls-kept g m s c (c-load k d i f) e = agrees (load-kept g m s c k d i f e)
+calls-kept g m s c (c-store k i f j) e = agrees (store-kept g m s c k i f j e)
+calls-kept g m s c (c-copy k d i) e = agrees (copy-kept g m s c k d i e)
+calls-kept g m s c (c-clear k d) e = agrees (clear-kept g m s c k d e)
+calls-kept g m s c (c-put k i f v) e = agrees (put-kept g m s c k i f v e)
+calls-kept g m s c (c-get k i f) e = agrees (get-kept g m s c k i f e)
+calls-kept g m s c (c-same k i j) e = agrees (same-kept g m s c k i j e)
+calls-kept g m s c (c-shape k i) e = agrees (shape-kept g m s c k i e)
 
 step-kept : (g : Geometry) (m : Mem) → Sizes g m → Ordered g m → StepKept g m
 unfolding stepOf
@@ -130,5 +126,5 @@ step-kept g m s c = record { picked = picked g m s c; moves = go (phase m) refl 
     go mark e = trace-moves g m s c (lowest m (g .segments)) e
     go sweep e = sweep-moves g m s c e
 
-pub all-kept : AllKept
-all-kept = record { calls = λ g m s c k. let o = consistent-ordered g m c in call-kept g m k o (calls-kept g m s o k); starts = λ g m s c. start-kept g m s (consistent-ordered g m c); steps = λ g m s c. step-kept g m s (consistent-ordered g m c) }
+pub all-kept : AllKept struckOut
+all-kept = record { calls = λ g m s c. calls-kept g m s (consistent-ordered g m c); starts = λ g m s c. start-kept g m s (consistent-ordered g m c); steps = λ g m s c. step-kept g m s (consistent-ordered g m c) }

@@ -11,9 +11,8 @@ use Rattle.rules.specs.Pick.{pick}
 use Rattle.layout.specs.declared.Geometry.{Geometry}
 use Rattle.layout.specs.Geometry.{wrongSize}
 use Rattle.layout.specs.Mem.{memOf}
-use Rattle.theory.specs.Update.{upd}
-use Rattle.theory.specs.Calls.{Call, c-attach, c-detach, c-check, c-leave, c-enter, c-spawn, c-make, c-load, c-store, c-copy, c-clear, c-put, c-get, c-same, c-shape}
-use Rattle.theory.specs.Unbounded.{Unbounded, UReached, empty, uexec}
+use Rattle.theory.specs.Calls.{Call}
+use Rattle.theory.specs.Unbounded.{Unbounded, UReached, empty, uexec, puts}
 use Rattle.model.specs.declared.Answer.{Answer}
 use Rattle.model.specs.declared.Answer.the-variants.{Ok}
 use Rattle.model.specs.declared.Step.{Step}
@@ -123,34 +122,21 @@ pub record Ghost : Type 0 where
   pub heap : Unbounded
   pub put : ℕ → Option ℕ
 
--- "A make that is not refused puts its record into the block handed out", which the root then names
-abbrev pub putBy : Call → Geometry → List ℕ → ℕ → (ℕ → Option ℕ) → ℕ → Option ℕ
-putBy (c-make k d p n) g after r put = upd put (root (memOf g after) k d - 1) (some r)
-putBy (c-attach k) g after r put = put
-putBy (c-spawn k p i) g after r put = put
-putBy (c-detach k) g after r put = put
-putBy (c-check k) g after r put = put
-putBy (c-leave k) g after r put = put
-putBy (c-enter k) g after r put = put
-putBy (c-load k d i f) g after r put = put
-putBy (c-store k i f j) g after r put = put
-putBy (c-copy k d i) g after r put = put
-putBy (c-clear k d) g after r put = put
-putBy (c-put k i f v) g after r put = put
-putBy (c-get k i f) g after r put = put
-putBy (c-same k i j) g after r put = put
-putBy (c-shape k i) g after r put = put
-
--- fed a mutator's call that remains, with its answer, which left the words `after`
+-- "A make that is not refused puts its record into the block handed out"
 abbrev pub putUnless : Option ℕ → (ℕ → Option ℕ) → (ℕ → Option ℕ) → ℕ → Option ℕ
 putUnless none put put′ = put′
 putUnless (some n) put put′ = put
 
+-- the block that a root names
+abbrev pub blockIn : Geometry → List ℕ → ℕ → ℕ → ℕ
+blockIn g words k d = root (memOf g words) k d - 1
+
+-- fed a mutator's call that remains, with its answer, which left the words `after`
 abbrev pub fed : Ghost → Option (Call × Answer) → Geometry → List ℕ → Ghost
 fed w none g after = w
 fed w (some x) g after = record {
   heap = uexec (w .heap) (x .0) .1;
-  put = putUnless (refusalOf (x .1)) (w .put) (putBy (x .0) g after (w .heap .count) (w .put));
+  put = putUnless (refusalOf (x .1)) (w .put) (puts (x .0) (blockIn g after) (w .heap .count) (w .put));
 }
 
 -- "A block is reached when the record last put there is; one without a record is not."

@@ -2,7 +2,6 @@
 -- machine's. Assumes nothing.
 use mathlib.Core.Path.{_≡_}
 use mathlib.Core.Bool.{true}
-use mathlib.Core.Option.{some}
 use Prim.Native.Nat.{ℕ, suc, _+_, _<_}
 use lib.ListN.{replicate}
 use Rattle.classes.specs.Class.{classOf}
@@ -13,7 +12,8 @@ use Rattle.layout.specs.Mem.{Mem, Sizes}
 use Rattle.bitmap_search.specs.declared.Found.the-variants.{Block}
 use Rattle.theory.specs.Machine.{State, make}
 use Rattle.theory.proofs.Agree.{Agree}
-use Rattle.theory.proofs.CallKeeps.{Alloc}
+use Rattle.theory.specs.Calls.{c-make}
+use Rattle.theory.specs.MachineCalls.{Permitted}
 use Rattle.model.specs.Fields.{holding, place}
 use Rattle.model.specs.Segments.{free}
 use Rattle.model.specs.Records.{headerOf}
@@ -50,8 +50,8 @@ module _ (g : Geometry) (m : Mem) (s : Sizes g m) (c : Ordered g m) where
 
   pub handed : (k d cl r p n : ℕ) → k < mutatorCount → isAttached m k ≡ true → d < rootCount → classOf (p + n) ≡ Class cl → holding m k cl ≡ suc r
       → (b : ℕ) × (free g m r cl (place m r) ≡ Block b)
-      × Alloc (segmentOf g) (λ _ _ _ _. some (headerOf g r cl b)) (view g m)
+      × Permitted (segmentOf g) (headerOf g r cl b) (view g m) (c-make k d p n)
       × HandsOut g m (handedOut g m k d cl r b p n) r (make (view g m) k d (headerOf g r cl b) p (replicate n 0))
   handed k d cl r p n few att within sized holds =
       let f = requested g m c k d cl r p n few att within sized holds in
-      (f .0, f .1, unused.alloc g m c k d cl r (f .0) p n (f .2), hands-out k d cl r (f .0) p n (f .2))
+      (f .0, f .1, (unused.not-used g m c k d cl r (f .0) p n (f .2), unused.not-collected g m c k d cl r (f .0) p n (f .2)), hands-out k d cl r (f .0) p n (f .2))

@@ -1,8 +1,7 @@
 -- The block that is handed out was not in use: not in the machine, not marked while tracing, not condemned. Assumes nothing.
-use mathlib.Core.Path.{_≡_, sym, _∙_, ap}
+use mathlib.Core.Path.{_≡_, _∙_, ap}
 use mathlib.Core.Bool.{false, not, _&&_}
 use mathlib.Core.Logic.{_⊎_, ⊎-elim}
-use mathlib.Core.Option.{some, Option·some-injective}
 use Prim.Native.Nat.{ℕ, _-_}
 use native.Mathlib.Omega.{arith}
 use lib.Dec.{eqb}
@@ -16,12 +15,11 @@ use Rattle.layout.specs.declared.Geometry.{Geometry}
 use Rattle.layout.specs.Mem.{Mem}
 use Rattle.theory.specs.Phases.{Phase, idle, sync1, sync2, mark, sweep}
 use Rattle.theory.proofs.Invariant.{Tracing}
-use Rattle.theory.proofs.CallKeeps.{Alloc}
 use Rattle.model.specs.Fields.{phase, tag, place}
 use Rattle.model.specs.Segments.{usedBit}
 use Rattle.model.specs.Records.{blockOf, headerOf}
 use Rattle.model.specs.Consistent.{MarksOf}
-use Rattle.refine_view.specs.View.{view, isUsed}
+use Rattle.refine_view.specs.View.{isUsed}
 use Rattle.refine_view.specs.Kept.{Ordered, MarksIn}
 use Rattle.laws.proofs.Bools.{and-false}
 use Rattle.laws.proofs.Blocks.{header-segment, header-block, blocks-most}
@@ -51,12 +49,6 @@ module _ (g : Geometry) (m : Mem) (c : Ordered g m) (k d cl r b p n : ℕ) (q : 
       let e : tag m (segmentOf g h) ≡ tag m r = ap (tag m) segment-is in
       let z = q .isHeld in
       ne-eqb (tag m (segmentOf g h)) 4 (λ y. omega arith)
-
-  pub alloc : Alloc (segmentOf g) (λ _ _ _ _. some h) (view g m)
-  alloc = record {
-    free = λ i a o x e. ap (isUsed g m) (sym (Option·some-injective h x e)) ∙ not-used;
-    sound = λ i a o x e. ap (λ z. eqb (tag m (segmentOf g z)) Tag.condemned) (sym (Option·some-injective h x e)) ∙ not-collected;
-  }
 
   -- only blocks in use have marks
   pub not-marked : Tracing (phase m) → bitAt (m .marks) (bitIn g r b) ≡ 0

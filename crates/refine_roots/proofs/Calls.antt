@@ -35,7 +35,7 @@ module _ (g : Geometry) (m : Mem) (s : Sizes g m) (c : Ordered g m) where
       let x = ltb-true _ _ (require-ok (ltb f (pointers m (w .at))) 8 0 (omega arith) (w .asked) .0) in
       let h = on-record g m (record? (fields.root m k i)) (w .at) (w .is) (λ at. (a-ok, setRoot m k d (pointer m at f))) (λ at. (a-ok, machine.setRoot (view g m) k d (record? (pointer m at f)))) refl
       (root-moves g m s c k d (pointer m (w .at) f) (p .0) (p .1) (q .0) (λ b y. next (root (is-root m k i (w .at) (p .0) (r .0) (p .1) n)) (record { field = f; within = x; names = y }))) in
-      matches-by g m _ _ (h .0) (h .1)
+      matches-by g m _ _ tt (h .0) (h .1)
 
   pub copy-kept : (k d i : ℕ) → refusal (observe m) (c-copy k d i) ≡ 0 → ActKept g m (c-copy k d i)
   unfolding act
@@ -43,14 +43,14 @@ module _ (g : Geometry) (m : Mem) (s : Sizes g m) (c : Ordered g m) where
       let p = by-ok (observe m) k _ e in
       let q = root-ok d _ (p .3) in
       let r = root-ok i _ (q .1) in
-      matches-by g m _ _ refl (root-moves g m s c k d (fields.root m k i) (p .0) (p .1) (q .0) (λ b y. root (is-root m k i b (p .0) (r .0) (p .1) y)))
+      matches-by g m _ _ tt refl (root-moves g m s c k d (fields.root m k i) (p .0) (p .1) (q .0) (λ b y. root (is-root m k i b (p .0) (r .0) (p .1) y)))
 
   pub clear-kept : (k d : ℕ) → refusal (observe m) (c-clear k d) ≡ 0 → ActKept g m (c-clear k d)
   unfolding act
   clear-kept k d e =
       let p = by-ok (observe m) k _ e in
       let q = root-ok d _ (p .3) in
-      matches-by g m _ _ refl (root-moves g m s c k d 0 (p .0) (p .1) (q .0) (λ b y. absurd (omega arith)))
+      matches-by g m _ _ tt refl (root-moves g m s c k d 0 (p .0) (p .1) (q .0) (λ b y. absurd (omega arith)))
 
   -- ---- calls that change nothing
 
@@ -62,11 +62,11 @@ module _ (g : Geometry) (m : Mem) (s : Sizes g m) (c : Ordered g m) where
       let w = wanted-in g m k i (value? f) (p .1) (r .0) (r .1) in
       let x = ltb-true _ _ (require-ok (ltb f (values m (w .at))) 8 0 (omega arith) (w .asked) .0) in
       let h = on-record g m (record? (fields.root m k i)) (w .at) (w .is) (λ at. (a-num (value m at f), m)) (λ at. (a-num (getD (valuesOf m at) f 0), view g m)) (ap a-num (sym (getD-tab (values m (w .at)) (value m (w .at)) f x))) (moves-self g m c) in
-      matches-by g m _ _ (h .0) (h .1)
+      matches-by g m _ _ tt (h .0) (h .1)
 
   pub same-kept : (k i j : ℕ) → refusal (observe m) (c-same k i j) ≡ 0 → ActKept g m (c-same k i j)
   unfolding act
-  same-kept k i j e = matches-by g m _ _ refl (moves-self g m c)
+  same-kept k i j e = matches-by g m _ _ tt refl (moves-self g m c)
 
   pub shape-kept : (k i : ℕ) → refusal (observe m) (c-shape k i) ≡ 0 → ActKept g m (c-shape k i)
   unfolding act
@@ -75,4 +75,4 @@ module _ (g : Geometry) (m : Mem) (s : Sizes g m) (c : Ordered g m) where
       let r = root-ok i _ (p .3) in
       let w = wanted-in g m k i (λ _. 0) (p .1) (r .0) (r .1) in
       let h = on-record g m (record? (fields.root m k i)) (w .at) (w .is) (λ at. (a-shape (pointers m at) (values m at), m)) (λ at. (a-shape (pointers m at) (length (valuesOf m at)), view g m)) (ap (a-shape (pointers m (w .at))) (sym (length-tab (values m (w .at)) (value m (w .at))))) (moves-self g m c) in
-      matches-by g m _ _ (h .0) (h .1)
+      matches-by g m _ _ tt (h .0) (h .1)

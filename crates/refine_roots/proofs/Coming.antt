@@ -16,7 +16,7 @@ use Rattle.layout.specs.declared.Geometry.{Geometry}
 use Rattle.layout.specs.Geometry.{mutatorCount, mutatorWords, rootCount, segmentOf}
 use Rattle.layout.specs.Mem.{Mem, mutatorWord, setRun, Sizes}
 use Rattle.theory.specs.Phases.{Phase, idle, sync1, sync2, mark, sweep, newcomer, inHandshake}
-use Rattle.theory.specs.Calls.{c-attach, c-spawn, refusal, unless}
+use Rattle.theory.specs.Calls.{c-attach, c-spawn, refusal}
 use Rattle.theory.proofs.Refusals.{require-ok, root-ok}
 use Rattle.theory.specs.Update.{upd}
 use Rattle.theory.proofs.Updates.{upd-hit, upd-other, upd-hit₁, upd-miss₁}
@@ -28,10 +28,10 @@ use Rattle.model.specs.Calls.{isAttached, isInside, observe, act}
 use Rattle.model.specs.Reaching.{IsRoot}
 use Rattle.model.specs.Consistent.{MutatorOk}
 use Rattle.refine_view.specs.View.{view}
-use Rattle.refine_view.specs.Kept.{Ordered, Moves, ActKept}
+use Rattle.refine_view.specs.Kept.{Ordered, Moves, CallKept}
 use Rattle.refine_view.proofs.Seeing.{root-on, named}
 use Rattle.refine_view.proofs.Invariants.{to-inv, structure-of}
-use Rattle.refine_view.proofs.Keeping.{matches-by, moves-self}
+use Rattle.refine_view.proofs.Keeping.{matches-by, unless-kept}
 use Rattle.laws.proofs.Rooted.{is-root}
 use Rattle.theory.proofs.Updates.{upd-by}
 use Rattle.laws.proofs.Entries.{holding-word, holding-by, table-below, entry-in, entry-out}
@@ -155,23 +155,18 @@ module _ (g : Geometry) (m : Mem) (s : Sizes g m) (c : Ordered g m) (k v : ℕ) 
     })
 
 -- refused 11 in a handshake, and then nothing changes
-pub unless-moves : (g : Geometry) (m m′ : Mem) (st : machine.State) → Ordered g m → (b : Bool) → (b ≡ false → Moves g m m′ st) → (unless b 11 m m′ .0 ≡ unless b 11 (view g m) st .0) × Moves g m (unless b 11 m m′ .1) (unless b 11 (view g m) st .1)
-unless-moves g m m′ st c true h = (refl, moves-self g m c)
-unless-moves g m m′ st c false h = (refl, h refl)
-
-module _ (g : Geometry) (m : Mem) (s : Sizes g m) (c : Ordered g m) where
+module _ (out : ℕ → Bool) (late : out 11 ≡ true) (g : Geometry) (m : Mem) (s : Sizes g m) (c : Ordered g m) where
   not-there : (k : ℕ) → not (isAttached m k) ≡ true → state m k ≡ absent
   not-there k e = eqb-true _ _ (not-false _ (not-true _ e))
 
-  pub attach-kept : (k : ℕ) → refusal (observe m) (c-attach k) ≡ 0 → ActKept g m (c-attach k)
+  pub attach-kept : (k : ℕ) → refusal (observe m) (c-attach k) ≡ 0 → CallKept out g m (c-attach k)
   unfolding act
   attach-kept k e =
       let p = require-ok (ltb k mutatorCount) 2 _ (omega arith) e in
       let q = require-ok (not (isAttached m k)) 3 _ (omega arith) (p .1) in
-      let h = unless-moves g m (attached m k 0) (machine.attach (view g m) k none) c (inHandshake (phase m)) (λ x. coming-moves g m s c k 0 (ltb-true _ _ (p .0)) (not-there k (q .0)) (λ b y. absurd (omega arith)) x) in
-      matches-by g m _ _ (h .0) (h .1)
+      unless-kept out g m (attached m k 0) (c-attach k) 11 late (inHandshake (phase m)) (λ x. matches-by g m (c-attach k) _ x refl (coming-moves g m s c k 0 (ltb-true _ _ (p .0)) (not-there k (q .0)) (λ b y. absurd (omega arith)) x))
 
-  pub spawn-kept : (k p i : ℕ) → refusal (observe m) (c-spawn k p i) ≡ 0 → ActKept g m (c-spawn k p i)
+  pub spawn-kept : (k p i : ℕ) → refusal (observe m) (c-spawn k p i) ≡ 0 → CallKept out g m (c-spawn k p i)
   unfolding act
   spawn-kept k p i e =
       let a = require-ok (ltb k mutatorCount) 2 _ (omega arith) e in
@@ -180,5 +175,4 @@ module _ (g : Geometry) (m : Mem) (s : Sizes g m) (c : Ordered g m) where
       let f = require-ok (isAttached m p) 4 _ (omega arith) (d .1) in
       let n = require-ok (isInside m p) 5 _ (omega arith) (f .1) in
       let q = root-ok i _ (n .1) in
-      let h = unless-moves g m (attached m k (fields.root m p i)) (machine.attach (view g m) k (record? (fields.root m p i))) c (inHandshake (phase m)) (λ x. coming-moves g m s c k (fields.root m p i) (ltb-true _ _ (a .0)) (not-there k (d .0)) (λ at y. is-root m p i at (ltb-true _ _ (b .0)) (q .0) (f .0) y) x) in
-      matches-by g m _ _ (h .0) (h .1)
+      unless-kept out g m (attached m k (fields.root m p i)) (c-spawn k p i) 11 late (inHandshake (phase m)) (λ x. matches-by g m (c-spawn k p i) _ x refl (coming-moves g m s c k (fields.root m p i) (ltb-true _ _ (a .0)) (not-there k (d .0)) (λ at y. is-root m p i at (ltb-true _ _ (b .0)) (q .0) (f .0) y) x))

@@ -130,4 +130,4 @@ put-kept g m s c k i f v e =
     let x = ltb-true _ _ (require-ok (ltb f (values m (w .at))) 8 0 (omega arith) (w .asked) .0) in
     let h = on-record g m (record? (fields.root m k i)) (w .at) (w .is) (λ at. (a-ok, setValue m at f v)) (λ at. (a-ok, machine.setValues (view g m) at (set (valuesOf m at) f v))) refl
     (value-moves g m s c (w .at) (c .records (w .at) (live-root m k i (w .at) (p .0) (r .0) (p .1) n)) f v x) in
-    matches-by g m _ _ (h .0) (h .1)
+    matches-by g m _ _ tt (h .0) (h .1)

@@ -22,4 +22,4 @@ unfolding act
 enter-kept g m s c k e =
     let p = require-ok (ltb k mutatorCount) 2 _ (omega arith) e in
     let q = require-ok (isAttached m k) 4 _ (omega arith) (p .1) in
-    matches-by g m _ _ refl (side-moves g m s (structure-of g m c) k inside (ltb-true _ _ (p .0)) (not-eq _ _ (q .0)) (omega arith) (omega arith))
+    matches-by g m _ _ tt refl (side-moves g m s (structure-of g m c) k inside (ltb-true _ _ (p .0)) (not-eq _ _ (q .0)) (omega arith) (omega arith))

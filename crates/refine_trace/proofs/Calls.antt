@@ -23,7 +23,6 @@ use Rattle.laws.proofs.Operations.{sizes-acknowledged}
 use Rattle.refine_trace.proofs.Acknowledging.{acknowledged-moves}
 use Rattle.refine_trace.proofs.Leaving.{check-attached, left-moves}
 use Rattle.refine_trace.proofs.Storing.{store-moves}
-use Rattle.theory.specs.MachineCalls as machine
 use Rattle.model.specs.Fields as fields
 use Rattle.model.specs.Tracing as tracing
 
@@ -32,7 +31,7 @@ module _ (g : Geometry) (m : Mem) (s : Sizes g m) (c : Ordered g m) where
   unfolding act
   check-kept k e =
       let a = by-ok (observe m) k 0 e in
-      matches-by g m (act g m (c-check k)) (λ alloc st. machine.act alloc st (c-check k)) refl (acknowledged-moves g m s c k (a .0) (not-eq _ _ (a .1)))
+      matches-by g m (c-check k) _ tt refl (acknowledged-moves g m s c k (a .0) (not-eq _ _ (a .1)))
 
   pub leave-kept : (k : ℕ) → refusal (observe m) (c-leave k) ≡ 0 → ActKept g m (c-leave k)
   unfolding act
@@ -40,7 +39,7 @@ module _ (g : Geometry) (m : Mem) (s : Sizes g m) (c : Ordered g m) where
       let a = by-ok (observe m) k 0 e in
       let v = acknowledged-moves g m s c k (a .0) (not-eq _ _ (a .1)) in
       let h : isAttached (acknowledged g m k) k ≡ true = v .agree .attached k ∙ check-attached (phase m) (acks m k) (view g m) k k ∙ a .1 in
-      matches-by g m (act g m (c-leave k)) (λ alloc st. machine.act alloc st (c-leave k)) refl (left-moves g m (acknowledged g m k) (check (view g m) k) v (sizes-acknowledged g m s k) k (a .0) (not-eq _ _ h))
+      matches-by g m (c-leave k) _ tt refl (left-moves g m (acknowledged g m k) (check (view g m) k) v (sizes-acknowledged g m s k) k (a .0) (not-eq _ _ h))
 
   abbrev stored : ℕ → ℕ → ℕ → ℕ → Answer × Mem
   stored k f w at = (a-ok, setPointer (tracing.barrier g (duty (phase m) (acks m k)) m (record? w) (record? (pointer m at f))) at f w)
@@ -55,4 +54,4 @@ module _ (g : Geometry) (m : Mem) (s : Sizes g m) (c : Ordered g m) where
       let l = ltb-true _ _ (require-ok (ltb f (pointers m (w .at))) 8 0 (omega arith) (w .asked) .0) in
       let h = on-record g m (record? (fields.root m k i)) (w .at) (w .is) (stored k f (fields.root m k j)) (λ at. (a-ok, store (view g m) k at f (record? (fields.root m k j)))) refl
       (store-moves g m s c k (w .at) f (fields.root m k j) (i, a .1, b .0, w .is) l (λ x z. (j, a .1, d .0, z))) in
-      matches-by g m _ _ (h .0) (h .1)
+      matches-by g m _ _ tt (h .0) (h .1)

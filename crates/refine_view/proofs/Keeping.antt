@@ -3,7 +3,7 @@ use mathlib.Core.Path.{_≡_, refl, sym, _∙_, ap, subst, fun-ext}
 use mathlib.Core.Logic.{inl}
 use mathlib.Core.Bool.{Bool, true, false}
 use mathlib.Core.Option.{Option, none, some, Option·map, Option·some-injective}
-use Prim.Native.Nat.{ℕ, zero, suc, _-_, _*_, _<_}
+use Prim.Native.Nat.{ℕ, _-_, _*_, _<_}
 use native.Mathlib.Omega.{arith}
 use lib.Dec.{ltb}
 use borrow.Author.Tests.{lt-ltb, ltb-true}
@@ -12,18 +12,18 @@ use Rattle.layout.specs.declared.Geometry.{Geometry}
 use Rattle.layout.specs.Geometry.{rootCount, segmentWords, segmentOf}
 use Rattle.layout.specs.Mem.{Mem, Sizes}
 use Rattle.theory.specs.Reach.{root, next}
-use Rattle.theory.specs.Calls.{Call, Answer, a-no, shapeIf, refusal, refuse, ifRecord, onRecord}
+use Rattle.theory.specs.Calls.{Call, Answer, a-ok, shapeIf, ifRecord, onRecord, unless}
 use Rattle.theory.specs.Unbounded.{Unbounded}
 use Rattle.theory.proofs.Simulation.{Same}
-use Rattle.theory.proofs.CallKeeps.{Coupled, Alloc}
+use Rattle.theory.proofs.CallKeeps.{Coupled}
 use Rattle.theory.proofs.Agree.{Agree}
 use Rattle.theory.proofs.Invariant.{none-some}
 use Rattle.model.specs.Fields.{phase, acks}
 use Rattle.model.specs.Records.{record?, pointers, values, pointer}
-use Rattle.model.specs.Calls.{isAttached, isInside, observe, act, exec}
+use Rattle.model.specs.Calls.{isAttached, isInside, observe, act}
 use Rattle.model.specs.Reaching.{Live}
 use Rattle.refine_view.specs.View.{view, valuesOf}
-use Rattle.refine_view.specs.Kept.{Ordered, Moves, Matches, ActKept, CallKept}
+use Rattle.refine_view.specs.Kept.{Ordered, Moves, Matches, Kept, refused, agrees}
 use Rattle.laws.proofs.Tables.{length-tab}
 use Rattle.refine_view.proofs.Seeing.{few-mutators}
 use Rattle.refine_view.proofs.Invariants.{to-live, to-inv, structure-of}
@@ -65,18 +65,14 @@ agree-self g m = record {
 pub moves-self : (g : Geometry) (m : Mem) → Ordered g m → Moves g m m (view g m)
 moves-self g m c = record { structure = structure-of g m c; occupied = λ u. u; agree = agree-self g m; steady = λ s l e. (e, refl) }
 
-no-block : (g : Geometry) (m : Mem) → Alloc (segmentOf g) (λ _ _ _ _. none) (view g m)
-no-block g m = record { free = λ i p n b e. cc; sound = λ i p n b e. cc }
-
 -- a call that begins on the memory as it is, and is handed no block
-pub matches-by : (g : Geometry) (m : Mem) (r : Answer × Mem) (by : (machine.State → ℕ → ℕ → ℕ → Option ℕ) → machine.State → Answer × machine.State)
-    → r .0 ≡ by (λ _ _ _ _. none) (view g m) .0 → Moves g m (r .1) (by (λ _ _ _ _. none) (view g m) .1) → Matches g m r by
-matches-by g m r by e v = record { ready = m; prepared = agree-self g m; shows = refl; block = none; alloc = no-block g m; answer = e; moves = v }
+pub matches-by : (g : Geometry) (m : Mem) (c : Call) (r : Answer × Mem) → calls.Permitted (segmentOf g) 0 (view g m) c → r .0 ≡ calls.act 0 (view g m) c .0 → Moves g m (r .1) (calls.act 0 (view g m) c .1) → Matches g m c r
+matches-by g m c r p e v = record { ready = m; prepared = agree-self g m; shows = refl; block = 0; permitted = p; answer = e; moves = v }
 
--- nothing changes
-pub matches-self : (g : Geometry) (m : Mem) → Ordered g m → (r : Answer × Mem) (by : (machine.State → ℕ → ℕ → ℕ → Option ℕ) → machine.State → Answer × machine.State)
-    → r .0 ≡ by (λ _ _ _ _. none) (view g m) .0 → r .1 ≡ m → by (λ _ _ _ _. none) (view g m) .1 ≡ view g m → Matches g m r by
-matches-self g m c r by e h k = matches-by g m r by e (subst (λ z. Moves g m z (by (λ _ _ _ _. none) (view g m) .1)) (sym h) (subst (λ z. Moves g m m z) (sym k) (moves-self g m c)))
+-- refused n where a test holds, and nothing changes
+pub unless-kept : (out : ℕ → Bool) (g : Geometry) (m m′ : Mem) (c : Call) (n : ℕ) → out n ≡ true → (b : Bool) → (b ≡ false → Matches g m c (a-ok, m′)) → Kept out g m c (unless b n m m′)
+unless-kept out g m m′ c n e true h = refused n e refl
+unless-kept out g m m′ c n e false h = agrees (h refl)
 
 -- ---- a call on the record in a root
 
@@ -100,37 +96,6 @@ module _ (g : Geometry) (m : Mem) where
 
   pub wanted-in : (k i : ℕ) (rest : ℕ × ℕ → ℕ) → isAttached m k ≡ true → i < rootCount → ifRecord (observe m .shape k i) rest ≡ 0 → Wanted k i rest
   wanted-in k i rest a h e = let w = wanted (record? (fields.root m k i)) (λ at. (pointers m at, values m at)) rest (isAttached m k) (ltb i rootCount) a (lt-ltb _ _ h) e in record { at = w .0; is = w .1; asked = w .2 }
-
--- ---- a call is refused by a number from 2 to 9, alike on both sides, or it acts
-
-pub call-kept : (g : Geometry) (m : Mem) (c : Call) → Ordered g m → (refusal (observe m) c ≡ 0 → ActKept g m c) → CallKept g m c
-unfolding exec
-call-kept g m c ok k = go (refusal (observe m) c) refl
-  where
-    shown : (n : ℕ) → refusal (observe m) c ≡ n → refusal (calls.observe (view g m)) c ≡ n
-    shown n e = ap (λ F. refusal F c) (face-same g m) ∙ e
-
-    acted : ActKept g m c → refusal (observe m) c ≡ 0 → Matches g m (act g m c) (λ alloc st. calls.exec alloc st c)
-    acted a e =
-        let z : refusal (calls.observe (view g (a .ready))) c ≡ 0 = ap (λ F. refusal F c) (a .shows) ∙ shown 0 e in
-        record {
-          ready = a .ready;
-          prepared = a .prepared;
-          shows = a .shows;
-          block = a .block;
-          alloc = a .alloc;
-          answer = subst (λ n. act g m c .0 ≡ refuse n (view g (a .ready)) (calls.act (λ _ _ _ _. a .block) (view g (a .ready)) c) .0) (sym z) (a .answer);
-          moves = subst (λ n. Moves g m (act g m c .1) (refuse n (view g (a .ready)) (calls.act (λ _ _ _ _. a .block) (view g (a .ready)) c) .1)) (sym z) (a .moves);
-        }
-
-    refused : (n : ℕ) → refusal (observe m) c ≡ suc n → Matches g m (a-no (suc n), m) (λ alloc st. calls.exec alloc st c)
-    refused n e =
-        let z = shown (suc n) e in
-        matches-self g m ok _ _ (subst (λ x. a-no (suc n) ≡ refuse x (view g m) (calls.act (λ _ _ _ _. none) (view g m) c) .0) (sym z) refl) refl (subst (λ x. refuse x (view g m) (calls.act (λ _ _ _ _. none) (view g m) c) .1 ≡ view g m) (sym z) refl)
-
-    go : (n : ℕ) → refusal (observe m) c ≡ n → Matches g m (refuse n m (act g m c)) (λ alloc st. calls.exec alloc st c)
-    go zero e = acted (k e) e
-    go (suc n) e = refused n e
 
 -- ---- consistent memory as an unbounded heap: a record's position is the word of its header
 

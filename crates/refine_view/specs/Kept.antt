@@ -1,18 +1,16 @@
--- What a call must show: the words of its memory afterwards are in order, they agree with the abstract machine's state after the same call,
+-- What a call must show, unless it is refused and nothing changes: the words of its memory afterwards are in order, they agree with the abstract machine's state after the same call,
 -- and no segment came among the condemned. Consistency afterwards follows (`consistent-of`, proofs/Invariants.antt).
 use mathlib.Core.Path.{_≡_}
-use mathlib.Core.Bool.{true}
-use mathlib.Core.Option.{Option}
+use mathlib.Core.Bool.{Bool, true}
 use Prim.Native.Nat.{ℕ, _*_, _≤_, _<_}
 use Rattle.words.specs.Bits.{bitAt, onesAmong}
 use Rattle.layout.specs.declared.Geometry.{Geometry}
 use Rattle.layout.specs.Geometry.{mutatorCount, mostBlocks, segmentOf}
 use Rattle.layout.specs.Mem.{Mem, Sizes, controlWord, traceWord}
 use Rattle.theory.specs.Phases.{Phase, idle, sync1, sync2, mark, sweep}
-use Rattle.theory.specs.Calls.{Call, Answer}
+use Rattle.theory.specs.Calls.{Call, Answer, a-no, refusal}
 use Rattle.theory.specs.Machine.{State, start}
 use Rattle.theory.proofs.Agree.{Agree}
-use Rattle.theory.proofs.CallKeeps.{Alloc}
 use Rattle.theory.proofs.CollectorKeeps.{Pick}
 use Rattle.model.specs.Fields.{phase, traceCount, absent, state, acks, tag, class}
 use Rattle.model.specs.Segments.{freeStack, partStack}
@@ -81,23 +79,28 @@ pub record Moves (g : Geometry) (m m′ : Mem) (st : State) : Type 0 where
   pub agree : Agree (segmentOf g) st (view g m′)
   pub steady : Steady g m m′
 
--- a mutator's call, by an answer and a memory afterwards. `ready` is the memory that the call begins on: the one it was lent, or, where a make
--- first takes a segment, that memory with the segment taken, which the machine cannot tell from it. `block` is what a make is handed.
-pub record Matches (g : Geometry) (m : Mem) (r : Answer × Mem) (by : (State → ℕ → ℕ → ℕ → Option ℕ) → State → Answer × State) : Type 0 where
+-- a mutator's call that no number from 2 to 9 refuses, by an answer and a memory afterwards. `ready` is the memory that the call begins on: the one
+-- it was lent, or, where a make first takes a segment, that memory with the segment taken, which the machine cannot tell from it. `block` is what
+-- a make is handed.
+pub record Matches (g : Geometry) (m : Mem) (c : Call) (r : Answer × Mem) : Type 0 where
   pub ready : Mem
   pub prepared : Agree (segmentOf g) (view g m) (view g ready)
   pub shows : machine.observe (view g ready) ≡ machine.observe (view g m)
-  pub block : Option ℕ
-  pub alloc : Alloc (segmentOf g) (λ _ _ _ _. block) (view g ready)
-  pub answer : r .0 ≡ by (λ _ _ _ _. block) (view g ready) .0
-  pub moves : Moves g m (r .1) (by (λ _ _ _ _. block) (view g ready) .1)
+  pub block : ℕ
+  pub permitted : machine.Permitted (segmentOf g) block (view g ready) c
+  pub answer : r .0 ≡ machine.act block (view g ready) c .0
+  pub moves : Moves g m (r .1) (machine.act block (view g ready) c .1)
 
--- once no number from 2 to 9 refuses it, and in all
+-- it is refused by a number that is struck out, and nothing changes; or it is as on the machine
+pub data Kept (out : ℕ → Bool) (g : Geometry) (m : Mem) (c : Call) (r : Answer × Mem) : Type 0 where
+  refused : (n : ℕ) → out n ≡ true → r ≡ (a-no n, m) → Kept out g m c r
+  agrees : Matches g m c r → Kept out g m c r
+
 abbrev pub ActKept : Geometry → Mem → Call → Type 0
-ActKept g m c = Matches g m (model.act g m c) (λ alloc st. machine.act alloc st c)
+ActKept g m c = Matches g m c (model.act g m c)
 
-abbrev pub CallKept : Geometry → Mem → Call → Type 0
-CallKept g m c = Matches g m (model.exec g m c) (λ alloc st. machine.exec alloc st c)
+abbrev pub CallKept : (ℕ → Bool) → Geometry → Mem → Call → Type 0
+CallKept out g m c = Kept out g m c (model.act g m c)
 
 -- a start that is not refused: the segments that it collects, with their classes, are the condemned segments
 pub record StartKept (g : Geometry) (m : Mem) : Type 0 where
@@ -112,7 +115,7 @@ pub record StepKept (g : Geometry) (m : Mem) : Type 0 where
   pub moves : Moves g m (stepOf g m .1) (machine.step (segmentOf g) (λ _. lowest m (g .segments)) (view g m) .1)
 
 -- all of it, of every call of the model
-pub record AllKept : Type 0 where
-  pub calls : (g : Geometry) (m : Mem) → Sizes g m → Consistent g m → (c : Call) → CallKept g m c
+pub record AllKept (out : ℕ → Bool) : Type 0 where
+  pub calls : (g : Geometry) (m : Mem) → Sizes g m → Consistent g m → (c : Call) → refusal (model.observe m) c ≡ 0 → CallKept out g m c
   pub starts : (g : Geometry) (m : Mem) → Sizes g m → Consistent g m → phase m ≡ idle → StartKept g m
   pub steps : (g : Geometry) (m : Mem) → Sizes g m → Consistent g m → StepKept g m

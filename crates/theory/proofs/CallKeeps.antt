@@ -1,7 +1,6 @@
--- A mutator call answers as the unbounded heap does, or is refused 10 or 11 and changes nothing; either way all is kept.
--- Assumes nothing.
+-- A mutator call that acts answers as the unbounded heap does, and all is kept. Assumes nothing.
 use mathlib.Core.Path.{_≡_, refl, ap, sym, _∙_, subst, fun-ext}
-use mathlib.Core.Logic.{_⊎_, inl, inr, ⊎-elim, _≢_}
+use mathlib.Core.Logic.{_⊎_, inl, ⊎-elim, _≢_}
 use mathlib.Core.Bool.{Bool, true, false, not}
 use mathlib.Core.Option.{Option, none, some, Option·map, Option·some-injective}
 use mathlib.Core.List.{List}
@@ -14,17 +13,17 @@ use Rattle.theory.proofs.Completeness.{Complete, same-comp, root-comp, 
 use Rattle.theory.proofs.CycleKeeps.{check-inv, detach-inv, attach-inv, side-inv, values-inv, acknowledge-live}
 use Rattle.theory.proofs.Graph.{clash}
 use Rattle.theory.proofs.Invariant.{Inv, none-some, load-inv, copy-inv, clear-inv}
-use Rattle.theory.specs.Machine.{State, Holds, Root, Live, make, attach, detach, setInside, setValues, acknowledge, check}
-use Rattle.theory.specs.MachineCalls.{shapeAt, observe, room, act, exec}
+use Rattle.theory.specs.Machine.{State, Holds, Root, Live, attach, setInside, setValues, acknowledge, check}
+use Rattle.theory.specs.MachineCalls.{shapeAt, observe, act, Permitted}
 use Rattle.theory.proofs.MakeKeeps.{make-inv}
 use Rattle.theory.proofs.Refusals.{require-ok, by-ok, root-ok, shape-ok}
 use Rattle.theory.proofs.Simulation.{Simulates, Same, root-sim, store-sim, make-sim, attach-sim, detach-sim, side-sim, values-sim, gc-sim}
 use Rattle.theory.proofs.StoreKeeps.{store-inv}
 use Rattle.theory.proofs.Updates.{upd-cases}
-use Rattle.theory.specs.Calls.{Call, c-attach, c-detach, c-check, c-leave, c-enter, c-spawn, c-make, c-load, c-store, c-copy, c-clear, c-put, c-get, c-same, c-shape, Answer, a-ok, a-num, a-flag, a-no, shapeIf, pointer?, refusal, sameRef, onRecord, refuse, unless}
+use Rattle.theory.specs.Calls.{Call, c-attach, c-detach, c-check, c-leave, c-enter, c-spawn, c-make, c-load, c-store, c-copy, c-clear, c-put, c-get, c-same, c-shape, Answer, a-ok, a-num, a-flag, shapeIf, pointer?, refusal, sameRef, onRecord}
 use Rattle.theory.specs.Phases.{Phase, idle, sync1, sync2, mark, sweep, inHandshake}
 use Rattle.theory.specs.Reach.{root, next}
-use Rattle.theory.specs.Unbounded.{Unbounded, uAttach, uDetach, uSetInside, uSetValues, ushapeAt, uobserve, uact, uexec}
+use Rattle.theory.specs.Unbounded.{Unbounded, puts, uAttach, uSetInside, uSetValues, ushapeAt, uobserve, uact}
 use Rattle.theory.specs.Update.{upd}
 use Rattle.layout.specs.Geometry.{rootCount, mutatorCount}
 
@@ -61,50 +60,10 @@ pub record Coupled (segmentOf : ℕ → ℕ) (P : ℕ → Type 0) (put : ℕ →
   pub few : (i : ℕ) → st .attached i ≡ true → i < mutatorCount
   pub comp : Complete segmentOf P st
 
--- a call's outcome: refused for want of room or of the right time; or as on the unbounded heap
-abbrev pub Dropped : State → Answer × State → Type 0
-Dropped st r = ((r .0 ≡ a-no 10) ⊎ (r .0 ≡ a-no 11)) × (r .1 ≡ st)
-
+-- a call's outcome, as on the unbounded heap
 pub record Alike (segmentOf : ℕ → ℕ) (P : ℕ → Type 0) (put : ℕ → Option ℕ) (r : Answer × State) (q : Answer × Unbounded) : Type 0 where
   pub same : r .0 ≡ q .0
   pub ok : Coupled segmentOf P put (r .1) (q .1)
-
-abbrev pub Agrees : (ℕ → ℕ) → (ℕ → Type 0) → (ℕ → Option ℕ) → (ℕ → Option ℕ) → State → Answer × State → Answer × Unbounded → Type 0
-Agrees segmentOf P put put′ st r q = (Dropped st r × (put′ ≡ put)) ⊎ Alike segmentOf P put′ r q
-
--- the record last put into each block: a make that is not refused puts its record, the unbounded heap's next, into the block handed out
-abbrev pub madePut : Option ℕ → (ℕ → Option ℕ) → ℕ → ℕ → Option ℕ
-madePut none put n = put
-madePut (some b) put n = upd put b (some n)
-
-abbrev pub actPut : (State → ℕ → ℕ → ℕ → Option ℕ) → (ℕ → Option ℕ) → State → ℕ → Call → ℕ → Option ℕ
-actPut alloc put st n (c-attach i) = put
-actPut alloc put st n (c-spawn i p k) = put
-actPut alloc put st n (c-detach i) = put
-actPut alloc put st n (c-check i) = put
-actPut alloc put st n (c-leave i) = put
-actPut alloc put st n (c-enter i) = put
-actPut alloc put st n (c-make i d p m) = madePut (alloc st i p m) put n
-actPut alloc put st n (c-load i d s f) = put
-actPut alloc put st n (c-store i s f t) = put
-actPut alloc put st n (c-copy i d s) = put
-actPut alloc put st n (c-clear i d) = put
-actPut alloc put st n (c-put i s k v) = put
-actPut alloc put st n (c-get i s k) = put
-actPut alloc put st n (c-same i s t) = put
-actPut alloc put st n (c-shape i s) = put
-
-abbrev pub refPut : ℕ → (ℕ → Option ℕ) → (ℕ → Option ℕ) → ℕ → Option ℕ
-refPut zero put put′ = put′
-refPut (suc n) put put′ = put
-
-abbrev pub nextPut : (State → ℕ → ℕ → ℕ → Option ℕ) → (ℕ → Option ℕ) → State → ℕ → Call → ℕ → Option ℕ
-nextPut alloc put st n c = refPut (refusal (observe st) c) put (actPut alloc put st n c)
-
--- a refused make or coming or going of a mutator; what the block is
-pub record Alloc (segmentOf : ℕ → ℕ) (alloc : State → ℕ → ℕ → ℕ → Option ℕ) (st : State) : Type 0 where
-  pub free : (i p n b : ℕ) → alloc st i p n ≡ some b → st .used b ≡ false
-  pub sound : (i p n b : ℕ) → alloc st i p n ≡ some b → st .condemned (segmentOf b) ≡ false
 
 T-true : (b : Bool) → T b → b ≡ true
 T-true true t = refl
@@ -150,27 +109,23 @@ module _ (segmentOf : ℕ → ℕ) (P : ℕ → Type 0) (put : ℕ → Option �
   pub check-ok : (i : ℕ) → st .attached i ≡ true → Coupled segmentOf P put (check st i) un
   check-ok i h = acknowledge-ok (st .phase) (st .acks i) i h (check-inv segmentOf st (o .inv) i h)
 
-module _ (segmentOf : ℕ → ℕ) (alloc : State → ℕ → ℕ → ℕ → Option ℕ) (P : ℕ → Type 0) (put : ℕ → Option ℕ) (st : State) (al : Alloc segmentOf alloc st) (un : Unbounded) (o : Coupled segmentOf P put st un) where
+module _ (segmentOf : ℕ → ℕ) (block : ℕ) (P : ℕ → Type 0) (put : ℕ → Option ℕ) (st : State) (un : Unbounded) (o : Coupled segmentOf P put st un) where
   same-at : (i k : ℕ) → st .attached i ≡ true → k < rootCount → Same put (st .root i k) (un .root i k)
   same-at i k h l = o .sim .root i k h l
 
-  stay : (x y : Answer) → x ≡ y → Agrees segmentOf P put put st (x, st) (y, un)
-  stay x y e = inr (record { same = e; ok = o })
+  stay : (x y : Answer) → x ≡ y → Alike segmentOf P put (x, st) (y, un)
+  stay x y e = record { same = e; ok = o }
 
-  onRecord-ok : (v w : Option ℕ) → Same put v w → (K : ℕ → Answer × State) (L : ℕ → Answer × Unbounded) → ((a r : ℕ) → v ≡ some a → w ≡ some r → put a ≡ some r → Agrees segmentOf P put put st (K a) (L r)) → Agrees segmentOf P put put st (onRecord v st K) (onRecord w un L)
+  onRecord-ok : (v w : Option ℕ) → Same put v w → (K : ℕ → Answer × State) (L : ℕ → Answer × Unbounded) → ((a r : ℕ) → v ≡ some a → w ≡ some r → put a ≡ some r → Alike segmentOf P put (K a) (L r)) → Alike segmentOf P put (onRecord v st K) (onRecord w un L)
   onRecord-ok none none c K L f = stay _ _ refl
   onRecord-ok none (some r) c K L f = let z : _≡_ {A = ℕ} 0 1 = cc in absurd (omega arith)
   onRecord-ok (some a) none c K L f = let z : _≡_ {A = ℕ} 0 1 = cc in absurd (omega arith)
   onRecord-ok (some a) (some r) c K L f = f a r refl refl cc
 
-  unless-ok : (b : Bool) (st′ : State) (rk′ : Unbounded) → (b ≡ false → Coupled segmentOf P put st′ rk′) → Agrees segmentOf P put put st (unless b 11 st st′) (a-ok, rk′)
-  unless-ok true st′ rk′ f = inl ((inr refl, refl), refl)
-  unless-ok false st′ rk′ f = inr (record { same = refl; ok = f refl })
-
   same-id : (a r : ℕ) (h : Live st a) → put a ≡ some r → o .sim .rec a h .id ≡ r
   same-id a r h e = let q = o .sim .rec a h in Option·some-injective (q .id) r (sym (q .is) ∙ e)
 
-  act-load : (i d s f : ℕ) → refusal (observe st) (c-load i d s f) ≡ 0 → Agrees segmentOf P put put st (act alloc st (c-load i d s f)) (uact un (c-load i d s f))
+  act-load : (i d s f : ℕ) → refusal (observe st) (c-load i d s f) ≡ 0 → Alike segmentOf P put (act block st (c-load i d s f)) (uact un (c-load i d s f))
   act-load i d s f e =
       let a = by-ok (observe st) i _ e in
       let b = root-ok d _ (a .3) in
@@ -179,9 +134,9 @@ module _ (segmentOf : ℕ → ℕ) (alloc : State → ℕ → ℕ → ℕ → Op
       let h : Holds st i x = (s, a .1, c .0, p) in
       let l : f < st .pointers x = ltb-true f (st .pointers x) (require-ok _ 8 0 (omega arith) (shape-ok (st .attached i) (ltb s rootCount) (st .root i s) (shapeAt st) (pointer? f) x (a .1) (lt-ltb _ _ (c .0)) p (c .1)) .0) in
       let v : Same put (st .pointer x f) (un .pointer r f) = subst (λ z. Same put (st .pointer x f) (un .pointer z f)) (same-id x r (root (inl (i, h))) u) (o .sim .rec x (root (inl (i, h))) .pointer f l) in
-      inr (record { same = refl; ok = record { inv = load-inv segmentOf st (o .inv) i d x f h l; sim = root-sim segmentOf put st un (o .inv) (o .sim) i d (st .pointer x f) (un .pointer r f) v (λ b k. next (root (i, h)) (f, l, k)); few = o .few; comp = root-comp segmentOf P st (o .inv) (o .comp) i d (st .pointer x f) (λ b k. next (root (i, h)) (f, l, k)) } }))
+      (record { same = refl; ok = record { inv = load-inv segmentOf st (o .inv) i d x f h l; sim = root-sim segmentOf put st un (o .inv) (o .sim) i d (st .pointer x f) (un .pointer r f) v (λ b k. next (root (i, h)) (f, l, k)); few = o .few; comp = root-comp segmentOf P st (o .inv) (o .comp) i d (st .pointer x f) (λ b k. next (root (i, h)) (f, l, k)) } }))
 
-  act-store : (i s f t : ℕ) → refusal (observe st) (c-store i s f t) ≡ 0 → Agrees segmentOf P put put st (act alloc st (c-store i s f t)) (uact un (c-store i s f t))
+  act-store : (i s f t : ℕ) → refusal (observe st) (c-store i s f t) ≡ 0 → Alike segmentOf P put (act block st (c-store i s f t)) (uact un (c-store i s f t))
   act-store i s f t e =
       let a = by-ok (observe st) i _ e in
       let b = root-ok s _ (a .3) in
@@ -190,18 +145,18 @@ module _ (segmentOf : ℕ → ℕ) (alloc : State → ℕ → ℕ → ℕ → Op
       let h : Holds st i x = (s, a .1, b .0, p) in
       let l : f < st .pointers x = ltb-true f (st .pointers x) (require-ok _ 8 0 (omega arith) (shape-ok (st .attached i) (ltb s rootCount) (st .root i s) (shapeAt st) (pointer? f) x (a .1) (lt-ltb _ _ (b .0)) p (c .1)) .0) in
       let n : (y : ℕ) → st .root i t ≡ some y → Holds st i y = (λ y k. (t, a .1, c .0, k)) in
-      inr (record { same = refl; ok = record { inv = store-inv segmentOf st (o .inv) i x f (st .root i t) h l n; sim = store-sim segmentOf put st un (o .inv) (o .sim) i x f r (st .root i t) (un .root i t) h l n u (same-at i t (a .1) (c .0)); few = o .few; comp = store-comp segmentOf P st (o .inv) (o .comp) i x f (st .root i t) h l n } }))
+      (record { same = refl; ok = record { inv = store-inv segmentOf st (o .inv) i x f (st .root i t) h l n; sim = store-sim segmentOf put st un (o .inv) (o .sim) i x f r (st .root i t) (un .root i t) h l n u (same-at i t (a .1) (c .0)); few = o .few; comp = store-comp segmentOf P st (o .inv) (o .comp) i x f (st .root i t) h l n } }))
 
-  act-put : (i s k v : ℕ) → refusal (observe st) (c-put i s k v) ≡ 0 → Agrees segmentOf P put put st (act alloc st (c-put i s k v)) (uact un (c-put i s k v))
+  act-put : (i s k v : ℕ) → refusal (observe st) (c-put i s k v) ≡ 0 → Alike segmentOf P put (act block st (c-put i s k v)) (uact un (c-put i s k v))
   act-put i s k v e =
       let a = by-ok (observe st) i _ e in
       let b = root-ok s _ (a .3) in
       onRecord-ok (st .root i s) (un .root i s) (same-at i s (a .1) (b .0)) _ _ (λ x r p q u.
       let h : Live st x = root (inl (i, (s, a .1, b .0, p))) in
       let n : st .values x ≡ un .values r = o .sim .rec x h .values ∙ ap (un .values) (same-id x r h u) in
-      inr (record { same = refl; ok = record { inv = values-inv segmentOf st (o .inv) x (set (st .values x) k v); sim = subst (λ z. Simulates put (setValues st x (set (st .values x) k v)) (uSetValues un r (set z k v))) n (values-sim segmentOf put st un (o .inv) (o .sim) x r (set (st .values x) k v) u); few = o .few; comp = values-comp segmentOf P st (o .inv) (o .comp) x (set (st .values x) k v) } }))
+      (record { same = refl; ok = record { inv = values-inv segmentOf st (o .inv) x (set (st .values x) k v); sim = subst (λ z. Simulates put (setValues st x (set (st .values x) k v)) (uSetValues un r (set z k v))) n (values-sim segmentOf put st un (o .inv) (o .sim) x r (set (st .values x) k v) u); few = o .few; comp = values-comp segmentOf P st (o .inv) (o .comp) x (set (st .values x) k v) } }))
 
-  act-get : (i s k : ℕ) → refusal (observe st) (c-get i s k) ≡ 0 → Agrees segmentOf P put put st (act alloc st (c-get i s k)) (uact un (c-get i s k))
+  act-get : (i s k : ℕ) → refusal (observe st) (c-get i s k) ≡ 0 → Alike segmentOf P put (act block st (c-get i s k)) (uact un (c-get i s k))
   act-get i s k e =
       let a = by-ok (observe st) i _ e in
       let b = root-ok s _ (a .3) in
@@ -209,7 +164,7 @@ module _ (segmentOf : ℕ → ℕ) (alloc : State → ℕ → ℕ → ℕ → Op
       let h : Live st x = root (inl (i, (s, a .1, b .0, p))) in
       stay _ _ (ap (λ (z : List ℕ). a-num (getD z k 0)) (o .sim .rec x h .values ∙ ap (un .values) (same-id x r h u))))
 
-  act-shape : (i s : ℕ) → refusal (observe st) (c-shape i s) ≡ 0 → Agrees segmentOf P put put st (act alloc st (c-shape i s)) (uact un (c-shape i s))
+  act-shape : (i s : ℕ) → refusal (observe st) (c-shape i s) ≡ 0 → Alike segmentOf P put (act block st (c-shape i s)) (uact un (c-shape i s))
   act-shape i s e =
       let a = by-ok (observe st) i _ e in
       let b = root-ok s _ (a .3) in
@@ -219,29 +174,33 @@ module _ (segmentOf : ℕ → ℕ) (alloc : State → ℕ → ℕ → ℕ → Op
       let m : st .pointers x ≡ un .pointers r = o .sim .rec x h .pointers ∙ ap (un .pointers) (same-id x r h u) in
       stay _ _ cc)
 
-  act-same : (i s t : ℕ) → refusal (observe st) (c-same i s t) ≡ 0 → Agrees segmentOf P put put st (act alloc st (c-same i s t)) (uact un (c-same i s t))
+  act-same : (i s t : ℕ) → refusal (observe st) (c-same i s t) ≡ 0 → Alike segmentOf P put (act block st (c-same i s t)) (uact un (c-same i s t))
   act-same i s t e =
       let a = by-ok (observe st) i _ e in
       let b = root-ok s _ (a .3) in
       let c = root-ok t _ (b .1) in
       stay _ _ (ap a-flag (same-same put (o .sim .inj) (st .root i s) (st .root i t) (un .root i s) (un .root i t) (same-at i s (a .1) (b .0)) (same-at i t (a .1) (c .0))))
 
-  act-copy : (i d s : ℕ) → refusal (observe st) (c-copy i d s) ≡ 0 → Agrees segmentOf P put put st (act alloc st (c-copy i d s)) (uact un (c-copy i d s))
+  act-copy : (i d s : ℕ) → refusal (observe st) (c-copy i d s) ≡ 0 → Alike segmentOf P put (act block st (c-copy i d s)) (uact un (c-copy i d s))
   act-copy i d s e =
       let a = by-ok (observe st) i _ e in
       let b = root-ok d _ (a .3) in
       let c = root-ok s _ (b .1) in
-      inr (record { same = refl; ok = record { inv = copy-inv segmentOf st (o .inv) i d s (a .1) (c .0); sim = root-sim segmentOf put st un (o .inv) (o .sim) i d (st .root i s) (un .root i s) (same-at i s (a .1) (c .0)) (λ b k. root (i, (s, a .1, c .0, k))); few = o .few; comp = root-comp segmentOf P st (o .inv) (o .comp) i d (st .root i s) (λ b k. root (i, (s, a .1, c .0, k))) } })
+      (record { same = refl; ok = record { inv = copy-inv segmentOf st (o .inv) i d s (a .1) (c .0); sim = root-sim segmentOf put st un (o .inv) (o .sim) i d (st .root i s) (un .root i s) (same-at i s (a .1) (c .0)) (λ b k. root (i, (s, a .1, c .0, k))); few = o .few; comp = root-comp segmentOf P st (o .inv) (o .comp) i d (st .root i s) (λ b k. root (i, (s, a .1, c .0, k))) } })
 
-  act-clear : (i d : ℕ) → Agrees segmentOf P put put st (act alloc st (c-clear i d)) (uact un (c-clear i d))
-  act-clear i d = inr (record { same = refl; ok = record { inv = clear-inv segmentOf st (o .inv) i d; sim = root-sim segmentOf put st un (o .inv) (o .sim) i d none none refl (λ b k. none-some k); few = o .few; comp = root-comp segmentOf P st (o .inv) (o .comp) i d none (λ b k. none-some k) } })
+  act-clear : (i d : ℕ) → Alike segmentOf P put (act block st (c-clear i d)) (uact un (c-clear i d))
+  act-clear i d = (record { same = refl; ok = record { inv = clear-inv segmentOf st (o .inv) i d; sim = root-sim segmentOf put st un (o .inv) (o .sim) i d none none refl (λ b k. none-some k); few = o .few; comp = root-comp segmentOf P st (o .inv) (o .comp) i d none (λ b k. none-some k) } })
 
-  act-make : (i d p n : ℕ) → Agrees segmentOf P put (madePut (alloc st i p n) put (un .count)) st (act alloc st (c-make i d p n)) (uact un (c-make i d p n))
-  act-make i d p n = go (alloc st i p n) refl
-    where
-      go : (v : Option ℕ) → alloc st i p n ≡ v → Agrees segmentOf P put (madePut v put (un .count)) st (room v st (λ b. make st i d b p (replicate n 0))) (uact un (c-make i d p n))
-      go none e = inl ((inl refl, refl), refl)
-      go (some b) e = inr (record { same = refl; ok = record { inv = make-inv segmentOf st (o .inv) i d b p (replicate n 0) (al .free i p n b e) (al .sound i p n b e); sim = make-sim segmentOf put st un (o .inv) (o .sim) i d b p (replicate n 0) (al .free i p n b e) (al .sound i p n b e); few = o .few; comp = make-comp segmentOf P st (o .inv) (o .comp) i d b p (replicate n 0) (al .free i p n b e) (al .sound i p n b e) } })
+  act-make : (i d p n : ℕ) → Permitted segmentOf block st (c-make i d p n) → Alike segmentOf P (upd put block (some (un .count))) (act block st (c-make i d p n)) (uact un (c-make i d p n))
+  act-make i d p n a = record {
+    same = refl;
+    ok = record {
+      inv = make-inv segmentOf st (o .inv) i d block p (replicate n 0) (a .0) (a .1);
+      sim = make-sim segmentOf put st un (o .inv) (o .sim) i d block p (replicate n 0) (a .0) (a .1);
+      few = o .few;
+      comp = make-comp segmentOf P st (o .inv) (o .comp) i d block p (replicate n 0) (a .0) (a .1);
+    };
+  }
 
   not-rolling : (p : Phase) → inHandshake p ≡ false → (p ≢ sync1) × (p ≢ sync2)
   not-rolling p e = ((λ (q : p ≡ sync1). clash refl (sym (ap inHandshake q) ∙ e)), (λ (q : p ≡ sync2). clash refl (sym (ap inHandshake q) ∙ e)))
@@ -249,50 +208,52 @@ module _ (segmentOf : ℕ → ℕ) (alloc : State → ℕ → ℕ → ℕ → Op
   few-attach : (i j : ℕ) → i < mutatorCount → upd (st .attached) i true j ≡ true → j < mutatorCount
   few-attach i j l h = ⊎-elim (λ q. subst (λ z. z < mutatorCount) (sym (q .0)) l) (λ q. o .few j (sym (q .1) ∙ h)) (upd-cases (st .attached) i true j)
 
-  act-attach : (i : ℕ) (v w : Option ℕ) → i < mutatorCount → Same put v w → ((b : ℕ) → v ≡ some b → Root st b) → Agrees segmentOf P put put st (unless (inHandshake (st .phase)) 11 st (attach st i v)) (a-ok, uAttach un i w)
-  act-attach i v w l c h = unless-ok (inHandshake (st .phase)) (attach st i v) (uAttach un i w) (λ e. let n = not-rolling (st .phase) e in
-      record { inv = attach-inv segmentOf st (o .inv) i v h (n .0) (n .1); sim = attach-sim segmentOf put st un (o .inv) (o .sim) i v w h (n .0) (n .1) c; few = λ j k. few-attach i j l k; comp = attach-comp segmentOf P st (o .inv) (o .comp) i v h (n .0) (n .1) })
+  act-attach : (i : ℕ) (v w : Option ℕ) → inHandshake (st .phase) ≡ false → i < mutatorCount → Same put v w → ((b : ℕ) → v ≡ some b → Root st b) → Alike segmentOf P put (a-ok, attach st i v) (a-ok, uAttach un i w)
+  act-attach i v w e l c h =
+      let n = not-rolling (st .phase) e in
+      record {
+        same = refl;
+        ok = record { inv = attach-inv segmentOf st (o .inv) i v h (n .0) (n .1); sim = attach-sim segmentOf put st un (o .inv) (o .sim) i v w h (n .0) (n .1) c; few = λ j k. few-attach i j l k; comp = attach-comp segmentOf P st (o .inv) (o .comp) i v h (n .0) (n .1) };
+      }
 
   few-detach : (i j : ℕ) → upd (st .attached) i false j ≡ true → j < mutatorCount
   few-detach i j h = ⊎-elim (λ q. clash h (q .1)) (λ q. o .few j (sym (q .1) ∙ h)) (upd-cases (st .attached) i false j)
 
-  act-detach : (i : ℕ) → Agrees segmentOf P put put st (act alloc st (c-detach i)) (uact un (c-detach i))
-  act-detach i = unless-ok (inHandshake (st .phase)) (detach st i) (uDetach un i) (λ e. record { inv = detach-inv segmentOf st (o .inv) i; sim = detach-sim segmentOf put st un (o .inv) (o .sim) i; few = λ j k. few-detach i j k; comp = detach-comp segmentOf P st (o .inv) (o .comp) i })
+  act-detach : (i : ℕ) → Alike segmentOf P put (act block st (c-detach i)) (uact un (c-detach i))
+  act-detach i = record {
+    same = refl;
+    ok = record { inv = detach-inv segmentOf st (o .inv) i; sim = detach-sim segmentOf put st un (o .inv) (o .sim) i; few = λ j k. few-detach i j k; comp = detach-comp segmentOf P st (o .inv) (o .comp) i };
+  }
 
 pub side-ok : (segmentOf : ℕ → ℕ) (P : ℕ → Type 0) (put : ℕ → Option ℕ) (st : State) (un : Unbounded) → Coupled segmentOf P put st un → (i : ℕ) (v : Bool) → Coupled segmentOf P put (setInside st i v) (uSetInside un i v)
 side-ok segmentOf P put st un o i v = record { inv = side-inv segmentOf st (o .inv) i v; sim = side-sim segmentOf put st un (o .inv) (o .sim) i v; few = o .few; comp = side-comp segmentOf P st (o .inv) (o .comp) i v }
 
-module _ (segmentOf : ℕ → ℕ) (alloc : State → ℕ → ℕ → ℕ → Option ℕ) (P : ℕ → Type 0) (put : ℕ → Option ℕ) (st : State) (al : Alloc segmentOf alloc st) (un : Unbounded) (o : Coupled segmentOf P put st un) where
-  act-ok : (c : Call) → refusal (observe st) c ≡ 0 → Agrees segmentOf P put (actPut alloc put st (un .count) c) st (act alloc st c) (uact un c)
-  act-ok (c-attach i) e = act-attach segmentOf alloc P put st al un o i none none (ltb-true _ _ (require-ok _ 2 _ (omega arith) e .0)) refl (λ b k. none-some k)
-  act-ok (c-spawn i p k) e =
+module _ (segmentOf : ℕ → ℕ) (block : ℕ) (P : ℕ → Type 0) (put : ℕ → Option ℕ) (st : State) (un : Unbounded) (o : Coupled segmentOf P put st un) where
+  -- the theorem of the mutator calls
+  pub act-ok : (c : Call) → refusal (observe st) c ≡ 0 → Permitted segmentOf block st c → Alike segmentOf P (puts c (λ _ _. block) (un .count) put) (act block st c) (uact un c)
+  act-ok (c-attach i) e a = act-attach segmentOf block P put st un o i none none a (ltb-true _ _ (require-ok _ 2 _ (omega arith) e .0)) refl (λ b k. none-some k)
+  act-ok (c-spawn i p k) e t =
       let a = require-ok (ltb i mutatorCount) 2 _ (omega arith) e in
       let b = require-ok (ltb p mutatorCount) 2 _ (omega arith) (a .1) in
       let c = require-ok (not (st .attached i)) 3 _ (omega arith) (b .1) in
       let d = require-ok (st .attached p) 4 _ (omega arith) (c .1) in
       let f = require-ok (st .inside p) 5 _ (omega arith) (d .1) in
       let g = root-ok k _ (f .1) in
-      act-attach segmentOf alloc P put st al un o i (st .root p k) (un .root p k) (ltb-true _ _ (a .0)) (o .sim .root p k (d .0) (g .0)) (λ x q. (p, (k, d .0, g .0, q)))
-  act-ok (c-detach i) e = act-detach segmentOf alloc P put st al un o i
-  act-ok (c-check i) e = inr (record { same = refl; ok = check-ok segmentOf P put st un o i (by-ok (observe st) i _ e .1) })
-  act-ok (c-leave i) e = inr (record { same = refl; ok = side-ok segmentOf P put (check st i) un (check-ok segmentOf P put st un o i (by-ok (observe st) i _ e .1)) i false })
-  act-ok (c-enter i) e = inr (record { same = refl; ok = side-ok segmentOf P put st un o i true })
-  act-ok (c-make i d p n) e = act-make segmentOf alloc P put st al un o i d p n
-  act-ok (c-load i d s f) e = act-load segmentOf alloc P put st al un o i d s f e
-  act-ok (c-store i s f t) e = act-store segmentOf alloc P put st al un o i s f t e
-  act-ok (c-copy i d s) e = act-copy segmentOf alloc P put st al un o i d s e
-  act-ok (c-clear i d) e = act-clear segmentOf alloc P put st al un o i d
-  act-ok (c-put i s k v) e = act-put segmentOf alloc P put st al un o i s k v e
-  act-ok (c-get i s k) e = act-get segmentOf alloc P put st al un o i s k e
-  act-ok (c-same i s t) e = act-same segmentOf alloc P put st al un o i s t e
-  act-ok (c-shape i s) e = act-shape segmentOf alloc P put st al un o i s e
+      act-attach segmentOf block P put st un o i (st .root p k) (un .root p k) t (ltb-true _ _ (a .0)) (o .sim .root p k (d .0) (g .0)) (λ x q. (p, (k, d .0, g .0, q)))
+  act-ok (c-detach i) e a = act-detach segmentOf block P put st un o i
+  act-ok (c-check i) e a = (record { same = refl; ok = check-ok segmentOf P put st un o i (by-ok (observe st) i _ e .1) })
+  act-ok (c-leave i) e a = (record { same = refl; ok = side-ok segmentOf P put (check st i) un (check-ok segmentOf P put st un o i (by-ok (observe st) i _ e .1)) i false })
+  act-ok (c-enter i) e a = (record { same = refl; ok = side-ok segmentOf P put st un o i true })
+  act-ok (c-make i d p n) e a = act-make segmentOf block P put st un o i d p n a
+  act-ok (c-load i d s f) e a = act-load segmentOf block P put st un o i d s f e
+  act-ok (c-store i s f t) e a = act-store segmentOf block P put st un o i s f t e
+  act-ok (c-copy i d s) e a = act-copy segmentOf block P put st un o i d s e
+  act-ok (c-clear i d) e a = act-clear segmentOf block P put st un o i d
+  act-ok (c-put i s k v) e a = act-put segmentOf block P put st un o i s k v e
+  act-ok (c-get i s k) e a = act-get segmentOf block P put st un o i s k e
+  act-ok (c-same i s t) e a = act-same segmentOf block P put st un o i s t e
+  act-ok (c-shape i s) e a = act-shape segmentOf block P put st un o i s e
 
-  -- the theorem of the mutator calls
-  pub exec-ok : (c : Call) → Agrees segmentOf P put (nextPut alloc put st (un .count) c) st (exec alloc st c) (uexec un c)
-  exec-ok c = go (refusal (observe st) c) (refusal (uobserve un) c) refl (ap (λ F. refusal F c) (observe-eq put st un (o .sim)))
-    where
-      go : (n m : ℕ) → refusal (observe st) c ≡ n → n ≡ m → Agrees segmentOf P put (refPut n put (actPut alloc put st (un .count) c)) st (refuse n st (act alloc st c)) (refuse m un (uact un c))
-      go zero zero e f = act-ok c e
-      go zero (suc m) e f = absurd (omega arith)
-      go (suc n) zero e f = absurd (omega arith)
-      go (suc n) (suc m) e f = inr (record { same = ap a-no f; ok = o })
+  -- a number from 2 to 9 refuses it on both sides, or on neither
+  pub same-refusal : (c : Call) → refusal (uobserve un) c ≡ refusal (observe st) c
+  same-refusal c = ap (λ F. refusal F c) (sym (observe-eq put st un (o .sim)))

@@ -11,9 +11,9 @@ use Rattle.theory.proofs.CallKeeps.{Coupled, check-ok}
 use Rattle.theory.proofs.Completeness.{start-comp, phase-comp, trace-comp, sweep-comp}
 use Rattle.theory.proofs.Graph.{bool-cases, clash}
 use Rattle.theory.proofs.Invariant.{Inv}
-use Rattle.theory.specs.Machine.{State, Live, setAcks, acknowledge, check, setPhase}
+use Rattle.theory.specs.Machine.{State, Live, setAcks, acknowledge, check, start, setPhase}
 use Rattle.rules.specs.Pick.{oneIf}
-use Rattle.theory.specs.MachineCalls.{outside, answerOutside, waiting, move, traceStep, sweepStep, stepBy, step, startBy}
+use Rattle.theory.specs.MachineCalls.{outside, answerOutside, waiting, move, traceStep, sweepStep, stepBy}
 use Rattle.theory.proofs.Simulation.{gc-sim}
 use Rattle.theory.proofs.Updates.{upd-cases, upd-same}
 use Rattle.theory.specs.Phases.{Phase, idle, sync1, sync2, mark, sweep, owes}
@@ -176,17 +176,6 @@ module _ (segmentOf : ℕ → ℕ) (lowest : State → Option ℕ) where
       go none k = phase-ok P put st un idle o (Cycle.to-idle segmentOf st (o .inv) e)
       go (some g) k = record { inv = Cycle.sweep-inv segmentOf st (o .inv) g e (lo .condemned g k); sim = gc-sim put st un (o .sim) _ _ _ _ _ _ (λ x q. q); few = o .few; comp = sweep-comp segmentOf P st (o .inv) (o .comp) g }
 
-  -- the live blocks of a cycle's beginning
-  abbrev pub atStart : Phase → State → (ℕ → Type 0) → ℕ → Type 0
-  atStart idle st P = Live st
-  atStart sync1 st P = P
-  atStart sync2 st P = P
-  atStart mark st P = P
-  atStart sweep st P = P
-
-  pub start-ok : (full : ℕ → Bool) (P : ℕ → Type 0) (put : ℕ → Option ℕ) (st : State) (un : Unbounded) → Coupled segmentOf P put st un → (p : Phase) → Coupled segmentOf (atStart p st P) put (startBy p full st .1) un
-  start-ok full P put st un o idle = record { inv = Cycle.start-inv segmentOf st (o .inv) full; sim = gc-sim put st un (o .sim) _ _ _ _ _ _ (λ b q. q); few = o .few; comp = start-comp segmentOf st full }
-  start-ok full P put st un o sync1 = o
-  start-ok full P put st un o sync2 = o
-  start-ok full P put st un o mark = o
-  start-ok full P put st un o sweep = o
+-- what was live when the cycle began is all that may be marked
+pub start-ok : (segmentOf : ℕ → ℕ) (full : ℕ → Bool) (P : ℕ → Type 0) (put : ℕ → Option ℕ) (st : State) (un : Unbounded) → Coupled segmentOf P put st un → Coupled segmentOf (Live st) put (start st full) un
+start-ok segmentOf full P put st un o = record { inv = Cycle.start-inv segmentOf st (o .inv) full; sim = gc-sim put st un (o .sim) _ _ _ _ _ _ (λ b q. q); few = o .few; comp = start-comp segmentOf st full }

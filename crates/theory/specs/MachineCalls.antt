@@ -1,12 +1,13 @@
 -- The calls on the abstract machine, with their refusals and answers.
+use mathlib.Core.Path.{_≡_}
 use mathlib.Core.Bool.{Bool, true, false, _&&_}
 use mathlib.Core.Option.{Option, none, some, Option·map}
 use mathlib.Core.List.{List, [], _∷_}
 use Prim.Native.Nat.{ℕ, zero, suc, _+_}
 use lib.Dec.{ltb}
 use lib.ListN.{length, getD, set, replicate}
-use Rattle.theory.specs.Machine.{State, setRoot, store, make, attach, detach, setInside, setValues, check, start, setPhase, trace, sweepSegment}
-use Rattle.theory.specs.Calls.{Call, Answer, Observation, refusal, shapeIf, refuse, onRecord, unless, sameRef, c-attach, c-detach, c-check, c-leave, c-enter, c-spawn, c-make, c-load, c-store, c-copy, c-clear, c-put, c-get, c-same, c-shape, a-ok, a-moved, a-traced, a-done, a-idle, a-num, a-flag, a-shape, a-no, a-waiting, a-swept}
+use Rattle.theory.specs.Machine.{State, setRoot, store, make, attach, detach, setInside, setValues, check, setPhase, trace, sweepSegment}
+use Rattle.theory.specs.Calls.{Call, Answer, Observation, shapeIf, onRecord, sameRef, c-attach, c-detach, c-check, c-leave, c-enter, c-spawn, c-make, c-load, c-store, c-copy, c-clear, c-put, c-get, c-same, c-shape, a-ok, a-moved, a-traced, a-done, a-idle, a-num, a-flag, a-shape, a-waiting, a-swept}
 use Rattle.theory.specs.Phases.{Phase, idle, sync1, sync2, mark, sweep, inHandshake, owes}
 use Rattle.theory.specs.Reach.{root}
 use Rattle.rules.specs.Pick.{oneIf}
@@ -20,33 +21,43 @@ shapeAt st b = (st .pointers b, length (st .values b))
 abbrev pub observe : State → Observation
 observe st = record { attached = st .attached; inside = st .inside; shape = λ i k. shapeIf (st .attached i) (ltb k rootCount) (Option·map (shapeAt st) (st .root i k)) }
 
--- ---- what a call does that is not refused so
+-- ---- what a call does that is not refused
 
-module _ {S : Type 0} where
-  abbrev pub room : Option ℕ → S → (ℕ → S) → Answer × S
-  room none st k = (a-no 10, st)
-  room (some b) st k = (a-ok, k b)
+-- b: the block that a make is handed
+abbrev pub act : ℕ → State → Call → Answer × State
+act b st (c-attach i) = (a-ok, attach st i none)
+act b st (c-spawn i p k) = (a-ok, attach st i (st .root p k))
+act b st (c-detach i) = (a-ok, detach st i)
+act b st (c-check i) = (a-ok, check st i)
+act b st (c-leave i) = (a-ok, setInside (check st i) i false)
+act b st (c-enter i) = (a-ok, setInside st i true)
+act b st (c-make i d p n) = (a-ok, make st i d b p (replicate n 0))
+act b st (c-load i d s f) = onRecord (st .root i s) st (λ a. (a-ok, setRoot st i d (st .pointer a f)))
+act b st (c-store i s f t) = onRecord (st .root i s) st (λ a. (a-ok, store st i a f (st .root i t)))
+act b st (c-copy i d s) = (a-ok, setRoot st i d (st .root i s))
+act b st (c-clear i d) = (a-ok, setRoot st i d none)
+act b st (c-put i s k v) = onRecord (st .root i s) st (λ a. (a-ok, setValues st a (set (st .values a) k v)))
+act b st (c-get i s k) = onRecord (st .root i s) st (λ a. (a-num (getD (st .values a) k 0), st))
+act b st (c-same i s t) = (a-flag (sameRef (st .root i s) (st .root i t)), st)
+act b st (c-shape i s) = onRecord (st .root i s) st (λ a. (a-shape (st .pointers a) (length (st .values a)), st))
 
--- alloc: the block that a make gets
-abbrev pub act : (State → ℕ → ℕ → ℕ → Option ℕ) → State → Call → Answer × State
-act alloc st (c-attach i) = unless (inHandshake (st .phase)) 11 st (attach st i none)
-act alloc st (c-spawn i p k) = unless (inHandshake (st .phase)) 11 st (attach st i (st .root p k))
-act alloc st (c-detach i) = unless (inHandshake (st .phase)) 11 st (detach st i)
-act alloc st (c-check i) = (a-ok, check st i)
-act alloc st (c-leave i) = (a-ok, setInside (check st i) i false)
-act alloc st (c-enter i) = (a-ok, setInside st i true)
-act alloc st (c-make i d p n) = room (alloc st i p n) st (λ b. make st i d b p (replicate n 0))
-act alloc st (c-load i d s f) = onRecord (st .root i s) st (λ a. (a-ok, setRoot st i d (st .pointer a f)))
-act alloc st (c-store i s f t) = onRecord (st .root i s) st (λ a. (a-ok, store st i a f (st .root i t)))
-act alloc st (c-copy i d s) = (a-ok, setRoot st i d (st .root i s))
-act alloc st (c-clear i d) = (a-ok, setRoot st i d none)
-act alloc st (c-put i s k v) = onRecord (st .root i s) st (λ a. (a-ok, setValues st a (set (st .values a) k v)))
-act alloc st (c-get i s k) = onRecord (st .root i s) st (λ a. (a-num (getD (st .values a) k 0), st))
-act alloc st (c-same i s t) = (a-flag (sameRef (st .root i s) (st .root i t)), st)
-act alloc st (c-shape i s) = onRecord (st .root i s) st (λ a. (a-shape (st .pointers a) (length (st .values a)), st))
-
-abbrev pub exec : (State → ℕ → ℕ → ℕ → Option ℕ) → State → Call → Answer × State
-exec alloc st c = refuse (refusal (observe st) c) st (act alloc st c)
+-- when it may: mutators come outside the handshakes, and the block handed out is not in use and lies in no condemned segment
+abbrev pub Permitted : (ℕ → ℕ) → ℕ → State → Call → Type 0
+Permitted segmentOf b st (c-attach i) = inHandshake (st .phase) ≡ false
+Permitted segmentOf b st (c-spawn i p k) = inHandshake (st .phase) ≡ false
+Permitted segmentOf b st (c-detach i) = Unit
+Permitted segmentOf b st (c-check i) = Unit
+Permitted segmentOf b st (c-leave i) = Unit
+Permitted segmentOf b st (c-enter i) = Unit
+Permitted segmentOf b st (c-make i d p n) = (st .used b ≡ false) × (st .condemned (segmentOf b) ≡ false)
+Permitted segmentOf b st (c-load i d s f) = Unit
+Permitted segmentOf b st (c-store i s f t) = Unit
+Permitted segmentOf b st (c-copy i d s) = Unit
+Permitted segmentOf b st (c-clear i d) = Unit
+Permitted segmentOf b st (c-put i s k v) = Unit
+Permitted segmentOf b st (c-get i s k) = Unit
+Permitted segmentOf b st (c-same i s t) = Unit
+Permitted segmentOf b st (c-shape i s) = Unit
 
 -- ---- the collector's calls
 
@@ -86,10 +97,3 @@ stepBy segmentOf lowest sweep st = sweepStep segmentOf (lowest st) st
 
 abbrev pub step : (ℕ → ℕ) → (State → Option ℕ) → State → Answer × State
 step segmentOf lowest st = stepBy segmentOf lowest (st .phase) st
-
-abbrev pub startBy : Phase → (ℕ → Bool) → State → Answer × State
-startBy idle full st = (a-ok, start st full)
-startBy sync1 full st = (a-no 11, st)
-startBy sync2 full st = (a-no 11, st)
-startBy mark full st = (a-no 11, st)
-startBy sweep full st = (a-no 11, st)

@@ -148,3 +148,21 @@ UReached un = Reach (URoot un) (UPoints un)
 abbrev pub uanswers : Unbounded → List Call → List Answer
 uanswers un [] = []
 uanswers un (c ∷ cs) = uexec un c .0 ∷ uanswers (uexec un c .1) cs
+
+-- the record last put into each block: "A make that is not refused puts its record into the block handed out", here the one that its root names
+abbrev pub puts : Call → (block : ℕ → ℕ → ℕ) → ℕ → (ℕ → Option ℕ) → ℕ → Option ℕ
+puts (c-make i d p n) block r put = upd put (block i d) (some r)
+puts (c-attach i) block r put = put
+puts (c-spawn i p k) block r put = put
+puts (c-detach i) block r put = put
+puts (c-check i) block r put = put
+puts (c-leave i) block r put = put
+puts (c-enter i) block r put = put
+puts (c-load i d s f) block r put = put
+puts (c-store i s f t) block r put = put
+puts (c-copy i d s) block r put = put
+puts (c-clear i d) block r put = put
+puts (c-put i s k v) block r put = put
+puts (c-get i s k) block r put = put
+puts (c-same i s t) block r put = put
+puts (c-shape i s) block r put = put
