@@ -2,13 +2,13 @@
 use mathlib.Core.Path.{_≡_, refl, sym, _∙_, ap, subst}
 use mathlib.Core.Logic.{inl, inr}
 use mathlib.Core.List.{List}
-use Prim.Native.Nat.{ℕ, _*_, _<_}
+use Prim.Native.Nat.{ℕ, _<_}
 use native.Mathlib.Omega.{arith}
 use lib.Dec.{ltb}
 use lib.ListN.{getD}
 use Rattle.rules.specs.Pick.{pick}
 use Rattle.layout.specs.declared.Geometry.{Geometry}
-use Rattle.layout.specs.Geometry.{segmentRecordWords, blocksIn, segmentOf}
+use Rattle.layout.specs.Geometry.{blocksIn, segmentOf}
 use Rattle.layout.specs.Mem.{Mem}
 use Rattle.layout.proofs.Sizes.{segment-below}
 use Rattle.theory.specs.Phases.{Phase, idle, sync1, sync2, mark, sweep}
@@ -145,7 +145,7 @@ module _ (g : Geometry) (m m′ : Mem) (e : SameButSummaries g m m′) where
     marks = sym (e .marks);
     queued = sym (e .queued);
     trace = sym (e .trace);
-    blocks = λ s b l u h. sym (e .blocks s b l (λ z. u (word-same (s * segmentRecordWords) ∙ z)) (subst (λ z. b < blocksIn g z) (word-same _) h));
+    blocks = λ s b l u h. sym (e .blocks s b l (λ z. u (word-same _ ∙ z)) (subst (λ z. b < blocksIn g z) (word-same _) h));
   }
 
 pub sound-together : SoundTogether

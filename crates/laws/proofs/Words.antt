@@ -9,7 +9,7 @@ use Rattle.layout.specs.Geometry.{mutatorCount, mutatorWords, segmentRecordWord
 use Rattle.layout.specs.Mem.{Mem, mutatorWord, segmentWord, stackWord, setMutator, setSegment, setStack, Sizes}
 use Rattle.layout.proofs.Sizes.{one-way, within}
 use Rattle.model.specs.declared.SegmentState.{SegmentState}
-use Rattle.model.specs.Fields.{tag, setTag, class, place, owner}
+use Rattle.model.specs.Fields.{tagAt, classAt, placeAt, ownerAt, tag, setTag, class, setClass, place, setPlace, owner}
 use Rattle.model.specs.Segments.{setSegmentState, setRecord}
 use Rattle.model.specs.declared.SegmentState.the-variants as state
 use Rattle.model.specs.Tag as Tag
@@ -35,19 +35,21 @@ pub record Recorded (m : Mem) (s t c p k : ℕ) : Type 0 where
 
 -- it is read from the segments' records only
 pub recorded-as : (m m′ : Mem) (q t c p k : ℕ) → m′ .segments ≡ m .segments → Recorded m q t c p k → Recorded m′ q t c p k
-recorded-as m m′ q t c p k e x = let w : (i : ℕ) → segmentWord m′ i ≡ segmentWord m i = λ i. ap (λ l. getD l i 0) e in record { tag = w (q * segmentRecordWords) ∙ x .tag; class = w (q * segmentRecordWords + 1) ∙ x .class; place = w (q * segmentRecordWords + 2) ∙ x .place; owner = w (q * segmentRecordWords + 3) ∙ x .owner }
+recorded-as m m′ q t c p k e x =
+    let w : (i : ℕ) → segmentWord m′ i ≡ segmentWord m i = λ i. ap (λ l. getD l i 0) e in
+    record { tag = w _ ∙ x .tag; class = w _ ∙ x .class; place = w _ ∙ x .place; owner = w _ ∙ x .owner }
 
 -- a record with the words of another's
 pub recorded-by : (m m′ : Mem) (x t c p k : ℕ) → Recorded m x t c p k → Recorded m′ x (tag m x) (class m x) (place m x) (owner m x) → Recorded m′ x t c p k
 recorded-by m m′ x t c p k r q = record { tag = q .tag ∙ r .tag; class = q .class ∙ r .class; place = q .place ∙ r .place; owner = q .owner ∙ r .owner }
 
-word-there : (m : Mem) (i v : ℕ) → i < length (m .segments) → segmentWord (setSegment m i v) i ≡ v
+segment-word-there : (m : Mem) (i v : ℕ) → i < length (m .segments) → segmentWord (setSegment m i v) i ≡ v
 unfolding setSegment
-word-there m i v h = getD-set-same (m .segments) i v 0 h
+segment-word-there m i v h = getD-set-same (m .segments) i v 0 h
 
-word-other : (m : Mem) (i v j : ℕ) → (j ≡ i → ⊥) → segmentWord (setSegment m i v) j ≡ segmentWord m j
+pub segment-word-other : (m : Mem) (i v j : ℕ) → (j ≡ i → ⊥) → segmentWord (setSegment m i v) j ≡ segmentWord m j
 unfolding setSegment
-word-other m i v j f = getD-set-other (m .segments) i j v 0 f
+segment-word-other m i v j f = getD-set-other (m .segments) i j v 0 f
 
 word-length : (m : Mem) (i v : ℕ) → length (setSegment m i v .segments) ≡ length (m .segments)
 unfolding setSegment
@@ -55,38 +57,38 @@ word-length m i v = length-set (m .segments) i v
 
 module _ (m : Mem) (s t c p k : ℕ) where
   abbrev m₁ : Mem
-  m₁ = setSegment m (s * segmentRecordWords) t
+  m₁ = setTag m s t
 
   abbrev m₂ : Mem
-  m₂ = setSegment m₁ (s * segmentRecordWords + 1) c
+  m₂ = setClass m₁ s c
 
   abbrev m₃ : Mem
-  m₃ = setSegment m₂ (s * segmentRecordWords + 2) p
+  m₃ = setPlace m₂ s p
 
-  pub record-there : s * segmentRecordWords + 3 < length (m .segments) → Recorded (setRecord m s t c p k) s t c p k
+  pub record-there : s * segmentRecordWords + ownerAt < length (m .segments) → Recorded (setRecord m s t c p k) s t c p k
   record-there h =
-      let a = word-length m (s * segmentRecordWords) t in
-      let b = word-length m₁ (s * segmentRecordWords + 1) c in
-      let d = word-length m₂ (s * segmentRecordWords + 2) p in
+      let a = word-length m (s * segmentRecordWords + tagAt) t in
+      let b = word-length m₁ (s * segmentRecordWords + classAt) c in
+      let d = word-length m₂ (s * segmentRecordWords + placeAt) p in
       record {
-        tag = word-other m₃ (s * segmentRecordWords + 3) k (s * segmentRecordWords) (λ e. omega arith) ∙ word-other m₂ (s * segmentRecordWords + 2) p (s * segmentRecordWords) (λ e. omega arith) ∙ word-other m₁ (s * segmentRecordWords + 1) c (s * segmentRecordWords) (λ e. omega arith) ∙ word-there m (s * segmentRecordWords) t (omega arith);
-        class = word-other m₃ (s * segmentRecordWords + 3) k (s * segmentRecordWords + 1) (λ e. omega arith) ∙ word-other m₂ (s * segmentRecordWords + 2) p (s * segmentRecordWords + 1) (λ e. omega arith) ∙ word-there m₁ (s * segmentRecordWords + 1) c (omega arith);
-        place = word-other m₃ (s * segmentRecordWords + 3) k (s * segmentRecordWords + 2) (λ e. omega arith) ∙ word-there m₂ (s * segmentRecordWords + 2) p (omega arith);
-        owner = word-there m₃ (s * segmentRecordWords + 3) k (omega arith);
+        tag = segment-word-other m₃ _ k _ (λ e. omega arith) ∙ segment-word-other m₂ _ p _ (λ e. omega arith) ∙ segment-word-other m₁ _ c _ (λ e. omega arith) ∙ segment-word-there m _ t (omega arith);
+        class = segment-word-other m₃ _ k _ (λ e. omega arith) ∙ segment-word-other m₂ _ p _ (λ e. omega arith) ∙ segment-word-there m₁ _ c (omega arith);
+        place = segment-word-other m₃ _ k _ (λ e. omega arith) ∙ segment-word-there m₂ _ p (omega arith);
+        owner = segment-word-there m₃ _ k (omega arith);
       }
 
   word-far : (j : ℕ) → (j / segmentRecordWords ≡ s → ⊥) → segmentWord (setRecord m s t c p k) j ≡ segmentWord m j
-  word-far j f = word-other m₃ (s * segmentRecordWords + 3) k j (λ e. f (omega arith)) ∙ word-other m₂ (s * segmentRecordWords + 2) p j (λ e. f (omega arith)) ∙ word-other m₁ (s * segmentRecordWords + 1) c j (λ e. f (omega arith)) ∙ word-other m (s * segmentRecordWords) t j (λ e. f (omega arith))
+  word-far j f = segment-word-other m₃ _ k j (λ e. f (omega arith)) ∙ segment-word-other m₂ _ p j (λ e. f (omega arith)) ∙ segment-word-other m₁ _ c j (λ e. f (omega arith)) ∙ segment-word-other m _ t j (λ e. f (omega arith))
 
   pub record-other : (r : ℕ) → (r ≡ s → ⊥) → Recorded (setRecord m s t c p k) r (tag m r) (class m r) (place m r) (owner m r)
-  record-other r f = record { tag = word-far (r * segmentRecordWords) (λ e. f (omega arith)); class = word-far (r * segmentRecordWords + 1) (λ e. f (omega arith)); place = word-far (r * segmentRecordWords + 2) (λ e. f (omega arith)); owner = word-far (r * segmentRecordWords + 3) (λ e. f (omega arith)) }
+  record-other r f = record { tag = word-far _ (λ e. f (omega arith)); class = word-far _ (λ e. f (omega arith)); place = word-far _ (λ e. f (omega arith)); owner = word-far _ (λ e. f (omega arith)) }
 
 -- the tag alone: the rest of the record stays, and other records
-pub tag-there : (m : Mem) (s t : ℕ) → s * segmentRecordWords < length (m .segments) → Recorded (setTag m s t) s t (class m s) (place m s) (owner m s)
-tag-there m s t h = record { tag = word-there m _ t h; class = word-other m _ t _ (λ e. omega arith); place = word-other m _ t _ (λ e. omega arith); owner = word-other m _ t _ (λ e. omega arith) }
+pub tag-there : (m : Mem) (s t : ℕ) → s * segmentRecordWords + tagAt < length (m .segments) → Recorded (setTag m s t) s t (class m s) (place m s) (owner m s)
+tag-there m s t h = record { tag = segment-word-there m _ t h; class = segment-word-other m _ t _ (λ e. omega arith); place = segment-word-other m _ t _ (λ e. omega arith); owner = segment-word-other m _ t _ (λ e. omega arith) }
 
 pub tag-other : (m : Mem) (s t r : ℕ) → (r ≡ s → ⊥) → Recorded (setTag m s t) r (tag m r) (class m r) (place m r) (owner m r)
-tag-other m s t r f = record { tag = word-other m _ t _ (λ e. f (omega arith)); class = word-other m _ t _ (λ e. omega arith); place = word-other m _ t _ (λ e. omega arith); owner = word-other m _ t _ (λ e. omega arith) }
+tag-other m s t r f = record { tag = segment-word-other m _ t _ (λ e. f (omega arith)); class = segment-word-other m _ t _ (λ e. omega arith); place = segment-word-other m _ t _ (λ e. omega arith); owner = segment-word-other m _ t _ (λ e. omega arith) }
 
 -- the words of a state
 abbrev pub tagOf : SegmentState → ℕ
@@ -126,7 +128,7 @@ state-is g m s (state.Full c) = refl
 state-is g m s (state.Condemned c) = refl
 
 -- the record of a segment whose state is set, and of another
-pub state-there : (g : Geometry) (m : Mem) (s : ℕ) (x : SegmentState) → s * segmentRecordWords + 3 < length (m .segments) → Recorded (setSegmentState g m s x) s (tagOf x) (classIn x) (placeIn g x) (ownerIn x)
+pub state-there : (g : Geometry) (m : Mem) (s : ℕ) (x : SegmentState) → s * segmentRecordWords + ownerAt < length (m .segments) → Recorded (setSegmentState g m s x) s (tagOf x) (classIn x) (placeIn g x) (ownerIn x)
 state-there g m s x h = rw (state-is g m s x) (record-there m s (tagOf x) (classIn x) (placeIn g x) (ownerIn x) h)
 
 pub state-other : (g : Geometry) (m : Mem) (s : ℕ) (x : SegmentState) (r : ℕ) → (r ≡ s → ⊥) → Recorded (setSegmentState g m s x) r (tag m r) (class m r) (place m r) (owner m r)

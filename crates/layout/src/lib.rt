@@ -3,7 +3,7 @@
 ghost use mathlib.Core.Path.{_≡_};
 ghost use Prim.Native.Nat.{_%_, _≤_, _<_};
 ghost use lib.ListN.{length, replicate};
-ghost use Rattle.layout.specs.Geometry.{len, from, total, segmentWords, mostBlocks, maxSegments, segmentOf, bitIn, Sized, wrongSize};
+ghost use Rattle.layout.specs.Geometry.{len, from, total, segmentWords, blocksIn, mostBlocks, maxSegments, segmentOf, bitIn, Sized, wrongSize};
 ghost use Rattle.layout.specs.Mem.{memOf, controlWord, mutatorWord, segmentWord, stackWord, bitmapWord, markWord, queuedWord, traceWord, heapWord, setControl, setMutator, setSegment, setStack, setMarkWord, setQueuedWord, setTrace, setHeap, clearRegion};
 ghost use Rattle.layout.specs.Region as Region;
 
@@ -16,7 +16,9 @@ pub const MUTATORS: u32 = 32;
 
 pub const ROOTS: u32 = 16;
 
-// The words of a segment, and of what goes with each.
+// The bytes and words of a segment, and the words of what goes with each.
+const SEGMENT_BYTES: u32 = 16384;
+
 const SEGMENT_WORDS: usize = 4096;
 
 const MOST_BLOCKS: usize = 2048;
@@ -24,6 +26,15 @@ const MOST_BLOCKS: usize = 2048;
 const MARK_WORDS: usize = 64;
 
 const BITMAP_WORDS: usize = 67;
+
+// A segment's record: its tag, its class, its allocation pointer and its mutator, and its length.
+pub const TAG_AT: usize = 0;
+
+pub const CLASS_AT: usize = 1;
+
+pub const PLACE_AT: usize = 2;
+
+pub const OWNER_AT: usize = 3;
 
 pub const SEGMENT_RECORD_WORDS: usize = 4;
 
@@ -93,6 +104,17 @@ pub fn trace_words(g: Geometry) -> usize
     ensures { λ r. ⌜ r ≡ len g Region.trace ⌝ }
 {
     g.segments * MOST_BLOCKS
+}
+
+// The blocks of a segment of a class; any number may be asked for.
+pub fn blocks_in(g: Geometry, class: u32) -> u32
+    ensures { λ r. ⌜ r ≡ blocksIn g class ⌝ }
+{
+    if class < 32 {
+        SEGMENT_BYTES >> class
+    } else {
+        0
+    }
 }
 
 // The segment of a word of the heap, and the word's place in it.

@@ -65,20 +65,41 @@ holding m k c = mutatorWord m (k * mutatorWords + heldFrom + (c - firstClass))
 abbrev pub setHolding : Mem → ℕ → ℕ → ℕ → Mem
 setHolding m k c v = setMutator m (k * mutatorWords + heldFrom + (c - firstClass)) v
 
--- ---- segment s: tag (0 free, 1 part, 2 held, 3 full, 4 condemned), class, place, mutator
+-- ---- segment s: its tag (0 free, 1 part, 2 held, 3 full, 4 condemned), its class, its place, and the mutator that holds it
+
+abbrev pub tagAt : ℕ
+tagAt = 0
+
+abbrev pub classAt : ℕ
+classAt = tagAt + 1
+
+abbrev pub placeAt : ℕ
+placeAt = classAt + 1
+
+abbrev pub ownerAt : ℕ
+ownerAt = placeAt + 1
 
 abbrev pub tag : Mem → ℕ → ℕ
-tag m s = segmentWord m (s * segmentRecordWords)
+tag m s = segmentWord m (s * segmentRecordWords + tagAt)
 
 abbrev pub setTag : Mem → ℕ → ℕ → Mem
-setTag m s t = setSegment m (s * segmentRecordWords) t
+setTag m s t = setSegment m (s * segmentRecordWords + tagAt) t
 
 abbrev pub class : Mem → ℕ → ℕ
-class m s = segmentWord m (s * segmentRecordWords + 1)
+class m s = segmentWord m (s * segmentRecordWords + classAt)
+
+abbrev pub setClass : Mem → ℕ → ℕ → Mem
+setClass m s c = setSegment m (s * segmentRecordWords + classAt) c
 
 -- document 01: place; the allocation pointer
 abbrev pub place : Mem → ℕ → ℕ
-place m s = segmentWord m (s * segmentRecordWords + 2)
+place m s = segmentWord m (s * segmentRecordWords + placeAt)
+
+abbrev pub setPlace : Mem → ℕ → ℕ → Mem
+setPlace m s p = setSegment m (s * segmentRecordWords + placeAt) p
 
 abbrev pub owner : Mem → ℕ → ℕ
-owner m s = segmentWord m (s * segmentRecordWords + 3)
+owner m s = segmentWord m (s * segmentRecordWords + ownerAt)
+
+abbrev pub setOwner : Mem → ℕ → ℕ → Mem
+setOwner m s k = setSegment m (s * segmentRecordWords + ownerAt) k

@@ -7,12 +7,12 @@ use Rattle.words.specs.Bits.{bitAt, onesAmong}
 use Rattle.classes.specs.Class.{firstClass}
 use Rattle.classes.specs.Shape.{shapeFor}
 use Rattle.layout.specs.declared.Geometry.{Geometry}
-use Rattle.layout.specs.Geometry.{segmentRecordWords, markWords, blocksIn, bitmapWords}
-use Rattle.layout.specs.Mem.{Mem, stackWord, setSegment, setStack, readRun, setRun}
+use Rattle.layout.specs.Geometry.{markWords, blocksIn, bitmapWords}
+use Rattle.layout.specs.Mem.{Mem, stackWord, setStack, readRun, setRun}
 use Rattle.bitmap_search.specs.declared.Found.{Found}
 use Rattle.bitmap_search.specs.Scan.{nextFree}
 use Rattle.model.specs.declared.SegmentState.{SegmentState}
-use Rattle.model.specs.Fields.{tag, setTag, class, place, owner}
+use Rattle.model.specs.Fields.{tag, setTag, class, setClass, place, setPlace, owner, setOwner}
 use Rattle.model.specs.declared.SegmentState.the-variants as state
 use Rattle.layout.specs.Region as Region
 use Rattle.model.specs.Tag as Tag
@@ -30,8 +30,7 @@ segment m s = stateOf (tag m s) (class m s) (place m s) (owner m s)
 
 -- the tag, class, place and mutator of a segment's record; a further word of the record stays
 abbrev pub setRecord : Mem → ℕ → ℕ → ℕ → ℕ → ℕ → Mem
-setRecord m s t c p k =
-    setSegment (setSegment (setSegment (setTag m s t) (s * segmentRecordWords + 1) c) (s * segmentRecordWords + 2) p) (s * segmentRecordWords + 3) k
+setRecord m s t c p k = setOwner (setPlace (setClass (setTag m s t) s c) s p) s k
 
 -- what a state has of these, and 0 for what it has not. "A full segment's place is its number of blocks, kept when it is condemned."
 unfoldable pub setSegmentState : Geometry → Mem → ℕ → SegmentState → Mem

@@ -35,6 +35,19 @@ pub struct Segment {
     pub state: SegmentState,
 }
 
+// The tags of the states in the words of a record.
+impl Segment {
+    pub const TAG_FREE: u32 = 0;
+
+    pub const TAG_PART: u32 = 1;
+
+    pub const TAG_HELD: u32 = 2;
+
+    pub const TAG_FULL: u32 = 3;
+
+    pub const TAG_CONDEMNED: u32 = 4;
+}
+
 // The answer of a mutator's call, of an opening and of start.
 pub enum Answer {
     Ok,

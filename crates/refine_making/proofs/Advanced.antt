@@ -14,7 +14,7 @@ use Rattle.bitmap_search.specs.declared.Found.{Found}
 use Rattle.bitmap_search.specs.declared.Found.the-variants.{Block, Nothing, Torn}
 use Rattle.bitmap_search.proofs.Scan.{IsNext, next-is}
 use Rattle.model.specs.declared.SegmentState.the-variants.{Held, Full}
-use Rattle.model.specs.Fields.{heldFrom, setHolding}
+use Rattle.model.specs.Fields.{heldFrom, setHolding, ownerAt}
 use Rattle.model.specs.Segments.{setSegmentState, bitmap, free}
 use Rattle.model.specs.Making.{advanced}
 use Rattle.laws.proofs.Words.{recorded-as, state-others, state-there, state-other}
@@ -24,7 +24,7 @@ use Rattle.refine_making.proofs.Request.{Request}
 use Rattle.refine_making.proofs.Result.{Moved}
 
 module _ (g : Geometry) (m : Mem) (s : Sizes g m) (k d cl r b p n : ℕ) (q : Request g m k d cl r b p n) where
-  room : r * segmentRecordWords + 3 < length (m .segments)
+  room : r * segmentRecordWords + ownerAt < length (m .segments)
   room = let z = s .segments in let l = q .inside in omega arith
 
   abbrev full : Mem

@@ -19,7 +19,7 @@ use Rattle.theory.proofs.Graph.{reach-empty}
 use Rattle.theory.proofs.Invariant.{none-some}
 use Rattle.theory.proofs.CallKeeps.{Coupled}
 use Rattle.model.specs.Rules.{phaseOf}
-use Rattle.model.specs.Fields.{phase, traceCount, stateAt, acksAt, heldFrom, state, tag}
+use Rattle.model.specs.Fields.{phase, traceCount, stateAt, acksAt, heldFrom, state, tagAt, classAt, placeAt, ownerAt, tag}
 use Rattle.model.specs.Calls.{isAttached}
 use Rattle.model.specs.Opening.{openStacks, opened}
 use Rattle.model.specs.Reaching.{IsRoot, IsEntry, PointsTo, Live}
@@ -87,11 +87,11 @@ no-reached g m at p = reach-empty {R = λ x. IsRoot (opened g m) x ⊎ IsEntry (
 module _ (g : Geometry) (m : Mem) where
   segment-ok : (s : ℕ) → SegmentOk g (opened g m) s
   segment-ok s =
-      let t : tag (opened g m) s ≡ Tag.free = opened-segment g m (s * segmentRecordWords) in
+      let t : tag (opened g m) s ≡ Tag.free = opened-segment g m (s * segmentRecordWords + tagAt) in
       record {
         tags = omega arith;
-        free = λ e. (opened-segment g m (s * segmentRecordWords + 1), opened-segment g m (s * segmentRecordWords + 2), opened-segment g m (s * segmentRecordWords + 3));
-        unowned = λ f. opened-segment g m (s * segmentRecordWords + 3);
+        free = λ e. (opened-segment g m (s * segmentRecordWords + classAt), opened-segment g m (s * segmentRecordWords + placeAt), opened-segment g m (s * segmentRecordWords + ownerAt));
+        unowned = λ f. opened-segment g m (s * segmentRecordWords + ownerAt);
         classes = λ f. absurd (f t);
         remains = λ l h. absurd (omega arith);
         full = λ e. absurd (omega arith);
@@ -122,22 +122,22 @@ module _ (g : Geometry) (m : Mem) where
       }
 
   in-idle : InPhase idle g (opened g m)
-  in-idle = (opened-control g m 1, λ s l e. let t : tag (opened g m) s ≡ Tag.free = opened-segment g m (s * segmentRecordWords) in omega arith)
+  in-idle = (opened-control g m 1, λ s l e. let t : tag (opened g m) s ≡ Tag.free = opened-segment g m (s * segmentRecordWords + tagAt) in omega arith)
 
   not-part : (c s : ℕ) → isPart (opened g m) c s ≡ false
-  not-part c s = rw (opened-segment g m (s * segmentRecordWords)) refl
+  not-part c s = rw (opened-segment g m (s * segmentRecordWords + tagAt)) refl
 
 pub opened-consistent : (g : Geometry) (m : Mem) → Sizes g m → Consistent g (opened g m)
 opened-consistent g m s = record {
   summed = record {
-    trees = λ r l f. absurd (f (opened-segment g m (r * segmentRecordWords)));
-    freeSegments = free-open g (opened g m) (opened-stacks g m) (isFree (opened g m)) (λ r l. eq-eqb _ _ (opened-segment g m (r * segmentRecordWords)));
+    trees = λ r l f. absurd (f (opened-segment g m (r * segmentRecordWords + tagAt)));
+    freeSegments = free-open g (opened g m) (opened-stacks g m) (isFree (opened g m)) (λ r l. eq-eqb _ _ (opened-segment g m (r * segmentRecordWords + tagAt)));
     partSegments = λ c h. part-open g (opened g m) (opened-stacks g m) (c - firstClass) (isPart (opened g m) c) (λ r l. not-part g m c r);
   };
   sound = record {
     phases = let z = opened-control g m 0 in omega arith;
     segments = λ r l. segment-ok g m r;
-    occupied = λ r l a b. let t : tag (opened g m) r ≡ Tag.free = opened-segment g m (r * segmentRecordWords) in absurd (omega arith);
+    occupied = λ r l a b. let t : tag (opened g m) r ≡ Tag.free = opened-segment g m (r * segmentRecordWords + tagAt) in absurd (omega arith);
     mutators = λ k l. mutator-ok g m k;
     acknowledgements = λ k l f. absurd (f (opened-mutator g m (k * mutatorWords + stateAt)));
     records = λ at p. absurd (no-reached g m at p);
@@ -167,4 +167,4 @@ opened-good g m s = record {
     gone i = ap not (eq-eqb (state (opened g m) i) 0 (opened-mutator g m (i * mutatorWords + stateAt)))
 
     not-collected : (b : ℕ) → eqb (tag (opened g m) (segmentOf g b)) Tag.condemned ≡ true → ⊥
-    not-collected b k = let z : tag (opened g m) (segmentOf g b) ≡ Tag.condemned = eqb-true _ _ k in let y = opened-segment g m (segmentOf g b * segmentRecordWords) in omega arith
+    not-collected b k = let z : tag (opened g m) (segmentOf g b) ≡ Tag.condemned = eqb-true _ _ k in let y = opened-segment g m (segmentOf g b * segmentRecordWords + tagAt) in omega arith

@@ -24,7 +24,7 @@ pub fn bit_of(g: Geometry, mem: &[u32], at: usize) -> Bit
         return Bit::Torn;
     }
     let s = layout::segment_of(g, at);
-    let class = layout::segment(g, mem, s * layout::SEGMENT_RECORD_WORDS + 1);
+    let class = layout::segment(g, mem, s * layout::SEGMENT_RECORD_WORDS + layout::CLASS_AT);
     if classes::is_class(class) {
         let b = layout::offset_of(g, at) / classes::block_words(class);
         return Bit::At(layout::bit_in(g, s, b));

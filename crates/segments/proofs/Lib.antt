@@ -1,0 +1,2 @@
+-- Laws of segment records.
+pub mod Records

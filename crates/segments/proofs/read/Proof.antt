@@ -1,0 +1,47 @@
+-- `segments::read` meets its contract. Assumes nothing.
+use borrow.Author.Needs.{needs}
+use Rattle.segments.proofs.Records.{tag-read, rest-read}
+use Rattle.segments.proofs.read.Statement.{statement}
+use Rattle.model.specs.Tag as Tag
+use Rattle.segments.proofs.read.Tie as tie
+
+class-requires : tie.Need-class-requires
+class-requires c κs = search needs
+
+place-requires : tie.Need-place-requires
+place-requires c κs = search needs
+
+owner-requires : tie.Need-owner-requires
+owner-requires c κs = search needs
+
+tag-requires : tie.Need-tag-requires
+tag-requires c κs = search needs
+
+returns : tie.Need-returns
+returns c = tag-read (c .before .tag .ensures) (c .before .before .before .before .class .ensures) (c .before .before .before .place .ensures) (c .before .before .owner .ensures) Tag.free (c .match .keys1)
+
+returns-2 : tie.Need-returns-2
+returns-2 c = tag-read (c .before .tag .ensures) (c .before .before .before .before .class .ensures) (c .before .before .before .place .ensures) (c .before .before .owner .ensures) Tag.part (c .match .keys2)
+
+returns-3 : tie.Need-returns-3
+returns-3 c = tag-read (c .before .tag .ensures) (c .before .before .before .before .class .ensures) (c .before .before .before .place .ensures) (c .before .before .owner .ensures) Tag.held (c .match .keys3)
+
+returns-4 : tie.Need-returns-4
+returns-4 c = tag-read (c .before .tag .ensures) (c .before .before .before .before .class .ensures) (c .before .before .before .place .ensures) (c .before .before .owner .ensures) Tag.full (c .match .keys4)
+
+returns-5 : tie.Need-returns-5
+returns-5 c = rest-read (c .before .tag .ensures) (c .before .before .before .before .class .ensures) (c .before .before .before .place .ensures) (c .before .before .owner .ensures) (c .match .rest .0 .0 .0 .1) (c .match .rest .0 .0 .1) (c .match .rest .0 .1) (c .match .rest .1)
+
+pub read-spec : {M : Type 1} → statement M
+read-spec =
+    tie.close
+    (tie.spec
+    class-requires
+    place-requires
+    owner-requires
+    tag-requires
+    returns
+    returns-2
+    returns-3
+    returns-4
+    returns-5)
