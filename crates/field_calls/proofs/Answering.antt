@@ -85,7 +85,7 @@ module _ (g : Geometry) (xs : List ℕ) (k i at : ℕ) where
       → At p ≡ valuePlace g m at f → v ≡ heapWord m p → Promise (c-get k i f) g xs (Number v) xs
   get-done f p v q w s u =
       let t = value-stands g m at f p s in
-      done (c-get k i f) g xs (q .size) (value-0 (c-get k i f) g xs k i f at w q p s) refl refl
+      done (c-get k i f) g xs (q .size) (value-0 (c-get k i f) g xs k i f at w q p s) (v, refl) refl
       (ap a-num (u ∙ ap (heapWord m) (t .is)) ∙ sym (ap (λ a. a .0) (get-acts f w)))
       (sym (ap (λ a. a .1) (get-acts f w)))
 
@@ -107,6 +107,6 @@ module _ (g : Geometry) (xs : List ℕ) (k i at : ℕ) where
 
   pub shape-done : (h : ℕ) → Reaches (c-shape k i) g xs k i (λ _. 0) → Names g xs k i at → h ≡ heapWord m at → Promise (c-shape k i) g xs (Shape (h / 65536) (h % 65536)) xs
   shape-done h q w u =
-      done (c-shape k i) g xs (q .size) (by-test (c-shape k i) g xs k i (λ _. 0) q at w 0 refl) refl refl
+      done (c-shape k i) g xs (q .size) (by-test (c-shape k i) g xs k i (λ _. 0) q at w 0 refl) (h / 65536, h % 65536, refl) refl
       (ap (λ x. a-shape (x / 65536) (x % 65536)) u ∙ sym (ap (λ a. a .0) (shape-acts w)))
       (sym (ap (λ a. a .1) (shape-acts w)))

@@ -2,16 +2,17 @@
 use mathlib.Core.Path.{_≡_, refl, sym, _∙_, ap, subst}
 use mathlib.Core.Logic.{_⊎_}
 use mathlib.Core.Bool.{true}
-use mathlib.Core.Option.{Option, none, some, Option·some-injective}
+use mathlib.Core.Option.{Option, none, some}
 use mathlib.Core.List.{List, [], _∷_, _++_}
 use Prim.Native.Nat.{ℕ, zero, suc, _<_}
+use native.Mathlib.Omega.{arith}
 use Rattle.layout.specs.declared.Geometry.{Geometry}
 use Rattle.layout.specs.Geometry.{mutatorCount}
 use Rattle.layout.specs.Mem.{Mem, memOf}
 use Rattle.theory.specs.Phases.{Phase, idle, sync1, sync2, mark, sweep}
+use Rattle.theory.specs.Calls.{a-swept}
 use Rattle.theory.proofs.Invariant.{none-some}
 use Rattle.model.specs.declared.Answer.the-variants.{Ok}
-use Rattle.model.specs.declared.Step.{Step}
 use Rattle.model.specs.Fields.{phase, traceCount, tag, class}
 use Rattle.model.specs.Collector.{collects, stepOf, stepIn, moves, traces, sweeps, swept, lowest, waiting, outsideAnswered}
 use Rattle.model.specs.Lists.{startCall, stepCall, Element, started, stepped, Meets, KeepsLength, Gets, wrongSized, eventNumber, onward, Chain, wordsAfter, Ghost, Begins, ghostStep, ghostAfter}
@@ -31,45 +32,35 @@ use Rattle.model.specs.Tag as Tag
 
 -- ---- which step answers swept
 
-abbrev sweptOf : Step → Option ℕ
-sweptOf (stepAnswer.Waiting n) = none
-sweptOf stepAnswer.Moved = none
-sweptOf stepAnswer.Traced = none
-sweptOf (stepAnswer.Swept s f) = some s
-sweptOf stepAnswer.Done = none
-sweptOf stepAnswer.Idle = none
-sweptOf (stepAnswer.Refused n) = none
-
 pub record SweptBy (g : Geometry) (m : Mem) (s : ℕ) : Type 0 where
   pub in-sweep : phase m ≡ sweep
   pub is-lowest : lowest m (g .segments) ≡ some s
   pub leaves : stepOf g m .1 ≡ swept g m s
 
-pub swept-by : (g : Geometry) (m : Mem) (s f : ℕ) → stepAnswer.Swept s f ≡ stepOf g m .0 → SweptBy g m s
+pub swept-by : (g : Geometry) (m : Mem) (s f : ℕ) → a-swept s f ≡ stepOf g m .0 → SweptBy g m s
 unfolding stepOf
-swept-by g m s f e = go (phase m) refl (ap sweptOf e)
+swept-by g m s f e = go (phase m) refl e
   where
-    moved : (n : ℕ) (m₁ : Mem) (p : Phase) → sweptOf (moves n m₁ p .0) ≡ none
-    moved zero m₁ p = refl
-    moved (suc n) m₁ p = refl
+    moved : (n : ℕ) (m₁ : Mem) (p : Phase) → a-swept s f ≡ moves n m₁ p .0 → ⊥
+    moved zero m₁ p h = let z : _≡_ {A = ℕ} 0 1 = cc in omega arith
+    moved (suc n) m₁ p h = let z : _≡_ {A = ℕ} 0 1 = cc in omega arith
 
-    traced : (n : ℕ) → sweptOf (traces g n m .0) ≡ none
-    traced zero = refl
-    traced (suc n) = refl
+    traced : (n : ℕ) → a-swept s f ≡ traces g n m .0 → ⊥
+    traced zero h = let z : _≡_ {A = ℕ} 0 1 = cc in omega arith
+    traced (suc n) h = let z : _≡_ {A = ℕ} 0 1 = cc in omega arith
 
-    swept-at : phase m ≡ sweep → (o : Option ℕ) → lowest m (g .segments) ≡ o → some s ≡ sweptOf (sweeps g o m .0) → (phase m ≡ sweep) × (lowest m (g .segments) ≡ some s) × (sweeps g (lowest m (g .segments)) m .1 ≡ swept g m s)
-    swept-at p none l h = none-some (sym h)
-    swept-at p (some x) l h = let q : s ≡ x = Option·some-injective s x h in (p, l ∙ ap some (sym q), ap (λ o. sweeps g o m .1) l ∙ ap (swept g m) (sym q))
+    swept-at : phase m ≡ sweep → (o : Option ℕ) → lowest m (g .segments) ≡ o → a-swept s f ≡ sweeps g o m .0 → SweptBy g m s
+    swept-at p none l h = absurd (let z : _≡_ {A = ℕ} 0 1 = cc in omega arith)
+    swept-at p (some x) l h =
+        let q : s ≡ x = cc in
+        record { in-sweep = p; is-lowest = l ∙ ap some (sym q); leaves = ap (λ z. stepIn z g m .1) p ∙ ap (λ o. sweeps g o m .1) l ∙ ap (swept g m) (sym q) }
 
-    at-sweep : phase m ≡ sweep → (phase m ≡ sweep) × (lowest m (g .segments) ≡ some s) × (sweeps g (lowest m (g .segments)) m .1 ≡ swept g m s) → SweptBy g m s
-    at-sweep p h = record { in-sweep = p; is-lowest = h .1; leaves = ap (λ z. stepIn z g m .1) p ∙ h .2 }
-
-    go : (p : Phase) → phase m ≡ p → some s ≡ sweptOf (stepIn p g m .0) → SweptBy g m s
-    go idle p h = none-some (sym h)
-    go sync1 p h = none-some (sym (h ∙ moved (waiting (outsideAnswered g m mutatorCount) mutatorCount) (outsideAnswered g m mutatorCount) sync2))
-    go sync2 p h = none-some (sym (h ∙ moved (waiting (outsideAnswered g m mutatorCount) mutatorCount) (outsideAnswered g m mutatorCount) mark))
-    go mark p h = none-some (sym (h ∙ traced (traceCount m)))
-    go sweep p h = at-sweep p (swept-at p (lowest m (g .segments)) refl h)
+    go : (p : Phase) → phase m ≡ p → a-swept s f ≡ stepIn p g m .0 → SweptBy g m s
+    go idle p h = absurd (let z : _≡_ {A = ℕ} 0 1 = cc in omega arith)
+    go sync1 p h = absurd (moved (waiting (outsideAnswered g m mutatorCount) mutatorCount) (outsideAnswered g m mutatorCount) sync2 h)
+    go sync2 p h = absurd (moved (waiting (outsideAnswered g m mutatorCount) mutatorCount) (outsideAnswered g m mutatorCount) mark h)
+    go mark p h = absurd (traced (traceCount m) h)
+    go sweep p h = swept-at p (lowest m (g .segments)) refl h
 
 -- ---- in the cycle
 
@@ -101,7 +92,7 @@ accepted : (g : Geometry) (m m′ : Mem) → Acts g m m′ (startCall Ok) → (p
 accepted g m m′ (wrong n h) = none-some n
 accepted g m m′ (starts i h) = (i, h)
 
-sweeping : (g : Geometry) (m m′ : Mem) (s f : ℕ) → Acts g m m′ (stepCall (stepAnswer.Swept s f)) → (stepAnswer.Swept s f ≡ stepOf g m .0) × (m′ ≡ stepOf g m .1)
+sweeping : (g : Geometry) (m m′ : Mem) (s f : ℕ) → Acts g m m′ (stepCall (stepAnswer.Swept s f)) → (a-swept s f ≡ stepOf g m .0) × (m′ ≡ stepOf g m .1)
 sweeping g m m′ s f (wrong n h) = none-some n
 sweeping g m m′ s f (steps e h) = (e, h)
 
@@ -120,7 +111,7 @@ module _ (g : Geometry) (words : List ℕ) (w : Ghost) (es : List Element) (c : 
     pub atStart : Point g (c .startBefore) heapThen Any
     pub quiet : phase (memOf g (c .startBefore)) ≡ idle
     pub during : During g (memOf g (c .startBefore)) (c .stepBefore) heapNow Then
-    pub answer : stepAnswer.Swept (c .segment) (c .freed) ≡ stepOf g (memOf g (c .stepBefore)) .0
+    pub answer : a-swept (c .segment) (c .freed) ≡ stepOf g (memOf g (c .stepBefore)) .0
     pub memory : memOf g (c .stepAfter) ≡ stepOf g (memOf g (c .stepBefore)) .1
     pub atEnd : Point g (c .stepAfter) heapNow Any
 

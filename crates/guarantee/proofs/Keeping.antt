@@ -17,7 +17,7 @@ use Rattle.theory.specs.Calls.{Call, c-make, refusal}
 use Rattle.theory.proofs.Refusals.{by-ok}
 use Rattle.theory.proofs.Invariant.{none-some}
 use Rattle.model.specs.declared.Answer.{Answer}
-use Rattle.model.specs.Answers.{refusalOf, stepRefusalOf}
+use Rattle.model.specs.Answers.{refusalIn, refusalOf}
 use Rattle.model.specs.Calls.{observe}
 use Rattle.model.specs.Opening.{opened}
 use Rattle.model.specs.Run.{Command, answered}
@@ -35,7 +35,7 @@ use Rattle.refine_run.proofs.Own.{fine, own-run}
 use Rattle.guarantee.specs.Demand3.{struckOut}
 use Rattle.guarantee.specs.Elements.{Acts, wrong, looks, calls, starts, startRefused, steps, Onward}
 use Rattle.guarantee.specs.Keeping.{OpeningEstablishes, Applied, EveryCallKeeps, NeverTorn, AlwaysConsistent, RefusedUnchanged, RunsItself, NoRoomExactly}
-use Rattle.guarantee.proofs.Numbers.{numberIn, to-number, of-number, by-value, unbounded-number}
+use Rattle.guarantee.proofs.Numbers.{to-number, of-number, unbounded-number}
 use Rattle.guarantee.proofs.Refused.{exec-same, start-number, roomless-of, roomless-is}
 use Rattle.guarantee.proofs.Coupling.{alone, Any, Leads, goes, begins, self-leads}
 use Rattle.guarantee.proofs.Elements.{every-element}
@@ -61,7 +61,7 @@ call-not-torn : (g : Geometry) (words after : List ℕ) → Sized g (length word
 call-not-torn g words after z c v a x i t = go (self-leads g (memOf g words) (sizes-of g words z) c v after a)
   where
     go : Leads g (memOf g words) (sizes-of g words z) c (alone g (memOf g words) (sizes-of g words z) c) Any (self-good g (memOf g words) (sizes-of g words z) (consistent-ordered g (memOf g words) c)) v after → ⊥
-    go (goes n) = let y = unbounded-number (self g (memOf g words)) (x .0) 13 (sym (by-value (x .1) ∙ ap numberIn (n .answer x i)) ∙ t) .1 in omega arith
+    go (goes n) = let y = unbounded-number (self g (memOf g words)) (x .0) 13 (sym (ap refusalIn (n .answer x i)) ∙ t) .1 in omega arith
     go (begins e b) = Option·none-ne-some x (sym (ap (remains struckOut) e) ∙ i)
 
 module _ (g : Geometry) (words : List ℕ) (z : Sized g (length words)) (c : Consistent g (memOf g words)) where
@@ -75,7 +75,7 @@ module _ (g : Geometry) (words : List ℕ) (z : Sized g (length words)) (c : Con
   not-torn v after q (calls {c = k} {r = r} e h) t = call-not-torn g words after z c v (calls e h) (k, r) (ap (λ o. pick (struck struckOut o) none (some (k, r))) t) t
   not-torn v after q (starts i h) t = none-some t
   not-torn v after q (startRefused {n = n} e h) t = let y : n ≡ 13 = Option·some-injective n 13 t in let x = start-number g (memOf g words) n e in omega arith
-  not-torn v after q (steps e h) t = none-some (sym (step-answers g (memOf g words)) ∙ ap stepRefusalOf (sym e) ∙ t)
+  not-torn v after q (steps e h) t = none-some (sym (step-answers g (memOf g words)) ∙ ap refusalIn (sym e) ∙ t)
 
 pub never-torn : NeverTorn
 never-torn g words e a t =
@@ -89,7 +89,7 @@ refused-same g m m′ v n (looks h) t = h
 refused-same g m m′ v n (calls {c = c} {r = r} e h) t = h ∙ exec-same g m c n (sym e ∙ of-number r n t)
 refused-same g m m′ v n (starts i h) t = none-some t
 refused-same g m m′ v n (startRefused e h) t = h
-refused-same g m m′ v n (steps e h) t = none-some (sym (step-answers g m) ∙ ap stepRefusalOf (sym e) ∙ t)
+refused-same g m m′ v n (steps e h) t = none-some (sym (step-answers g m) ∙ ap refusalIn (sym e) ∙ t)
 
 pub refused-unchanged : RefusedUnchanged
 refused-unchanged g words e q (inl h) n t = size-unchanged e q h

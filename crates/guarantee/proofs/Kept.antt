@@ -119,7 +119,7 @@ step-kept : (g : Geometry) (m : Mem) → Sizes g m → Ordered g m → StepKept 
 unfolding stepOf
 step-kept g m s c = record { picked = picked g m s c; moves = go (phase m) refl }
   where
-    go : (p : Phase) → phase m ≡ p → Moves g m (stepIn p g m .1) (calls.stepBy (segmentOf g) (λ _. lowest m (g .segments)) p (view g m) .1)
+    go : (p : Phase) → phase m ≡ p → Moves g m (stepIn p g m .1) (calls.stepBy (segmentOf g) (λ _. lowest m (g .segments)) p (view g m))
     go idle e = moves-self g m c
     go sync1 e = handshake1-moves g m s c (lowest m (g .segments)) e
     go sync2 e = handshake2-moves g m s c (lowest m (g .segments)) e

@@ -12,4 +12,5 @@ pub mod Cycle
 pub mod Freeing
 pub mod Guarantee
 pub mod Keeping
+pub mod OneNumber
 pub mod Independent

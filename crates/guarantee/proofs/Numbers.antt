@@ -7,40 +7,20 @@ use Prim.Native.Nat.{ℕ, zero, suc, _≤_}
 use native.Mathlib.Omega.{arith}
 use lib.Dec.{ltb}
 use Rattle.layout.specs.Geometry.{rootCount}
-use Rattle.theory.specs.Calls.{Call, c-attach, c-detach, c-check, c-leave, c-enter, c-spawn, c-make, c-load, c-store, c-copy, c-clear, c-put, c-get, c-same, c-shape, Observation, require, ifRecord, a-ok, a-moved, a-traced, a-done, a-idle, a-num, a-flag, a-shape, a-no, a-waiting, a-swept, refusal, refuse, onRecord}
+use Rattle.theory.specs.Calls.{Call, c-attach, c-detach, c-check, c-leave, c-enter, c-spawn, c-make, c-load, c-store, c-copy, c-clear, c-put, c-get, c-same, c-shape, Observation, require, ifRecord, a-ok, a-no, refusal, refuse, onRecord}
 use Rattle.theory.specs.Unbounded.{Unbounded, uobserve, uact, uexec}
 use Rattle.theory.proofs.Invariant.{none-some}
 use Rattle.model.specs.declared.Answer.{Answer}
 use Rattle.model.specs.declared.Answer.the-variants.{Ok, Number, Same, Shape, Refused}
-use Rattle.model.specs.Answers.{answerOf, refusalOf}
+use Rattle.model.specs.Answers.{answerOf, refusalIn, refusalOf}
 use Rattle.model.specs.Lists.{struck}
 use Rattle.guarantee.specs.Demand3.{struckOut}
 use Rattle.theory.specs.Calls as theory
 
 -- ---- by the value of an answer
 
-abbrev pub numberIn : theory.Answer → Option ℕ
-numberIn (a-no n) = some n
-numberIn a-ok = none
-numberIn a-moved = none
-numberIn a-traced = none
-numberIn a-done = none
-numberIn a-idle = none
-numberIn (a-num v) = none
-numberIn (a-flag b) = none
-numberIn (a-shape p n) = none
-numberIn (a-waiting n) = none
-numberIn (a-swept s) = none
-
-pub by-value : (r : Answer) → refusalOf r ≡ numberIn (answerOf r)
-by-value Ok = refl
-by-value (Number v) = refl
-by-value (Same b) = refl
-by-value (Shape p n) = refl
-by-value (Refused n) = refl
-
 pub to-number : (r : Answer) (n : ℕ) → answerOf r ≡ a-no n → refusalOf r ≡ some n
-to-number r n e = by-value r ∙ ap numberIn e
+to-number r n e = ap refusalIn e
 
 pub refused-as : (r : Answer) (n : ℕ) → refusalOf r ≡ some n → r ≡ Refused n
 refused-as Ok n e = none-some e
@@ -118,11 +98,11 @@ not-struck (suc (suc (suc (suc (suc (suc (suc (suc (suc (suc n)))))))))) l h = a
 
 -- ---- the unbounded heap
 
-on-record : (o : Option ℕ) (un : Unbounded) (K : ℕ → theory.Answer × Unbounded) (n : ℕ) → ((a : ℕ) → numberIn (K a .0) ≡ none) → numberIn (onRecord o un K .0) ≡ some n → n ≡ 7
+on-record : (o : Option ℕ) (un : Unbounded) (K : ℕ → theory.Answer × Unbounded) (n : ℕ) → ((a : ℕ) → refusalIn (K a .0) ≡ none) → refusalIn (onRecord o un K .0) ≡ some n → n ≡ 7
 on-record none un K n h e = sym (Option·some-injective 7 n e)
 on-record (some a) un K n h e = none-some (sym (h a) ∙ e)
 
-act-number : (un : Unbounded) (c : Call) (n : ℕ) → numberIn (uact un c .0) ≡ some n → n ≡ 7
+act-number : (un : Unbounded) (c : Call) (n : ℕ) → refusalIn (uact un c .0) ≡ some n → n ≡ 7
 act-number un (c-attach k) n e = none-some e
 act-number un (c-spawn k p i) n e = none-some e
 act-number un (c-detach k) n e = none-some e
@@ -139,17 +119,17 @@ act-number un (c-get k i f) n e = on-record (un .root k i) un _ n (λ a. refl) e
 act-number un (c-same k i j) n e = none-some e
 act-number un (c-shape k i) n e = on-record (un .root k i) un _ n (λ a. refl) e
 
-pub unbounded-number : (un : Unbounded) (c : Call) (n : ℕ) → numberIn (uexec un c .0) ≡ some n → (2 ≤ n) × (n ≤ 9)
+pub unbounded-number : (un : Unbounded) (c : Call) (n : ℕ) → refusalIn (uexec un c .0) ≡ some n → (2 ≤ n) × (n ≤ 9)
 unbounded-number un c n e = go (refusal (uobserve un) c) (refusal-stays (uobserve un) c .either) e
   where
-    go : (x : ℕ) → (x ≡ 0) ⊎ ((2 ≤ x) × (x ≤ 9)) → numberIn (refuse x un (uact un c) .0) ≡ some n → (2 ≤ n) × (n ≤ 9)
+    go : (x : ℕ) → (x ≡ 0) ⊎ ((2 ≤ x) × (x ≤ 9)) → refusalIn (refuse x un (uact un c) .0) ≡ some n → (2 ≤ n) × (n ≤ 9)
     go zero h e = let z = act-number un c n e in (omega arith, omega arith)
     go (suc x) (inl h) e = absurd (omega arith)
     go (suc x) (inr h) e = let z : suc x ≡ n = Option·some-injective (suc x) n e in (omega (arith, h .0), omega (arith, h .1))
 
 -- what the unbounded heap answers is not struck out
 pub not-struck-out : (r : Answer) (un : Unbounded) (c : Call) → answerOf r ≡ uexec un c .0 → struck struckOut (refusalOf r) ≡ false
-not-struck-out r un c e = go (refusalOf r) (λ n h. unbounded-number un c n (sym (by-value r ∙ ap numberIn e) ∙ h))
+not-struck-out r un c e = go (refusalOf r) (λ n h. unbounded-number un c n (sym (ap refusalIn e) ∙ h))
   where
     go : (o : Option ℕ) → ((n : ℕ) → o ≡ some n → (2 ≤ n) × (n ≤ 9)) → struck struckOut o ≡ false
     go none h = refl

@@ -16,12 +16,11 @@ use Rattle.theory.proofs.Agree.{Agree}
 use Rattle.theory.proofs.Updates.{upd2-same}
 use Rattle.theory.proofs.Refusals.{by-ok, root-ok}
 use Rattle.model.specs.declared.Answer.{Answer}
-use Rattle.model.specs.Answers.{answerOf, refusalOf}
+use Rattle.model.specs.Answers.{answerOf, refusalIn, refusalOf}
 use Rattle.model.specs.Fields.{root}
 use Rattle.model.specs.Lists.{putUnless, blockIn}
 use Rattle.refine_view.specs.View.{view}
 use Rattle.refine_view.proofs.Seeing.{named}
-use Rattle.guarantee.proofs.Numbers.{numberIn, by-value}
 
 module _ (g : Geometry) (after : List ℕ) (n : ℕ) (put : ℕ → Option ℕ) (r : Answer) (b : ℕ) (st : State) where
   -- a call that puts no record
@@ -44,7 +43,7 @@ module _ (g : Geometry) (after : List ℕ) (n : ℕ) (put : ℕ → Option ℕ) 
   put-same (c-check k) x e a = plain (refusalOf r)
   put-same (c-leave k) x e a = plain (refusalOf r)
   put-same (c-enter k) x e a = plain (refusalOf r)
-  put-same (c-make k d p q) x e a = ap (λ y. upd put y (some n)) (handed k d p q x a) ∙ sym (ap (λ o. putUnless o put (puts (c-make k d p q) (blockIn g after) n put)) (by-value r ∙ ap numberIn e))
+  put-same (c-make k d p q) x e a = ap (λ y. upd put y (some n)) (handed k d p q x a) ∙ sym (ap (λ o. putUnless o put (puts (c-make k d p q) (blockIn g after) n put)) (ap refusalIn e))
   put-same (c-load k d i f) x e a = plain (refusalOf r)
   put-same (c-store k i f j) x e a = plain (refusalOf r)
   put-same (c-copy k d i) x e a = plain (refusalOf r)

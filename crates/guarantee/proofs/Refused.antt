@@ -22,17 +22,18 @@ use Rattle.model.specs.Records.{record?}
 use Rattle.model.specs.Making.{Source, held, part, unused, noRoom, sourceOf, takes, freshened, inBlock, fromSource, made}
 use Rattle.model.specs.Calls.{observe, act, exec, ofClass}
 use Rattle.model.specs.Collector.{startIn, startOf, started, anyFull}
-use Rattle.guarantee.proofs.Numbers.{numberIn, refusal-stays}
+use Rattle.model.specs.Answers.{refusalIn}
+use Rattle.guarantee.proofs.Numbers.{refusal-stays}
 
 -- no result is a refusal
-result : {A : Type 0} (a : Answer) (n : ℕ) → numberIn a ≡ none → a ≡ a-no n → A
-result a n l e = none-some (sym l ∙ ap numberIn e)
+result : {A : Type 0} (a : Answer) (n : ℕ) → refusalIn a ≡ none → a ≡ a-no n → A
+result a n l e = none-some (sym l ∙ ap refusalIn e)
 
 unless-same : (b : Bool) (m m′ : Mem) (n : ℕ) → unless b 11 m m′ .0 ≡ a-no n → unless b 11 m m′ .1 ≡ m
 unless-same true m m′ n e = refl
 unless-same false m m′ n e = result a-ok n refl e
 
-record-same : (o : Option ℕ) (m : Mem) (K : ℕ → Answer × Mem) (n : ℕ) → ((at : ℕ) → numberIn (K at .0) ≡ none) → onRecord o m K .0 ≡ a-no n → onRecord o m K .1 ≡ m
+record-same : (o : Option ℕ) (m : Mem) (K : ℕ → Answer × Mem) (n : ℕ) → ((at : ℕ) → refusalIn (K at .0) ≡ none) → onRecord o m K .0 ≡ a-no n → onRecord o m K .1 ≡ m
 record-same none m K n h e = refl
 record-same (some at) m K n h e = result (K at .0) n (h at) e
 
@@ -99,12 +100,12 @@ start-number g m n e = go (start-either g m)
   where
     go : ((phase m ≡ idle) × (startOf g m ≡ (a-ok, started g m))) ⊎ ((x : ℕ) × (x ≤ 12) × (startOf g m ≡ (a-no x, m))) → n ≤ 12
     go (inl h) = result a-ok n refl (sym (ap (λ y. y .0) (h .1)) ∙ e)
-    go (inr h) = let z : h .0 ≡ n = Option·some-injective (h .0) n (ap numberIn (sym (ap (λ y. y .0) (h .2)) ∙ e)) in omega (arith, h .1)
+    go (inr h) = let z : h .0 ≡ n = Option·some-injective (h .0) n (ap refusalIn (sym (ap (λ y. y .0) (h .2)) ∙ e)) in omega (arith, h .1)
 
 -- ---- 10: no lower number applies, and there is no segment to take from
 
 other : {A : Type 0} (x y : ℕ) → (x ≡ y → ⊥) → a-no x ≡ a-no y → A
-other x y f e = absurd (f (Option·some-injective x y (ap numberIn e)))
+other x y f e = absurd (f (Option·some-injective x y (ap refusalIn e)))
 
 pub record Roomless (g : Geometry) (m : Mem) (k d p q : ℕ) : Type 0 where
   pub lower : refusal (observe m) (c-make k d p q) ≡ 0

@@ -15,7 +15,7 @@ use Rattle.theory.specs.Calls.{Call, a-no}
 use Rattle.model.specs.declared.Answer.{Answer}
 use Rattle.model.specs.declared.Answer.the-variants.{Ok, Refused}
 use Rattle.model.specs.declared.Step.{Step}
-use Rattle.model.specs.Answers.{answerOf}
+use Rattle.model.specs.Answers.{answerOf, stepAnswerOf}
 use Rattle.model.specs.Fields.{phase}
 use Rattle.model.specs.Calls.{exec}
 use Rattle.model.specs.Collector.{started, startOf, stepOf}
@@ -30,7 +30,7 @@ pub data Acts (g : Geometry) (m m′ : Mem) : Event → Type 0 where
   calls : {c : Call} {r : Answer} → answerOf r ≡ exec g m c .0 → m′ ≡ exec g m c .1 → Acts g m m′ (mutatorCall c r)
   starts : phase m ≡ idle → m′ ≡ started g m → Acts g m m′ (startCall Ok)
   startRefused : {n : ℕ} → startOf g m .0 ≡ a-no n → m′ ≡ m → Acts g m m′ (startCall (Refused n))
-  steps : {r : Step} → r ≡ stepOf g m .0 → m′ ≡ stepOf g m .1 → Acts g m m′ (stepCall r)
+  steps : {r : Step} → stepAnswerOf r ≡ stepOf g m .0 → m′ ≡ stepOf g m .1 → Acts g m m′ (stepCall r)
 
 pub record Onward (g : Geometry) (words : List ℕ) (e : Element) : Type 0 where
   pub sized : wrongSize g (length (onward words e)) ≡ false

@@ -1,11 +1,12 @@
--- What stands beside the guarantee: the opening establishes consistency, every call keeps it, over memory that passes the examination and not
--- only along lists from an opening; such memory never meets 13 and a refusal changes no word of it; and "no room" comes exactly when document 01 says so.
+-- What stands beside the guarantee: a refusal is one number of the table; the opening establishes consistency, every call keeps it, over memory
+-- that passes the examination and not only along lists from an opening; such memory never meets 13 and a refusal changes no word of it; and "no room"
+-- comes exactly when document 01 says so.
 use mathlib.Core.Path.{_≡_}
 use mathlib.Core.Logic.{_⊎_}
 use mathlib.Core.Bool.{true, false}
 use mathlib.Core.Option.{some}
 use mathlib.Core.List.{List, _++_}
-use Prim.Native.Nat.{ℕ, _+_}
+use Prim.Native.Nat.{ℕ, _+_, _≤_}
 use lib.ListN.{length}
 use Rattle.classes.specs.Class.{classOf}
 use Rattle.classes.specs.declared.SizeClass.the-variants.{Class}
@@ -21,6 +22,11 @@ use Rattle.model.specs.Opening.{opened}
 use Rattle.model.specs.Run.{Command, run}
 use Rattle.model.specs.Consistent.{Consistent}
 use Rattle.model.specs.Lists.{Element, called, Meets, KeepsLength, Gets, wrongSized, numberOf, Chain, wordsAfter, Ghost, Opened, Begins}
+
+-- "The answer to every call, over lent memory of any length and content, is a result or one number of the table in document 01": whatever the call
+-- was lent, a refusal is one of the numbers 1 to 13
+abbrev pub OneNumber : Type 0
+OneNumber = (e : Element) → Meets e → (n : ℕ) → numberOf e ≡ some n → (1 ≤ n) × (n ≤ 13)
 
 -- "the consistency definition that an opening establishes and every call keeps"
 abbrev pub OpeningEstablishes : Type 0

@@ -10,16 +10,15 @@ use Rattle.layout.specs.declared.Geometry.{Geometry}
 use Rattle.layout.specs.Geometry.{wrongSize, Sized}
 use Rattle.layout.specs.Mem.{memOf, flat}
 use Rattle.layout.proofs.Regions.{sized, memOf-flat}
-use Rattle.theory.specs.Calls.{Call, c-check, c-clear, c-load, c-put, c-get, a-ok, a-num}
+use Rattle.theory.specs.Calls.{Call, c-check, c-clear, c-load, c-put, c-get, a-ok, a-num, a-swept}
 use Rattle.model.specs.declared.Answer.the-variants.{Ok, Number}
-use Rattle.model.specs.declared.Step.{Step}
-use Rattle.model.specs.declared.Step.the-variants.{Swept, Idle}
+use Rattle.model.specs.declared.Step.the-variants.{Swept}
 use Rattle.model.specs.Answers.{answerOf}
 use Rattle.model.specs.Calls.{exec}
 use Rattle.model.specs.Collector.{startOf, stepOf}
 use Rattle.model.specs.Opening.{opened}
 use Rattle.model.specs.Lists.{mutatorCall, called, started, stepped, keep, remains, remainingCalls, remainingAnswers}
-use Rattle.model.specs.Run.{Command, call, start, step, declared, answered, run}
+use Rattle.model.specs.Run.{Command, call, start, step, declared, declaredStep, answered, run}
 use Rattle.laws.proofs.Lengths.{sizes-of}
 use Rattle.refine_start.proofs.Opened.{sizes-opened}
 use Rattle.refine_run.proofs.Own.{afterRun, run-append}
@@ -37,15 +36,8 @@ use Rattle.model_cases.specs.Replies as input
 
 abbrev answerIn : Reply → theory.Answer
 answerIn (answer a) = a
-answerIn (input.stepped s) = a-ok
 answerIn (seen p s t) = a-ok
 answerIn (input.words ws) = a-ok
-
-abbrev stepIn : Reply → Step
-stepIn (answer a) = Idle
-stepIn (input.stepped s) = s
-stepIn (seen p s t) = Idle
-stepIn (input.words ws) = Idle
 
 -- a call by its answer, where it remains
 abbrev keepCall : Call → theory.Answer → List Call → List Call
@@ -107,8 +99,8 @@ module _ (g : Geometry) (content : List ℕ) where
       start-answer : startOf g (memOf g (afterRun g words beforeStart)) .0 ≡ a-ok
       start-answer = ap answerIn (reply beforeStart start (inputsOf (commandsOf tracing ++ (step ∷ afterSweep))) refl)
 
-      sweep-answer : stepOf g (memOf g (afterRun g words (beforeStart ++ (start ∷ commandsOf tracing)))) .0 ≡ Swept 0 1
-      sweep-answer = ap stepIn (reply (beforeStart ++ (start ∷ commandsOf tracing)) step (inputsOf afterSweep) refl)
+      sweep-answer : stepOf g (memOf g (afterRun g words (beforeStart ++ (start ∷ commandsOf tracing)))) .0 ≡ a-swept 0 1
+      sweep-answer = ap answerIn (reply (beforeStart ++ (start ∷ commandsOf tracing)) step (inputsOf afterSweep) refl)
 
       get-answer : exec g (memOf g (afterRun g words (beforeStart ++ (start ∷ (commandsOf tracing ++ (step ∷ loading)))))) (c-get 0 1 0) .0 ≡ a-num 77
       get-answer = ap answerIn (reply (beforeStart ++ (start ∷ (commandsOf tracing ++ (step ∷ loading)))) getting [] refl)
@@ -152,7 +144,7 @@ module _ (g : Geometry) (content : List ℕ) where
           ∙ λ i. run g words beforeStart ++ (started g startWords (declared (start-answer i)) startEnd ∷ (run-append g startEnd (commandsOf tracing) (step ∷ afterSweep) ∙ swept) i)
         where
           swept : run g startEnd (commandsOf tracing) ++ run g stepWords (step ∷ afterSweep) ≡ run g startEnd (commandsOf tracing) ++ (stepped g stepWords (Swept 0 1) stepEnd ∷ run g stepEnd afterSweep)
-          swept = λ i. run g startEnd (commandsOf tracing) ++ (stepped g stepWords (sweep-answer i) stepEnd ∷ run g stepEnd afterSweep)
+          swept = λ i. run g startEnd (commandsOf tracing) ++ (stepped g stepWords (declaredStep (sweep-answer i)) stepEnd ∷ run g stepEnd afterSweep)
 
       abbrev pub swept-in : SweptIn g (run g words asked)
       swept-in = record {

@@ -1,21 +1,19 @@
 -- A sweep that frees a block: one of the segment's blocks is free after it, and the record at its header is then not reached. Assumes nothing.
 use mathlib.Core.Path.{_≡_, _∙_, ap, subst}
 use mathlib.Core.Logic.{_⊎_, inl, inr}
-use mathlib.Core.Bool.{Bool, true, false, not}
-use Prim.Native.Nat.{ℕ, suc, _-_, _≤_, _<_}
+use mathlib.Core.Bool.{Bool, true, not}
+use Prim.Native.Nat.{ℕ, suc, _-_, _<_}
 use native.Mathlib.Omega.{arith}
-use lib.Dec.{eqb, ltb}
+use lib.Dec.{eqb}
 use borrow.Author.Tests.{eq-eqb, ne-eqb, eqb-true}
 use Rattle.rules.specs.Pick.{pick}
 use Rattle.rules.proofs.Order.{same-or-not}
-use Rattle.words.specs.Bits.{bitAt, onesAmong}
-use Rattle.words.proofs.Lists.{at-lt}
-use Rattle.words.proofs.Ones.{among-le}
+use Rattle.words.specs.Bits.{onesAmong}
 use Rattle.layout.specs.Geometry.{blocksIn, segmentOf}
 use Rattle.layout.specs.declared.Geometry.{Geometry}
 use Rattle.layout.specs.Mem.{Mem, Sizes}
-use Rattle.model.specs.Fields.{tag, class, place}
-use Rattle.model.specs.Segments.{bitmap, usedBit, inUse}
+use Rattle.model.specs.Fields.{tag, class}
+use Rattle.model.specs.Segments.{usedBit, inUse}
 use Rattle.model.specs.Records.{blockOf, headerOf}
 use Rattle.model.specs.Collector.{swept}
 use Rattle.classes.specs.Class.{IsClass}
@@ -23,27 +21,13 @@ use Rattle.model.specs.Consistent.{isFree}
 use Rattle.refine_view.specs.View.{isUsed}
 use Rattle.refine_view.specs.Kept.{Ordered}
 use Rattle.laws.proofs.Bools.{and-right, and-left, not-eq}
+use Rattle.laws.proofs.Segments.{used-small, in-use-le}
 use Rattle.laws.proofs.Blocks.{header-segment, header-block}
 use Rattle.words.proofs.Counts.{one-missing}
 use Rattle.refine_sweep.proofs.Outcome.{Outcome}
 use Rattle.refine_sweep.proofs.SweepStep.{swept-outcome}
 use Rattle.guarantee.specs.Demand3.{BlockFree}
 use Rattle.model.specs.Tag as Tag
-
-used-small : (g : Geometry) (m : Mem) (s b : ℕ) → usedBit g m s b < 2
-used-small g m s b = go (ltb b (place m s))
-  where
-    go : (x : Bool) → pick x 1 (bitAt (bitmap g m s) b) < 2
-    go true = omega arith
-    go false = at-lt (bitmap g m s) b
-
--- no more blocks are in use than there are
-in-use-le : (g : Geometry) (m : Mem) (s : ℕ) → inUse g m s ≤ blocksIn g (class m s)
-in-use-le g m s = go (eqb (tag m s) Tag.free)
-  where
-    go : (x : Bool) → pick x 0 (onesAmong (usedBit g m s) (blocksIn g (class m s))) ≤ blocksIn g (class m s)
-    go true = omega arith
-    go false = among-le (usedBit g m s) (used-small g m s) (blocksIn g (class m s))
 
 module _ (g : Geometry) (m : Mem) (z : Sizes g m) (c : Ordered g m) (s : ℕ) (l : s < g .segments) (t : tag m s ≡ Tag.condemned) where
   abbrev after : Mem

@@ -11,8 +11,7 @@ use Rattle.layout.specs.Geometry.{blocksIn}
 use Rattle.layout.specs.Mem.{Mem, memOf}
 use Rattle.theory.proofs.Invariant.{reached-live}
 use Rattle.theory.proofs.Simulation.{reach-down}
-use Rattle.model.specs.declared.Step.{Step}
-use Rattle.model.specs.declared.Step.the-variants.{Waiting, Moved, Traced, Swept, Done, Idle, Refused}
+use Rattle.theory.specs.Calls.{a-swept}
 use Rattle.model.specs.Fields.{tag, class}
 use Rattle.model.specs.Segments.{usedBit, inUse}
 use Rattle.model.specs.Records.{headerOf}
@@ -39,18 +38,11 @@ reached-used g u w P at p r =
     subst (λ z. isUsed g (memOf g u) z ≡ true) (p .couples .sim .inj (q .0) at (r .number) (q .1) (r .last)) (p .couples .inv .valid (q .0) (reached-live (view g (memOf g u)) (q .2)))
 
 -- the number of blocks that a step says it freed
-abbrev freedIn : Step → ℕ
-freedIn (Waiting n) = 0
-freedIn Moved = 0
-freedIn Traced = 0
-freedIn (Swept s f) = f
-freedIn Done = 0
-freedIn Idle = 0
-freedIn (Refused n) = 0
-
-freed-is : (g : Geometry) (m : Mem) (s f : ℕ) → Swept s f ≡ stepOf g m .0 → SweptBy g m s → f ≡ inUse g m s - inUse g (swept g m s) s
+freed-is : (g : Geometry) (m : Mem) (s f : ℕ) → a-swept s f ≡ stepOf g m .0 → SweptBy g m s → f ≡ inUse g m s - inUse g (swept g m s) s
 unfolding stepOf
-freed-is g m s f e y = ap freedIn (e ∙ ap (λ p. stepIn p g m .0) (y .in-sweep) ∙ ap (λ o. sweeps g o m .0) (y .is-lowest))
+freed-is g m s f e y =
+    let h : a-swept s f ≡ a-swept s (inUse g m s - inUse g (swept g m s) s) = e ∙ ap (λ p. stepIn p g m .0) (y .in-sweep) ∙ ap (λ o. sweeps g o m .0) (y .is-lowest) in
+    cc
 
 pub record Found (g : Geometry) (atStart : Mem) (w : Ghost) (s : ℕ) : Type 0 where
   pub block : ℕ

@@ -2,9 +2,11 @@
 use mathlib.Core.Path.{_≡_, refl, sym, _∙_, ap}
 use mathlib.Core.Logic.{⊎-elim}
 use mathlib.Core.Bool.{Bool, true, false, not, _&&_, true≢false}
-use Prim.Native.Nat.{ℕ}
+use Prim.Native.Nat.{ℕ, _<_}
+use native.Mathlib.Omega.{arith}
 use lib.Dec.{eqb}
 use borrow.Author.Tests.{eq-eqb, ne-eqb}
+use Rattle.rules.specs.Pick.{oneIf}
 use Rattle.rules.proofs.Order.{same-or-not}
 
 pub and-left : (a b : Bool) → (a && b) ≡ true → a ≡ true
@@ -35,3 +37,7 @@ ne-not a b f = ap not (ne-eqb a b f)
 -- a test that holds of one exactly where it holds of the other
 pub test-same : (a b t : ℕ) → (a ≡ t → b ≡ t) → (b ≡ t → a ≡ t) → eqb b t ≡ eqb a t
 test-same a b t f h = ⊎-elim (λ e. eq-eqb b t (f e) ∙ sym (eq-eqb a t e)) (λ n. ne-eqb b t (λ e. n (h e)) ∙ sym (ne-eqb a t n)) (same-or-not a t)
+
+pub one-less : (b : Bool) → oneIf b < 2
+one-less true = omega arith
+one-less false = omega arith

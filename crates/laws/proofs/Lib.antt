@@ -10,6 +10,7 @@ pub mod Stacks
 pub mod OtherStacks
 pub mod Segments
 pub mod Parted
+pub mod Lowest
 pub mod Bitmaps
 pub mod Blocks
 pub mod Apart

@@ -1,7 +1,7 @@
 -- One segment's record changes: what becomes of the other segments, and which ones are free or part. Assumes nothing.
 use mathlib.Core.Path.{_≡_, sym, _∙_, ap, subst}
 use mathlib.Core.Logic.{_⊎_, inl, inr, ⊎-elim}
-use mathlib.Core.Bool.{true, false, _&&_}
+use mathlib.Core.Bool.{Bool, true, false, _&&_}
 use Prim.Native.Nat.{ℕ, suc, _≤_, _<_}
 use native.Mathlib.Omega.{arith}
 use lib.Dec.{eqb, ltb}
@@ -9,13 +9,15 @@ use lib.ListN.{List·getD-eq-default}
 use borrow.Author.Tests.{eq-eqb, ne-eqb}
 use Rattle.rules.specs.Pick.{pick}
 use Rattle.rules.proofs.Order.{same-or-not, le-or-lt}
-use Rattle.words.specs.Bits.{bitAt}
+use Rattle.words.specs.Bits.{bitAt, onesAmong}
+use Rattle.words.proofs.Lists.{at-lt}
+use Rattle.words.proofs.Ones.{among-le}
 use Rattle.words.specs.Tree.{Tree}
 use Rattle.layout.specs.declared.Geometry.{Geometry}
 use Rattle.layout.specs.Geometry.{mutatorCount, blocksIn}
 use Rattle.layout.specs.Mem.{Mem, Sizes}
 use Rattle.model.specs.Fields.{absent, state, holding, tag, class, place, owner}
-use Rattle.model.specs.Segments.{above, bitmap, usedBit}
+use Rattle.model.specs.Segments.{above, bitmap, usedBit, inUse}
 use Rattle.classes.specs.Class.{IsClass}
 use Rattle.model.specs.Consistent.{SegmentOk, Occupied, TreeOk, isFree, isPart}
 use Rattle.laws.proofs.Bools.{and-both}
@@ -28,6 +30,21 @@ in-range g m s q f = ⊎-elim (λ l. let z = s .segments in absurd (f (List·get
 
 pub used-same : (g : Geometry) (m m′ : Mem) (q b : ℕ) → place m′ q ≡ place m q → bitmap g m′ q ≡ bitmap g m q → usedBit g m′ q b ≡ usedBit g m q b
 used-same g m m′ q b p e = ap (λ z. pick (ltb b z) 1 (bitAt (bitmap g m′ q) b)) p ∙ ap (λ l. pick (ltb b (place m q)) 1 (bitAt l b)) e
+
+pub used-small : (g : Geometry) (m : Mem) (s b : ℕ) → usedBit g m s b < 2
+used-small g m s b = go (ltb b (place m s))
+  where
+    go : (x : Bool) → pick x 1 (bitAt (bitmap g m s) b) < 2
+    go true = omega arith
+    go false = at-lt (bitmap g m s) b
+
+-- no more blocks are in use than there are
+pub in-use-le : (g : Geometry) (m : Mem) (s : ℕ) → inUse g m s ≤ blocksIn g (class m s)
+in-use-le g m s = go (eqb (tag m s) Tag.free)
+  where
+    go : (x : Bool) → pick x 0 (onesAmong (usedBit g m s) (blocksIn g (class m s))) ≤ blocksIn g (class m s)
+    go true = omega arith
+    go false = among-le (usedBit g m s) (used-small g m s) (blocksIn g (class m s))
 
 -- a segment whose record and bitmap stay is in order as before, once its mutator still holds it
 pub segment-same : (g : Geometry) (m m₁ : Mem) (q : ℕ) → SegmentOk g m q → Recorded m₁ q (tag m q) (class m q) (place m q) (owner m q) → bitmap g m₁ q ≡ bitmap g m q

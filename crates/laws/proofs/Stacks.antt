@@ -13,13 +13,10 @@ use Rattle.layout.specs.Geometry.{stackCount}
 use Rattle.layout.specs.Mem.{Mem, stackWord, setStack, Sizes}
 use Rattle.model.specs.Segments.{count, entry, top, pop, stacked}
 use Rattle.model.specs.Consistent.{StackOk}
+use Rattle.laws.proofs.Bools.{one-less}
 use Rattle.laws.proofs.Words.{stack-there, stack-other}
 use Rattle.words.proofs.Counts.{among-change}
 use Rattle.laws.proofs.Lengths.{sizes-stack}
-
-one-less : (b : Bool) → oneIf b < 2
-one-less true = omega arith
-one-less false = omega arith
 
 -- a stack has no more entries than there are segments
 pub count-le : (g : Geometry) (m : Mem) (t : ℕ) (test : ℕ → Bool) → StackOk g m t test → count g m t ≤ g .segments

@@ -2,3 +2,4 @@
 pub mod Phases
 pub mod Collecting
 pub mod InUse
+pub mod Numbers

@@ -1,11 +1,17 @@
--- The declared answers as document 01 has them: a result, or a refusal by its number. Promises and lists of calls use these.
+-- The declared answers as document 01 has them: for each enum one definition gives the number and the values of its cases, and the promises use
+-- it. Then which results and which refusals a call may give, over memory of any content.
+use mathlib.Core.Path.{_≡_}
 use mathlib.Core.Bool.{Bool, true, false}
 use mathlib.Core.List.{List, [], _∷_}
 use mathlib.Core.Option.{Option, none, some}
-use Prim.Native.Nat.{ℕ}
+use Prim.Native.Nat.{ℕ, _≤_, _<_}
 use lib.Dec.{eqb}
 use Rattle.rules.specs.Pick.{pick}
-use Rattle.theory.specs.Calls.{Call, c-attach, c-detach, c-check, c-leave, c-enter, c-spawn, c-make, c-load, c-store, c-copy, c-clear, c-put, c-get, c-same, c-shape, a-ok, a-num, a-flag, a-shape, a-no}
+use Rattle.layout.specs.declared.Geometry.{Geometry}
+use Rattle.layout.specs.Geometry.{mutatorCount, mostBlocks}
+use Rattle.theory.specs.Phases.{sweep}
+use Rattle.theory.specs.Calls.{Call, c-attach, c-detach, c-check, c-leave, c-enter, c-spawn, c-make, c-load, c-store, c-copy, c-clear, c-put, c-get, c-same, c-shape, a-ok, a-moved, a-traced, a-done, a-idle, a-num, a-flag, a-shape, a-no, a-waiting, a-swept}
+use Rattle.model.specs.Rules.{phaseNumber}
 use Rattle.model.specs.declared.Answer.{Answer}
 use Rattle.model.specs.declared.Answer.the-variants.{Ok, Number, Same, Shape, Refused}
 use Rattle.model.specs.declared.Step.{Step}
@@ -16,7 +22,9 @@ use Rattle.model.specs.declared.Step.the-variants as stepAnswer
 use Rattle.model.specs.declared.PhaseLook.the-variants as look
 use Rattle.model.specs.declared.Examined.the-variants as examination
 
--- the value of each case: ok, a number, whether two roots are equal, a shape, or a refusal
+-- ---- the enums
+
+-- of a mutator's call, of an opening and of start: ok, a number, whether two roots are equal, a shape, or a refusal
 abbrev pub answerOf : Answer → theory.Answer
 answerOf Ok = a-ok
 answerOf (Number v) = a-num v
@@ -24,78 +32,96 @@ answerOf (Same b) = a-flag b
 answerOf (Shape p n) = a-shape p n
 answerOf (Refused n) = a-no n
 
+-- of step
+abbrev pub stepAnswerOf : Step → theory.Answer
+stepAnswerOf (stepAnswer.Waiting n) = a-waiting n
+stepAnswerOf stepAnswer.Moved = a-moved
+stepAnswerOf stepAnswer.Traced = a-traced
+stepAnswerOf (stepAnswer.Swept s f) = a-swept s f
+stepAnswerOf stepAnswer.Done = a-done
+stepAnswerOf stepAnswer.Idle = a-idle
+stepAnswerOf (stepAnswer.Refused n) = a-no n
+
+-- of the look at the phase: the phase's number
+abbrev pub phaseAnswerOf : PhaseLook → theory.Answer
+phaseAnswerOf (look.Phase p) = a-num p
+phaseAnswerOf (look.Refused n) = a-no n
+
+-- of the examination: whether it "says yes"
+abbrev pub examinedAnswerOf : Examined → theory.Answer
+examinedAnswerOf examination.Yes = a-flag true
+examinedAnswerOf examination.No = a-flag false
+examinedAnswerOf (examination.Refused n) = a-no n
+
 -- the number of a refusal
+abbrev pub refusalIn : theory.Answer → Option ℕ
+refusalIn a-ok = none
+refusalIn a-moved = none
+refusalIn a-traced = none
+refusalIn a-done = none
+refusalIn a-idle = none
+refusalIn (a-num v) = none
+refusalIn (a-flag b) = none
+refusalIn (a-shape p n) = none
+refusalIn (a-no n) = some n
+refusalIn (a-waiting n) = none
+refusalIn (a-swept s f) = none
+
 abbrev pub refusalOf : Answer → Option ℕ
-refusalOf Ok = none
-refusalOf (Number v) = none
-refusalOf (Same b) = none
-refusalOf (Shape p n) = none
-refusalOf (Refused n) = some n
+refusalOf r = refusalIn (answerOf r)
 
 abbrev pub stepRefusalOf : Step → Option ℕ
-stepRefusalOf (stepAnswer.Waiting n) = none
-stepRefusalOf stepAnswer.Moved = none
-stepRefusalOf stepAnswer.Traced = none
-stepRefusalOf (stepAnswer.Swept s f) = none
-stepRefusalOf stepAnswer.Done = none
-stepRefusalOf stepAnswer.Idle = none
-stepRefusalOf (stepAnswer.Refused n) = some n
+stepRefusalOf r = refusalIn (stepAnswerOf r)
 
 abbrev pub phaseRefusalOf : PhaseLook → Option ℕ
-phaseRefusalOf (look.Phase p) = none
-phaseRefusalOf (look.Refused n) = some n
+phaseRefusalOf r = refusalIn (phaseAnswerOf r)
 
 abbrev pub examinedRefusalOf : Examined → Option ℕ
-examinedRefusalOf examination.Yes = none
-examinedRefusalOf examination.No = none
-examinedRefusalOf (examination.Refused n) = some n
+examinedRefusalOf r = refusalIn (examinedAnswerOf r)
 
 -- ---- which result a call gives, over memory of any content: "No script call answers a block or segment number"
 
-abbrev pub isOk : Answer → Bool
-isOk Ok = true
-isOk (Number v) = false
-isOk (Same b) = false
-isOk (Shape p n) = false
-isOk (Refused n) = false
+abbrev pub IsOk : theory.Answer → Type 0
+IsOk a = a ≡ a-ok
 
-abbrev pub isNumber : Answer → Bool
-isNumber Ok = false
-isNumber (Number v) = true
-isNumber (Same b) = false
-isNumber (Shape p n) = false
-isNumber (Refused n) = false
+abbrev pub IsNumber : theory.Answer → Type 0
+IsNumber a = (v : ℕ) × (a ≡ a-num v)
 
-abbrev pub isSame : Answer → Bool
-isSame Ok = false
-isSame (Number v) = false
-isSame (Same b) = true
-isSame (Shape p n) = false
-isSame (Refused n) = false
+abbrev pub IsFlag : theory.Answer → Type 0
+IsFlag a = (b : Bool) × (a ≡ a-flag b)
 
-abbrev pub isShape : Answer → Bool
-isShape Ok = false
-isShape (Number v) = false
-isShape (Same b) = false
-isShape (Shape p n) = true
-isShape (Refused n) = false
+abbrev pub IsShape : theory.Answer → Type 0
+IsShape a = (p n : ℕ) × (a ≡ a-shape p n)
 
-abbrev pub resultOf : Call → Answer → Bool
-resultOf (c-attach k) = isOk
-resultOf (c-spawn k p i) = isOk
-resultOf (c-detach k) = isOk
-resultOf (c-check k) = isOk
-resultOf (c-leave k) = isOk
-resultOf (c-enter k) = isOk
-resultOf (c-make k d p n) = isOk
-resultOf (c-load k d i f) = isOk
-resultOf (c-store k i f j) = isOk
-resultOf (c-copy k d i) = isOk
-resultOf (c-clear k d) = isOk
-resultOf (c-put k i f v) = isOk
-resultOf (c-get k i f) = isNumber
-resultOf (c-same k i j) = isSame
-resultOf (c-shape k i) = isShape
+abbrev pub ResultOf : Call → theory.Answer → Type 0
+ResultOf (c-attach k) a = IsOk a
+ResultOf (c-spawn k p i) a = IsOk a
+ResultOf (c-detach k) a = IsOk a
+ResultOf (c-check k) a = IsOk a
+ResultOf (c-leave k) a = IsOk a
+ResultOf (c-enter k) a = IsOk a
+ResultOf (c-make k d p n) a = IsOk a
+ResultOf (c-load k d i f) a = IsOk a
+ResultOf (c-store k i f j) a = IsOk a
+ResultOf (c-copy k d i) a = IsOk a
+ResultOf (c-clear k d) a = IsOk a
+ResultOf (c-put k i f v) a = IsOk a
+ResultOf (c-get k i f) a = IsNumber a
+ResultOf (c-same k i j) a = IsFlag a
+ResultOf (c-shape k i) a = IsShape a
+
+-- step waits for one mutator at least, and sweeps a segment of the memory, whose blocks are no more than a segment can have
+pub data StepResult (g : Geometry) : theory.Answer → Type 0 where
+  isWaiting : (n : ℕ) → 1 ≤ n → n ≤ mutatorCount → StepResult g (a-waiting n)
+  isMoved : StepResult g a-moved
+  isTraced : StepResult g a-traced
+  isSwept : (s f : ℕ) → s < g .segments → f ≤ mostBlocks g → StepResult g (a-swept s f)
+  isDone : StepResult g a-done
+  isIdle : StepResult g a-idle
+
+-- the look at the phase: "Phases are idle, roll 1, roll 2, mark and sweep", 0 to 4
+abbrev pub IsPhase : theory.Answer → Type 0
+IsPhase a = (p : ℕ) × (a ≡ a-num p) × (p ≤ phaseNumber sweep)
 
 -- ---- which numbers of the table a call may give, over memory of any content
 
@@ -127,3 +153,7 @@ startMayGive = 1 ∷ 11 ∷ 12 ∷ 13 ∷ []
 -- "step refuses only with 1 and 13"
 abbrev pub stepMayGive : List ℕ
 stepMayGive = 1 ∷ 13 ∷ []
+
+-- a look at memory that fails the examination: "13, torn"
+abbrev pub lookMayGive : List ℕ
+lookMayGive = 1 ∷ 13 ∷ []

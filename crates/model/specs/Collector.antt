@@ -11,9 +11,7 @@ use Rattle.layout.specs.Geometry.{mutatorCount, blocksIn}
 use Rattle.layout.specs.Mem.{Mem, traceWord, withRegion}
 use Rattle.bitmap_write.specs.Ready.{adopted}
 use Rattle.theory.specs.Phases.{Phase, idle, sync1, sync2, mark, sweep, owes}
-use Rattle.theory.specs.Calls.{Answer, a-ok, a-no}
-use Rattle.model.specs.declared.Step.{Step}
-use Rattle.model.specs.declared.Step.the-variants as stepAnswer
+use Rattle.theory.specs.Calls.{Answer, a-ok, a-moved, a-traced, a-done, a-idle, a-no, a-waiting, a-swept}
 use Rattle.model.specs.Fields.{phase, setPhase, traceCount, inside, outside, state, acks, setAcks, tag, setTag, class}
 use Rattle.model.specs.Segments.{setSegmentState, freeStack, partStack, stacked, above, bitmap, setBitmap, marksOf, inUse}
 use Rattle.model.specs.Tracing.{traced}
@@ -76,15 +74,15 @@ waiting m zero = 0
 waiting m (suc k) = oneIf (eqb (state m k) inside && owes (phase m) (acks m k)) + waiting m k
 
 -- "it answers waiting and how many; else the next phase, and moved"
-abbrev pub moves : ℕ → Mem → Phase → Step × Mem
-moves zero m p = (stepAnswer.Moved, setPhase m p)
-moves (suc n) m p = (stepAnswer.Waiting (suc n), m)
+abbrev pub moves : ℕ → Mem → Phase → Answer × Mem
+moves zero m p = (a-moved, setPhase m p)
+moves (suc n) m p = (a-waiting (suc n), m)
 
 -- ---- step, in mark: "takes the last entered record .. With an empty stack: sweep, and moved."
 
-abbrev pub traces : Geometry → ℕ → Mem → Step × Mem
-traces g zero m = (stepAnswer.Moved, setPhase m sweep)
-traces g (suc n) m = (stepAnswer.Traced, traced g m (traceWord m n - 1))
+abbrev pub traces : Geometry → ℕ → Mem → Answer × Mem
+traces g zero m = (a-moved, setPhase m sweep)
+traces g (suc n) m = (a-traced, traced g m (traceWord m n - 1))
 
 -- ---- step, in sweep: "the lowest condemned segment"
 
@@ -113,16 +111,16 @@ swept g m s =
     (stacked g (setSegmentState g (rebuiltBy g m s) s (segment.Part (class m s) 0)) (partStack (class m s)) s))
 
 -- "how many blocks in use became free": those in use before less those after. "With none left: idle, and done."
-abbrev pub sweeps : Geometry → Option ℕ → Mem → Step × Mem
-sweeps g none m = (stepAnswer.Done, setPhase m idle)
-sweeps g (some s) m = (stepAnswer.Swept s (inUse g m s - inUse g (swept g m s) s), swept g m s)
+abbrev pub sweeps : Geometry → Option ℕ → Mem → Answer × Mem
+sweeps g none m = (a-done, setPhase m idle)
+sweeps g (some s) m = (a-swept s (inUse g m s - inUse g (swept g m s) s), swept g m s)
 
-abbrev pub stepIn : Phase → Geometry → Mem → Step × Mem
-stepIn idle g m = (stepAnswer.Idle, m)
+abbrev pub stepIn : Phase → Geometry → Mem → Answer × Mem
+stepIn idle g m = (a-idle, m)
 stepIn sync1 g m = moves (waiting (outsideAnswered g m mutatorCount) mutatorCount) (outsideAnswered g m mutatorCount) sync2
 stepIn sync2 g m = moves (waiting (outsideAnswered g m mutatorCount) mutatorCount) (outsideAnswered g m mutatorCount) mark
 stepIn mark g m = traces g (traceCount m) m
 stepIn sweep g m = sweeps g (lowest m (g .segments)) m
 
-unfoldable pub stepOf : Geometry → Mem → Step × Mem
+unfoldable pub stepOf : Geometry → Mem → Answer × Mem
 stepOf g m = stepIn (phase m) g m

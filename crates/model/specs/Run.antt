@@ -10,12 +10,14 @@ use Rattle.layout.specs.Mem.{Mem, memOf, flat, controlWord}
 use Rattle.theory.specs.Calls.{Call, a-ok, a-moved, a-traced, a-done, a-idle, a-num, a-flag, a-shape, a-no, a-waiting, a-swept}
 use Rattle.model.specs.declared.Answer.{Answer}
 use Rattle.model.specs.declared.Answer.the-variants.{Ok, Number, Same, Shape, Refused}
+use Rattle.model.specs.declared.Step.{Step}
 use Rattle.model.specs.declared.PhaseLook.the-variants.{Phase}
 use Rattle.model.specs.declared.Examined.the-variants.{Yes}
 use Rattle.model.specs.Calls.{exec}
 use Rattle.model.specs.Collector.{startOf, stepOf}
 use Rattle.model.specs.Looks.{Look, sawPhase, sawStates, examinedBy}
 use Rattle.model.specs.Lists.{Event, mutatorCall, startCall, stepCall, lookCall, Element}
+use Rattle.model.specs.declared.Step.the-variants as stepAnswer
 use Rattle.model.specs.declared.Examined.the-variants as examination
 use Rattle.theory.specs.Calls as theory
 use Rattle.layout.specs.Region as Region
@@ -32,7 +34,7 @@ pub data Command : Type 0 where
   start step : Command
   look : Query → Command
 
--- an answer of a definition as the declared enum; a mutator's call and start give none of the abstract machine's answers to step
+-- an answer of a definition as the declared enum: a mutator's call and start give none of the results of step, and step none of theirs
 abbrev pub declared : theory.Answer → Answer
 declared a-ok = Ok
 declared (a-num v) = Number v
@@ -44,7 +46,20 @@ declared a-traced = Ok
 declared a-done = Ok
 declared a-idle = Ok
 declared (a-waiting n) = Ok
-declared (a-swept s) = Ok
+declared (a-swept s f) = Ok
+
+abbrev pub declaredStep : theory.Answer → Step
+declaredStep a-moved = stepAnswer.Moved
+declaredStep a-traced = stepAnswer.Traced
+declaredStep a-done = stepAnswer.Done
+declaredStep a-idle = stepAnswer.Idle
+declaredStep (a-waiting n) = stepAnswer.Waiting n
+declaredStep (a-swept s f) = stepAnswer.Swept s f
+declaredStep (a-no n) = stepAnswer.Refused n
+declaredStep a-ok = stepAnswer.Idle
+declaredStep (a-num v) = stepAnswer.Idle
+declaredStep (a-flag b) = stepAnswer.Idle
+declaredStep (a-shape p n) = stepAnswer.Idle
 
 -- the segments' states, where the output has their length
 abbrev pub shownStates : Bool → Mem → List ℕ → Look
@@ -65,7 +80,7 @@ lookOf g m (ofExamination scratch) = examined (eqb (length scratch) (scratchWord
 abbrev pub answerTo : Geometry → Mem → Command → Event × Mem
 answerTo g m (call c) = (mutatorCall c (declared (exec g m c .0)), exec g m c .1)
 answerTo g m start = (startCall (declared (startOf g m .0)), startOf g m .1)
-answerTo g m step = (stepCall (stepOf g m .0), stepOf g m .1)
+answerTo g m step = (stepCall (declaredStep (stepOf g m .0)), stepOf g m .1)
 answerTo g m (look q) = (lookCall (lookOf g m q), m)
 
 abbrev pub answered : Geometry → List ℕ → Command → Element

@@ -14,6 +14,7 @@ use Rattle.theory.specs.Phases.{Phase}
 use Rattle.theory.specs.Calls.{Call, Answer, a-ok, a-no, require, ifRecord}
 use Rattle.model.specs.declared.Step.{Step}
 use Rattle.model.specs.declared.SegmentState.{SegmentState}
+use Rattle.model.specs.Answers.{stepAnswerOf}
 use Rattle.model.specs.Fields.{phase, traceCount, acks}
 use Rattle.model.specs.Segments.{setSegmentState, segment, marksOf}
 use Rattle.model.specs.Records.{setMarked, setQueued, clearQueued}
@@ -34,10 +35,9 @@ pub data Input : Type 0 where
   marks : (segment : ℕ) → Input
   heap : (from words : ℕ) → Input
 
--- an answer; an answer of step; what a look shows: the phase, the segments' states, and the trace stack, its last entry last; and words
+-- an answer; what a look shows: the phase, the segments' states, and the trace stack, its last entry last; and words
 pub data Reply : Type 0 where
   answer : Answer → Reply
-  stepped : Step → Reply
   seen : Phase → List SegmentState → List ℕ → Reply
   words : List ℕ → Reply
 
@@ -57,14 +57,15 @@ acksOf m (suc n) = acksOf m n ++ acks m n ∷ []
 abbrev pub answered : Answer × Mem → Reply × Mem
 answered r = (answer (r .0), r .1)
 
-abbrev pub hasStepped : Step × Mem → Reply × Mem
-hasStepped r = (stepped (r .0), r .1)
+-- an answer of step, as its enum has it
+abbrev pub stepped : Step → Reply
+stepped r = answer (stepAnswerOf r)
 
 -- one input: its reply, and the memory after it
 abbrev pub does : Geometry → Mem → Input → Reply × Mem
 does g m opening = (answer a-ok, opened g m)
 does g m start = answered (startOf g m)
-does g m step = hasStepped (stepOf g m)
+does g m step = answered (stepOf g m)
 does g m look = (shown g m, m)
 does g m (call c) = answered (exec g m c)
 does g m (acknowledgements n) = (words (acksOf m n), m)

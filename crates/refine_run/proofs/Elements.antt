@@ -12,7 +12,7 @@ use Rattle.rules.specs.Pick.{pick}
 use Rattle.layout.specs.declared.Geometry.{Geometry}
 use Rattle.layout.specs.Geometry.{wrongSize}
 use Rattle.layout.specs.Mem.{memOf}
-use Rattle.model.specs.Answers.{refusalOf, stepRefusalOf, phaseRefusalOf, examinedRefusalOf}
+use Rattle.model.specs.Answers.{refusalIn}
 use Rattle.model.specs.Consistent.{Consistent}
 use Rattle.model.specs.Looks.{Look, sawPhase, sawStates, examinedBy, LookPromise, lookSized, lookNumber}
 use Rattle.model.specs.Lists.{Event, mutatorCall, startCall, stepCall, openingCall, lookCall, Element, Promised, Meets, Gets, wrongSizes, wrongSized, eventNumber, numberOf, onward}
@@ -27,17 +27,17 @@ either false false h = inr refl
 module _ (g : Geometry) (mem : List ℕ) where
   -- refused 1 where a size is wrong
   pub look-size : (l : Look) → LookPromise g mem l → (wrongSize g (length mem) ≡ true) ⊎ (lookSized g l ≡ false) → lookNumber l ≡ some 1
-  look-size (sawPhase r) q (inl h) = ap phaseRefusalOf (q .sizes h)
+  look-size (sawPhase r) q (inl h) = ap refusalIn (q .sizes h .0)
   look-size (sawPhase r) q (inr h) = absurd (true≢false h)
-  look-size (sawStates output r after) q (inl h) = ap refusalOf (q .sizes .0 h)
-  look-size (sawStates output r after) q (inr h) = ap refusalOf (q .sizes .1 (eqb-false _ _ h))
-  look-size (examinedBy scratch r after) q (inl h) = ap examinedRefusalOf (q .sizes .0 h .0)
-  look-size (examinedBy scratch r after) q (inr h) = ap examinedRefusalOf (q .sizes .1 (eqb-false _ _ h) .0)
+  look-size (sawStates output r after) q (inl h) = ap refusalIn (q .sizes .0 h)
+  look-size (sawStates output r after) q (inr h) = ap refusalIn (q .sizes .1 (eqb-false _ _ h))
+  look-size (examinedBy scratch r after) q (inl h) = ap refusalIn (q .sizes .0 h .0)
+  look-size (examinedBy scratch r after) q (inr h) = ap refusalIn (q .sizes .1 (eqb-false _ _ h) .0)
 
   -- and else, of memory that passes the examination, not at all
   pub look-answers : (l : Look) → LookPromise g mem l → wrongSize g (length mem) ≡ false → Consistent g (memOf g mem) → lookSized g l ≡ true → lookNumber l ≡ none
-  look-answers (sawPhase r) q w c h = ap phaseRefusalOf (q .exact w c)
-  look-answers (sawStates output r after) q w c h = ap refusalOf (q .exact w (eqb-true _ _ h) c .0)
+  look-answers (sawPhase r) q w c h = ap refusalIn (q .exact w c .0)
+  look-answers (sawStates output r after) q w c h = ap refusalIn (q .exact w (eqb-true _ _ h) c .0)
   look-answers (examinedBy scratch r after) q w c h = q .answers w (eqb-true _ _ h)
 
 -- ---- of wrong sizes
@@ -46,10 +46,10 @@ pub size-number : (e : Element) → Meets e → wrongSized e ≡ true → number
 size-number e = go (e .event)
   where
     go : (v : Event) → Promised v (e .geometry) (e .before) (e .after) → wrongSizes v (e .geometry) (length (e .before)) ≡ true → eventNumber v ≡ some 1
-    go (mutatorCall c r) q h = ap refusalOf (q .sizes h .0)
-    go (startCall r) q h = ap refusalOf (q .sizes h .0)
-    go (stepCall r) q h = ap stepRefusalOf (q .sizes h .0)
-    go (openingCall r) q h = ap refusalOf (q .sizes h .0)
+    go (mutatorCall c r) q h = ap refusalIn (q .sizes h .0)
+    go (startCall r) q h = ap refusalIn (q .sizes h .0)
+    go (stepCall r) q h = ap refusalIn (q .sizes h .0)
+    go (openingCall r) q h = ap refusalIn (q .sizes h .0)
     go (lookCall l) q h = look-size (e .geometry) (e .before) l (q .0) (either _ _ h)
 
 pub size-unchanged : (e : Element) → Meets e → wrongSized e ≡ true → e .after ≡ e .before

@@ -10,7 +10,7 @@ use lib.ListN.{length}
 use borrow.Author.Tests.{eqb-true, eqb-false}
 use Rattle.layout.specs.declared.Geometry.{Geometry}
 use Rattle.layout.specs.Geometry.{Sized, len, wrongSize, scratchWords}
-use Rattle.layout.specs.Mem.{Mem, memOf, Sizes}
+use Rattle.layout.specs.Mem.{Mem, memOf, Sizes, controlWord}
 use Rattle.layout.proofs.Regions.{right-size, resized, length-flat, memOf-flat, flat-memOf}
 use Rattle.theory.proofs.Invariant.{none-some}
 use Rattle.model.specs.Consistent.{Consistent}
@@ -84,7 +84,13 @@ module _ (g : Geometry) (words : List ℕ) (z : Sized g (length words)) where
     }
 
     look-promise : (q : Query) → LookPromise g words (lookOf g m q)
-    look-promise ofPhase = record { sizes = λ h. absurd (wrong h); exact = λ h c. refl; torn = λ h n e. none-some e }
+    look-promise ofPhase = record {
+      sizes = λ h. absurd (wrong h);
+      exact = λ h c. (refl, refl);
+      kind = λ e. (controlWord m 0, refl, k .sound .phases);
+      allowed = λ n e. none-some e;
+      onlySize = λ e. none-some e;
+    }
     look-promise (ofStates output) = states-promise output (eqb (length output) (len g Region.segments)) refl
     look-promise (ofExamination scratch) = examined-promise scratch (eqb (length scratch) (scratchWords g)) refl
 
@@ -97,7 +103,7 @@ module _ (g : Geometry) (words : List ℕ) (z : Sized g (length words)) where
     pub fine : (r : Command) → Fine (answered g words r)
     fine (call c) = record { meets = meets-call g words z c; long = length-left (call c); gets = record { geometry = refl; memory = refl; opening = λ x. x } }
     fine start = record { meets = meets-start g words z; long = length-left start; gets = record { geometry = refl; memory = refl; opening = λ x. x } }
-    fine step = record { meets = meets-step g words z; long = length-left step; gets = record { geometry = refl; memory = refl; opening = λ x. x } }
+    fine step = record { meets = meets-step g words z k; long = length-left step; gets = record { geometry = refl; memory = refl; opening = λ x. x } }
     fine (look q) = record { meets = (look-promise q, flat-memOf g words (z .is)); long = length-left (look q); gets = record { geometry = refl; memory = refl; opening = λ x. x } }
 
     linked : (r : Command) (es : List Element) → Chain g (answered g words r .after) es → Chain g words (answered g words r ∷ es)

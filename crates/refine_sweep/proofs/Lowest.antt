@@ -1,51 +1,13 @@
--- The segment that a step in sweep takes: one that is condemned, and none only where no segment is. Assumes nothing.
-use mathlib.Core.Path.{_≡_, refl, sym, _∙_, ap}
-use mathlib.Core.Logic.{⊎-elim}
-use mathlib.Core.Bool.{Bool, true, false}
-use mathlib.Core.Option.{Option, none, some, Option·some-injective}
-use Prim.Native.Nat.{ℕ, zero, suc, _<_}
+-- The segment that a step in sweep takes is what the abstract machine asks of it. Assumes nothing.
 use native.Mathlib.Omega.{arith}
-use lib.Dec.{eqb}
-use borrow.Author.Tests.{eq-eqb, ne-eqb, eqb-true, eqb-false}
-use Rattle.rules.specs.Pick.{pick}
-use Rattle.rules.proofs.Order.{le-or-lt}
+use borrow.Author.Tests.{eq-eqb, ne-eqb}
 use Rattle.layout.specs.declared.Geometry.{Geometry}
 use Rattle.layout.specs.Mem.{Mem, Sizes}
-use Rattle.theory.proofs.Invariant.{none-some}
 use Rattle.theory.proofs.CollectorKeeps.{Pick}
-use Rattle.model.specs.Fields.{tag}
-use Rattle.model.specs.Collector.{lowest, orThen}
+use Rattle.model.specs.Collector.{lowest}
 use Rattle.refine_view.specs.View.{view}
 use Rattle.laws.proofs.Segments.{in-range}
-use Rattle.model.specs.Tag as Tag
-
--- what the scan finds is condemned
-pub found-condemned : (m : Mem) (n r : ℕ) → lowest m n ≡ some r → (r < n) × (tag m r ≡ Tag.condemned)
-unfolding lowest
-found-condemned m zero r e = none-some e
-found-condemned m (suc n) r e = go (lowest m n) refl e (λ q. found-condemned m n r q)
-  where
-    here : (t : Bool) → eqb (tag m n) Tag.condemned ≡ t → pick t (some n) none ≡ some r → (r < suc n) × (tag m r ≡ Tag.condemned)
-    here true q f = let z : n ≡ r = Option·some-injective n r f in (omega arith, ap (tag m) (sym z) ∙ eqb-true _ _ q)
-    here false q f = none-some f
-
-    go : (o : Option ℕ) → lowest m n ≡ o → orThen o (pick (eqb (tag m n) Tag.condemned) (some n) none) ≡ some r → (lowest m n ≡ some r → (r < n) × (tag m r ≡ Tag.condemned)) → (r < suc n) × (tag m r ≡ Tag.condemned)
-    go none q f ih = here (eqb (tag m n) Tag.condemned) refl f
-    go (some s) q f ih = let z = ih (q ∙ f) in let l : r < n = z .0 in (omega arith, z .1)
-
--- where it finds none, none is there
-pub none-condemned : (m : Mem) (n : ℕ) → lowest m n ≡ none → (s : ℕ) → s < n → tag m s ≡ Tag.condemned → ⊥
-unfolding lowest
-none-condemned m zero e s l q = omega arith
-none-condemned m (suc n) e s l q = go (lowest m n) refl e (λ f h. none-condemned m n f s h q)
-  where
-    here : (t : Bool) → eqb (tag m n) Tag.condemned ≡ t → pick t (some n) none ≡ none → (s < n → ⊥) → ⊥
-    here true k f ih = none-some (sym f)
-    here false k f ih = ⊎-elim (λ z. let y : n ≡ s = omega arith in eqb-false _ _ k (ap (tag m) y ∙ q)) ih (le-or-lt n s)
-
-    go : (o : Option ℕ) → lowest m n ≡ o → orThen o (pick (eqb (tag m n) Tag.condemned) (some n) none) ≡ none → (lowest m n ≡ none → s < n → ⊥) → ⊥
-    go none k f ih = here (eqb (tag m n) Tag.condemned) refl f (ih k)
-    go (some x) k f ih = none-some (sym f)
+use Rattle.laws.proofs.Lowest.{found-condemned, none-condemned}
 
 module _ (g : Geometry) (m : Mem) (s : Sizes g m) where
   pub pick-lowest : Pick (λ _. lowest m (g .segments)) (view g m)

@@ -17,7 +17,8 @@ use Rattle.model.specs.Segments.{usedBit}
 use Rattle.model.specs.Collector.{lowest, swept, sweeps, stepIn}
 use Rattle.refine_view.specs.View.{view}
 use Rattle.refine_view.specs.Kept.{Ordered, Moves}
-use Rattle.refine_sweep.proofs.Lowest.{found-condemned, none-condemned, pick-lowest}
+use Rattle.laws.proofs.Lowest.{found-condemned, none-condemned}
+use Rattle.refine_sweep.proofs.Lowest.{pick-lowest}
 use Rattle.refine_sweep.proofs.SweepStep.{swept-outcome}
 use Rattle.refine_sweep.proofs.Agreeing.{moves-after}
 use Rattle.refine_sweep.proofs.LastStep.{moves-done}
@@ -30,10 +31,10 @@ module _ (g : Geometry) (m : Mem) (s : Sizes g m) (c : Ordered g m) where
   pub picked : Pick (λ _. lowest m (g .segments)) (view g m)
   picked = pick-lowest g m s
 
-  pub sweep-moves : phase m ≡ sweep → Moves g m (stepIn sweep g m .1) (stepBy (segmentOf g) (λ _. lowest m (g .segments)) sweep (view g m) .1)
+  pub sweep-moves : phase m ≡ sweep → Moves g m (stepIn sweep g m .1) (stepBy (segmentOf g) (λ _. lowest m (g .segments)) sweep (view g m))
   sweep-moves ph = go (lowest m (g .segments)) refl
     where
-      go : (o : Option ℕ) → lowest m (g .segments) ≡ o → Moves g m (sweeps g o m .1) (sweepStep (segmentOf g) o (view g m) .1)
+      go : (o : Option ℕ) → lowest m (g .segments) ≡ o → Moves g m (sweeps g o m .1) (sweepStep (segmentOf g) o (view g m))
       go none e = moves-done g m s c (none-condemned m (g .segments) e)
       go (some r) e = let h = lowest-condemned r e in moves-after g m s c ph (swept g m r) r (h .0) (h .1) (swept-outcome g m s c r (h .0) (h .1))
 

@@ -108,12 +108,12 @@ module _ (g : Geometry) (m m′ : Mem) (st : State) (w : Answered g m m′ st) (
   now : Moves g m m′ st
   now = record { structure = structure-of g m′ (w .ordered); occupied = w .occupied; agree = w .agree; steady = w .steady }
 
-  by-waiting : (n : ℕ) → Moves g m (moves n m′ p .1) (move n st p .1)
+  by-waiting : (n : ℕ) → Moves g m (moves n m′ p .1) (move n st p)
   by-waiting zero = phase-moves g m m′ st now (w .sizes) p tracing marks
   by-waiting (suc n) = now
 
-  stepped : (n : ℕ) → Moves g m (moves (waiting m′ n) m′ p .1) (move (machine.waiting n st) st p .1)
-  stepped n = subst (λ z. Moves g m (moves (waiting m′ n) m′ p .1) (move z st p .1)) (waiting-same g m′ st (w .agree) n) (by-waiting (waiting m′ n))
+  stepped : (n : ℕ) → Moves g m (moves (waiting m′ n) m′ p .1) (move (machine.waiting n st) st p)
+  stepped n = subst (λ z. Moves g m (moves (waiting m′ n) m′ p .1) (move z st p)) (waiting-same g m′ st (w .agree) n) (by-waiting (waiting m′ n))
 
 module _ (g : Geometry) (m : Mem) (s : Sizes g m) (c : Ordered g m) where
   -- the phase after the answers
@@ -129,8 +129,8 @@ module _ (g : Geometry) (m : Mem) (s : Sizes g m) (c : Ordered g m) where
   blank : (m′ : Mem) → MarksIn sync1 g m′ → MarksIn sync2 g m′
   blank m′ h = λ x b l u k e. absurd (let z = h (bitIn g x b) (within (mostBlocks g) x (g .segments) b l k) in omega arith)
 
-  pub first-by : (n : ℕ) → n ≤ mutatorCount → phase m ≡ sync1 → Moves g m (moves (waiting (outsideAnswered g m n) n) (outsideAnswered g m n) sync2 .1) (move (machine.waiting n (answerOutside n (view g m))) (answerOutside n (view g m)) sync2 .1)
+  pub first-by : (n : ℕ) → n ≤ mutatorCount → phase m ≡ sync1 → Moves g m (moves (waiting (outsideAnswered g m n) n) (outsideAnswered g m n) sync2 .1) (move (machine.waiting n (answerOutside n (view g m))) (answerOutside n (view g m)) sync2)
   first-by n h e = stepped g m (outsideAnswered g m n) (answerOutside n (view g m)) (all-answered g m s c n h) sync2 (λ t. tracing-kept n sync1 e tt) (blank (outsideAnswered g m n) (marks-kept n h sync1 e)) n
 
-  pub second-by : (n : ℕ) → n ≤ mutatorCount → phase m ≡ sync2 → Moves g m (moves (waiting (outsideAnswered g m n) n) (outsideAnswered g m n) mark .1) (move (machine.waiting n (answerOutside n (view g m))) (answerOutside n (view g m)) mark .1)
+  pub second-by : (n : ℕ) → n ≤ mutatorCount → phase m ≡ sync2 → Moves g m (moves (waiting (outsideAnswered g m n) n) (outsideAnswered g m n) mark .1) (move (machine.waiting n (answerOutside n (view g m))) (answerOutside n (view g m)) mark)
   second-by n h e = stepped g m (outsideAnswered g m n) (answerOutside n (view g m)) (all-answered g m s c n h) mark (λ t. tracing-kept n sync2 e tt) (marks-kept n h sync2 e) n

@@ -16,11 +16,11 @@ use Rattle.refine_trace.proofs.TraceStep.{trace-by}
 use Rattle.refine_trace.proofs.Handshakes.{first-by, second-by}
 
 module _ (g : Geometry) (m : Mem) (s : Sizes g m) (c : Ordered g m) where
-  pub handshake1-moves : (v : Option ℕ) → phase m ≡ sync1 → Moves g m (stepIn sync1 g m .1) (stepBy (segmentOf g) (λ _. v) sync1 (view g m) .1)
+  pub handshake1-moves : (v : Option ℕ) → phase m ≡ sync1 → Moves g m (stepIn sync1 g m .1) (stepBy (segmentOf g) (λ _. v) sync1 (view g m))
   handshake1-moves v e = first-by g m s c mutatorCount (omega arith) e
 
-  pub handshake2-moves : (v : Option ℕ) → phase m ≡ sync2 → Moves g m (stepIn sync2 g m .1) (stepBy (segmentOf g) (λ _. v) sync2 (view g m) .1)
+  pub handshake2-moves : (v : Option ℕ) → phase m ≡ sync2 → Moves g m (stepIn sync2 g m .1) (stepBy (segmentOf g) (λ _. v) sync2 (view g m))
   handshake2-moves v e = second-by g m s c mutatorCount (omega arith) e
 
-  pub trace-moves : (v : Option ℕ) → phase m ≡ mark → Moves g m (stepIn mark g m .1) (stepBy (segmentOf g) (λ _. v) mark (view g m) .1)
+  pub trace-moves : (v : Option ℕ) → phase m ≡ mark → Moves g m (stepIn mark g m .1) (stepBy (segmentOf g) (λ _. v) mark (view g m))
   trace-moves v e = trace-by g m s c e (traceCount m) refl

@@ -56,7 +56,7 @@ module _ (g : Geometry) (m : Mem) (s : Sizes g m) (c : Ordered g m) (marking : p
 
   -- ---- the stack is empty
 
-  none-left : Moves g m (traces g 0 m .1) (traceStep [] (view g m) .1)
+  none-left : Moves g m (traces g 0 m .1) (traceStep [] (view g m))
   none-left = phase-moves g m m (view g m) (moves-self g m c) s sweep (λ t. absurd t) (λ x b l u k e. marks-now x b l tt k e)
 
   -- ---- the last entered record
@@ -152,9 +152,9 @@ module _ (g : Geometry) (m : Mem) (s : Sizes g m) (c : Ordered g m) (marking : p
       unfolding setMarked
       trace-over = record { structure = next-structure; occupied = λ u. u; agree = trace-agree; steady = λ x h z. (z, refl) }
 
-    one-traced : Moves g m (traces g (suc n) m .1) (traceStep (stackOf m (suc n)) (view g m) .1)
+    one-traced : Moves g m (traces g (suc n) m .1) (traceStep (stackOf m (suc n)) (view g m))
     one-traced = let p = all-pushed in subst (λ z. Moves g m z next-state) (sym (p .is)) (trace-over (p .control) (p .queued) (p .trace) (p .entered) (p .stack))
 
-  pub trace-by : (n : ℕ) → traceCount m ≡ n → Moves g m (traces g n m .1) (traceStep (stackOf m n) (view g m) .1)
+  pub trace-by : (n : ℕ) → traceCount m ≡ n → Moves g m (traces g n m .1) (traceStep (stackOf m n) (view g m))
   trace-by zero e = none-left
   trace-by (suc n) e = one-traced n e

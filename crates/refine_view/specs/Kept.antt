@@ -112,7 +112,7 @@ pub record StartKept (g : Geometry) (m : Mem) : Type 0 where
 -- a step; in sweep it takes the lowest condemned segment
 pub record StepKept (g : Geometry) (m : Mem) : Type 0 where
   pub picked : Pick (λ _. lowest m (g .segments)) (view g m)
-  pub moves : Moves g m (stepOf g m .1) (machine.step (segmentOf g) (λ _. lowest m (g .segments)) (view g m) .1)
+  pub moves : Moves g m (stepOf g m .1) (machine.step (segmentOf g) (λ _. lowest m (g .segments)) (view g m))
 
 -- all of it, of every call of the model
 pub record AllKept (out : ℕ → Bool) : Type 0 where

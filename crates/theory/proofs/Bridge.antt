@@ -28,5 +28,5 @@ model-refused segmentOf P put st un c n o e = ap (λ n. refuse n un (uact un c))
 
 -- a step of the model that sweeps v, if it sweeps
 pub model-step : (segmentOf : ℕ → ℕ) (P : ℕ → Type 0) (put : ℕ → Option ℕ) (st st′ : State) (un : Unbounded) (v : Option ℕ) → Pick (λ _. v) st → Coupled segmentOf P put st un
-    → Agree segmentOf (stepBy segmentOf (λ _. v) (st .phase) st .1) st′ → Coupled segmentOf P put st′ un
+    → Agree segmentOf (stepBy segmentOf (λ _. v) (st .phase) st) st′ → Coupled segmentOf P put st′ un
 model-step segmentOf P put st st′ un v lo o a = agree-ok segmentOf P put _ st′ un a (step-ok segmentOf (λ _. v) P put st un lo o (st .phase) refl)

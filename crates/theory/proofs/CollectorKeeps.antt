@@ -153,26 +153,26 @@ module _ (segmentOf : ℕ → ℕ) (lowest : State → Option ℕ) where
   phase-ok : (P : ℕ → Type 0) (put : ℕ → Option ℕ) (st : State) (un : Unbounded) (p : Phase) → Coupled segmentOf P put st un → Inv segmentOf (setPhase st p) → Coupled segmentOf P put (setPhase st p) un
   phase-ok P put st un p o v = record { inv = v; sim = gc-sim put st un (o .sim) _ _ _ _ _ _ (λ b q. q); few = o .few; comp = phase-comp segmentOf P st (o .inv) (o .comp) p }
 
-  pub step-ok : (P : ℕ → Type 0) (put : ℕ → Option ℕ) (st : State) (un : Unbounded) → Pick lowest st → Coupled segmentOf P put st un → (p : Phase) → st .phase ≡ p → Coupled segmentOf P put (stepBy segmentOf lowest p st .1) un
+  pub step-ok : (P : ℕ → Type 0) (put : ℕ → Option ℕ) (st : State) (un : Unbounded) → Pick lowest st → Coupled segmentOf P put st un → (p : Phase) → st .phase ≡ p → Coupled segmentOf P put (stepBy segmentOf lowest p st) un
   step-ok P put st un lo o idle e = o
   step-ok P put st un lo o sync1 e = go (waiting mutatorCount (answerOutside mutatorCount st)) refl (outside-ok 32 P put st un o)
     where
-      go : (n : ℕ) → waiting mutatorCount (answerOutside mutatorCount st) ≡ n → Coupled segmentOf P put (answerOutside mutatorCount st) un → Coupled segmentOf P put (move n (answerOutside mutatorCount st) sync2 .1) un
+      go : (n : ℕ) → waiting mutatorCount (answerOutside mutatorCount st) ≡ n → Coupled segmentOf P put (answerOutside mutatorCount st) un → Coupled segmentOf P put (move n (answerOutside mutatorCount st) sync2) un
       go (suc n) w o₁ = o₁
       go zero w o₁ = phase-ok P put (answerOutside mutatorCount st) un sync2 o₁ (Cycle.to-sync2 segmentOf (answerOutside mutatorCount st) (o₁ .inv) (outside-later 32 st .phase ∙ e) (λ i h. owes1 _ (subst (λ p. owes p (answerOutside mutatorCount st .acks i) ≡ false) e (all-answered st w i (o₁ .few i h) h))))
   step-ok P put st un lo o sync2 e = go (waiting mutatorCount (answerOutside mutatorCount st)) refl (outside-ok 32 P put st un o)
     where
-      go : (n : ℕ) → waiting mutatorCount (answerOutside mutatorCount st) ≡ n → Coupled segmentOf P put (answerOutside mutatorCount st) un → Coupled segmentOf P put (move n (answerOutside mutatorCount st) mark .1) un
+      go : (n : ℕ) → waiting mutatorCount (answerOutside mutatorCount st) ≡ n → Coupled segmentOf P put (answerOutside mutatorCount st) un → Coupled segmentOf P put (move n (answerOutside mutatorCount st) mark) un
       go (suc n) w o₁ = o₁
       go zero w o₁ = phase-ok P put (answerOutside mutatorCount st) un mark o₁ (Cycle.to-mark segmentOf (answerOutside mutatorCount st) (o₁ .inv) (outside-later 32 st .phase ∙ e) (λ i h. owes2 _ (subst (λ p. owes p (answerOutside mutatorCount st .acks i) ≡ false) e (all-answered st w i (o₁ .few i h) h))))
   step-ok P put st un lo o mark e = go (st .stack) refl
     where
-      go : (l : List ℕ) → st .stack ≡ l → Coupled segmentOf P put (traceStep l st .1) un
+      go : (l : List ℕ) → st .stack ≡ l → Coupled segmentOf P put (traceStep l st) un
       go [] k = phase-ok P put st un sweep o (Cycle.to-sweep segmentOf st (o .inv) e k)
       go (b ∷ l) k = record { inv = Cycle.trace-inv segmentOf st (o .inv) b l e k; sim = gc-sim put st un (o .sim) _ _ _ _ _ _ (λ x q. Cycle.live-back segmentOf st (o .inv) b l e k q); few = o .few; comp = trace-comp segmentOf P st (o .inv) (o .comp) b l e k }
   step-ok P put st un lo o sweep e = go (lowest st) refl
     where
-      go : (v : Option ℕ) → lowest st ≡ v → Coupled segmentOf P put (sweepStep segmentOf v st .1) un
+      go : (v : Option ℕ) → lowest st ≡ v → Coupled segmentOf P put (sweepStep segmentOf v st) un
       go none k = phase-ok P put st un idle o (Cycle.to-idle segmentOf st (o .inv) e)
       go (some g) k = record { inv = Cycle.sweep-inv segmentOf st (o .inv) g e (lo .condemned g k); sim = gc-sim put st un (o .sim) _ _ _ _ _ _ (λ x q. q); few = o .few; comp = sweep-comp segmentOf P st (o .inv) (o .comp) g }
 

@@ -21,15 +21,16 @@ pub data Call : Type 0 where
   c-same : (mutator root other : ℕ) → Call
   c-shape : (mutator root : ℕ) → Call
 
--- an answer, as document 01 has it: a result or a refusal's number; then the abstract machine's answers to step, which counts no blocks
+-- an answer, as document 01 has it: a result with its values, or a refusal's number; the results of step are moved, traced, done, idle, waiting "and
+-- how many", and swept, "the segment, and how many blocks in use became free"
 pub data Answer : Type 0 where
   a-ok a-moved a-traced a-done a-idle : Answer
   a-num : ℕ → Answer
   a-flag : Bool → Answer
   a-shape : (pointers values : ℕ) → Answer
   a-no : ℕ → Answer
-  a-waiting : ℕ → Answer
-  a-swept : (segment : ℕ) → Answer
+  a-waiting : (mutators : ℕ) → Answer
+  a-swept : (segment freed : ℕ) → Answer
 
 -- what a heap shows: which mutators are attached, which are inside, and the shape of the record in a root
 pub record Observation : Type 0 where

@@ -7,7 +7,7 @@ use Prim.Native.Nat.{ℕ, zero, suc, _+_}
 use lib.Dec.{ltb}
 use lib.ListN.{length, getD, set, replicate}
 use Rattle.theory.specs.Machine.{State, setRoot, store, make, attach, detach, setInside, setValues, check, setPhase, trace, sweepSegment}
-use Rattle.theory.specs.Calls.{Call, Answer, Observation, shapeIf, onRecord, sameRef, c-attach, c-detach, c-check, c-leave, c-enter, c-spawn, c-make, c-load, c-store, c-copy, c-clear, c-put, c-get, c-same, c-shape, a-ok, a-moved, a-traced, a-done, a-idle, a-num, a-flag, a-shape, a-waiting, a-swept}
+use Rattle.theory.specs.Calls.{Call, Answer, Observation, shapeIf, onRecord, sameRef, c-attach, c-detach, c-check, c-leave, c-enter, c-spawn, c-make, c-load, c-store, c-copy, c-clear, c-put, c-get, c-same, c-shape, a-ok, a-num, a-flag, a-shape}
 use Rattle.theory.specs.Phases.{Phase, idle, sync1, sync2, mark, sweep, inHandshake, owes}
 use Rattle.theory.specs.Reach.{root}
 use Rattle.rules.specs.Pick.{oneIf}
@@ -76,24 +76,25 @@ abbrev pub waiting : ℕ → State → ℕ
 waiting zero st = 0
 waiting (suc n) st = oneIf (st .attached n && (st .inside n && owes (st .phase) (st .acks n))) + waiting n st
 
-abbrev pub move : ℕ → State → Phase → Answer × State
-move zero st p = (a-moved, setPhase st p)
-move (suc n) st p = (a-waiting (suc n), st)
+-- where a step leads
+abbrev pub move : ℕ → State → Phase → State
+move zero st p = setPhase st p
+move (suc n) st p = st
 
-abbrev pub traceStep : List ℕ → State → Answer × State
-traceStep [] st = (a-moved, setPhase st sweep)
-traceStep (b ∷ l) st = (a-traced, trace st b l)
+abbrev pub traceStep : List ℕ → State → State
+traceStep [] st = setPhase st sweep
+traceStep (b ∷ l) st = trace st b l
 
-abbrev pub sweepStep : (ℕ → ℕ) → Option ℕ → State → Answer × State
-sweepStep segmentOf none st = (a-done, setPhase st idle)
-sweepStep segmentOf (some g) st = (a-swept g, sweepSegment segmentOf st g)
+abbrev pub sweepStep : (ℕ → ℕ) → Option ℕ → State → State
+sweepStep segmentOf none st = setPhase st idle
+sweepStep segmentOf (some g) st = sweepSegment segmentOf st g
 
-abbrev pub stepBy : (ℕ → ℕ) → (State → Option ℕ) → Phase → State → Answer × State
-stepBy segmentOf lowest idle st = (a-idle, st)
+abbrev pub stepBy : (ℕ → ℕ) → (State → Option ℕ) → Phase → State → State
+stepBy segmentOf lowest idle st = st
 stepBy segmentOf lowest sync1 st = move (waiting mutatorCount (answerOutside mutatorCount st)) (answerOutside mutatorCount st) sync2
 stepBy segmentOf lowest sync2 st = move (waiting mutatorCount (answerOutside mutatorCount st)) (answerOutside mutatorCount st) mark
 stepBy segmentOf lowest mark st = traceStep (st .stack) st
 stepBy segmentOf lowest sweep st = sweepStep segmentOf (lowest st) st
 
-abbrev pub step : (ℕ → ℕ) → (State → Option ℕ) → State → Answer × State
+abbrev pub step : (ℕ → ℕ) → (State → Option ℕ) → State → State
 step segmentOf lowest st = stepBy segmentOf lowest (st .phase) st

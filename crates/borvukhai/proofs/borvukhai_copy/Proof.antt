@@ -1,5 +1,4 @@
 -- `borvukhai::borvukhai_copy` meets its contract. Assumes nothing.
-use mathlib.Core.Path.{refl}
 use borrow.Author.Needs.{needs}
 use Rattle.borvukhai.proofs.borvukhai_copy.Statement.{statement}
 use Rattle.theory.specs.Calls.{c-copy}
@@ -19,7 +18,7 @@ same-length : tie.Need-same-length
 same-length c = search needs
 
 returns : tie.Need-returns
-returns c = exports (c-copy _ _ _) _ _ _ _ _ (c .before .before .before .before .before .geometry .ensures) (c .before .before .before .copy .ensures) tt _ (c .packed .ensures) refl
+returns c = exports (c-copy _ _ _) _ _ _ _ _ (c .before .before .before .before .before .geometry .ensures) (c .before .before .before .copy .ensures) _ (c .packed .ensures) (λ k. k)
 
 pub borvukhai-copy-spec : {M : Type 1} → statement M
 borvukhai-copy-spec =

@@ -1,5 +1,4 @@
 -- `borvukhai::borvukhai_get` meets its contract. Assumes nothing.
-use mathlib.Core.Path.{refl}
 use borrow.Author.Needs.{needs}
 use Rattle.borvukhai.proofs.borvukhai_get.Statement.{statement}
 use Rattle.theory.specs.Calls.{c-get}
@@ -16,7 +15,7 @@ packed-value-requires : tie.Need-packed-value-requires
 packed-value-requires c κs = search needs
 
 returns : tie.Need-returns
-returns c = exports-number (c-get _ _ _) _ _ _ _ _ (c .before .before .geometry .ensures) (c .before .get .ensures) tt _ (c .packed-value .ensures) refl
+returns c = exports-number (c-get _ _ _) _ _ _ _ _ (c .before .before .geometry .ensures) (c .before .get .ensures) _ (c .packed-value .ensures) (λ k. k)
 
 pub borvukhai-get-spec : {M : Type 1} → statement M
 borvukhai-get-spec =

@@ -1,5 +1,4 @@
 -- `borvukhai::borvukhai_put` meets its contract. Assumes nothing.
-use mathlib.Core.Path.{refl}
 use borrow.Author.Needs.{needs}
 use Rattle.borvukhai.proofs.borvukhai_put.Statement.{statement}
 use Rattle.theory.specs.Calls.{c-put}
@@ -19,7 +18,7 @@ same-length : tie.Need-same-length
 same-length c = search needs
 
 returns : tie.Need-returns
-returns c = exports (c-put _ _ _ _) _ _ _ _ _ (c .before .before .before .before .before .geometry .ensures) (c .before .before .before .put .ensures) tt _ (c .packed .ensures) refl
+returns c = exports (c-put _ _ _ _) _ _ _ _ _ (c .before .before .before .before .before .geometry .ensures) (c .before .before .before .put .ensures) _ (c .packed .ensures) (λ k. k)
 
 pub borvukhai-put-spec : {M : Type 1} → statement M
 borvukhai-put-spec =

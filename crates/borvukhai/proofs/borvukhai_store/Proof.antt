@@ -1,5 +1,4 @@
 -- `borvukhai::borvukhai_store` meets its contract. Assumes nothing.
-use mathlib.Core.Path.{refl}
 use borrow.Author.Needs.{needs}
 use Rattle.borvukhai.proofs.borvukhai_store.Statement.{statement}
 use Rattle.theory.specs.Calls.{c-store}
@@ -19,7 +18,7 @@ same-length : tie.Need-same-length
 same-length c = search needs
 
 returns : tie.Need-returns
-returns c = exports (c-store _ _ _ _) _ _ _ _ _ (c .before .before .before .before .before .geometry .ensures) (c .before .before .before .store .ensures) tt _ (c .packed .ensures) refl
+returns c = exports (c-store _ _ _ _) _ _ _ _ _ (c .before .before .before .before .before .geometry .ensures) (c .before .before .before .store .ensures) _ (c .packed .ensures) (λ k. k)
 
 pub borvukhai-store-spec : {M : Type 1} → statement M
 borvukhai-store-spec =

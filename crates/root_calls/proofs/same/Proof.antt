@@ -37,7 +37,7 @@ root-requires-2 c κs =
 returns-3 : tie.Need-returns-3
 unfolding insideThen act
 returns-3 c =
-    done (c-same _ _ _) _ _ (sym (c .before .before .before .before .before .wrong-size .ensures) ∙ c .before .before .before .before .if1 .left) (sym (c .before .before .if2 .left) ∙ c .before .before .before .roots-refusal .ensures) refl refl
+    done (c-same _ _ _) _ _ (sym (c .before .before .before .before .before .wrong-size .ensures) ∙ c .before .before .before .before .if1 .left) (sym (c .before .before .if2 .left) ∙ c .before .before .before .roots-refusal .ensures) (_, refl) refl
     (ap a-flag (same-words (c .before .root .ensures) (c .root2 .ensures)))
     refl
 

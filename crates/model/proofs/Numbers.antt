@@ -1,0 +1,130 @@
+-- Which numbers a call may give: the lowest of 2 to 9 that applies, 1 and 13, and none that is not of the table. Assumes nothing.
+use mathlib.Core.Path.{_≡_, refl, sym}
+use mathlib.Core.Bool.{Bool, true, false, _&&_, true≢false}
+use mathlib.Core.Option.{Option, none, some}
+use mathlib.Core.Logic.{_⊎_, inl, inr}
+use mathlib.Core.List.{List, [], _∷_}
+use Prim.Native.Nat.{ℕ, _≤_}
+use native.Mathlib.Omega.{arith}
+use lib.Dec.{T, eqb, leb, leb→le}
+use borrow.Author.Tests.{eqb-true}
+use Rattle.rules.specs.Pick.{pick}
+use Rattle.rules.proofs.Table.{and-left, and-right}
+use Rattle.theory.specs.Calls.{Call, c-attach, c-detach, c-check, c-leave, c-enter, c-spawn, c-make, c-load, c-store, c-copy, c-clear, c-put, c-get, c-same, c-shape, Observation, require, ifRecord, refusal}
+use Rattle.model.specs.Answers.{among, mayGive}
+
+-- no refusal, or a number of the list that is not 1
+pub record Among (ns : List ℕ) (n : ℕ) : Type 0 where
+  pub either : (n ≡ 0) ⊎ ((among n ns ≡ true) × (2 ≤ n))
+
+require-among : (ns : List ℕ) (b : Bool) (n rest : ℕ) → (among n ns ≡ true) × (2 ≤ n) → Among ns rest → Among ns (require b n rest)
+unfolding require
+require-among ns true n rest a r = r
+require-among ns false n rest a r = record { either = inr a }
+
+record-among : (ns : List ℕ) (o : Option (ℕ × ℕ)) (rest : ℕ × ℕ → ℕ) → among 7 ns ≡ true → ((s : ℕ × ℕ) → Among ns (rest s)) → Among ns (ifRecord o rest)
+unfolding ifRecord
+record-among ns none rest a r = record { either = inr (a, omega arith) }
+record-among ns (some s) rest a r = r s
+
+no-refusal : (ns : List ℕ) → Among ns 0
+no-refusal ns = record { either = inl refl }
+
+pub refusal-among : (F : Observation) (c : Call) → Among (mayGive c) (refusal F c)
+refusal-among F (c-attach i) = require-among _ _ _ _ (refl, omega arith) (require-among _ _ _ _ (refl, omega arith) (no-refusal _))
+refusal-among F (c-spawn i p k) = require-among _ _ _ _ (refl, omega arith) (require-among _ _ _ _ (refl, omega arith) (require-among _ _ _ _ (refl, omega arith) (require-among _ _ _ _ (refl, omega arith) (require-among _ _ _ _ (refl, omega arith) (require-among _ _ _ _ (refl, omega arith) (no-refusal _))))))
+refusal-among F (c-detach i) = require-among _ _ _ _ (refl, omega arith) (require-among _ _ _ _ (refl, omega arith) (require-among _ _ _ _ (refl, omega arith) (no-refusal _)))
+refusal-among F (c-check i) = require-among _ _ _ _ (refl, omega arith) (require-among _ _ _ _ (refl, omega arith) (require-among _ _ _ _ (refl, omega arith) (no-refusal _)))
+refusal-among F (c-leave i) = require-among _ _ _ _ (refl, omega arith) (require-among _ _ _ _ (refl, omega arith) (require-among _ _ _ _ (refl, omega arith) (no-refusal _)))
+refusal-among F (c-enter i) = require-among _ _ _ _ (refl, omega arith) (require-among _ _ _ _ (refl, omega arith) (require-among _ _ _ _ (refl, omega arith) (no-refusal _)))
+refusal-among F (c-make i d p n) = require-among _ _ _ _ (refl, omega arith) (require-among _ _ _ _ (refl, omega arith) (require-among _ _ _ _ (refl, omega arith) (require-among _ _ _ _ (refl, omega arith) (require-among _ _ _ _ (refl, omega arith) (no-refusal _)))))
+refusal-among F (c-load i d s f) = require-among _ _ _ _ (refl, omega arith) (require-among _ _ _ _ (refl, omega arith) (require-among _ _ _ _ (refl, omega arith) (require-among _ _ _ _ (refl, omega arith) (require-among _ _ _ _ (refl, omega arith) (record-among _ _ _ refl (λ s. require-among _ _ _ _ (refl, omega arith) (no-refusal _)))))))
+refusal-among F (c-store i s f t) = require-among _ _ _ _ (refl, omega arith) (require-among _ _ _ _ (refl, omega arith) (require-among _ _ _ _ (refl, omega arith) (require-among _ _ _ _ (refl, omega arith) (require-among _ _ _ _ (refl, omega arith) (record-among _ _ _ refl (λ s. require-among _ _ _ _ (refl, omega arith) (no-refusal _)))))))
+refusal-among F (c-copy i d s) = require-among _ _ _ _ (refl, omega arith) (require-among _ _ _ _ (refl, omega arith) (require-among _ _ _ _ (refl, omega arith) (require-among _ _ _ _ (refl, omega arith) (require-among _ _ _ _ (refl, omega arith) (no-refusal _)))))
+refusal-among F (c-clear i d) = require-among _ _ _ _ (refl, omega arith) (require-among _ _ _ _ (refl, omega arith) (require-among _ _ _ _ (refl, omega arith) (require-among _ _ _ _ (refl, omega arith) (no-refusal _))))
+refusal-among F (c-put i s k v) = require-among _ _ _ _ (refl, omega arith) (require-among _ _ _ _ (refl, omega arith) (require-among _ _ _ _ (refl, omega arith) (require-among _ _ _ _ (refl, omega arith) (record-among _ _ _ refl (λ s. require-among _ _ _ _ (refl, omega arith) (no-refusal _))))))
+refusal-among F (c-get i s k) = require-among _ _ _ _ (refl, omega arith) (require-among _ _ _ _ (refl, omega arith) (require-among _ _ _ _ (refl, omega arith) (require-among _ _ _ _ (refl, omega arith) (record-among _ _ _ refl (λ s. require-among _ _ _ _ (refl, omega arith) (no-refusal _))))))
+refusal-among F (c-same i s t) = require-among _ _ _ _ (refl, omega arith) (require-among _ _ _ _ (refl, omega arith) (require-among _ _ _ _ (refl, omega arith) (require-among _ _ _ _ (refl, omega arith) (require-among _ _ _ _ (refl, omega arith) (no-refusal _)))))
+refusal-among F (c-shape i s) = require-among _ _ _ _ (refl, omega arith) (require-among _ _ _ _ (refl, omega arith) (require-among _ _ _ _ (refl, omega arith) (require-among _ _ _ _ (refl, omega arith) (record-among _ _ _ refl (λ s. no-refusal _)))))
+
+pub gives-1 : (c : Call) → among 1 (mayGive c) ≡ true
+gives-1 (c-attach i) = refl
+gives-1 (c-spawn i p k) = refl
+gives-1 (c-detach i) = refl
+gives-1 (c-check i) = refl
+gives-1 (c-leave i) = refl
+gives-1 (c-enter i) = refl
+gives-1 (c-make i d p n) = refl
+gives-1 (c-load i d s f) = refl
+gives-1 (c-store i s f t) = refl
+gives-1 (c-copy i d s) = refl
+gives-1 (c-clear i d) = refl
+gives-1 (c-put i s k v) = refl
+gives-1 (c-get i s k) = refl
+gives-1 (c-same i s t) = refl
+gives-1 (c-shape i s) = refl
+
+pub gives-13 : (c : Call) → among 13 (mayGive c) ≡ true
+gives-13 (c-attach i) = refl
+gives-13 (c-spawn i p k) = refl
+gives-13 (c-detach i) = refl
+gives-13 (c-check i) = refl
+gives-13 (c-leave i) = refl
+gives-13 (c-enter i) = refl
+gives-13 (c-make i d p n) = refl
+gives-13 (c-load i d s f) = refl
+gives-13 (c-store i s f t) = refl
+gives-13 (c-copy i d s) = refl
+gives-13 (c-clear i d) = refl
+gives-13 (c-put i s k v) = refl
+gives-13 (c-get i s k) = refl
+gives-13 (c-same i s t) = refl
+gives-13 (c-shape i s) = refl
+
+pub one-of : (ns : List ℕ) (n : ℕ) → (n ≡ 0 → ⊥) → Among ns n → (among n ns ≡ true) × (2 ≤ n)
+one-of ns n f a = go (a .either)
+  where
+    go : (n ≡ 0) ⊎ ((among n ns ≡ true) × (2 ≤ n)) → (among n ns ≡ true) × (2 ≤ n)
+    go (inl z) = absurd (f z)
+    go (inr b) = b
+
+-- ---- a number that a call may give is one of the table
+
+abbrev pub OfTable : ℕ → Type 0
+OfTable n = (1 ≤ n) × (n ≤ 13)
+
+abbrev pub allOfTable : List ℕ → Bool
+allOfTable [] = true
+allOfTable (x ∷ xs) = leb 1 x && (leb x 13 && allOfTable xs)
+
+pub among-table : (n : ℕ) (xs : List ℕ) → T (allOfTable xs) → among n xs ≡ true → OfTable n
+among-table n [] t e = absurd (true≢false (sym e))
+among-table n (x ∷ xs) t e = go (eqb n x) refl e (among-table n xs (and-right (leb x 13) (allOfTable xs) (and-right (leb 1 x) _ t)))
+  where
+    go : (b : Bool) → eqb n x ≡ b → pick b true (among n xs) ≡ true → (among n xs ≡ true → OfTable n) → OfTable n
+    go true q f rest =
+        let i : n ≡ x = eqb-true n x q in
+        let l = leb→le 1 x (and-left (leb 1 x) _ t) in
+        let h = leb→le x 13 (and-left (leb x 13) (allOfTable xs) (and-right (leb 1 x) _ t)) in
+        (omega arith, omega arith)
+    go false q f rest = rest f
+
+all-table : (c : Call) → T (allOfTable (mayGive c))
+all-table (c-attach k) = tt
+all-table (c-spawn k p i) = tt
+all-table (c-detach k) = tt
+all-table (c-check k) = tt
+all-table (c-leave k) = tt
+all-table (c-enter k) = tt
+all-table (c-make k d p n) = tt
+all-table (c-load k d i f) = tt
+all-table (c-store k i f j) = tt
+all-table (c-copy k d i) = tt
+all-table (c-clear k d) = tt
+all-table (c-put k i f v) = tt
+all-table (c-get k i f) = tt
+all-table (c-same k i j) = tt
+all-table (c-shape k i) = tt
+
+pub may-table : (n : ℕ) (c : Call) → among n (mayGive c) ≡ true → OfTable n
+may-table n c e = among-table n (mayGive c) (all-table c) e
