@@ -15,5 +15,7 @@ pub mod Bitmaps
 pub mod Blocks
 pub mod Apart
 pub mod Rooted
+pub mod Pushes
+pub mod Acknowledgements
 pub mod Promised
 pub mod Reaching

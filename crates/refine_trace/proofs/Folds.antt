@@ -1,6 +1,6 @@
 -- Pushes of a mutator's roots and of a record's pointers. Assumes nothing.
-use mathlib.Core.Path.{_≡_, refl, sym, subst}
-use mathlib.Core.Option.{Option, none, some}
+use mathlib.Core.Path.{_≡_, sym, subst}
+use mathlib.Core.Option.{Option, some}
 use mathlib.Core.List.{List, [], _∷_, _++_}
 use Prim.Native.Nat.{ℕ, zero, suc, _<_}
 use native.Mathlib.Omega.{arith}
@@ -12,28 +12,11 @@ use Rattle.model.specs.Fields.{root}
 use Rattle.model.specs.Records.{record?, pointer}
 use Rattle.model.specs.Tracing.{pushRoots, pushPointers}
 use Rattle.model.specs.Consistent.{RecordOk}
+use Rattle.laws.proofs.Pushes.{roots-none, roots-next, pointers-none, pointers-next}
 use Rattle.refine_view.specs.View.{view}
 use Rattle.refine_trace.proofs.Over.{Segments}
 use Rattle.refine_trace.proofs.Push.{Pushed, push-pushed}
 use Rattle.model.specs.Tracing as tracing
-
--- ---- the folds of the model, step by step
-
-roots-none : (g : Geometry) (m : Mem) (k : ℕ) → pushRoots g m k 0 ≡ m
-unfolding pushRoots
-roots-none g m k = refl
-
-roots-next : (g : Geometry) (m : Mem) (k n : ℕ) → pushRoots g m k (suc n) ≡ tracing.push g (pushRoots g m k n) (record? (root m k n))
-unfolding pushRoots
-roots-next g m k n = refl
-
-pointers-none : (g : Geometry) (m : Mem) (x : ℕ) → pushPointers g m x 0 ≡ m
-unfolding pushPointers
-pointers-none g m x = refl
-
-pointers-next : (g : Geometry) (m : Mem) (x n : ℕ) → pushPointers g m x (suc n) ≡ tracing.push g (pushPointers g m x n) (record? (pointer m x n))
-unfolding pushPointers
-pointers-next g m x n = refl
 
 -- pushes of a table of references by any such fold
 fold-pushed : (g : Geometry) (m : Mem) → Segments g m → (h : ℕ → Mem) (r : ℕ → Option ℕ) (l : List ℕ) → ((n : ℕ) → h (suc n) ≡ tracing.push g (h n) (r n)) → Pushed g m (h 0) l → (n : ℕ) → ((i at : ℕ) → i < n → r i ≡ some at → RecordOk g m at) → Pushed g m (h n) (pushes (view g m .marked) (tab n r) l)

@@ -2,3 +2,4 @@
 pub mod Bits
 pub mod Pushed
 pub mod Succeeds
+pub mod Roots

@@ -5,9 +5,10 @@ use model::Duty;
 ghost use mathlib.Core.Path.{_≡_};
 ghost use Prim.Native.Nat.{_*_, _<_};
 ghost use lib.ListN.{length};
-ghost use Rattle.layout.specs.Geometry.{Sized, mostBlocks};
+ghost use Rattle.layout.specs.Geometry.{Sized, mostBlocks, mutatorCount};
 ghost use Rattle.layout.specs.Mem.{memOf};
 ghost use Rattle.tracing.specs.Pushing.{bitPlace, PushesBit, Pushes, BarrierRuns};
+ghost use Rattle.tracing.specs.Roots.{PushesRoots};
 
 // The number of a record's bit among the marks and the queued bits, or none.
 pub enum Bit {
@@ -85,4 +86,21 @@ pub fn barrier(g: Geometry, mem: &mut [u32], duty: Duty, new: u32, old: u32) -> 
         }
         Duty::Old => push(g, mem, old),
     }
+}
+
+// Pushes the roots of mutator k, in order; false where one has no bit, or the stack no room.
+pub fn push_roots(g: Geometry, mem: &mut [u32], k: u32) -> bool
+    requires { ⌜ (Sized g (length (now mem))) × (k < mutatorCount) ⌝ }
+    ensures { λ r. ⌜ PushesRoots g (memOf g (now (mem .entry))) k r (memOf g (now (mem .exit))) ⌝ }
+{
+    let mut i: u32 = 0;
+    while i < layout::ROOTS {
+        let w = roots::root(g, mem, k, i);
+        if push(g, mem, w) {
+            i += 1;
+        } else {
+            return false;
+        }
+    }
+    true
 }
