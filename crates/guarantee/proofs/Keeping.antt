@@ -4,7 +4,7 @@ use mathlib.Core.Logic.{inl, inr}
 use mathlib.Core.Bool.{Bool, true, false, true≢false}
 use mathlib.Core.Option.{none, some, Option·none-ne-some, Option·some-injective}
 use mathlib.Core.List.{List}
-use Prim.Native.Nat.{ℕ, _+_, _<_}
+use Prim.Native.Nat.{ℕ, _+_, _≤_, _<_}
 use native.Mathlib.Omega.{arith}
 use lib.ListN.{length}
 use Rattle.rules.specs.Pick.{pick}
@@ -56,31 +56,32 @@ law g words e a = every-element g words e (a .sized) (a .consistent) (a .meets) 
 pub every-call-keeps : EveryCallKeeps
 every-call-keeps g words e a = subst (λ x. Consistent g (memOf g x)) (ahead g words e (a .meets) (a .gets)) (law g words e a .consistent)
 
--- a mutator's call answers as the memory itself does as an unbounded heap, so it is not refused 13
-call-not-torn : (g : Geometry) (words after : List ℕ) → Sized g (length words) → Consistent g (memOf g words) → (v : Event) → Acts g (memOf g words) (memOf g after) v → (x : Call × Answer) → remains struckOut v ≡ some x → refusalOf (x .1) ≡ some 13 → ⊥
-call-not-torn g words after z c v a x i t = go (self-leads g (memOf g words) (sizes-of g words z) c v after a)
+-- a mutator's call that remains answers as the memory itself does as an unbounded heap: a refusal is from 2 to 9
+remains-number : (g : Geometry) (words after : List ℕ) → Sized g (length words) → Consistent g (memOf g words) → (v : Event) → Acts g (memOf g words) (memOf g after) v → (x : Call × Answer) → remains struckOut v ≡ some x → (n : ℕ) → refusalOf (x .1) ≡ some n → n ≤ 9
+remains-number g words after z c v a x i n t = go (self-leads g (memOf g words) (sizes-of g words z) c v after a)
   where
-    go : Leads g (memOf g words) (sizes-of g words z) c (alone g (memOf g words) (sizes-of g words z) c) Any (self-good g (memOf g words) (sizes-of g words z) (consistent-ordered g (memOf g words) c)) v after → ⊥
-    go (goes n) = let y = unbounded-number (self g (memOf g words)) (x .0) 13 (sym (ap refusalIn (n .answer x i)) ∙ t) .1 in omega arith
-    go (begins e b) = Option·none-ne-some x (sym (ap (remains struckOut) e) ∙ i)
+    go : Leads g (memOf g words) (sizes-of g words z) c (alone g (memOf g words) (sizes-of g words z) c) Any (self-good g (memOf g words) (sizes-of g words z) (consistent-ordered g (memOf g words) c)) v after → n ≤ 9
+    go (goes y) = unbounded-number (self g (memOf g words)) (x .0) n (sym (ap refusalIn (y .answer x i)) ∙ t) .1
+    go (begins e b) = absurd (Option·none-ne-some x (sym (ap (remains struckOut) e) ∙ i))
 
-module _ (g : Geometry) (words : List ℕ) (z : Sized g (length words)) (c : Consistent g (memOf g words)) where
-  look-not-torn : (l : Look) → LookPromise g words l → (b : Bool) → lookSized g l ≡ b → lookNumber l ≡ some 13 → ⊥
-  look-not-torn l q true h t = none-some (sym (look-answers g words l q (right-size g (length words) z) c h) ∙ t)
-  look-not-torn l q false h t = let y : _≡_ {A = ℕ} 1 13 = Option·some-injective 1 13 (sym (look-size g words l q (inr h)) ∙ t) in omega arith
+-- no refusal is by a number above 12 that is not struck out
+module _ (g : Geometry) (words : List ℕ) (z : Sized g (length words)) (c : Consistent g (memOf g words)) (n : ℕ) (large : 12 < n) (left : struckOut n ≡ false) where
+  look-not : (l : Look) → LookPromise g words l → (b : Bool) → lookSized g l ≡ b → lookNumber l ≡ some n → ⊥
+  look-not l q true h t = none-some (sym (look-answers g words l q (right-size g (length words) z) c h) ∙ t)
+  look-not l q false h t = let y = Option·some-injective 1 n (sym (look-size g words l q (inr h)) ∙ t) in omega arith
 
-  not-torn : (v : Event) (after : List ℕ) → Promised v g words after → Acts g (memOf g words) (memOf g after) v → eventNumber v ≡ some 13 → ⊥
-  not-torn v after q (wrong n h) t = let y : _≡_ {A = ℕ} 1 13 = Option·some-injective 1 13 (sym n ∙ t) in omega arith
-  not-torn v after q (looks {l = l} h) t = look-not-torn l (q .0) (lookSized g l) refl t
-  not-torn v after q (calls {c = k} {r = r} e h) t = call-not-torn g words after z c v (calls e h) (k, r) (ap (λ o. pick (struck struckOut o) none (some (k, r))) t) t
-  not-torn v after q (starts i h) t = none-some t
-  not-torn v after q (startRefused {n = n} e h) t = let y : n ≡ 13 = Option·some-injective n 13 t in let x = start-number g (memOf g words) n e in omega arith
-  not-torn v after q (steps e h) t = none-some (sym (step-answers g (memOf g words)) ∙ ap refusalIn (sym e) ∙ t)
+  event-not : (v : Event) (after : List ℕ) → Promised v g words after → Acts g (memOf g words) (memOf g after) v → eventNumber v ≡ some n → ⊥
+  event-not v after q (wrong x h) t = let y = Option·some-injective 1 n (sym x ∙ t) in omega arith
+  event-not v after q (looks {l = l} h) t = look-not l (q .0) (lookSized g l) refl t
+  event-not v after q (calls {c = k} {r = r} e h) t = let y = remains-number g words after z c v (calls e h) (k, r) (ap (λ o. pick (struck struckOut o) none (some (k, r))) t ∙ ap (λ b. pick b none (some (k, r))) left) n t in omega arith
+  event-not v after q (starts i h) t = none-some t
+  event-not v after q (startRefused {n = x} e h) t = let y = Option·some-injective x n t in let l = start-number g (memOf g words) x e in omega arith
+  event-not v after q (steps e h) t = none-some (sym (step-answers g (memOf g words)) ∙ ap refusalIn (sym e) ∙ t)
 
 pub never-torn : NeverTorn
 never-torn g words e a t =
     let z = sized g (length words) (a .sized) in
-    not-torn g words z (a .consistent) (e .event) (e .after) (subst Meets (is-over g words e (a .gets)) (a .meets)) (subst (λ x. Acts g (memOf g words) (memOf g x) (e .event)) (ahead g words e (a .meets) (a .gets)) (law g words e a .acts)) t
+    event-not g words z (a .consistent) _ (omega arith) refl (e .event) (e .after) (subst Meets (is-over g words e (a .gets)) (a .meets)) (subst (λ x. Acts g (memOf g words) (memOf g x) (e .event)) (ahead g words e (a .meets) (a .gets)) (law g words e a .acts)) t
 
 -- refused, the memory is as it was
 refused-same : (g : Geometry) (m m′ : Mem) (v : Event) (n : ℕ) → Acts g m m′ v → eventNumber v ≡ some n → m′ ≡ m
@@ -127,7 +128,7 @@ no-room-exactly = record {
   only = λ g words after k d p n r a e.
       let q = a .meets .exact (a .sized) (a .consistent) in
       let x = roomless-of g (memOf g words) k d p n (sym (q .0) ∙ of-number r 10 e) in
-      record { class = x .class; lower = x .lower; sized = x .sized; noRoom = source-room g (memOf g words) (sizes-of g words (sized g (length words) (a .sized))) (consistent-ordered g (memOf g words) (a .consistent)) k (x .class) (known g words k d p n (x .lower)) (class-found (p + n) (x .class) (x .sized)) (x .source) };
+      record { class = x .class; lower = rw (x .lower); sized = x .sized; noRoom = source-room g (memOf g words) (sizes-of g words (sized g (length words) (a .sized))) (consistent-ordered g (memOf g words) (a .consistent)) k (x .class) (known g words k d p n (x .lower)) (class-found (p + n) (x .class) (x .sized)) (x .source) };
   whenever = λ g words after k d p n r a x.
       let q = a .meets .exact (a .sized) (a .consistent) in
       let s = room-source g (memOf g words) (sizes-of g words (sized g (length words) (a .sized))) (consistent-ordered g (memOf g words) (a .consistent)) k (x .class) (known g words k d p n (x .lower)) (class-found (p + n) (x .class) (x .sized)) (x .noRoom) in

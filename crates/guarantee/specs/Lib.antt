@@ -3,4 +3,3 @@ pub mod Demand3
 pub mod Elements
 pub mod Keeping
 pub mod Independent
-pub mod Instance

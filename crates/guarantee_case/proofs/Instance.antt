@@ -1,44 +1,104 @@
 -- The guarantee is not empty: document 01's whole case, over two segments of sevens, is a list as the guarantee speaks of. Assumes nothing.
-use mathlib.Core.Path.{_≡_, refl, sym, subst}
-use mathlib.Core.Bool.{false}
-use mathlib.Core.List.{List}
-use Prim.Native.Nat.{ℕ, _≤_}
+use mathlib.Core.Path.{_≡_, refl, sym, _∙_, ap}
+use mathlib.Core.Bool.{Bool, true, false, true≢false}
+use mathlib.Core.List.{List, [], _∷_, _++_, tail}
+use Prim.Native.Nat.{ℕ, zero, suc}
 use native.Mathlib.Omega.{arith}
-use lib.ListN.{length, length-replicate}
+use lib.ListN.{take, drop, length-replicate}
+use Rattle.rules.specs.Pick.{pick}
 use Rattle.layout.specs.declared.Geometry.{Geometry}
-use Rattle.layout.specs.Geometry.{wrongSize, Sized, len, maxSegments}
-use Rattle.layout.specs.Mem.{Mem, memOf, flat, Sizes}
-use Rattle.layout.proofs.Regions.{right-size, length-flat, memOf-flat}
-use Rattle.model.specs.Lists.{ghostStart, byOpening, ghostAfter}
-use Rattle.model.specs.Run.{run}
-use Rattle.guarantee.specs.Demand3.{struckOut}
-use Rattle.guarantee.specs.Instance.{Instance}
+use Rattle.layout.specs.Geometry.{len}
+use Rattle.layout.specs.Mem.{memOf, Sizes}
+use Rattle.theory.specs.Calls.{c-check, a-ok, refusal, refuse}
+use Rattle.theory.specs.Unbounded.{Unbounded, uexec, uobserve}
+use Rattle.model.specs.declared.Answer.the-variants.{Ok}
+use Rattle.model.specs.Lists.{Event, mutatorCall, startCall, stepCall, openingCall, lookCall, Element, started, Ghost, ghostStart, byOpening, ghostAfter}
+use Rattle.model.specs.Run.{Command}
+use Rattle.guarantee.specs.Demand3.{struckOut, SweptIn}
 use Rattle.guarantee.proofs.Cycle.{cycle-of}
-use Rattle.model_cases.specs.Replies.{replies, inputs, outputs, geometry, sevens}
+use Rattle.model_cases.specs.Replies.{Reply, inputs, outputs, geometry, sevens}
 use Rattle.model_cases.specs.Whole.{whole}
 use Rattle.model_cases.proofs.Whole.{whole-holds}
-use Rattle.guarantee_case.proofs.Silent.{silent-beside}
+use Rattle.guarantee_case.specs.Instance.{Instance}
+use Rattle.guarantee_case.proofs.Played.{commandsIn, played, Playing, playing}
 use Rattle.guarantee_case.proofs.GarbageFound.{Found, found}
-use Rattle.guarantee_case.proofs.Asked.{filling, clearing, tracing, loading, beforeStart, asked}
-use Rattle.guarantee_case.proofs.Case.{reloads, reloaded, clears, checks, words, own, putWords, putEnd, startWords, startEnd, stepEnd, getWords, getEnd, puts, gets, swept-in}
 use Rattle.layout.specs.Region as Region
 
--- ---- memory of any content from which the case goes as document 01 has it
+-- the case after its opening: four records are made, of which the first names the second, a number is put into the second (6), and roots are
+-- cleared, so that the third is garbage; a start (9) and its cycle up to the step that sweeps (19), a load and a get (22)
+abbrev pub asked : List Command
+asked = commandsIn (inputs whole)
 
-module _ (g : Geometry) (content : List ℕ) (right : wrongSize g (length content) ≡ false) (told : replies g (memOf g content) (inputs whole) ≡ outputs whole) where
+abbrev pub replied : List Reply
+replied = tail (outputs whole)
+
+-- ---- no start among the calls of the cycle
+
+abbrev pub isStart : Event → Bool
+isStart (mutatorCall c r) = false
+isStart (startCall r) = true
+isStart (stepCall r) = false
+isStart (openingCall r) = false
+isStart (lookCall l) = false
+
+abbrev pub anyStart : List Element → Bool
+anyStart [] = false
+anyStart (e ∷ es) = pick (isStart (e .event)) true (anyStart es)
+
+pub has-start : (g : Geometry) (xs ys : List Element) (u v : List ℕ) → anyStart (xs ++ (started g u Ok v ∷ ys)) ≡ true
+has-start g [] ys u v = refl
+has-start g (x ∷ xs) ys u v = go (isStart (x .event)) (has-start g xs ys u v)
+  where
+    go : (b : Bool) → anyStart (xs ++ (started g u Ok v ∷ ys)) ≡ true → pick b true (anyStart (xs ++ (started g u Ok v ∷ ys))) ≡ true
+    go true h = refl
+    go false h = h
+
+-- a check leaves the unbounded heap as it was
+check-heap : (un : Unbounded) (k : ℕ) → uexec un (c-check k) .1 ≡ un
+check-heap un k = go (refusal (uobserve un) (c-check k))
+  where
+    go : (n : ℕ) → refuse n un (a-ok, un) .1 ≡ un
+    go zero = refl
+    go (suc n) = refl
+
+module _ (g : Geometry) (p : Playing g asked replied) where
+  abbrev pub at : ℕ → List ℕ
+  at = p .at
+
+  abbrev pub elements : List Element
+  elements = played g at asked replied
+
+  abbrev pub swept-in : SweptIn g elements
+  swept-in = record {
+    before = take 9 elements;
+    during = take 9 (drop 10 elements);
+    rest = drop 20 elements;
+    startBefore = at 9;
+    startAfter = at 10;
+    stepBefore = at 19;
+    stepAfter = at 20;
+    segment = 0;
+    freed = 1;
+    whole = refl;
+    oneStart = λ xs ys u v e. true≢false (sym (has-start g xs ys u v) ∙ ap anyStart (sym e));
+  }
+
+  still : (w : Ghost) → ghostAfter struckOut w (take 9 (drop 10 elements)) ≡ w
+  still w = λ i. record { heap = (check-heap (uexec (w .heap) (c-check 0) .1) 0 ∙ check-heap (w .heap) 0) i; put = w .put }
+
   -- the sweep freed one block: it was garbage
-  garbage : Found g (memOf g (startWords g content)) (ghostAfter struckOut ghostStart (run g (words g content) beforeStart)) 0
-  garbage = found g (words g content) ghostStart (run g (words g content) asked) (swept-in g content right told) (cycle-of g (words g content) ghostStart (run g (words g content) asked) (swept-in g content right told) (byOpening (own g content right .opening)) (own g content right .chain)) 0 refl (silent-beside (ghostAfter struckOut ghostStart (run g (words g content) beforeStart)) g (startEnd g content) tracing)
+  pub garbage : Found g (memOf g (at 9)) (ghostAfter struckOut ghostStart (take 9 elements)) 0
+  garbage = found g (at 0) ghostStart elements swept-in (cycle-of g (at 0) ghostStart elements swept-in (byOpening (p .opened)) (p .chain)) 0 refl (still (ghostAfter struckOut ghostStart (take 9 elements)))
 
-  case-from : Instance
+  abbrev pub case-from : Instance
   case-from = record {
     geometry = g;
-    content = content;
-    words = words g content;
-    calls = run g (words g content) asked;
-    opened = own g content right .opening;
-    chain = own g content right .chain;
-    cycle = swept-in g content right told;
+    content = p .content;
+    words = at 0;
+    calls = elements;
+    opened = p .opened;
+    chain = p .chain;
+    cycle = swept-in;
     full = garbage .full;
     block = garbage .block;
     unreached = garbage .unreached;
@@ -48,28 +108,28 @@ module _ (g : Geometry) (content : List ℕ) (right : wrongSize g (length conten
     field = 0;
     value = 77;
     notZero = λ e. omega arith;
-    early = run g (words g content) filling;
-    late = run g (putEnd g content) clearing;
-    putBefore = putWords g content;
-    putAfter = putEnd g content;
-    puts = puts g content right told;
+    early = take 6 elements;
+    late = take 2 (drop 7 elements);
+    putBefore = at 6;
+    putAfter = at 7;
+    puts = refl;
     gone = 2;
-    clears = clears g content right told;
-    checks = checks g content right told;
-    between = run g (stepEnd g content) loading;
+    clears = refl;
+    checks = refl;
+    between = take 2 (drop 20 elements);
     other = 0;
     link = 0;
     elsewhere = λ e. omega arith;
-    reloads = reloads g content right told;
-    reloaded = reloaded g content right told;
-    getBefore = getWords g content;
-    getAfter = getEnd g content;
-    gets = gets g content right told;
+    reloads = refl;
+    reloaded = refl;
+    getBefore = at 22;
+    getAfter = at 23;
+    gets = refl;
   }
 
--- ---- two segments of sevens
+-- ---- segments of sevens
 
-sizes-sevens : (g : Geometry) → Sizes g (sevens g)
+pub sizes-sevens : (g : Geometry) → Sizes g (sevens g)
 sizes-sevens g = record {
   control = length-replicate {A = ℕ} (len g Region.control) 7;
   mutators = length-replicate {A = ℕ} (len g Region.mutators) 7;
@@ -82,12 +142,8 @@ sizes-sevens g = record {
   heap = length-replicate {A = ℕ} (len g Region.heap) 7;
 }
 
--- a memory whose regions have their lengths, joined
-case-of : (g : Geometry) → 1 ≤ g .segments → g .segments ≤ maxSegments → (m : Mem) → Sizes g m → replies g m (inputs whole) ≡ outputs whole → Instance
-case-of g l h m z told =
-    let e : m ≡ memOf g (flat m) = sym (memOf-flat g m z) in
-    let x : Sized g (length (flat m)) = record { some = l; few = h; is = length-flat g m z } in
-    case-from g (flat m) (right-size g (length (flat m)) x) (subst (λ u. replies g u (inputs whole) ≡ outputs whole) e told)
+pub whole-played : Playing (geometry 2) asked replied
+whole-played = playing (geometry 2) (omega arith) (omega arith) (sevens (geometry 2)) (sizes-sevens (geometry 2)) asked replied whole-holds
 
-pub whole-case : Instance
-whole-case = case-of (geometry 2) (omega arith) (omega arith) (sevens (geometry 2)) (sizes-sevens (geometry 2)) whole-holds
+abbrev pub whole-case : Instance
+whole-case = case-from (geometry 2) whole-played

@@ -1,9 +1,8 @@
--- The instance.
-pub mod Linked
-pub mod Silent
-pub mod Asked
-pub mod Case
+-- The instance, and what the theorems say of it.
+pub mod Played
 pub mod Freed
 pub mod GarbageFound
 pub mod Instance
+pub mod Along
+pub mod Consequences
 pub mod SoundOnly

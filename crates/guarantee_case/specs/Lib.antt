@@ -1,0 +1,4 @@
+-- The instance, and what the theorems say of it.
+pub mod Columns
+pub mod Instance
+pub mod Consequences
