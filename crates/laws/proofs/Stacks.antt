@@ -15,12 +15,19 @@ use Rattle.model.specs.Segments.{count, entry, top, pop, stacked}
 use Rattle.model.specs.Consistent.{StackOk}
 use Rattle.laws.proofs.Bools.{one-less}
 use Rattle.laws.proofs.Words.{stack-there, stack-other}
-use Rattle.words.proofs.Counts.{among-change}
+use Rattle.words.proofs.Counts.{among-change, zero-less}
 use Rattle.laws.proofs.Lengths.{sizes-stack}
 
 -- a stack has no more entries than there are segments
 pub count-le : (g : Geometry) (m : Mem) (t : ℕ) (test : ℕ → Bool) → StackOk g m t test → count g m t ≤ g .segments
 count-le g m t test o = let e = o .number in let f = among-le (λ i. oneIf (test i)) (λ i. one-less (test i)) (g .segments) in omega arith
+
+-- and room for a segment that is not on it
+pub stack-room : (g : Geometry) (m : Mem) (t : ℕ) (test : ℕ → Bool) → StackOk g m t test → (r : ℕ) → r < g .segments → test r ≡ false → count g m t < g .segments
+stack-room g m t test o r l e =
+    let n = o .number in
+    let f = zero-less (λ i. oneIf (test i)) (λ i. one-less (test i)) (g .segments) r l (ap oneIf e) in
+    omega arith
 
 -- ---- a stack whose words and whose test stay
 
@@ -44,8 +51,8 @@ module _ (g : Geometry) (m : Mem) (s : Sizes g m) (t : ℕ) (lt : t < stackCount
         let n = o .number in
         omega arith
 
-    pub push-room : count g m t < g .segments
-    push-room = let e = more in let f = among-le (λ i. oneIf (test′ i)) (λ i. one-less (test′ i)) (g .segments) in omega arith
+    push-room : count g m t < g .segments
+    push-room = stack-room g m t test o r l old
 
     abbrev m₁ : Mem
     m₁ = setStack m (t * (1 + g .segments) + 1 + count g m t) r

@@ -1,0 +1,3 @@
+-- Laws of the stacks of segments.
+pub mod Stacking
+pub mod Ordered

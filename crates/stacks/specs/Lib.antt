@@ -1,0 +1,2 @@
+-- The stacks of segments over memory of any content.
+pub mod Stacking
