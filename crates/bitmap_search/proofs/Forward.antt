@@ -20,7 +20,7 @@ use Rattle.bitmap_search.specs.declared.Found.{Found}
 use Rattle.bitmap_search.specs.declared.Found.the-variants.{Block, Nothing, Torn}
 use Rattle.bitmap_search.specs.Scan.{nextFree}
 use Rattle.bitmap_search.specs.Pointer.{posAt, withPos, indexOf, posOf, ptrTo}
-use Rattle.bitmap_search.specs.Search.{inWord, climbed, lowered, loweredFrom, forwarded, blockAt, searched, BlockBelow}
+use Rattle.bitmap_search.specs.Search.{inWord, climbed, lowered, loweredFrom, forwarded, foundAt, blockAt, searched, BlockBelow}
 use Rattle.bitmap_search.proofs.Scan.{IsNext, is-next}
 use Rattle.bitmap_search.proofs.Pointers.{pos-with, pos-aimed}
 use Rattle.bitmap_search.proofs.Steps.{past-words, in-word, one-word, none-above, found-above, below-lt}
@@ -49,12 +49,6 @@ module _ (ws : List ℕ) (n : ℕ) (p : BitPtr) (l : ℕ) where
   unfolding beyond
   beyond-more zero f = absurd (f refl)
   beyond-more (suc a) f = let e : suc a - 1 ≡ a = omega arith in rw e
-
--- what was found at a level, as the number of a bit
-abbrev pub foundAt : ℕ → Next → Found
-foundAt l (moved.At q) = Block (indexOf (posAt q l))
-foundAt l moved.Nothing = Nothing
-foundAt l moved.Torn = Torn
 
 -- a bit that was found at a level is below e
 abbrev pub Bounded : ℕ → ℕ → Next → Type 0

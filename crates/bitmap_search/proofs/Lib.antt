@@ -4,4 +4,5 @@ pub mod Pointers
 pub mod Steps
 pub mod Forward
 pub mod Moves
+pub mod Twice
 pub mod Aims

@@ -48,6 +48,12 @@ forwarded zero ws n p level = ahead ws n p level moved.Nothing
 forwarded (suc above) ws n p level =
     ahead ws n p level (loweredFrom ws (wordsFor n) level (forwarded above (drop (wordsFor n) ws) (wordsFor n) (climbed p level) (level + 1)))
 
+-- what was found at a level, as the number of a bit
+abbrev pub foundAt : ℕ → Next → Found
+foundAt level (moved.At q) = Block (indexOf (posAt q level))
+foundAt level moved.Nothing = Nothing
+foundAt level moved.Torn = Torn
+
 -- the block that the pointer found, if it is one of n
 abbrev pub blockAt : ℕ → Next → Found
 blockAt n (moved.At q) = pick (ltb (indexOf (posAt q 0)) n) (Block (indexOf (posAt q 0))) Torn

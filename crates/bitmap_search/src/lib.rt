@@ -1,17 +1,29 @@
 // The search for a free block: a bit pointer climbs the bitmap tree one level where the rest of a word is full, and comes
 // back down to the block. It is safe over words of any content, and finds what a plain scan finds in a consistent tree.
+use words::clear_after;
 use words::clear_from;
+use words::two_clear;
 use words::words_for;
 ghost use mathlib.Core.Path.{_≡_};
 ghost use Prim.Native.Nat.{_+_, _-_, _^_, _≤_, _<_};
 ghost use lib.ListN.{length};
 ghost use Rattle.words.specs.Levels.{treeWords};
 ghost use Rattle.bitmap_search.specs.Pointer.{posAt, withPos, aimed, indexOf, posOf, ptrTo};
-ghost use Rattle.bitmap_search.specs.Search.{climbed, lowered, forwarded, SearchPromise};
+ghost use Rattle.bitmap_search.specs.Search.{climbed, lowered, forwarded, blockAt, SearchPromise};
+ghost use Rattle.bitmap_search.specs.Twice.{andAfter, reached, TwoPromise};
+ghost use Rattle.bitmap_search.specs.declared.Next.the-variants.{At};
 
 // What a search for a free block finds.
 pub enum Found {
     Block(u32),
+    Nothing,
+    Torn,
+}
+
+// The next free block, where another remains after it; the last one; none.
+pub enum Two {
+    More(u32),
+    Last(u32),
     Nothing,
     Torn,
 }
@@ -191,6 +203,40 @@ impl BitPtr {
             Next::Torn => Next::Torn,
         }
     }
+
+    // The pointer's block, if it is one of n, and whether another remains after it: in its word, else by the search from just after.
+    fn remaining(self, s: &[u32], n: u32, above: u32) -> Two
+        requires { ⌜ (treeWords above n ≤ length (now s)) × (indexOf (self .low) < 2 ^ 32) ⌝ }
+        ensures { λ r. ⌜ r ≡ andAfter (reached above (now (s .entry)) n) (blockAt n (At self)) ⌝ }
+    {
+        let b = self.low.index();
+        if n <= b {
+            return Two::Torn;
+        }
+        let i = (b / 32) as usize;
+        if clear_after(s[i], b % 32) {
+            return Two::More(b);
+        }
+        let found = Self::to(b + 1).forward(s, n, above, 0);
+        match found {
+            Next::At(q) => Two::More(b),
+            Next::Nothing => Two::Last(b),
+            Next::Torn => Two::Torn,
+        }
+    }
+
+    // The next free block of n at or after the pointer's, and whether another remains after it, by the search.
+    fn search_two(self, s: &[u32], n: u32, above: u32) -> Two
+        requires { ⌜ (treeWords above n ≤ length (now s)) × (self .low .bit < 32) ⌝ }
+        ensures { λ r. ⌜ r ≡ andAfter (reached above (now (s .entry)) n) (blockAt n (forwarded above (now (s .entry)) n self 0)) ⌝ }
+    {
+        let found = self.forward(s, n, above, 0);
+        match found {
+            Next::At(q) => q.remaining(s, n, above),
+            Next::Nothing => Two::Nothing,
+            Next::Torn => Two::Torn,
+        }
+    }
 }
 
 // The first free block of n at or after a place, where the slice holds a bitmap tree of n bits with so many levels above
@@ -208,4 +254,25 @@ pub fn next_free(s: &[u32], n: u32, above: u32, place: u32) -> Found
         Next::Nothing => Found::Nothing,
         Next::Torn => Found::Torn,
     }
+}
+
+// The next free block of n at or after a place, and whether another remains after it. Two clear bits in the place's own word
+// answer both; else the search goes on from there.
+pub fn next_two(s: &[u32], n: u32, above: u32, place: u32) -> Two
+    requires { ⌜ treeWords above n ≤ length (now s) ⌝ }
+    ensures { λ r. ⌜ TwoPromise above (now (s .entry)) n place r ⌝ }
+{
+    let p = BitPtr::to(place);
+    if place < n {
+        let at = p.low;
+        let i = at.word as usize;
+        let w = s[i];
+        if two_clear(w, at.bit) {
+            let b = at.word * 32 + clear_from(w, at.bit);
+            if b < n {
+                return Two::More(b);
+            }
+        }
+    }
+    p.search_two(s, n, above)
 }
