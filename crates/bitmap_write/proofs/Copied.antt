@@ -26,6 +26,9 @@ cleared-word : (m : ℕ) (ws : List ℕ) (i : ℕ) → i < m → getD (cleared m
 unfolding cleared
 cleared-word m ws i h = List·getD-append (replicate m 0) (drop m ws) 0 i (omega (arith, length-replicate {A = ℕ} m 0)) ∙ getD-replicate m i 0 0 h
 
+pub cleared-bit : (m : ℕ) (ws : List ℕ) (k : ℕ) → k / 32 < m → bitAt (cleared m ws) k ≡ 0
+cleared-bit m ws k h = bit-split (cleared m ws) k ∙ ap (λ (x : ℕ). bitOf x (k % 32)) (cleared-word m ws (k / 32) h) ∙ bit-zero (k % 32)
+
 module _ (a n : ℕ) (ws : List ℕ) (room : treeWords a n ≤ length ws) where
   clear-room : treeWords a n ≤ length (cleared (wordsFor n) ws)
   clear-room = omega (arith, length-cleared (wordsFor n) ws (omega (arith, words-in a n)))
@@ -38,10 +41,7 @@ module _ (a n : ℕ) (ws : List ℕ) (room : treeWords a n ≤ length ws) where
   pub fresh-bit : (k : ℕ) → k < n → bitAt (fresh a n ws) k ≡ 0
   unfolding fresh
   fresh-bit k h =
-      completed-bit a n (cleared (wordsFor n) ws) clear-room k h
-      ∙ bit-split (cleared (wordsFor n) ws) k
-      ∙ ap (λ (x : ℕ). bitOf x (k % 32)) (cleared-word (wordsFor n) ws (k / 32) (omega arith))
-      ∙ bit-zero (k % 32)
+      completed-bit a n (cleared (wordsFor n) ws) clear-room k h ∙ cleared-bit (wordsFor n) ws k (omega arith)
 
   pub length-fresh : length (fresh a n ws) ≡ length ws
   unfolding fresh

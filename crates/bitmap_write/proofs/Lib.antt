@@ -1,7 +1,9 @@
 -- Laws of packed words, of a level summed up, of a tree rebuilt, and of a level made ready.
 pub mod Packed
+pub mod Counted
 pub mod Summed
 pub mod Rebuilt
 pub mod Ready
 pub mod Copied
 pub mod Local
+pub mod Fresh

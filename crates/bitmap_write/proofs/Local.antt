@@ -38,7 +38,7 @@ module _ (ys : List ℕ) where
       rw (take-append-le (wordsFor n) xs ys (omega arith), summed-append (wordsFor n) xs inside, drop-append-le (wordsFor n) (summed xs (wordsFor n)) ys (omega arith), rebuilt-append a (wordsFor n) (drop (wordsFor n) (summed xs (wordsFor n))) (omega arith))
       (sym (append-assoc (take (wordsFor n) xs) (rebuilt a (wordsFor n) (drop (wordsFor n) (summed xs (wordsFor n)))) ys))
 
-  padded-append : (n : ℕ) (xs : List ℕ) → wordsFor n ≤ length xs → padded n (xs ++ ys) ≡ padded n xs ++ ys
+  pub padded-append : (n : ℕ) (xs : List ℕ) → wordsFor n ≤ length xs → padded n (xs ++ ys) ≡ padded n xs ++ ys
   padded-append n xs h = go (same-or-not (n % 32) 0)
     where
       go : (n % 32 ≡ 0) ⊎ (n % 32 ≡ 0 → ⊥) → padded n (xs ++ ys) ≡ padded n xs ++ ys

@@ -1,19 +1,22 @@
 -- Laws of bits packed into words, and of the bits above a level's words. Assumes nothing.
 use mathlib.Core.Path.{_≡_, refl, sym, ap, _∙_}
 use mathlib.Core.Bool.{Bool, true, false}
+use mathlib.Core.Logic.{_⊎_, inl, inr}
 use mathlib.Core.List.{List}
 use Prim.Native.Nat.{ℕ, zero, suc, _+_, _-_, _*_, _/_, _%_, _^_, _≤_, _<_}
 use native.Mathlib.Nat.{pow-suc, not-suc-le-zero}
 use native.Mathlib.Omega.{arith}
 use lib.Dec.{ltb, eqb}
 use lib.ListN.{length, getD}
+use lib.Pow.{pow-pos}
 use borrow.Author.Tests.{lt-ltb, le-ltb, eq-eqb, eqb-true, ltb-true}
 use Rattle.rules.specs.Pick.{pick}
+use Rattle.rules.proofs.Order.{le-or-lt}
 use Rattle.words.specs.Bits.{bitOf, bitAt}
 use Rattle.words.specs.Tree.{allOnes}
-use Rattle.bitmap_write.specs.Rebuild.{wordFrom, packed, fullBit}
 use Rattle.words.proofs.Word.{bit-low, bit-half}
 use Rattle.words.proofs.Lists.{bit-split}
+use Rattle.bitmap_write.specs.Rebuild.{wordFrom, packed, fullBit}
 
 -- ---- the bits above a level's words
 
@@ -54,17 +57,16 @@ full-same ws vs m k f = go (ltb k m) refl
     go true q = rw (f k (ltb-true k m q))
     go false q = refl
 
+-- ---- the words passed one by one
+
+-- below both ends a bit is the same
+pub full-both : (ws : List ℕ) (m n k : ℕ) → k < m → k < n → fullBit ws m k ≡ fullBit ws n k
+unfolding fullBit
+full-both ws m n k h l = simp (lt-ltb k m h, lt-ltb k n l)
+
 -- ---- a word of bits
 
 module _ (bit : ℕ → ℕ) where
-  -- one bit more at the low end
-  pub word-back : (b i w : ℕ) → 0 < i → i ≤ 32 → w ≡ wordFrom bit (32 - i) (b + i) → w * 2 + bit (b + (i - 1)) ≡ wordFrom bit (32 - (i - 1)) (b + (i - 1))
-  unfolding wordFrom
-  word-back b i w p l e =
-      let c : 32 - (i - 1) ≡ suc (32 - i) = omega arith in
-      let k : b + i ≡ suc (b + (i - 1)) = omega arith in
-      rw (c, e, k)
-
   module _ (small : (k : ℕ) → bit k < 2) where
     pub word-lt : (c k : ℕ) → wordFrom bit c k < 2 ^ c
     unfolding wordFrom
@@ -102,10 +104,55 @@ module _ (bit : ℕ → ℕ) where
       ∙ ap bit e
 
 -- words of bits that are alike are alike
-pub word-same : (bit cit : ℕ → ℕ) → ((k : ℕ) → bit k ≡ cit k) → (c k : ℕ) → wordFrom bit c k ≡ wordFrom cit c k
+pub word-alike : (bit cit : ℕ → ℕ) (c k : ℕ) → ((i : ℕ) → k ≤ i → i < k + c → bit i ≡ cit i) → wordFrom bit c k ≡ wordFrom cit c k
 unfolding wordFrom
-word-same bit cit f zero k = refl
-word-same bit cit f (suc c) k = rw (word-same bit cit f c (suc k), f k)
+word-alike bit cit zero k f = refl
+word-alike bit cit (suc c) k f = rw (word-alike bit cit c (suc k) (λ i l h. f i (omega arith) (omega arith)), f k (omega arith) (omega arith))
+
+pub word-same : (bit cit : ℕ → ℕ) → ((k : ℕ) → bit k ≡ cit k) → (c k : ℕ) → wordFrom bit c k ≡ wordFrom cit c k
+word-same bit cit f c k = word-alike bit cit c k (λ i l h. f i)
+
+-- a word of zeros, one of ones, and one whose bits from m on are 1
+module _ (bit : ℕ → ℕ) where
+  pub word-zeros : (c k : ℕ) → ((i : ℕ) → i < k + c → bit i ≡ 0) → wordFrom bit c k ≡ 0
+  unfolding wordFrom
+  word-zeros zero k f = refl
+  word-zeros (suc c) k f = rw (word-zeros c (suc k) (λ i h. f i (omega arith)), f k (omega arith)) (omega arith)
+
+  pub word-ones : (c k : ℕ) → ((i : ℕ) → k ≤ i → bit i ≡ 1) → wordFrom bit c k ≡ 2 ^ c - 1
+  unfolding wordFrom
+  word-ones zero k f = omega arith
+  word-ones (suc c) k f = rw (word-ones c (suc k) (λ i l. f i (omega arith)), f k (omega arith)) (omega (arith, pow-suc 2 c, pow-pos c))
+
+  pub word-tail : (c k m : ℕ) → k ≤ m → m ≤ k + c → ((i : ℕ) → i < m → bit i ≡ 0) → ((i : ℕ) → m ≤ i → bit i ≡ 1) → wordFrom bit c k ≡ 2 ^ c - 2 ^ (m - k)
+  unfolding wordFrom
+  word-tail zero k m l h f g = let e : m - k ≡ 0 = omega arith in rw e (omega arith)
+  word-tail (suc c) k m l h f g = go (le-or-lt m k) (λ q. word-tail c (suc k) m q (omega arith) f g)
+    where
+      go : (m ≤ k) ⊎ (k < m) → (k < m → wordFrom bit c (suc k) ≡ 2 ^ c - 2 ^ (m - suc k)) → wordFrom bit c (suc k) * 2 + bit k ≡ 2 ^ suc c - 2 ^ (m - k)
+      go (inl q) ih =
+          let e : m - k ≡ 0 = omega arith in
+          rw e (word-ones (suc c) k (λ i p. g i (omega arith)) ∙ omega arith)
+      go (inr q) ih =
+          let e : m - k ≡ suc (m - suc k) = omega arith in
+          rw (e, ih q, f k q) (omega (arith, pow-suc 2 c, pow-suc 2 (m - suc k)))
+
+-- one bit less
+pub word-less : (bit cit : ℕ → ℕ) (p c k : ℕ) → bit p ≡ 1 → cit p ≡ 0 → ((i : ℕ) → (i ≡ p → ⊥) → bit i ≡ cit i) → k ≤ p → p < k + c → wordFrom bit c k ≡ wordFrom cit c k + 2 ^ (p - k)
+unfolding wordFrom
+word-less bit cit p zero k e f g l h = absurd (omega arith)
+word-less bit cit p (suc c) k e f g l h = go (le-or-lt p k) (λ q. word-less bit cit p c (suc k) e f g q (omega arith))
+  where
+    go : (p ≤ k) ⊎ (k < p) → (k < p → wordFrom bit c (suc k) ≡ wordFrom cit c (suc k) + 2 ^ (p - suc k)) → wordFrom bit c (suc k) * 2 + bit k ≡ wordFrom cit c (suc k) * 2 + cit k + 2 ^ (p - k)
+    go (inl q) ih =
+        let s : p ≡ k = omega arith in
+        let z : p - k ≡ 0 = omega arith in
+        let a : bit k ≡ 1 = ap bit (sym s) ∙ e in
+        let b : cit k ≡ 0 = ap cit (sym s) ∙ f in
+        rw (word-alike bit cit c (suc k) (λ i m n. g i (λ t. omega arith)), a, b, z) (omega arith)
+    go (inr q) ih =
+        let z : p - k ≡ suc (p - suc k) = omega arith in
+        rw (ih q, g k (λ t. omega arith), z) (omega (arith, pow-suc 2 (p - suc k)))
 
 pub packed-same : (bit cit : ℕ → ℕ) → ((k : ℕ) → bit k ≡ cit k) → (c j : ℕ) → packed bit c j ≡ packed cit c j
 unfolding packed

@@ -36,7 +36,7 @@ length-padded n ws = go (same-or-not (n % 32) 0)
     go (inr f) = ap length (sym (padded-part n ws f)) ∙ length-set ws (n / 32) (bitOr (getD ws (n / 32) 0) (2 ^ 32 - 2 ^ (n % 32)))
 
 -- a word that is not the last is as it was
-other-word : (n : ℕ) (ws : List ℕ) (j : ℕ) → (j ≡ n / 32 → ⊥) → getD (padded n ws) j 0 ≡ getD ws j 0
+pub other-word : (n : ℕ) (ws : List ℕ) (j : ℕ) → (j ≡ n / 32 → ⊥) → getD (padded n ws) j 0 ≡ getD ws j 0
 other-word n ws j g = go (same-or-not (n % 32) 0)
   where
     go : (n % 32 ≡ 0) ⊎ (n % 32 ≡ 0 → ⊥) → getD (padded n ws) j 0 ≡ getD ws j 0

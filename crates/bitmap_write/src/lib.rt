@@ -9,29 +9,30 @@ ghost use Rattle.words.specs.Levels.{wordsFor, treeWords};
 ghost use Rattle.bitmap_write.specs.Rebuild.{fullBit, wordFrom, summed, rebuilt};
 ghost use Rattle.bitmap_write.specs.Ready.{padded, cleared, copied, completed, fresh, adopted};
 
-// Bit k of the level above the first m words.
+// Bit k of the level above the first m words, one of which word k is.
 fn full_bit(s: &[u32], m: u32, k: u32) -> u32
-    requires { ⌜ m ≤ length (now s) ⌝ }
+    requires { ⌜ (k < m) × (m ≤ length (now s)) ⌝ }
     ensures { λ r. ⌜ r ≡ fullBit (now (s .entry)) m k ⌝ }
 {
-    if k < m {
-        let i = k as usize;
-        if s[i] == 4294967295 { 1 } else { 0 }
-    } else {
-        1
-    }
+    let i = k as usize;
+    if s[i] == 4294967295 { 1 } else { 0 }
 }
 
-// Word j of the level above the first m words.
+// Word j of the level above the first m words: all ones, less a bit for each word that there is and is not full.
 fn full_word(s: &[u32], m: u32, j: u32) -> u32
     requires { ⌜ (m ≤ length (now s)) × (j < wordsFor m) ⌝ }
     ensures { λ r. ⌜ r ≡ wordFrom (fullBit (now (s .entry)) m) 32 (j * 32) ⌝ }
 {
-    let mut w: u32 = 0;
-    let mut i: u32 = 32;
-    while 0 < i {
-        i -= 1;
-        w = w * 2 + full_bit(s, m, j * 32 + i);
+    let from = j * 32;
+    let most = m - from;
+    let count = if most < 32 { most } else { 32 };
+    let mut w: u32 = 4294967295;
+    let mut i: u32 = 0;
+    while i < count {
+        if full_bit(s, m, from + i) == 0 {
+            w -= 1u32 << i;
+        }
+        i += 1;
     }
     w
 }
@@ -116,14 +117,18 @@ fn copy_words(s: &mut [u32], from: usize, m: u32)
     }
 }
 
-// A tree of n free blocks.
+// A tree of n free blocks: every level cleared, and its bits past the end set.
 pub fn make_fresh(s: &mut [u32], n: u32, above: u32)
     requires { ⌜ treeWords above n ≤ length (now s) ⌝ }
     ensures { λ _. ⌜ now (s .exit) ≡ fresh above n (now (s .entry)) ⌝ }
 {
     let words = words_for(n);
     clear_words(s, words);
-    complete(s, n, above);
+    pad(s, n);
+    if above != 0 {
+        let i = words as usize;
+        make_fresh(&mut s[i..], words, above - 1);
+    }
 }
 
 // A tree whose level 0 is the n mark bits that stand in the same slice behind the tree, from a word of it on.

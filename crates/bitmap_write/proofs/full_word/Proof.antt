@@ -1,70 +1,71 @@
--- `bitmap_write::full_word` meets its contract. The loop's invariant: the bits from i on are packed. The measure is i. Assumes nothing.
-use mathlib.Core.Path.{_≡_, refl, ap, ap₂, _∙_}
-use Prim.Native.Nat.{ℕ, _+_, _-_, _*_, _^_, _≤_, _<_}
-use native.Mathlib.Nat.{lt-of-lt-of-le}
+-- `bitmap_write::full_word` meets its contract. The loop's invariant: the word over the words passed. Assumes nothing.
+use mathlib.Core.Path.{_≡_, sym, ap, _∙_}
+use mathlib.Core.Logic.{_⊎_, inl, inr, ⊎-elim}
+use Prim.Native.Nat.{ℕ, _+_, _-_, _*_, _≤_, _<_}
 use native.Mathlib.Omega.{arith}
-use lib.Pow.{pow-mono}
-use Rattle.bitmap_write.specs.Rebuild.{wordFrom, fullBit}
-use Rattle.bitmap_write.proofs.Packed.{word-back, word-lt, full-lt}
+use Rattle.words.proofs.Word.{one-shl}
+use Rattle.bitmap_write.proofs.Counted.{passed, passed-none, turn-full, turn-less, passed-all}
 use Rattle.bitmap_write.proofs.full_word.Tie as tie
 use Rattle.bitmap_write.proofs.full_word.Statement.{statement}
 
 abbrev Inv-loop : tie.InvT-loop
-Inv-loop s m j w₀ i₀ w i = (i ≤ 32) × (w ≡ wordFrom (fullBit s m) (32 - i) (j * 32 + i))
+Inv-loop s m j from most count w₀ i₀ w i = (i ≤ count) × (w ≡ passed s (j * 32) (j * 32 + i))
 
 abbrev μ-loop : tie.MeasureT-loop
-μ-loop s m j w₀ i₀ w i = i
+μ-loop s m j from most count w₀ i₀ w i = count - i
 
--- what is packed leaves room for one bit more
-half : (c : tie.In-loop Inv-loop μ-loop) → c .before .loop .w < 2 ^ 31
-half c =
-    let a = c .before .before .before .args in
-    let i = c .before .loop .i in
-    rw (c .before .loop .inv .1)
-    (lt-of-lt-of-le (word-lt (fullBit (a .s .now) (a .m)) (full-lt (a .s .now) (a .m)) (32 - i) (a .j * 32 + i))
-    (pow-mono {i = 32 - i} {j = 31} (omega (arith, c .loop-test .taken))))
+-- the words that there are
+count-is : (c : tie.Joined1 Inv-loop μ-loop) → (c .if1 .count ≤ 32) × (c .before .before .args .j * 32 + c .if1 .count ≤ c .before .before .args .m) × ((c .before .before .args .j * 32 + c .if1 .count ≡ c .before .before .args .m) ⊎ (c .before .before .args .j * 32 + 32 ≤ c .before .before .args .j * 32 + c .if1 .count))
+count-is c = ⊎-elim (λ t. let e = t .1 in let l = t .0 .taken in (omega arith, omega arith, inl (omega arith))) (λ t. let e = t .1 in let l = t .0 .left in (omega arith, omega arith, inr (omega arith))) (c .if1 .came)
+
+mul-from : tie.Need-mul-from Inv-loop μ-loop
+mul-from c = omega arith
+
+sub-most : tie.Need-sub-most Inv-loop μ-loop
+sub-most c = omega arith
 
 loop-holds : tie.Need-loop-holds Inv-loop μ-loop
-unfolding wordFrom
-loop-holds c = (omega arith, refl)
-
-sub-i : tie.Need-sub-i Inv-loop μ-loop
-sub-i c = c .loop-test .taken
-
-mul-w : tie.Need-mul-w Inv-loop μ-loop
-mul-w c = omega (arith, half c)
-
-mul-full-bit : tie.Need-mul-full-bit Inv-loop μ-loop
-mul-full-bit c = omega (arith, c .before .before .before .pre .1)
+loop-holds c = (omega arith, passed-none (c .before .before .args .s .now) (c .before .before .args .j * 32) ∙ ap (passed (c .before .before .args .s .now) (c .before .before .args .j * 32)) (omega arith))
 
 add-full-bit : tie.Need-add-full-bit Inv-loop μ-loop
-add-full-bit c = omega (arith, c .before .before .before .pre .1, c .before .loop .inv .0)
+add-full-bit c = let l = count-is (c .before .before) in omega arith
 
 full-bit-requires : tie.Need-full-bit-requires Inv-loop μ-loop
-full-bit-requires c κs = c .before .before .before .pre .0
+full-bit-requires c κs =
+    let l = count-is (c .before .before) in
+    (omega arith, c .before .before .before .before .pre .0)
 
-add-w : tie.Need-add-w Inv-loop μ-loop
-add-w c =
-    let a = c .before .before .before .before .args in
-    omega (arith, half (c .before), c .full-bit .ensures, full-lt (a .s .now) (a .m) (a .j * 32 + (c .before .before .loop .i - 1)))
+shl-w : tie.Need-shl-w Inv-loop μ-loop
+shl-w c = let l = count-is (c .before .before .before .before) in omega arith
+
+sub-w : tie.Need-sub-w Inv-loop μ-loop
+sub-w c =
+    let l = count-is (c .before .before .before .before) in
+    let x = c .before .before .before .loop in
+    let a = c .before .before .before .before .before .before .args in
+    let i : x .i < 32 = omega arith in
+    rw (one-shl (x .i) i) (omega (arith, turn-less (a .s .now) (a .j * 32) (a .m) (x .i) (x .w) (omega arith) (x .inv .1) (sym (c .before .full-bit .ensures) ∙ c .if2 .taken) i))
+
+add-i : tie.Need-add-i Inv-loop μ-loop
+add-i c = let l = count-is (c .before .before .before .before) in omega arith
 
 loop-less : tie.Need-loop-less Inv-loop μ-loop
-loop-less c = omega (arith, c .before .loop-test .taken)
+loop-less c = omega arith
 
 loop-again : tie.Need-loop-again Inv-loop μ-loop
 loop-again c =
-    let a = c .before .before .before .before .args in
-    let l = c .before .before .loop in (
-      omega (arith, l .inv .0),
-      ap (λ (x : ℕ). l .w * 2 + x) (c .full-bit .ensures)
-          ∙ word-back (fullBit (a .s .now) (a .m)) (a .j * 32) (l .i) (l .w) (c .before .loop-test .taken) (l .inv .0) (l .inv .1),
-    )
+    let l = count-is (c .before .before .before .before) in
+    let x = c .before .before .before .loop in
+    let a = c .before .before .before .before .before .before .args in
+    let i : x .i < 32 = omega arith in
+    (omega arith, ⊎-elim (λ t. t .1 ∙ rw (one-shl (x .i) i) (omega (arith, turn-less (a .s .now) (a .j * 32) (a .m) (x .i) (x .w) (omega arith) (x .inv .1) (sym (c .before .full-bit .ensures) ∙ t .0 .taken) i))) (λ t. t .1 ∙ turn-full (a .s .now) (a .j * 32) (a .m) (x .i) (x .w) (omega arith) (x .inv .1) (λ z. t .0 .left (c .before .full-bit .ensures ∙ z))) (c .if2 .came))
 
 returns : tie.Need-returns Inv-loop μ-loop
 returns c =
-    let a = c .before .before .before .args in
-    let e : c .before .loop .i ≡ 0 = omega (arith, c .loop-test .left) in
-    c .before .loop .inv .1 ∙ ap₂ (λ (x y : ℕ). wordFrom (fullBit (a .s .now) (a .m)) x y) (omega arith) (omega arith)
+    let l = count-is (c .before .before) in
+    let a = c .before .before .before .before .args in
+    let e : c .before .loop .i ≡ c .before .before .if1 .count = omega (arith, c .loop-test .left, c .before .loop .inv .0) in
+    c .before .loop .inv .1 ∙ ap (λ (x : ℕ). passed (a .s .now) (a .j * 32) (a .j * 32 + x)) e ∙ passed-all (a .s .now) (a .j * 32) (a .m) (a .j * 32 + c .before .before .if1 .count) (omega arith) (l .1) (l .2)
 
 pub full-word-spec : {M : Type 1} → statement M
 full-word-spec =
@@ -72,13 +73,14 @@ full-word-spec =
     (tie.spec
     Inv-loop
     μ-loop
+    mul-from
+    sub-most
     loop-holds
-    sub-i
-    mul-w
-    mul-full-bit
     add-full-bit
     full-bit-requires
-    add-w
+    shl-w
+    sub-w
+    add-i
     loop-less
     loop-again
     returns)
