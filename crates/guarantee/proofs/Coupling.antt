@@ -26,7 +26,7 @@ use Rattle.model.specs.Collector.{started, stepOf, lowest, collects}
 use Rattle.model.specs.Consistent.{Consistent}
 use Rattle.model.specs.Lists.{Event, mutatorCall, startCall, stepCall, openingCall, lookCall, eventNumber, Ghost, putUnless, blockIn, fed, struck, remains}
 use Rattle.refine_view.specs.View.{view}
-use Rattle.refine_view.specs.Kept.{refused, agrees, ActKept, CallKept, EachOccupied, Steady, Structure}
+use Rattle.refine_view.specs.Kept.{refusedOut, agrees, ActKept, CallKept, EachOccupied, Steady, Structure}
 use Rattle.refine_view.proofs.Invariants.{consistent-ordered, structure-of, consistent-of}
 use Rattle.refine_view.proofs.Keeping.{face-same, self, selfPut, self-good}
 use Rattle.guarantee.specs.Demand3.{struckOut}
@@ -119,7 +119,7 @@ module _ (g : Geometry) (m : Mem) (z : Sizes g m) (k : Consistent g m) (w : Ghos
         })
 
     acted-leads : refusal (observe m) c ≡ 0 → CallKept struckOut g m c → answerOf r ≡ act g m c .0 → memOf g after ≡ act g m c .1 → Leads (mutatorCall c r) after
-    acted-leads x (refused n t y) e h = stays (mutatorCall c r) after (ap (λ o. pick (struck struckOut o) none (some (c, r))) (to-number r n (e ∙ ap (λ z. z .0) y)) ∙ ap (λ b. pick b none (some (c, r))) t) (h ∙ ap (λ z. z .1) y)
+    acted-leads x (refusedOut n t y) e h = stays (mutatorCall c r) after (ap (λ o. pick (struck struckOut o) none (some (c, r))) (to-number r n (e ∙ ap (λ z. z .0) y)) ∙ ap (λ b. pick b none (some (c, r))) t) (h ∙ ap (λ z. z .1) y)
     acted-leads x (agrees k) e h = matched-leads x k e h
 
     call-leads : answerOf r ≡ exec g m c .0 → memOf g after ≡ exec g m c .1 → Leads (mutatorCall c r) after
@@ -160,7 +160,7 @@ module _ (g : Geometry) (m : Mem) (z : Sizes g m) (k : Consistent g m) where
   unmoved-structure m′ h = subst (λ x. Structure g x × (EachOccupied g m → EachOccupied g x)) (sym h) (structure-of g m (consistent-ordered g m k), λ u. u)
 
   acted : (m′ : Mem) (c : Call) → CallKept struckOut g m c → m′ ≡ act g m c .1 → Structure g m′ × (EachOccupied g m → EachOccupied g m′)
-  acted m′ c (refused n t y) h = unmoved-structure m′ (h ∙ ap (λ z. z .1) y)
+  acted m′ c (refusedOut n t y) h = unmoved-structure m′ (h ∙ ap (λ z. z .1) y)
   acted m′ c (agrees q) h = subst (λ x. Structure g x × (EachOccupied g m → EachOccupied g x)) (sym h) (q .moves .structure, q .moves .occupied)
 
   called : (m′ : Mem) (c : Call) → m′ ≡ exec g m c .1 → Structure g m′ × (EachOccupied g m → EachOccupied g m′)

@@ -64,7 +64,7 @@ module _ (g : Geometry) (words : List ℕ) (w : Ghost) (es : List Element) (c : 
 
     free-of : (m′ : Mem) → (usedBit g m′ s b ≡ 0) ⊎ (tag m′ s ≡ Tag.free) → BlockFree g m′ s b
     free-of m′ (inl e) = inl e
-    free-of m′ (inr e) = inr (eq-eqb (tag m′ s) 0 e)
+    free-of m′ (inr e) = inr (eq-eqb (tag m′ s) Tag.free e)
 
   block-free : (b : ℕ) → Unreached g (memOf g (c .startBefore)) (heapThen g words w es c) (c .segment) b → BlockFree g (memOf g (c .stepAfter)) (c .segment) b
   block-free b z =
@@ -74,7 +74,7 @@ module _ (g : Geometry) (words : List ℕ) (w : Ghost) (es : List Element) (c : 
       let h = sizes-of g (c .stepBefore) (y .during .point .long) in
       let o = lowest-condemned g m h k s (a .is-lowest) in
       let n = y .during .collected s (o .0) (o .1) .1 in
-      let i : IsClass (class m s) = k .segments s (o .0) .classes (λ i. absurd (let j : _≡_ {A = ℕ} 0 4 = sym i ∙ o .1 in omega arith)) in
+      let i : IsClass (class m s) = k .segments s (o .0) .classes (λ i. absurd (let j : Tag.free ≡ Tag.condemned = sym i ∙ o .1 in omega arith)) in
       let l : b < blocksIn g (class m s) = subst (λ x. b < blocksIn g x) (sym n) (z .block) in
       let u = unmarked s b i l (o .1) (λ r. z .unreached (subst (λ x. BlockReached (heapThen g words w es c) (headerOf g s x b)) n r)) in
       subst (λ x. BlockFree g x s b) (sym (y .memory ∙ a .leaves)) (free-of s b (swept g m s) (swept-free g m h k (a .in-sweep) s b (a .is-lowest) l u))

@@ -24,7 +24,7 @@ use Rattle.model.specs.Making.{held, part, unused, noRoom, sourceOf, inBlock, i
 use Rattle.model.specs.Calls.{isAttached, observe, act, ofClass}
 use Rattle.model.specs.Collector.{lowest, stepOf, stepIn}
 use Rattle.refine_view.specs.View.{view}
-use Rattle.refine_view.specs.Kept.{Ordered, Moves, Kept, refused, agrees, CallKept, StepKept, AllKept}
+use Rattle.refine_view.specs.Kept.{Ordered, Moves, Kept, refusedOut, agrees, CallKept, StepKept, AllKept}
 use Rattle.refine_view.proofs.Invariants.{consistent-ordered, to-inv, ordered-of}
 use Rattle.refine_view.proofs.Keeping.{agree-self, moves-self}
 use Rattle.refine_roots.proofs.Calls.{load-kept, copy-kept, clear-kept, get-kept, same-kept, shape-kept}
@@ -82,7 +82,7 @@ module _ (g : Geometry) (m : Mem) (s : Sizes g m) (c : Ordered g m) (k d cl p n 
       go false y z q i j = let w = some-of (holding m k cl) q in from-held m (holding m k cl - 1) (own (omega arith))
       go true false z q i j = from-held _ _ (taken-part g m s c k cl l a is-class (eqb-true _ _ q) (some-of _ i))
       go true true false q i j = from-held _ _ (taken-free g m s c k cl l a is-class (eqb-true _ _ q) (some-of _ j))
-      go true true true q i j = refused 10 refl refl
+      go true true true q i j = refusedOut 10 refl refl
 
 make-kept : (g : Geometry) (m : Mem) → Sizes g m → Ordered g m → (k d p n : ℕ) → refusal (observe m) (c-make k d p n) ≡ 0 → CallKept struckOut g m (c-make k d p n)
 unfolding act made

@@ -22,8 +22,8 @@ use Rattle.model_cases.specs.Refusals.{refusals}
 use Rattle.model_cases.proofs.Refusals.{refusals-hold}
 use Rattle.guarantee_case.specs.Columns.{leftColumn, rightColumn}
 use Rattle.guarantee_case.specs.Consequences.{Answered, OfWhole, OfRefusals}
-use Rattle.guarantee_case.proofs.Played.{commandsIn, played, Playing, playing}
-use Rattle.guarantee_case.proofs.Instance.{asked, replied, case-from, sizes-sevens, whole-played, whole-case}
+use Rattle.guarantee_case.proofs.CaseRun.{commandsIn, elementsOf, CaseRun, case-run}
+use Rattle.guarantee_case.proofs.Instance.{asked, replied, case-from, sizes-sevens, whole-run, whole-case}
 use Rattle.guarantee_case.proofs.Along.{applied-to, along}
 
 -- ---- the columns, by the unbounded heap alone
@@ -44,7 +44,7 @@ refusals-answered g words es b ch e = guarantee .answers g words ghostStart es b
 
 -- ---- the whole case
 
-module _ (g : Geometry) (p : Playing g asked replied) where
+module _ (g : Geometry) (p : CaseRun g asked replied) where
   of-whole : OfWhole (case-from g p)
   of-whole =
       let i = case-from g p in
@@ -57,16 +57,16 @@ module _ (g : Geometry) (p : Playing g asked replied) where
       }
 
 pub whole-consequences : OfWhole whole-case
-whole-consequences = of-whole (geometry 2) whole-played
+whole-consequences = of-whole (geometry 2) whole-run
 
 -- ---- the refusals
 
-module _ (g : Geometry) (p : Playing g (commandsIn (inputs refusals)) (tail (outputs refusals))) where
+module _ (g : Geometry) (p : CaseRun g (commandsIn (inputs refusals)) (tail (outputs refusals))) where
   abbrev at : ℕ → List ℕ
   at = p .at
 
   abbrev elements : List Element
-  elements = played g at (commandsIn (inputs refusals)) (tail (outputs refusals))
+  elements = elementsOf g at (commandsIn (inputs refusals)) (tail (outputs refusals))
 
   abbrev fourth : Element
   fourth = called (c-make 0 3 2 510) g (at 42) Ok (at 43)
@@ -102,4 +102,4 @@ module _ (g : Geometry) (p : Playing g (commandsIn (inputs refusals)) (tail (out
   }
 
 pub refusals-consequences : OfRefusals
-refusals-consequences = of-refusals (geometry 1) (playing (geometry 1) (omega arith) (omega arith) (sevens (geometry 1)) (sizes-sevens (geometry 1)) (commandsIn (inputs refusals)) (tail (outputs refusals)) refusals-hold)
+refusals-consequences = of-refusals (geometry 1) (case-run (geometry 1) (omega arith) (omega arith) (sevens (geometry 1)) (sizes-sevens (geometry 1)) (commandsIn (inputs refusals)) (tail (outputs refusals)) refusals-hold)

@@ -67,7 +67,7 @@ module _ (g : Geometry) (words : List ℕ) (w : Ghost) (es : List Element) (c : 
       let u = sym (collects-full (memOf g (c .startBefore)) s) ∙ y .during .collected s (o .0) (o .1) .0 in
       let t : tag (memOf g (c .startBefore)) s ≡ Tag.full = eqb-true _ _ u in
       let e = y .during .collected s (o .0) (o .1) .1 in
-      let i : IsClass (class m s) = k .segments s (o .0) .classes (λ i. absurd (let j : _≡_ {A = ℕ} 0 4 = sym i ∙ o .1 in omega arith)) in
+      let i : IsClass (class m s) = k .segments s (o .0) .classes (λ i. absurd (let j : Tag.free ≡ Tag.condemned = sym i ∙ o .1 in omega arith)) in
       let b = some-free g m z k s (o .0) (o .1) n (sym (freed-is g m s (c .freed) (y .answer) a) ∙ f) in
       let h : b .0 < blocksIn g (class (memOf g (c .startBefore)) s) = subst (λ x. b .0 < blocksIn g x) e (b .1) in
       record {

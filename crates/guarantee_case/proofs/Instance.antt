@@ -20,7 +20,7 @@ use Rattle.model_cases.specs.Replies.{Reply, inputs, outputs, geometry, sevens}
 use Rattle.model_cases.specs.Whole.{whole}
 use Rattle.model_cases.proofs.Whole.{whole-holds}
 use Rattle.guarantee_case.specs.Instance.{Instance}
-use Rattle.guarantee_case.proofs.Played.{commandsIn, played, Playing, playing}
+use Rattle.guarantee_case.proofs.CaseRun.{commandsIn, elementsOf, CaseRun, case-run}
 use Rattle.guarantee_case.proofs.GarbageFound.{Found, found}
 use Rattle.layout.specs.Region as Region
 
@@ -61,12 +61,12 @@ check-heap un k = go (refusal (uobserve un) (c-check k))
     go zero = refl
     go (suc n) = refl
 
-module _ (g : Geometry) (p : Playing g asked replied) where
+module _ (g : Geometry) (p : CaseRun g asked replied) where
   abbrev pub at : ℕ → List ℕ
   at = p .at
 
   abbrev pub elements : List Element
-  elements = played g at asked replied
+  elements = elementsOf g at asked replied
 
   abbrev pub swept-in : SweptIn g elements
   swept-in = record {
@@ -142,8 +142,8 @@ sizes-sevens g = record {
   heap = length-replicate {A = ℕ} (len g Region.heap) 7;
 }
 
-pub whole-played : Playing (geometry 2) asked replied
-whole-played = playing (geometry 2) (omega arith) (omega arith) (sevens (geometry 2)) (sizes-sevens (geometry 2)) asked replied whole-holds
+pub whole-run : CaseRun (geometry 2) asked replied
+whole-run = case-run (geometry 2) (omega arith) (omega arith) (sevens (geometry 2)) (sizes-sevens (geometry 2)) asked replied whole-holds
 
 abbrev pub whole-case : Instance
-whole-case = case-from (geometry 2) whole-played
+whole-case = case-from (geometry 2) whole-run

@@ -1,5 +1,5 @@
 -- The instance, and what the theorems say of it.
-pub mod Played
+pub mod CaseRun
 pub mod Freed
 pub mod GarbageFound
 pub mod Instance

@@ -23,7 +23,7 @@ use Rattle.model.specs.Records.{record?, pointers, values, pointer}
 use Rattle.model.specs.Calls.{isAttached, isInside, observe, act}
 use Rattle.model.specs.Reaching.{Live}
 use Rattle.refine_view.specs.View.{view, valuesOf}
-use Rattle.refine_view.specs.Kept.{Ordered, Moves, Matches, Kept, refused, agrees}
+use Rattle.refine_view.specs.Kept.{Ordered, Moves, Matches, Kept, refusedOut, agrees}
 use Rattle.laws.proofs.Tables.{length-tab}
 use Rattle.refine_view.proofs.Seeing.{few-mutators}
 use Rattle.refine_view.proofs.Invariants.{to-live, to-inv, structure-of}
@@ -71,7 +71,7 @@ matches-by g m c r p e v = record { ready = m; prepared = agree-self g m; shows 
 
 -- refused n where a test holds, and nothing changes
 pub unless-kept : (out : ℕ → Bool) (g : Geometry) (m m′ : Mem) (c : Call) (n : ℕ) → out n ≡ true → (b : Bool) → (b ≡ false → Matches g m c (a-ok, m′)) → Kept out g m c (unless b n m m′)
-unless-kept out g m m′ c n e true h = refused n e refl
+unless-kept out g m m′ c n e true h = refusedOut n e refl
 unless-kept out g m m′ c n e false h = agrees (h refl)
 
 -- ---- a call on the record in a root

@@ -93,7 +93,7 @@ pub record Matches (g : Geometry) (m : Mem) (c : Call) (r : Answer × Mem) : Typ
 
 -- it is refused by a number that is struck out, and nothing changes; or it is as on the machine
 pub data Kept (out : ℕ → Bool) (g : Geometry) (m : Mem) (c : Call) (r : Answer × Mem) : Type 0 where
-  refused : (n : ℕ) → out n ≡ true → r ≡ (a-no n, m) → Kept out g m c r
+  refusedOut : (n : ℕ) → out n ≡ true → r ≡ (a-no n, m) → Kept out g m c r
   agrees : Matches g m c r → Kept out g m c r
 
 abbrev pub ActKept : Geometry → Mem → Call → Type 0

@@ -66,10 +66,10 @@ module _ (g : Geometry) where
   same-memory m (look q) = refl
 
   -- the commands with their replies; at n: the words before the n-th
-  abbrev pub played : (at : ℕ → List ℕ) → List Command → List Reply → List Element
-  played at [] bs = []
-  played at (r ∷ rs) [] = []
-  played at (r ∷ rs) (a ∷ bs) = record { geometry = g; before = at 0; event = eventBy (memOf g (at 0)) r a; after = at 1 } ∷ played (λ n. at (suc n)) rs bs
+  abbrev pub elementsOf : (at : ℕ → List ℕ) → List Command → List Reply → List Element
+  elementsOf at [] bs = []
+  elementsOf at (r ∷ rs) [] = []
+  elementsOf at (r ∷ rs) (a ∷ bs) = record { geometry = g; before = at 0; event = eventBy (memOf g (at 0)) r a; after = at 1 } ∷ elementsOf (λ n. at (suc n)) rs bs
 
   -- the words after n commands
   abbrev wordsAt : List ℕ → List Command → ℕ → List ℕ
@@ -77,27 +77,27 @@ module _ (g : Geometry) where
   wordsAt words [] (suc n) = words
   wordsAt words (r ∷ rs) (suc n) = wordsAt (answered g words r .after) rs n
 
-  run-played : (words : List ℕ) → Sized g (length words) → (m : Mem) → m ≡ memOf g words → (rs : List Command) → run g words rs ≡ played (wordsAt words rs) rs (replies g m (inputsOf rs))
+  run-elements : (words : List ℕ) → Sized g (length words) → (m : Mem) → m ≡ memOf g words → (rs : List Command) → run g words rs ≡ elementsOf (wordsAt words rs) rs (replies g m (inputsOf rs))
   unfolding replies
-  run-played words z m e [] = refl
-  run-played words z m e (r ∷ rs) = λ i.
+  run-elements words z m e [] = refl
+  run-elements words z m e (r ∷ rs) = λ i.
       record { geometry = g; before = words; event = (same-event (memOf g words) r ∙ ap (λ x. eventBy (memOf g words) r (does g x (inputOf r) .0)) (sym e)) i; after = answered g words r .after }
-      ∷ run-played (answered g words r .after) (sized-left g words z r) (does g m (inputOf r) .1) (ap (λ x. does g x (inputOf r) .1) e ∙ sym (memory-left g words z r ∙ same-memory (memOf g words) r)) rs i
+      ∷ run-elements (answered g words r .after) (sized-left g words z r) (does g m (inputOf r) .1) (ap (λ x. does g x (inputOf r) .1) e ∙ sym (memory-left g words z r ∙ same-memory (memOf g words) r)) rs i
 
   -- a case over memory of the right sizes that has its replies
-  pub record Playing (rs : List Command) (bs : List Reply) : Type 0 where
+  pub record CaseRun (rs : List Command) (bs : List Reply) : Type 0 where
     pub content : List ℕ
     pub at : ℕ → List ℕ
     pub opened : Opened g content (at 0)
-    pub chain : Chain g (at 0) (played at rs bs)
+    pub chain : Chain g (at 0) (elementsOf at rs bs)
 
-  pub playing : 1 ≤ g .segments → g .segments ≤ maxSegments → (m : Mem) → Sizes g m → (rs : List Command) (bs : List Reply) → replies g m (input.opening ∷ inputsOf rs) ≡ ok ∷ bs → Playing rs bs
+  pub case-run : 1 ≤ g .segments → g .segments ≤ maxSegments → (m : Mem) → Sizes g m → (rs : List Command) (bs : List Reply) → replies g m (input.opening ∷ inputsOf rs) ≡ ok ∷ bs → CaseRun rs bs
   unfolding replies
-  playing l h m z rs bs told =
+  case-run l h m z rs bs told =
       let content = flat m in
       let words = flat (opening.opened g (memOf g content)) in
       let x : Sized g (length content) = record { some = l; few = h; is = length-flat g m z } in
       let own = runs-itself g content rs (right-size g (length content) x) in
       let e : opening.opened g m ≡ memOf g words = ap (opening.opened g) (sym (memOf-flat g m z)) ∙ sym (memOf-flat g (opening.opened g (memOf g content)) (sizes-opened g (memOf g content) (sizes-of g content x))) in
-      let y = run-played words (opened-point g content words (own .opening) .long) (opening.opened g m) e rs ∙ ap (played (wordsAt words rs) rs) (ap tail told) in
+      let y = run-elements words (opened-point g content words (own .opening) .long) (opening.opened g m) e rs ∙ ap (elementsOf (wordsAt words rs) rs) (ap tail told) in
       record { content = content; at = wordsAt words rs; opened = own .opening; chain = subst (Chain g words) y (own .chain) }
