@@ -16,7 +16,7 @@ use Rattle.model.specs.Answers.{answerOf, refusalIn, refusalOf, IsOk, IsNumber,
 use Rattle.model.specs.Promise.{Promise, OpenPromise}
 use Rattle.model.proofs.Numbers.{OfTable, may-table}
 use Rattle.theory.specs.Calls as theory
-use Rattle.borvukhai.specs.Packed.{above, pack, packValue, unpack, unpackNumber, unpackSame}
+use Rattle.borvukhai.specs.Packed.{upper, pack, packValue, unpack, unpackNumber, unpackSame}
 
 -- an answer of a kind, or refused with a number of the table
 pub record Kind (Result : theory.Answer → Type 0) (a : Answer) : Type 0 where
@@ -34,13 +34,13 @@ unpacked (Refused (suc n)) k = refl
 pub unpacked-number : (a : Answer) → Kind IsNumber a → unpackNumber (packValue a) ≡ a
 unpacked-number Ok k = let e = k .kind refl .1 in cc
 unpacked-number (Number v) k =
-    let e : v * above / above ≡ v = omega arith in
-    let f : v * above % above ≡ 0 = omega arith in
+    let e : v * upper / upper ≡ v = omega arith in
+    let f : v * upper % upper ≡ 0 = omega arith in
     rw (e, f) refl
 unpacked-number (Same b) k = let e = k .kind refl .1 in cc
 unpacked-number (Shape p n) k = let e = k .kind refl .1 in cc
 unpacked-number (Refused zero) k = absurd (let z = k .number 0 refl .0 in omega arith)
-unpacked-number (Refused (suc n)) k = let l = k .number (suc n) refl .1 in let f : suc n % above ≡ suc n = omega arith in rw f refl
+unpacked-number (Refused (suc n)) k = let l = k .number (suc n) refl .1 in let e : suc n / upper ≡ 0 = omega arith in let f : suc n % upper ≡ suc n = omega arith in rw (e, f) refl
 
 pub unpacked-same : (a : Answer) → Kind IsFlag a → unpackSame (packValue a) ≡ a
 unpacked-same Ok k = let e = k .kind refl .1 in cc
@@ -49,7 +49,7 @@ unpacked-same (Same true) k = refl
 unpacked-same (Same false) k = refl
 unpacked-same (Shape p n) k = let e = k .kind refl .1 in cc
 unpacked-same (Refused zero) k = absurd (let z = k .number 0 refl .0 in omega arith)
-unpacked-same (Refused (suc n)) k = let l = k .number (suc n) refl .1 in let f : suc n % above ≡ suc n = omega arith in rw f refl
+unpacked-same (Refused (suc n)) k = let l = k .number (suc n) refl .1 in let e : suc n / upper ≡ 0 = omega arith in let f : suc n % upper ≡ suc n = omega arith in rw (e, f) refl
 
 -- ---- the promise of what is unpacked
 

@@ -1,7 +1,7 @@
 -- An answer in a number, as C takes it: the lower 32 bits are 0 or the number of a refusal, the upper 32 bits the value that a call answers.
 use mathlib.Core.Bool.{Bool, true, false}
 use Prim.Native.Nat.{ℕ, zero, suc, _*_, _/_, _%_, _^_}
-use lib.Dec.{ltb, eqb}
+use lib.Dec.{ltb}
 use Rattle.rules.specs.Pick.{pick}
 use Rattle.layout.specs.declared.Geometry.{Geometry}
 use Rattle.layout.specs.Geometry.{maxSegments, total}
@@ -30,20 +30,28 @@ pack (Refused n) = n
 
 -- ---- a call that answers a value, above the number
 
-abbrev pub above : ℕ
-above = 2 ^ 32
+-- the lowest of the upper 32 bits
+abbrev pub upper : ℕ
+upper = 2 ^ 32
 
+-- a number that has both a value and a refusal stands for no answer that a call may give
 abbrev pub withValue : (ℕ → Answer) → ℕ → ℕ → Answer
 withValue answer v zero = answer v
-withValue answer v (suc n) = Refused (suc n)
+withValue answer zero (suc n) = Refused (suc n)
+withValue answer (suc v) (suc n) = Refused 0
 
 -- get: the number
 abbrev pub unpackNumber : ℕ → Answer
-unpackNumber r = withValue Number (r / above) (r % above)
+unpackNumber r = withValue Number (r / upper) (r % upper)
 
 -- same: 1 or 0
+abbrev pub flagged : ℕ → Answer
+flagged zero = Same false
+flagged (suc zero) = Same true
+flagged (suc (suc v)) = Refused 0
+
 abbrev pub unpackSame : ℕ → Answer
-unpackSame r = withValue (λ v. Same (eqb v 1)) (r / above) (r % above)
+unpackSame r = withValue flagged (r / upper) (r % upper)
 
 abbrev pub flag : Bool → ℕ
 flag true = 1
@@ -51,7 +59,7 @@ flag false = 0
 
 abbrev pub packValue : Answer → ℕ
 packValue Ok = 0
-packValue (Number v) = v * above
-packValue (Same b) = flag b * above
+packValue (Number v) = v * upper
+packValue (Same b) = flag b * upper
 packValue (Shape p n) = 0
 packValue (Refused n) = n

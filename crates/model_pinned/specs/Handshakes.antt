@@ -50,7 +50,7 @@ handshakes =
     -- step answers for 1 and 2, in number order; 3 owes its second answer
     ∷ step ⇒ stepped (Waiting 2)
     ∷ look ⇒ seen sync2 (Condemned 12 ∷ Free ∷ []) (3073 ∷ 1 ∷ [])
-    -- between the second answer and mark: the new value, then the old
+    -- between the second answer and mark: the new value (the old one is nil)
     ∷ call (c-check 3) ⇒ ok
     ∷ call (c-check 0) ⇒ ok
     ∷ call (c-load 0 1 0 0) ⇒ ok

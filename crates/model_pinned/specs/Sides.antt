@@ -1,12 +1,26 @@
--- Which number goes before which: each root of each call, and each call by an outside mutator.
+-- Which number goes before which: each root of each call, and calls by an outside mutator (get, leave and detach stand among the refusals).
 use mathlib.Core.List.{List, [], _∷_}
-use Rattle.theory.specs.Calls.{c-attach, c-check, c-leave, c-make, c-load, c-store, c-copy, c-clear, c-put, c-same, c-shape}
+use Rattle.theory.specs.Calls.{c-attach, c-detach, c-enter, c-spawn, c-check, c-leave, c-make, c-load, c-store, c-copy, c-clear, c-put, c-same, c-shape}
 use Rattle.model_cases.specs.Replies.{Line, _⇒_, opening, call, ok, no}
 
 abbrev pub sides : List Line
 sides =
     opening ⇒ ok
+    -- 2: each call, and either number of a spawn
+    ∷ call (c-detach 32) ⇒ no 2
+    ∷ call (c-leave 32) ⇒ no 2
+    ∷ call (c-enter 32) ⇒ no 2
+    ∷ call (c-make 32 16 1 1023) ⇒ no 2
+    ∷ call (c-spawn 32 0 16) ⇒ no 2
+    -- 4: a spawn of an absent number onto itself
+    ∷ call (c-spawn 0 0 16) ⇒ no 4
     ∷ call (c-attach 0) ⇒ ok
+    -- a nil root of the parent is fine
+    ∷ call (c-spawn 1 0 0) ⇒ ok
+    -- 7: nil in each call's root
+    ∷ call (c-load 0 1 0 0) ⇒ no 7
+    ∷ call (c-store 0 0 0 1) ⇒ no 7
+    ∷ call (c-put 0 0 0 0) ⇒ no 7
     -- 6: each root of a call
     ∷ call (c-copy 0 16 0) ⇒ no 6
     ∷ call (c-copy 0 0 16) ⇒ no 6

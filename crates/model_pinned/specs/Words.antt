@@ -22,7 +22,7 @@ written =
     ∷ call (c-make 0 2 1 511) ⇒ ok
     ∷ call (c-make 0 3 1 511) ⇒ ok
     ∷ call (c-clear 0 2) ⇒ ok
-    -- start clears every mark and every answer
+    -- start clears every mark
     ∷ start ⇒ ok
     ∷ marks 0 ⇒ words (0 ∷ [])
     ∷ marks 1 ⇒ words (0 ∷ [])
