@@ -88,7 +88,7 @@ module _ (g : Geometry) (m₀ : Mem) where
 
 -- ---- the cycle of a list
 
-accepted : (g : Geometry) (m m′ : Mem) → Acts g m m′ (startCall Ok) → (phase m ≡ idle) × (m′ ≡ collector.started g m)
+pub accepted : (g : Geometry) (m m′ : Mem) → Acts g m m′ (startCall Ok) → (phase m ≡ idle) × (m′ ≡ collector.started g m)
 accepted g m m′ (wrong n h) = none-some n
 accepted g m m′ (starts i h) = (i, h)
 

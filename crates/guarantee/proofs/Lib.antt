@@ -9,8 +9,10 @@ pub mod Elements
 pub mod Walks
 pub mod Beginning
 pub mod Cycle
+pub mod Condemned
 pub mod Freeing
 pub mod Guarantee
 pub mod Keeping
 pub mod OneNumber
+pub mod SweptOnce
 pub mod Independent

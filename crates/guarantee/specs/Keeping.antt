@@ -1,11 +1,11 @@
 -- What stands beside the guarantee: a refusal is one number of the table; the opening establishes consistency, every call keeps it, over memory
--- that passes the examination and not only along lists from an opening; such memory never meets 13 and a refusal changes no word of it; and "no room"
--- comes exactly when document 01 says so.
+-- that passes the examination and not only along lists from an opening; such memory never meets 13 and a refusal changes no word of it; "no room" comes
+-- exactly when document 01 says so; and a cycle sweeps each full segment once.
 use mathlib.Core.Path.{_≡_}
 use mathlib.Core.Logic.{_⊎_}
 use mathlib.Core.Bool.{true, false}
 use mathlib.Core.Option.{some}
-use mathlib.Core.List.{List, _++_}
+use mathlib.Core.List.{List, _∷_, _++_}
 use Prim.Native.Nat.{ℕ, _+_, _≤_}
 use lib.ListN.{length}
 use Rattle.classes.specs.Class.{classOf}
@@ -15,13 +15,16 @@ use Rattle.layout.specs.Geometry.{wrongSize}
 use Rattle.layout.specs.Mem.{Mem, memOf, flat}
 use Rattle.theory.specs.Calls.{c-make, refusal}
 use Rattle.model.specs.declared.Answer.{Answer}
+use Rattle.model.specs.declared.Answer.the-variants.{Ok}
+use Rattle.model.specs.declared.Step.the-variants.{Swept, Done}
 use Rattle.model.specs.Answers.{refusalOf}
 use Rattle.model.specs.Calls.{observe}
 use Rattle.model.specs.Making.{NoRoom}
+use Rattle.model.specs.Collector.{isFull}
 use Rattle.model.specs.Opening.{opened}
 use Rattle.model.specs.Run.{Command, run}
 use Rattle.model.specs.Consistent.{Consistent}
-use Rattle.model.specs.Lists.{Element, called, Meets, KeepsLength, Gets, wrongSized, numberOf, Chain, wordsAfter, Ghost, Opened, Begins}
+use Rattle.model.specs.Lists.{stepCall, Element, called, started, stepped, Meets, KeepsLength, Gets, wrongSized, numberOf, Chain, wordsAfter, Ghost, Opened, Begins}
 
 -- "The answer to every call, over lent memory of any length and content, is a result or one number of the table in document 01": whatever the call
 -- was lent, a refusal is one of the numbers 1 to 13
@@ -70,6 +73,39 @@ pub record NoRoomExactly : Type 0 where
       → refusalOf r ≡ some 10 → OutOfRoom g (memOf g words) k d p n
   pub whenever : (g : Geometry) (words after : List ℕ) (k d p n : ℕ) (r : Answer) → Applied g words (called (c-make k d p n) g words r after)
       → OutOfRoom g (memOf g words) k d p n → refusalOf r ≡ some 10
+
+-- a cycle to its end: a start that is not refused, further calls with no such start among them, and a step that answers done
+pub record EndedIn (g : Geometry) (es : List Element) : Type 0 where
+  pub before : List Element
+  pub during : List Element
+  pub rest : List Element
+  pub startBefore : List ℕ
+  pub startAfter : List ℕ
+  pub stepBefore : List ℕ
+  pub stepAfter : List ℕ
+  pub whole : es ≡ before ++ (started g startBefore Ok startAfter ∷ (during ++ (stepped g stepBefore Done stepAfter ∷ rest)))
+  pub oneStart : (xs ys : List Element) (u v : List ℕ) → during ≡ xs ++ (started g u Ok v ∷ ys) → ⊥
+
+-- no step of the list answers swept for segment s, and one does exactly
+abbrev pub NeverSwept : ℕ → List Element → Type 0
+NeverSwept s es = (xs ys : List Element) (e : Element) (f : ℕ) → es ≡ xs ++ (e ∷ ys) → e .event ≡ stepCall (Swept s f) → ⊥
+
+pub record OnceSwept (g : Geometry) (s : ℕ) (es : List Element) : Type 0 where
+  pub earlier : List Element
+  pub later : List Element
+  pub stepBefore : List ℕ
+  pub stepAfter : List ℕ
+  pub freed : ℕ
+  pub whole : es ≡ earlier ++ (stepped g stepBefore (Swept s freed) stepAfter ∷ later)
+  pub notEarlier : NeverSwept s earlier
+  pub notLater : NeverSwept s later
+
+-- "start: every full segment becomes condemned"; step in sweep takes "the lowest condemned segment .. With none left: idle, and done": from a start
+-- to its done each segment that was full at the start is swept once
+abbrev pub SweptOnce : Type 0
+SweptOnce =
+    (g : Geometry) (words : List ℕ) (es : List Element) → wrongSize g (length words) ≡ false → Consistent g (memOf g words) → Chain g words es
+    → (c : EndedIn g es) (s : ℕ) → isFull (memOf g (c .startBefore)) s ≡ true → OnceSwept g s (c .during)
 
 -- the model's own run, from the words that its opening leaves, is such a list
 pub record OwnRun (g : Geometry) (content : List ℕ) (rs : List Command) : Type 0 where

@@ -1,20 +1,24 @@
 -- What the guarantee and the theorems beside it say of document 01's whole case and of the case of its refusals. Assumes nothing.
-use mathlib.Core.Path.{_≡_, refl, _∙_, ap}
+use mathlib.Core.Path.{_≡_, refl, sym, _∙_, ap}
+use mathlib.Core.Bool.{true≢false}
 use mathlib.Core.List.{List, tail}
 use mathlib.Core.Option.{Option·some-injective}
 use native.Mathlib.Omega.{arith}
 use native.Mathlib.Decide.{ℕ-discrete}
 use Prim.Native.Nat.{ℕ}
-use lib.ListN.{take, drop}
+use lib.ListN.{length, take, drop}
 use Rattle.layout.specs.declared.Geometry.{Geometry}
+use Rattle.layout.proofs.Regions.{right-size}
 use Rattle.theory.specs.Calls.{c-make, require, ifRecord}
 use Rattle.theory.specs.Update.{upd}
 use Rattle.theory.specs.Unbounded.{empty, uanswers}
 use Rattle.theory.proofs.Invariant.{none-some}
 use Rattle.model.specs.declared.Answer.the-variants.{Ok, Refused}
 use Rattle.model.specs.Lists.{Element, called, ghostStart, byOpening}
-use Rattle.guarantee.specs.Keeping.{Applied}
+use Rattle.guarantee.specs.Keeping.{Applied, EndedIn}
+use Rattle.guarantee.proofs.Beginning.{opened-point}
 use Rattle.guarantee.proofs.Guarantee.{guarantee}
+use Rattle.guarantee.proofs.SweptOnce.{swept-once}
 use Rattle.guarantee.proofs.Keeping.{opening-establishes, no-room-exactly}
 use Rattle.model_cases.specs.Replies.{inputs, outputs, geometry, sevens}
 use Rattle.model_cases.specs.Whole.{whole}
@@ -23,7 +27,7 @@ use Rattle.model_cases.proofs.Refusals.{refusals-hold}
 use Rattle.guarantee_case.specs.Columns.{leftColumn, rightColumn}
 use Rattle.guarantee_case.specs.Consequences.{Answered, OfWhole, OfRefusals}
 use Rattle.guarantee_case.proofs.CaseRun.{commandsIn, elementsOf, CaseRun, case-run}
-use Rattle.guarantee_case.proofs.Instance.{asked, replied, case-from, sizes-sevens, whole-run, whole-case}
+use Rattle.guarantee_case.proofs.Instance.{asked, replied, anyStart, has-start, case-from, sizes-sevens, whole-run, whole-case}
 use Rattle.guarantee_case.proofs.Along.{applied-to, along}
 
 -- ---- the columns, by the unbounded heap alone
@@ -45,15 +49,35 @@ refusals-answered g words es b ch e = guarantee .answers g words ghostStart es b
 -- ---- the whole case
 
 module _ (g : Geometry) (p : CaseRun g asked replied) where
+  -- from the start (9) to done (20)
+  abbrev ended : EndedIn g (case-from g p .calls)
+  ended =
+      let l = case-from g p .calls in
+      record {
+        before = take 9 l;
+        during = take 10 (drop 10 l);
+        rest = drop 21 l;
+        startBefore = p .at 9;
+        startAfter = p .at 10;
+        stepBefore = p .at 20;
+        stepAfter = p .at 21;
+        whole = refl;
+        oneStart = λ xs ys u v e. true≢false (sym (has-start g xs ys u v) ∙ ap anyStart (sym e));
+      }
+
   of-whole : OfWhole (case-from g p)
   of-whole =
       let i = case-from g p in
+      let o = opened-point g (i .content) (i .words) (i .opened) in
       record {
         opens = opening-establishes g (i .content) (i .words) (i .opened);
         along = along g (i .words) ghostStart (i .calls) (byOpening (i .opened)) (i .chain);
         calls = refl;
         answers = whole-answered g (i .words) (i .calls) (byOpening (i .opened)) (i .chain) refl;
         freed = guarantee .frees g (i .words) ghostStart (i .calls) (byOpening (i .opened)) (i .chain) (i .cycle) (i .cycle .segment) (i .block) (i .full) (i .unreached) refl;
+        ended = ended;
+        sameStart = refl;
+        once = swept-once g (i .words) (i .calls) (right-size g (length (i .words)) (o .long)) (o .consistent) (i .chain) ended 0 (i .full);
       }
 
 pub whole-consequences : OfWhole whole-case

@@ -10,7 +10,7 @@ use Rattle.model.specs.declared.Answer.the-variants.{Ok, Refused}
 use Rattle.model.specs.Consistent.{Consistent}
 use Rattle.model.specs.Lists.{Element, called, Gets, numberOf, Chain, wordsAfter, Opened, ghostStart, Begins, remainingCalls, remainingAnswers}
 use Rattle.guarantee.specs.Demand3.{struckOut, BlockFree}
-use Rattle.guarantee.specs.Keeping.{OutOfRoom}
+use Rattle.guarantee.specs.Keeping.{OutOfRoom, EndedIn, OnceSwept}
 use Rattle.model_cases.specs.Replies.{Line}
 use Rattle.model_cases.specs.Whole.{whole}
 use Rattle.model_cases.specs.Refusals.{refusals}
@@ -32,13 +32,17 @@ pub record Along (g : Geometry) (words : List ℕ) (es : List Element) : Type 0 
   pub neverTorn : (xs ys : List Element) (e : Element) → es ≡ xs ++ (e ∷ ys) → numberOf e ≡ some 13 → ⊥
   pub unchanged : (xs ys : List Element) (e : Element) (n : ℕ) → es ≡ xs ++ (e ∷ ys) → numberOf e ≡ some n → e .after ≡ e .before
 
--- document 01's whole case: its right column, and the block that was in use and not reached is free after the sweep
+-- document 01's whole case: its right column, the block that was in use and not reached is free after the sweep, and there is one sweep of its segment
 pub record OfWhole (i : Instance) : Type 0 where
   pub opens : Consistent (i .geometry) (memOf (i .geometry) (i .words))
   pub along : Along (i .geometry) (i .words) (i .calls)
   pub calls : remainingCalls struckOut (i .calls) ≡ leftColumn whole
   pub answers : remainingAnswers struckOut (i .calls) ≡ rightColumn whole
   pub freed : BlockFree (i .geometry) (memOf (i .geometry) (i .cycle .stepAfter)) (i .cycle .segment) (i .block)
+  -- the cycle goes on to its done, and sweeps the segment once
+  pub ended : EndedIn (i .geometry) (i .calls)
+  pub sameStart : ended .startBefore ≡ i .cycle .startBefore
+  pub once : OnceSwept (i .geometry) (i .cycle .segment) (ended .during)
 
 -- the case of the refusals: those from 2 to 9 are the unbounded heap's too; the fifth make into one segment of four blocks has no room, and
 -- document 01's condition for it holds then, and did not before the fourth

@@ -13,3 +13,4 @@ pub mod AgreeKeeps
 pub mod CallKeeps
 pub mod CollectorKeeps
 pub mod Bridge
+pub mod Condemning
