@@ -35,7 +35,7 @@ abbrev pub SoundTogether : Type 0
 SoundTogether =
     (g : Geometry) (m m′ : Mem) → SameButSummaries g m m′ → (Sound g m → Sound g m′) × (Sound g m′ → Sound g m)
 
--- that neither half says all: a memory of the right sizes that is sound and not summed
+-- that the second half does not say the first: a memory of the right sizes that is sound and not summed
 pub record SoundAlone : Type 0 where
   pub geometry : Geometry
   pub memory : Mem

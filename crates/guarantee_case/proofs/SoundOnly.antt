@@ -17,6 +17,8 @@ use Rattle.guarantee.specs.Independent.{SameButSummaries, SoundAlone}
 use Rattle.guarantee.proofs.Independent.{sound-together}
 use Rattle.layout.specs.Region as Region
 use Rattle.model.specs.Tag as Tag
+use Rattle.model_cases.specs.Replies.{geometry, sevens}
+use Rattle.guarantee_case.proofs.Instance.{sizes-sevens}
 
 module _ (g : Geometry) (m : Mem) (z : Sizes g m) (some : 0 < g .segments) where
   abbrev before : Mem
@@ -47,7 +49,7 @@ module _ (g : Geometry) (m : Mem) (z : Sizes g m) (some : 0 < g .segments) where
       let l : i .0 < count g unstacked freeStack = i .1 in
       omega arith
 
-  pub sound-alone : SoundAlone
+  sound-alone : SoundAlone
   sound-alone =
       let s = sizes-opened g m z in
       record {
@@ -67,3 +69,7 @@ module _ (g : Geometry) (m : Mem) (z : Sizes g m) (some : 0 < g .segments) where
         sound = sound-together g before unstacked alike .0 (opened-consistent g m z .sound);
         unsummed = not-summed;
       }
+
+-- of two segments of sevens
+pub summed-apart : SoundAlone
+summed-apart = sound-alone (geometry 2) (sevens (geometry 2)) (sizes-sevens (geometry 2)) (omega arith)

@@ -1,5 +1,5 @@
 // The one lent slice and its regions: control, mutators, heap, segment records, stacks, bitmaps, marks, queued bits, trace stack.
-// Nothing above this crate mentions an offset: words are read and written through these functions, whose contracts speak of `Mem`.
+// Nothing above this crate mentions where a region begins: words are read and written through these functions, whose contracts speak of `Mem`.
 ghost use mathlib.Core.Path.{_≡_};
 ghost use Prim.Native.Nat.{_%_, _≤_, _<_};
 ghost use lib.ListN.{length, replicate};

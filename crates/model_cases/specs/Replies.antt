@@ -35,7 +35,8 @@ pub data Input : Type 0 where
   marks : (segment : ℕ) → Input
   heap : (from words : ℕ) → Input
 
--- an answer; what a look shows: the phase, the segments' states, and the trace stack, its last entry last; and words
+-- an answer; what is seen of the memory: the phase, the segments' states, and the trace stack, its last entry last (which no look of document 01
+-- shows); and words
 pub data Reply : Type 0 where
   answer : Answer → Reply
   seen : Phase → List SegmentState → List ℕ → Reply

@@ -1,4 +1,4 @@
--- The calls on the abstract machine, with their refusals and answers.
+-- The calls on the abstract machine: what it shows of itself, and what a call does that is not refused.
 use mathlib.Core.Path.{_≡_}
 use mathlib.Core.Bool.{Bool, true, false, _&&_}
 use mathlib.Core.Option.{Option, none, some, Option·map}
@@ -13,7 +13,7 @@ use Rattle.theory.specs.Reach.{root}
 use Rattle.rules.specs.Pick.{oneIf}
 use Rattle.layout.specs.Geometry.{rootCount, mutatorCount}
 
--- ---- refusals 2 to 9, by what both sides show
+-- ---- what it shows of itself, as the unbounded heap does
 
 abbrev pub shapeAt : State → ℕ → ℕ × ℕ
 shapeAt st b = (st .pointers b, length (st .values b))
