@@ -1,0 +1,3 @@
+-- Laws of acknowledgements and of the calls of a handshake.
+pub mod Acknowledging
+pub mod Entering

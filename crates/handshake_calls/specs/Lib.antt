@@ -1,0 +1,2 @@
+-- An acknowledgement over memory of any content.
+pub mod Acknowledging

@@ -1,0 +1,90 @@
+// The mutators' calls of a handshake: check, leave and enter. No call has a `requires`; each keeps the model's promise of it. Over memory that
+// fails the examination a root may name no record with a bit, or the trace stack have no room: then the answer is 13.
+use layout::Geometry;
+use model::Answer;
+use model::Phase;
+ghost use mathlib.Core.Path.{_≡_};
+ghost use Prim.Native.Nat.{_<_};
+ghost use lib.ListN.{length};
+ghost use Rattle.layout.specs.Geometry.{Sized, mutatorCount};
+ghost use Rattle.layout.specs.Mem.{memOf};
+ghost use Rattle.theory.specs.Calls.{c-check, c-leave, c-enter};
+ghost use Rattle.model.specs.Promise.{Promise};
+ghost use Rattle.handshake_calls.specs.Acknowledging.{Acknowledges};
+
+// Mutator k gives the acknowledgement that it owes, if any, in the second handshake after its roots are pushed; false where one cannot be.
+pub fn acknowledge(g: Geometry, mem: &mut [u32], k: u32) -> bool
+    requires { ⌜ (Sized g (length (now mem))) × (k < mutatorCount) ⌝ }
+    ensures { λ r. ⌜ Acknowledges g (memOf g (now (mem .entry))) k r (memOf g (now (mem .exit))) ⌝ }
+{
+    let phase = roots::phase(g, mem);
+    let number = phase.number;
+    if phase.owes(roots::acks(g, mem, k)) {
+        if number == Phase::SYNC2 {
+            if tracing::push_roots(g, mem, k) {
+                roots::set_acks(g, mem, k, 2);
+                return true;
+            }
+            return false;
+        }
+        roots::set_acks(g, mem, k, 1);
+    }
+    true
+}
+
+// A mutator that owes an acknowledgement gives it.
+pub fn check(g: Geometry, mem: &mut [u32], k: u32) -> Answer
+    ensures { λ r. ⌜ Promise (c-check k) g (now (mem .entry)) r (now (mem .exit)) ⌝ }
+{
+    if layout::wrong_size(g, mem.len()) {
+        return Answer::Refused(1);
+    }
+    let refused = roots::inside_refusal(g, mem, k);
+    if refused != 0 {
+        return Answer::Refused(refused);
+    }
+    if acknowledge(g, mem, k) {
+        return Answer::Ok;
+    }
+    Answer::Refused(13)
+}
+
+// The same, and the mutator is outside.
+pub fn leave(g: Geometry, mem: &mut [u32], k: u32) -> Answer
+    ensures { λ r. ⌜ Promise (c-leave k) g (now (mem .entry)) r (now (mem .exit)) ⌝ }
+{
+    if layout::wrong_size(g, mem.len()) {
+        return Answer::Refused(1);
+    }
+    let refused = roots::inside_refusal(g, mem, k);
+    if refused != 0 {
+        return Answer::Refused(refused);
+    }
+    let given = acknowledge(g, mem, k);
+    if given {
+        roots::set_state(g, mem, k, roots::OUTSIDE);
+        return Answer::Ok;
+    }
+    Answer::Refused(13)
+}
+
+// A mutator outside is inside; an acknowledgement that it owes stays owed.
+pub fn enter(g: Geometry, mem: &mut [u32], k: u32) -> Answer
+    ensures { λ r. ⌜ Promise (c-enter k) g (now (mem .entry)) r (now (mem .exit)) ⌝ }
+{
+    if layout::wrong_size(g, mem.len()) {
+        return Answer::Refused(1);
+    }
+    if layout::MUTATORS <= k {
+        return Answer::Refused(2);
+    }
+    let state = roots::state(g, mem, k);
+    if state == roots::ABSENT {
+        return Answer::Refused(4);
+    }
+    if state == roots::INSIDE {
+        return Answer::Refused(5);
+    }
+    roots::set_state(g, mem, k, roots::INSIDE);
+    Answer::Ok
+}
