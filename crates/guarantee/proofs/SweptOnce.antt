@@ -66,16 +66,17 @@ never-more s e ds n h (z ∷ xs) ys x f i p = let q : ds ≡ xs ++ (x ∷ ys) = 
 -- ---- along a list
 
 module _ (g : Geometry) where
-  pub record At (words : List ℕ) : Type 0 where
-    pub right : wrongSize g (length words) ≡ false
-    pub consistent : Consistent g (memOf g words)
+  -- of the right size, and passes the examination
+  record ConsistentWords (words : List ℕ) : Type 0 where
+    right : wrongSize g (length words) ≡ false
+    consistent : Consistent g (memOf g words)
 
-  next : (words : List ℕ) (e : Element) → At words → Meets e → KeepsLength e → (wrongSized e ≡ true) ⊎ Gets g words e → At (onward words e) × Acts g (memOf g words) (memOf g (onward words e)) (e .event)
+  next : (words : List ℕ) (e : Element) → ConsistentWords words → Meets e → KeepsLength e → (wrongSized e ≡ true) ⊎ Gets g words e → ConsistentWords (onward words e) × Acts g (memOf g words) (memOf g (onward words e)) (e .event)
   next words e a q l h = let o = every-element g words e (a .right) (a .consistent) q l h in (record { right = o .sized; consistent = o .consistent }, o .acts)
 
-  walk-at : (xs ys : List Element) (words : List ℕ) → At words → Chain g words (xs ++ ys) → At (wordsAfter words xs) × Chain g (wordsAfter words xs) ys
-  walk-at [] ys words a c = (a, c)
-  walk-at (e ∷ xs) ys words a c = walk-at xs ys (onward words e) (next words e a (c .0) (c .1) (c .2) .0) (c .3)
+  walk-consistent : (xs ys : List Element) (words : List ℕ) → ConsistentWords words → Chain g words (xs ++ ys) → ConsistentWords (wordsAfter words xs) × Chain g (wordsAfter words xs) ys
+  walk-consistent [] ys words a c = (a, c)
+  walk-consistent (e ∷ xs) ys words a c = walk-consistent xs ys (onward words e) (next words e a (c .0) (c .1) (c .2) .0) (c .3)
 
   -- no start that is not refused
   abbrev NoStart : List Element → Type 0
@@ -89,7 +90,7 @@ module _ (g : Geometry) where
 
   module _ (s : ℕ) where
     -- a segment that is not condemned is not swept
-    never-swept : (ds ys : List Element) (words : List ℕ) → At words → NoStart ds → Chain g words (ds ++ ys) → isCondemned (memOf g words) s ≡ false → NeverSwept s ds
+    never-swept : (ds ys : List Element) (words : List ℕ) → ConsistentWords words → NoStart ds → Chain g words (ds ++ ys) → isCondemned (memOf g words) s ≡ false → NeverSwept s ds
     never-swept [] ys words a n c f = never-none s
     never-swept (e ∷ ds) ys words a n c f =
         let o = next words e a (c .0) (c .1) (c .2) in
@@ -99,14 +100,14 @@ module _ (g : Geometry) where
         never-more s e ds m (never-swept ds ys (onward words e) (o .0) (no-later e ds n) (c .3) (k ∙ f))
 
     -- one that is condemned is swept before done, once
-    once-swept : s < g .segments → (ds rest : List Element) (u v words : List ℕ) → At words → NoStart ds → Chain g words (ds ++ (stepped g u Done v ∷ rest)) → isCondemned (memOf g words) s ≡ true → OnceSwept g s ds
+    once-swept : s < g .segments → (ds rest : List Element) (u v words : List ℕ) → ConsistentWords words → NoStart ds → Chain g words (ds ++ (stepped g u Done v ∷ rest)) → isCondemned (memOf g words) s ≡ true → OnceSwept g s ds
     once-swept l [] rest u v words a n c t =
         let o = next words (stepped g u Done v) a (c .0) (c .1) (c .2) in
         let z = sizes-of g words (sized g (length words) (a .right)) in
         absurd (true≢false (sym t ∙ done-condemned g (memOf g words) z (a .consistent) s l _ (o .1)))
     once-swept l (e ∷ ds) rest u v words a n c t = go (is-sweep s e) (λ k. once-swept l ds rest u v (onward words e) (o .0) (no-later e ds n) (c .3) k)
       where
-        o : At (onward words e) × Acts g (memOf g words) (memOf g (onward words e)) (e .event)
+        o : ConsistentWords (onward words e) × Acts g (memOf g words) (memOf g (onward words e)) (e .event)
         o = next words e a (c .0) (c .1) (c .2)
 
         z : Sizes g (memOf g words)
@@ -142,7 +143,7 @@ module _ (g : Geometry) where
 
 pub swept-once : SweptOnce
 swept-once g words es right k ch c s f =
-    let w = walk-at g (c .before) _ words (record { right = right; consistent = k }) (subst (Chain g words) (c .whole) ch) in
+    let w = walk-consistent g (c .before) _ words (record { right = right; consistent = k }) (subst (Chain g words) (c .whole) ch) in
     let u = wordsAfter words (c .before) in
     let e = started g (c .startBefore) Ok (c .startAfter) in
     let h = not-refused g u e (w .1 .0) refl (w .1 .2) in

@@ -86,10 +86,11 @@ pub record EndedIn (g : Geometry) (es : List Element) : Type 0 where
   pub whole : es ≡ before ++ (started g startBefore Ok startAfter ∷ (during ++ (stepped g stepBefore Done stepAfter ∷ rest)))
   pub oneStart : (xs ys : List Element) (u v : List ℕ) → during ≡ xs ++ (started g u Ok v ∷ ys) → ⊥
 
--- no step of the list answers swept for segment s, and one does exactly
+-- no step of a list answers swept for segment s
 abbrev pub NeverSwept : ℕ → List Element → Type 0
 NeverSwept s es = (xs ys : List Element) (e : Element) (f : ℕ) → es ≡ xs ++ (e ∷ ys) → e .event ≡ stepCall (Swept s f) → ⊥
 
+-- exactly one does
 pub record OnceSwept (g : Geometry) (s : ℕ) (es : List Element) : Type 0 where
   pub earlier : List Element
   pub later : List Element
