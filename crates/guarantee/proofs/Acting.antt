@@ -28,7 +28,7 @@ start-acts : (g : Geometry) (m m′ : Mem) (r : Answer) → answerOf r ≡ start
 start-acts g m m′ r e h = go (start-either g m)
   where
     go : ((phase m ≡ idle) × (startOf g m ≡ (a-ok, started g m))) ⊎ ((n : ℕ) × (n ≤ 12) × (startOf g m ≡ (a-no n, m))) → Acts g m m′ (startCall r)
-    go (inl x) = rw (is-ok r (e ∙ ap (λ y. y .0) (x .1))) (starts (x .0) (h ∙ ap (λ y. y .1) (x .1)))
+    go (inl x) = rw (is-ok r (e ∙ ap (λ y. y .0) (x .1))) (starts (x .0) (ap (λ y. y .0) (x .1)) (h ∙ ap (λ y. y .1) (x .1)))
     go (inr x) =
         let n : startOf g m .0 ≡ a-no (x .0) = ap (λ y. y .0) (x .2) in
         rw (refused-as r (x .0) (to-number r (x .0) (e ∙ n))) (startRefused n (h ∙ ap (λ y. y .1) (x .2)))

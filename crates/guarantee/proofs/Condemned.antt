@@ -129,7 +129,7 @@ module _ (g : Geometry) (m : Mem) (z : Sizes g m) (k : Consistent g m) (s : ℕ)
   stays-condemned m′ v (wrong n h) a b = ap (λ x. isCondemned x s) h
   stays-condemned m′ v (looks h) a b = ap (λ x. isCondemned x s) h
   stays-condemned m′ v (calls {c = c} e h) a b = ap (λ x. isCondemned x s) h ∙ call-same c
-  stays-condemned m′ v (starts i h) a b = absurd (a refl)
+  stays-condemned m′ v (starts i o h) a b = absurd (a refl)
   stays-condemned m′ v (startRefused e h) a b = ap (λ x. isCondemned x s) h
   stays-condemned m′ v (steps {r = r} e h) a b = ap (λ x. isCondemned x s) h ∙ step-same (λ f i. b f (ap stepCall (sym (step-of r) ∙ ap declaredStep (e ∙ i))))
 

@@ -143,7 +143,7 @@ module _ (g : Geometry) (m : Mem) (z : Sizes g m) (k : Consistent g m) (w : Ghos
   leads v after (wrong n h) = stays v after (unfed v n) h
   leads v after (looks h) = stays _ after refl h
   leads v after (calls {c = c} {r = r} e h) = call-leads c r after e h
-  leads v after (starts i h) = begins refl (begun (memOf g after) i h)
+  leads v after (starts i o h) = begins refl (begun (memOf g after) i h)
   leads v after (startRefused e h) = stays _ after refl h
   leads v after (steps e h) =
       let q = all-kept .steps g m z k in
@@ -175,7 +175,7 @@ module _ (g : Geometry) (m : Mem) (z : Sizes g m) (k : Consistent g m) where
   structured v m′ (wrong n h) = unmoved-structure m′ h
   structured v m′ (looks h) = unmoved-structure m′ h
   structured v m′ (calls {c = c} e h) = called m′ c h
-  structured v m′ (starts i h) = let q = all-kept .starts g m z k i in subst (λ x. Structure g x × (EachOccupied g m → EachOccupied g x)) (sym h) (q .structure, q .occupied)
+  structured v m′ (starts i o h) = let q = all-kept .starts g m z k i in subst (λ x. Structure g x × (EachOccupied g m → EachOccupied g x)) (sym h) (q .structure, q .occupied)
   structured v m′ (startRefused e h) = unmoved-structure m′ h
   structured v m′ (steps e h) = let q = all-kept .steps g m z k .moves in subst (λ x. Structure g x × (EachOccupied g m → EachOccupied g x)) (sym h) (q .structure, q .occupied)
 

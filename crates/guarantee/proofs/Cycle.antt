@@ -90,7 +90,7 @@ module _ (g : Geometry) (m₀ : Mem) where
 
 pub accepted : (g : Geometry) (m m′ : Mem) → Acts g m m′ (startCall Ok) → (phase m ≡ idle) × (m′ ≡ collector.started g m)
 accepted g m m′ (wrong n h) = none-some n
-accepted g m m′ (starts i h) = (i, h)
+accepted g m m′ (starts i o h) = (i, h)
 
 sweeping : (g : Geometry) (m m′ : Mem) (s f : ℕ) → Acts g m m′ (stepCall (stepAnswer.Swept s f)) → (a-swept s f ≡ stepOf g m .0) × (m′ ≡ stepOf g m .1)
 sweeping g m m′ s f (wrong n h) = none-some n

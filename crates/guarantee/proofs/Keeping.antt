@@ -74,7 +74,7 @@ module _ (g : Geometry) (words : List ℕ) (z : Sized g (length words)) (c : Con
   event-not v after q (wrong x h) t = let y = Option·some-injective 1 n (sym x ∙ t) in omega arith
   event-not v after q (looks {l = l} h) t = look-not l (q .0) (lookSized g l) refl t
   event-not v after q (calls {c = k} {r = r} e h) t = let y = remains-number g words after z c v (calls e h) (k, r) (ap (λ o. pick (struck struckOut o) none (some (k, r))) t ∙ ap (λ b. pick b none (some (k, r))) left) n t in omega arith
-  event-not v after q (starts i h) t = none-some t
+  event-not v after q (starts i o h) t = none-some t
   event-not v after q (startRefused {n = x} e h) t = let y = Option·some-injective x n t in let l = start-number g (memOf g words) x e in omega arith
   event-not v after q (steps e h) t = none-some (sym (step-answers g (memOf g words)) ∙ ap refusalIn (sym e) ∙ t)
 
@@ -88,7 +88,7 @@ refused-same : (g : Geometry) (m m′ : Mem) (v : Event) (n : ℕ) → Acts g m 
 refused-same g m m′ v n (wrong x h) t = h
 refused-same g m m′ v n (looks h) t = h
 refused-same g m m′ v n (calls {c = c} {r = r} e h) t = h ∙ exec-same g m c n (sym e ∙ of-number r n t)
-refused-same g m m′ v n (starts i h) t = none-some t
+refused-same g m m′ v n (starts i o h) t = none-some t
 refused-same g m m′ v n (startRefused e h) t = h
 refused-same g m m′ v n (steps e h) t = none-some (sym (step-answers g m) ∙ ap refusalIn (sym e) ∙ t)
 

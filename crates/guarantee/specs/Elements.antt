@@ -11,7 +11,7 @@ use Rattle.layout.specs.declared.Geometry.{Geometry}
 use Rattle.layout.specs.Geometry.{wrongSize}
 use Rattle.layout.specs.Mem.{Mem, memOf}
 use Rattle.theory.specs.Phases.{idle}
-use Rattle.theory.specs.Calls.{Call, a-no}
+use Rattle.theory.specs.Calls.{Call, a-ok, a-no}
 use Rattle.model.specs.declared.Answer.{Answer}
 use Rattle.model.specs.declared.Answer.the-variants.{Ok, Refused}
 use Rattle.model.specs.declared.Step.{Step}
@@ -28,7 +28,7 @@ pub data Acts (g : Geometry) (m m′ : Mem) : Event → Type 0 where
   wrong : {v : Event} → eventNumber v ≡ some 1 → m′ ≡ m → Acts g m m′ v
   looks : {l : Look} → m′ ≡ m → Acts g m m′ (lookCall l)
   calls : {c : Call} {r : Answer} → answerOf r ≡ exec g m c .0 → m′ ≡ exec g m c .1 → Acts g m m′ (mutatorCall c r)
-  starts : phase m ≡ idle → m′ ≡ started g m → Acts g m m′ (startCall Ok)
+  starts : phase m ≡ idle → startOf g m .0 ≡ a-ok → m′ ≡ started g m → Acts g m m′ (startCall Ok)
   startRefused : {n : ℕ} → startOf g m .0 ≡ a-no n → m′ ≡ m → Acts g m m′ (startCall (Refused n))
   steps : {r : Step} → stepAnswerOf r ≡ stepOf g m .0 → m′ ≡ stepOf g m .1 → Acts g m m′ (stepCall r)
 
