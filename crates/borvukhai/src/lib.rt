@@ -1,9 +1,9 @@
-// The heap for programs in C and Rust: each call as an exported function over the lent slice, which C passes as a pointer and a length. An
+// The heap for programs in C and Rust: the calls that stand as exported functions over the lent slice, which C passes as a pointer and a length. An
 // answer is packed in a number; `unpack` and its like in specs/ say which answer a number stands for.
 use layout::Geometry;
 use model::Answer;
 ghost use mathlib.Core.Path.{_≡_};
-ghost use Rattle.theory.specs.Calls.{c-load, c-store, c-copy, c-clear, c-put, c-get, c-same};
+ghost use Rattle.theory.specs.Calls.{c-check, c-leave, c-enter, c-load, c-store, c-copy, c-clear, c-put, c-get, c-same};
 ghost use Rattle.model.specs.Promise.{Promise, OpenPromise};
 ghost use Rattle.borvukhai.specs.Packed.{geometryOf, lengthFor, pack, packValue, unpack, unpackNumber, unpackSame};
 
@@ -130,4 +130,25 @@ pub extern "C" fn borvukhai_get(segments: u32, mem: &[u32], k: u32, i: u32, f: u
     ensures { λ r. ⌜ Promise (c-get k i f) (geometryOf segments) (now (mem .entry)) (unpackNumber r) (now (mem .entry)) ⌝ }
 {
     packed_value(field_calls::get(geometry(segments), mem, k, i, f))
+}
+
+#[no_mangle]
+pub extern "C" fn borvukhai_check(segments: u32, mem: &mut [u32], k: u32) -> u32
+    ensures { λ r. ⌜ Promise (c-check k) (geometryOf segments) (now (mem .entry)) (unpack r) (now (mem .exit)) ⌝ }
+{
+    packed(handshake_calls::check(geometry(segments), mem, k))
+}
+
+#[no_mangle]
+pub extern "C" fn borvukhai_leave(segments: u32, mem: &mut [u32], k: u32) -> u32
+    ensures { λ r. ⌜ Promise (c-leave k) (geometryOf segments) (now (mem .entry)) (unpack r) (now (mem .exit)) ⌝ }
+{
+    packed(handshake_calls::leave(geometry(segments), mem, k))
+}
+
+#[no_mangle]
+pub extern "C" fn borvukhai_enter(segments: u32, mem: &mut [u32], k: u32) -> u32
+    ensures { λ r. ⌜ Promise (c-enter k) (geometryOf segments) (now (mem .entry)) (unpack r) (now (mem .exit)) ⌝ }
+{
+    packed(handshake_calls::enter(geometry(segments), mem, k))
 }
