@@ -10,6 +10,9 @@ pub mod Stacks
 pub mod OtherStacks
 pub mod Segments
 pub mod Parted
+pub mod Releasing
+pub mod ReleaseOne
+pub mod Released
 pub mod Lowest
 pub mod Bitmaps
 pub mod Blocks

@@ -32,11 +32,11 @@ use Rattle.theory.proofs.Updates.{upd-by}
 use Rattle.laws.proofs.Entries.{holding-word, holding-by, table-below, entry-in, entry-out}
 use Rattle.laws.proofs.Stacks.{stack-same}
 use Rattle.laws.proofs.Segments.{segment-same, tree-same, occupied-same, occupied-by}
+use Rattle.laws.proofs.Releasing.{Releasable, Gone, gone?, Releasing}
+use Rattle.laws.proofs.Released.{releasing}
 use Rattle.refine_view.proofs.Seeing.{entries-same}
 use Rattle.refine_view.proofs.Invariants.{to-live, to-inv}
 use Rattle.refine_taking.proofs.Standing.{over, Stood, Stands, marked-live, marked-condemned, collect-same, used-live, steady, records-stand, trace-stands, marks-stand}
-use Rattle.refine_taking.proofs.Releasing.{Gone, gone?, Releasing}
-use Rattle.refine_taking.proofs.Released.{releasing}
 use Rattle.theory.specs.Machine as machine
 use Rattle.layout.specs.Region as Region
 use Rattle.model.specs.Tag as Tag
@@ -46,7 +46,7 @@ module _ (g : Geometry) (m : Mem) (s : Sizes g m) (c : Ordered g m) (k : ℕ) (f
   parted = released g m k classCount
 
   parts : Releasing g m parted k classCount
-  parts = releasing g m s c k few classCount (omega arith)
+  parts = releasing g m s (record { segments = c .segments; mutators = c .mutators; stacks = (c .freeSegments, c .partSegments) }) k few classCount (omega arith)
 
   abbrev emptied : List ℕ
   emptied = spliced (m .mutators) (k * mutatorWords) zeros
@@ -79,8 +79,8 @@ module _ (g : Geometry) (m : Mem) (s : Sizes g m) (c : Ordered g m) (k : ℕ) (f
 
   -- ---- segments
 
-  gone : (q : ℕ) → Gone m k classCount q → Recorded m₁ q 1 (class m q) (place m q) 0
-  gone q z = recorded-as parted m₁ q 1 (class m q) (place m q) 0 refl (parts .gone q z)
+  gone : (q : ℕ) → Gone m k classCount q → Recorded m₁ q Tag.part (class m q) (place m q) 0
+  gone q z = recorded-as parted m₁ q Tag.part (class m q) (place m q) 0 refl (parts .gone q z)
 
   stay : (q : ℕ) → (Gone m k classCount q → ⊥) → Recorded m₁ q (tag m q) (class m q) (place m q) (owner m q)
   stay q f = recorded-as parted m₁ q (tag m q) (class m q) (place m q) (owner m q) refl (parts .stay q f)
@@ -104,7 +104,7 @@ module _ (g : Geometry) (m : Mem) (s : Sizes g m) (c : Ordered g m) (k : ℕ) (f
       o : SegmentOk g m q
       o = c .segments q l
 
-      x : Recorded m₁ q 1 (class m q) (place m q) 0
+      x : Recorded m₁ q Tag.part (class m q) (place m q) 0
       x = gone q z
 
       used : tag m q ≡ Tag.free → ⊥
@@ -207,8 +207,8 @@ module _ (g : Geometry) (m : Mem) (s : Sizes g m) (c : Ordered g m) (k : ℕ) (f
     segments = segments-ok;
     trees = trees-ok;
     mutators = mutators-ok;
-    freeSegments = stack-same g parted m₁ freeStack (isFree parted) (isFree m₁) (parts .free) refl (λ i l. refl) (λ q l. refl);
-    partSegments = λ d i. stack-same g parted m₁ (partStack d) (isPart parted d) (isPart m₁ d) (parts .part d i) refl (λ j l. refl) (λ q l. refl);
+    freeSegments = stack-same g parted m₁ freeStack (isFree parted) (isFree m₁) (parts .stacks .0) refl (λ i l. refl) (λ q l. refl);
+    partSegments = λ d i. stack-same g parted m₁ (partStack d) (isPart parted d) (isPart m₁ d) (parts .stacks .1 d i) refl (λ j l. refl) (λ q l. refl);
     records = records-stand g m s c emptied (parted .segments) (parted .stacks) (m .bitmaps) stands roots-before;
     trace = trace-stands g m s c emptied (parted .segments) (parted .stacks) (m .bitmaps) stands;
     marks = marks-stand g m s c emptied (parted .segments) (parted .stacks) (m .bitmaps) stands;

@@ -6,8 +6,5 @@ pub mod Takes
 pub mod TakePart
 pub mod TakeFree
 pub mod Rooms
-pub mod Releasing
-pub mod ReleaseOne
-pub mod Released
 pub mod Detached
 pub mod DetachKept
