@@ -27,7 +27,7 @@ pub unpacked : (a : Answer) → Kind IsOk a → unpack (pack a) ≡ a
 unpacked Ok k = refl
 unpacked (Number v) k = let e = k .kind refl in cc
 unpacked (Same b) k = let e = k .kind refl in cc
-unpacked (Shape p n) k = let e = k .kind refl in cc
+unpacked (Shape s) k = let e = k .kind refl in cc
 unpacked (Refused zero) k = absurd (let z = k .number 0 refl .0 in omega arith)
 unpacked (Refused (suc n)) k = refl
 
@@ -38,7 +38,7 @@ unpacked-number (Number v) k =
     let f : v * upper % upper ≡ 0 = omega arith in
     rw (e, f) refl
 unpacked-number (Same b) k = let e = k .kind refl .1 in cc
-unpacked-number (Shape p n) k = let e = k .kind refl .1 in cc
+unpacked-number (Shape s) k = let e = k .kind refl .1 in cc
 unpacked-number (Refused zero) k = absurd (let z = k .number 0 refl .0 in omega arith)
 unpacked-number (Refused (suc n)) k = let l = k .number (suc n) refl .1 in let e : suc n / upper ≡ 0 = omega arith in let f : suc n % upper ≡ suc n = omega arith in rw (e, f) refl
 
@@ -47,7 +47,7 @@ unpacked-same Ok k = let e = k .kind refl .1 in cc
 unpacked-same (Number v) k = let e = k .kind refl .1 in cc
 unpacked-same (Same true) k = refl
 unpacked-same (Same false) k = refl
-unpacked-same (Shape p n) k = let e = k .kind refl .1 in cc
+unpacked-same (Shape s) k = let e = k .kind refl .1 in cc
 unpacked-same (Refused zero) k = absurd (let z = k .number 0 refl .0 in omega arith)
 unpacked-same (Refused (suc n)) k = let l = k .number (suc n) refl .1 in let e : suc n / upper ≡ 0 = omega arith in let f : suc n % upper ≡ suc n = omega arith in rw (e, f) refl
 

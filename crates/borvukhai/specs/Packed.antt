@@ -25,7 +25,7 @@ abbrev pub pack : Answer → ℕ
 pack Ok = 0
 pack (Number v) = 0
 pack (Same b) = 0
-pack (Shape p n) = 0
+pack (Shape s) = 0
 pack (Refused n) = n
 
 -- ---- a call that answers a value, above the number
@@ -61,5 +61,5 @@ abbrev pub packValue : Answer → ℕ
 packValue Ok = 0
 packValue (Number v) = v * upper
 packValue (Same b) = flag b * upper
-packValue (Shape p n) = 0
+packValue (Shape s) = 0
 packValue (Refused n) = n

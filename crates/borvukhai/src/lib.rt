@@ -23,7 +23,7 @@ fn packed(a: Answer) -> u32
         Answer::Ok => 0,
         Answer::Number(v) => 0,
         Answer::Same(b) => 0,
-        Answer::Shape(p, n) => 0,
+        Answer::Shape(s) => 0,
         Answer::Refused(n) => n,
     }
 }
@@ -36,7 +36,7 @@ fn packed_value(a: Answer) -> u64
         Answer::Ok => 0,
         Answer::Number(v) => v as u64 * 4294967296,
         Answer::Same(b) => { if b { 4294967296 } else { 0 } }
-        Answer::Shape(p, n) => 0,
+        Answer::Shape(s) => 0,
         Answer::Refused(n) => n as u64,
     }
 }

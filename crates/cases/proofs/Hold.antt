@@ -8,7 +8,7 @@ use lib.ListN.{length}
 use Rattle.words.specs.Bits.{bitOf, bitAt, clearFrom}
 use Rattle.words.specs.Levels.{treeWords}
 use Rattle.classes.specs.Class.{classTest}
-use Rattle.classes.specs.Shape.{segmentSize, blocksOf, shapeFor, shapeOf}
+use Rattle.classes.specs.Shape.{segmentSize, blocksOf, shapeFor, segmentShape}
 use Rattle.classes.specs.declared.ClassShape.the-variants.{Of}
 use Rattle.bitmap_search.specs.declared.Found.{Found}
 use Rattle.classes.proofs.Shapes.{blocks-most, shape-height}
@@ -21,7 +21,7 @@ use Rattle.cases.specs.Rows.{rows, above, treeOf, BlockHolds, All}
 
 -- a block row from what is computed
 row : {class : ℕ} {bits : List ℕ} {place : ℕ} {found : Found} → T (leb (treeWords (above class) (blocksOf segmentSize class)) (length bits))
-    → shapeOf segmentSize class ≡ Of (shapeFor (blocksOf segmentSize class)) → searched (above class) (treeOf class bits) (blocksOf segmentSize class) place ≡ found
+    → segmentShape segmentSize class ≡ Of (shapeFor (blocksOf segmentSize class)) → searched (above class) (treeOf class bits) (blocksOf segmentSize class) place ≡ found
     → nextFree (bitAt (treeOf class bits)) (blocksOf segmentSize class) place ≡ found → BlockHolds class bits place found
 row {class} {bits} room is search scan = record {
   class-is = is;

@@ -6,7 +6,7 @@ use Prim.Native.Nat.{ℕ, _-_, _^_}
 use Rattle.words.specs.Bits.{bitAt}
 use Rattle.words.specs.Tree.{Tree}
 use Rattle.classes.specs.Class.{Outcome, value, refusal, outcomeOf, classOf}
-use Rattle.classes.specs.Shape.{segmentSize, blocksOf, shapeFor, shapeOf}
+use Rattle.classes.specs.Shape.{segmentSize, blocksOf, shapeFor, segmentShape}
 use Rattle.classes.specs.declared.ClassShape.the-variants.{Of}
 use Rattle.bitmap_search.specs.declared.Found.{Found}
 use Rattle.bitmap_search.specs.declared.Found.the-variants.{Block, Nothing}
@@ -35,7 +35,7 @@ treeOf class bits = completed (above class) (blocksOf segmentSize class) bits
 
 -- a block row: there is such a class, the words are a consistent tree, and the search finds what a plain scan does
 pub record BlockHolds (class : ℕ) (bits : List ℕ) (place : ℕ) (found : Found) : Type 0 where
-  pub class-is : shapeOf segmentSize class ≡ Of (shapeFor (blocksOf segmentSize class))
+  pub class-is : segmentShape segmentSize class ≡ Of (shapeFor (blocksOf segmentSize class))
   pub consistent : Tree (above class) (blocksOf segmentSize class) (treeOf class bits)
   pub search : searched (above class) (treeOf class bits) (blocksOf segmentSize class) place ≡ found
   pub scan : nextFree (bitAt (treeOf class bits)) (blocksOf segmentSize class) place ≡ found

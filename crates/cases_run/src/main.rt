@@ -40,7 +40,7 @@ fn class_line(fields: u32) {
 fn shape_line(class: u32) {
     word(b"shape");
     number(class);
-    let shaped = classes::shape_of(class);
+    let shaped = classes::segment_shape(class);
     match shaped {
         ClassShape::Of(shape) => {
             number(shape.blocks);
@@ -63,7 +63,7 @@ struct Space {
 fn space_of(class: u32) -> Space
     ensures { λ r. ⌜ (treeWords (r .above) (r .blocks) ≤ longestOf segmentSize) × (wordsFor (r .blocks) ≤ longestOf segmentSize) ⌝ }
 {
-    let shaped = classes::shape_of(class);
+    let shaped = classes::segment_shape(class);
     match shaped {
         ClassShape::Of(shape) => Space {
             blocks: shape.blocks,

@@ -9,10 +9,10 @@ use lib.Dec.{T, leb, leb→le}
 use Rattle.rules.specs.Pick.{pick}
 use Rattle.words.specs.Levels.{Height, treeWords}
 use Rattle.words.proofs.Trees.{levels-pos, levels-le, levels-end}
-use Rattle.classes.specs.declared.Shape.{Shape}
+use Rattle.classes.specs.declared.SegmentShape.{SegmentShape}
 use Rattle.classes.specs.declared.ClassShape.the-variants.{Of, NoClass}
 use Rattle.classes.specs.Class.{IsClass, classTest}
-use Rattle.classes.specs.Shape.{segmentSize, blocksOf, mostLevels, shapeFor, longestOf, shapeOf}
+use Rattle.classes.specs.Shape.{segmentSize, blocksOf, mostLevels, shapeFor, longestOf, segmentShape}
 use Rattle.classes.proofs.Every.{everyClass, at-class, class-passed}
 
 -- a segment's blocks are no more than three levels hold
@@ -30,11 +30,11 @@ pub shape-height : (n : ℕ) → n ≤ 32 ^ mostLevels → Height (shapeFor n .l
 shape-height n h = levels-end (mostLevels - 1) n h
 
 -- the shape that is found is that of the class's blocks, and there is such a class
-pub record IsShape (z c : ℕ) (x : Shape) : Type 0 where
+pub record IsShape (z c : ℕ) (x : SegmentShape) : Type 0 where
   pub class : IsClass c
   pub shape : x ≡ shapeFor (blocksOf z c)
 
-pub shape-is : (z c : ℕ) (x : Shape) → Of x ≡ shapeOf z c → IsShape z c x
+pub shape-is : (z c : ℕ) (x : SegmentShape) → Of x ≡ segmentShape z c → IsShape z c x
 shape-is z c x e = go (classTest c) refl e
   where
     go : (t : Bool) → classTest c ≡ t → Of x ≡ pick t (Of (shapeFor (blocksOf z c))) NoClass → IsShape z c x
@@ -49,6 +49,6 @@ pub longest : (z : ℕ) → T (everyClass (fits z)) → (c : ℕ) → IsClass c 
 unfolding fits
 longest z t c k = leb→le _ _ (at-class (fits z) t c k)
 
-pub class-fits : (c : ℕ) (x : Shape) → IsShape segmentSize c x → treeWords (x .levels - 1) (x .blocks) ≤ longestOf segmentSize
+pub class-fits : (c : ℕ) (x : SegmentShape) → IsShape segmentSize c x → treeWords (x .levels - 1) (x .blocks) ≤ longestOf segmentSize
 unfolding fits
 class-fits c x i = rw (i .shape) (longest segmentSize tt c (i .class))

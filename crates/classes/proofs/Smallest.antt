@@ -11,6 +11,7 @@ use lib.Pow.{pow-mono}
 use borrow.Author.Tests.{lt-leb, leb-true, leb-false}
 use Rattle.classes.specs.declared.SizeClass.the-variants.{Class, TooBig}
 use Rattle.rules.specs.Pick.{pick}
+use Rattle.rules.proofs.Order.{le-or-lt}
 use Rattle.classes.specs.Class.{firstClass, classCount, IsClass, blockWords, maxFields, recordBytes, smallestFrom, classOf}
 
 pub none-holds : (n c b : ℕ) → ((k : ℕ) → c ≤ k → k < c + n → 2 ^ k < b) → smallestFrom n c b ≡ TooBig
@@ -82,3 +83,10 @@ class-found fields c e = let s = is-smallest classCount firstClass (recordBytes 
 
 pub class-holds : (fields c : ℕ) → classOf fields ≡ Class c → fields < blockWords c
 class-holds fields c e = let h : recordBytes fields ≤ 2 ^ c = is-smallest classCount firstClass (recordBytes fields) c e .1 .holds in omega arith
+
+pub class-most : (fields c : ℕ) → classOf fields ≡ Class c → fields ≤ maxFields
+class-most fields c e = go (le-or-lt fields maxFields)
+  where
+    go : (fields ≤ maxFields) ⊎ (maxFields < fields) → fields ≤ maxFields
+    go (inl l) = l
+    go (inr h) = let t = past-limit fields h in let z : _≡_ {A = ℕ} 0 1 = cc in absurd (omega arith)

@@ -5,7 +5,7 @@ use lib.ListN.{getD}
 use Rattle.rules.specs.Pick.{pick}
 use Rattle.words.specs.Levels.{levelCount, levelWords, treeWords}
 use Rattle.classes.specs.Class.{firstClass, classTest}
-use Rattle.classes.specs.declared.Shape.{Shape}
+use Rattle.classes.specs.declared.SegmentShape.{SegmentShape}
 use Rattle.classes.specs.declared.ClassShape.{ClassShape}
 use Rattle.classes.specs.declared.ClassShape.the-variants.{Of, NoClass}
 
@@ -22,7 +22,7 @@ abbrev pub mostLevels : ℕ
 mostLevels = 3
 
 -- the shape of a segment of n blocks
-abbrev pub shapeFor : ℕ → Shape
+abbrev pub shapeFor : ℕ → SegmentShape
 shapeFor n = record {
   blocks = n;
   levels = levelCount mostLevels n;
@@ -36,5 +36,5 @@ abbrev pub longestOf : ℕ → ℕ
 longestOf z = treeWords (levelCount mostLevels (blocksOf z firstClass) - 1) (blocksOf z firstClass)
 
 -- the shape of a segment of z bytes of class c, where there is such a class
-abbrev pub shapeOf : ℕ → ℕ → ClassShape
-shapeOf z c = pick (classTest c) (Of (shapeFor (blocksOf z c))) NoClass
+abbrev pub segmentShape : ℕ → ℕ → ClassShape
+segmentShape z c = pick (classTest c) (Of (shapeFor (blocksOf z c))) NoClass

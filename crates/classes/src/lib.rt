@@ -2,11 +2,21 @@
 // levels of its bitmap and the words in each level. Both are read from constant tables, and proved by their rule.
 ghost use mathlib.Core.Path.{_≡_};
 ghost use Rattle.classes.specs.Class.{IsClass, classTest, blockWords, classOf};
-ghost use Rattle.classes.specs.Shape.{segmentSize, shapeOf};
+ghost use Rattle.classes.specs.Record.{classOfRecord};
+ghost use Rattle.classes.specs.Shape.{segmentSize, segmentShape};
 
 pub const FIRST_CLASS: u32 = 3;
 
 pub const CLASS_COUNT: u32 = 10;
+
+// The most fields that a record has.
+pub const MAX_FIELDS: u32 = 1023;
+
+// The shape of a record: how many pointer fields and how many data fields it has (document 01: P links and N numbers).
+pub struct RecordShape {
+    pub pointer_count: u32,
+    pub value_count: u32,
+}
 
 // The class of a record, or none: the record has too many fields.
 pub enum SizeClass {
@@ -15,7 +25,7 @@ pub enum SizeClass {
 }
 
 // A segment of one class: its blocks, the levels of its bitmap, and the words in each level (0 for a level that is not there).
-pub struct Shape {
+pub struct SegmentShape {
     pub blocks: u32,
     pub levels: u32,
     pub words0: u32,
@@ -25,7 +35,7 @@ pub struct Shape {
 
 // The shape of a class, or none: there is no such class.
 pub enum ClassShape {
-    Of(Shape),
+    Of(SegmentShape),
     NoClass,
 }
 
@@ -1058,71 +1068,71 @@ const CLASSES: [u32; 1024] = [
 ];
 
 // The shape of a class, indexed by the class less 3.
-const SHAPES: [Shape; 10] = [
-    Shape {
+const SHAPES: [SegmentShape; 10] = [
+    SegmentShape {
         blocks: 2048,
         levels: 3,
         words0: 64,
         words1: 2,
         words2: 1,
     },
-    Shape {
+    SegmentShape {
         blocks: 1024,
         levels: 2,
         words0: 32,
         words1: 1,
         words2: 0,
     },
-    Shape {
+    SegmentShape {
         blocks: 512,
         levels: 2,
         words0: 16,
         words1: 1,
         words2: 0,
     },
-    Shape {
+    SegmentShape {
         blocks: 256,
         levels: 2,
         words0: 8,
         words1: 1,
         words2: 0,
     },
-    Shape {
+    SegmentShape {
         blocks: 128,
         levels: 2,
         words0: 4,
         words1: 1,
         words2: 0,
     },
-    Shape {
+    SegmentShape {
         blocks: 64,
         levels: 2,
         words0: 2,
         words1: 1,
         words2: 0,
     },
-    Shape {
+    SegmentShape {
         blocks: 32,
         levels: 1,
         words0: 1,
         words1: 0,
         words2: 0,
     },
-    Shape {
+    SegmentShape {
         blocks: 16,
         levels: 1,
         words0: 1,
         words1: 0,
         words2: 0,
     },
-    Shape {
+    SegmentShape {
         blocks: 8,
         levels: 1,
         words0: 1,
         words1: 0,
         words2: 0,
     },
-    Shape {
+    SegmentShape {
         blocks: 4,
         levels: 1,
         words0: 1,
@@ -1162,9 +1172,20 @@ pub fn class_of(fields: u32) -> SizeClass
     }
 }
 
+// The class of a record of a shape; its counts may be any numbers.
+pub fn class_of_record(shape: RecordShape) -> SizeClass
+    ensures { λ r. ⌜ r ≡ classOfRecord shape ⌝ }
+{
+    let fields = shape.pointer_count as u64 + shape.value_count as u64;
+    if (MAX_FIELDS as u64) < fields {
+        return SizeClass::TooBig;
+    }
+    class_of(fields as u32)
+}
+
 // The shape of a segment of a class; any number may be asked for.
-pub fn shape_of(class: u32) -> ClassShape
-    ensures { λ r. ⌜ r ≡ shapeOf segmentSize class ⌝ }
+pub fn segment_shape(class: u32) -> ClassShape
+    ensures { λ r. ⌜ r ≡ segmentShape segmentSize class ⌝ }
 {
     if is_class(class) {
         let i = (class - FIRST_CLASS) as usize;

@@ -3,24 +3,25 @@ use mathlib.Core.Path.{_≡_, refl, sym, _∙_, ap}
 use mathlib.Core.Bool.{false}
 use mathlib.Core.Logic.{inr}
 use mathlib.Core.List.{List}
-use Prim.Native.Nat.{ℕ, _/_, _%_}
+use Prim.Native.Nat.{ℕ}
 use lib.ListN.{length}
+use Rattle.classes.specs.declared.RecordShape.{RecordShape}
 use Rattle.layout.specs.declared.Geometry.{Geometry}
 use Rattle.layout.specs.Geometry.{wrongSize}
 use Rattle.layout.specs.Mem.{Mem, memOf, heapWord, setHeap}
 use Rattle.theory.specs.Calls.{c-load, c-get, c-put, c-shape, a-ok, a-num, a-shape, ifRoot, pointer?, value?}
 use Rattle.model.specs.declared.Answer.the-variants.{Ok, Number, Shape, Refused}
 use Rattle.model.specs.Fields.{setRoot}
-use Rattle.model.specs.Records.{pointers, values, pointer, value, setValue}
+use Rattle.model.specs.Records.{pointer, value, setValue, shapeOf}
 use Rattle.model.specs.Calls.{act}
 use Rattle.model.specs.Promise.{Promise}
 use Rattle.laws.proofs.Promised.{done}
 use Rattle.laws.proofs.Reaching.{Names, Reaches, by-test}
 use Rattle.roots.specs.Inside.{insideThen}
 use Rattle.roots.proofs.Inside.{refused-at, reaches-at, refused-with, reaches-with}
-use Rattle.records.specs.declared.Place.the-variants.{At}
-use Rattle.records.specs.Places.{pointerPlace, valuePlace}
-use Rattle.records.proofs.Found.{pointer-stands, value-stands}
+use Rattle.records.specs.declared.FieldAt.the-variants.{Word}
+use Rattle.records.specs.FieldWords.{pointerAt, valueAt}
+use Rattle.records.proofs.Found.{pointer-found, value-found}
 use Rattle.records.proofs.Reaching.{pointer-0, value-0}
 
 -- ---- n is the refusal of the mutator and its roots: it refuses the call, or the call reaches the record
@@ -70,9 +71,9 @@ module _ (g : Geometry) (xs : List ℕ) (k i at : ℕ) where
   load-acts d f w = rw (w .word) refl
 
   pub load-done : (d f p v : ℕ) (ys : List ℕ) → Reaches (c-load k d i f) g xs k i (pointer? f) → Names g xs k i at
-      → At p ≡ pointerPlace g m at f → v ≡ heapWord m p → memOf g ys ≡ setRoot m k d v → Promise (c-load k d i f) g xs Ok ys
+      → Word p ≡ pointerAt g m at f → v ≡ heapWord m p → memOf g ys ≡ setRoot m k d v → Promise (c-load k d i f) g xs Ok ys
   load-done d f p v ys q w s u y =
-      let t = pointer-stands g m at f p s in
+      let t = pointer-found g m at f p s in
       done (c-load k d i f) g xs (q .size) (pointer-0 (c-load k d i f) g xs k i f at w q p s) refl refl
       (sym (ap (λ a. a .0) (load-acts d f w)))
       (y ∙ ap (setRoot m k d) (u ∙ ap (heapWord m) (t .is)) ∙ sym (ap (λ a. a .1) (load-acts d f w)))
@@ -82,9 +83,9 @@ module _ (g : Geometry) (xs : List ℕ) (k i at : ℕ) where
   get-acts f w = rw (w .word) refl
 
   pub get-done : (f p v : ℕ) → Reaches (c-get k i f) g xs k i (value? f) → Names g xs k i at
-      → At p ≡ valuePlace g m at f → v ≡ heapWord m p → Promise (c-get k i f) g xs (Number v) xs
+      → Word p ≡ valueAt g m at f → v ≡ heapWord m p → Promise (c-get k i f) g xs (Number v) xs
   get-done f p v q w s u =
-      let t = value-stands g m at f p s in
+      let t = value-found g m at f p s in
       done (c-get k i f) g xs (q .size) (value-0 (c-get k i f) g xs k i f at w q p s) (v, refl) refl
       (ap a-num (u ∙ ap (heapWord m) (t .is)) ∙ sym (ap (λ a. a .0) (get-acts f w)))
       (sym (ap (λ a. a .1) (get-acts f w)))
@@ -94,19 +95,19 @@ module _ (g : Geometry) (xs : List ℕ) (k i at : ℕ) where
   put-acts f v w = rw (w .word) refl
 
   pub put-done : (f v p : ℕ) (ys : List ℕ) → Reaches (c-put k i f v) g xs k i (value? f) → Names g xs k i at
-      → At p ≡ valuePlace g m at f → memOf g ys ≡ setHeap m p v → Promise (c-put k i f v) g xs Ok ys
+      → Word p ≡ valueAt g m at f → memOf g ys ≡ setHeap m p v → Promise (c-put k i f v) g xs Ok ys
   put-done f v p ys q w s y =
-      let t = value-stands g m at f p s in
+      let t = value-found g m at f p s in
       done (c-put k i f v) g xs (q .size) (value-0 (c-put k i f v) g xs k i f at w q p s) refl refl
       (sym (ap (λ a. a .0) (put-acts f v w)))
       (y ∙ ap (λ x. setHeap m x v) (t .is) ∙ sym (ap (λ a. a .1) (put-acts f v w)))
 
-  shape-acts : Names g xs k i at → act g m (c-shape k i) ≡ (a-shape (pointers m at) (values m at), m)
+  shape-acts : Names g xs k i at → act g m (c-shape k i) ≡ (a-shape (shapeOf m at), m)
   unfolding act
   shape-acts w = rw (w .word) refl
 
-  pub shape-done : (h : ℕ) → Reaches (c-shape k i) g xs k i (λ _. 0) → Names g xs k i at → h ≡ heapWord m at → Promise (c-shape k i) g xs (Shape (h / 65536) (h % 65536)) xs
-  shape-done h q w u =
-      done (c-shape k i) g xs (q .size) (by-test (c-shape k i) g xs k i (λ _. 0) q at w 0 refl) (h / 65536, h % 65536, refl) refl
-      (ap (λ x. a-shape (x / 65536) (x % 65536)) u ∙ sym (ap (λ a. a .0) (shape-acts w)))
+  pub shape-done : (s : RecordShape) → Reaches (c-shape k i) g xs k i (λ _. 0) → Names g xs k i at → s ≡ shapeOf m at → Promise (c-shape k i) g xs (Shape s) xs
+  shape-done s q w u =
+      done (c-shape k i) g xs (q .size) (by-test (c-shape k i) g xs k i (λ _. 0) q at w 0 refl) (s, refl) refl
+      (ap a-shape u ∙ sym (ap (λ a. a .0) (shape-acts w)))
       (sym (ap (λ a. a .1) (shape-acts w)))

@@ -3,7 +3,7 @@
 use layout::Geometry;
 use model::Answer;
 use model::Held;
-use records::Place;
+use records::FieldAt;
 ghost use Rattle.theory.specs.Calls.{c-load, c-get, c-put, c-shape};
 ghost use Rattle.model.specs.Promise.{Promise};
 
@@ -22,10 +22,10 @@ pub fn load(g: Geometry, mem: &mut [u32], k: u32, to: u32, i: u32, f: u32) -> An
     let Held::Record(at) = slot else {
         return Answer::Refused(7);
     };
-    match records::pointer_place(g, mem, at, f) {
-        Place::Refused(n) => Answer::Refused(n),
-        Place::At(place) => {
-            let held = layout::word(g, mem, place);
+    match records::pointer_at(g, mem, at, f) {
+        FieldAt::Refused(n) => Answer::Refused(n),
+        FieldAt::Word(word) => {
+            let held = records::field(g, mem, word);
             roots::set_root(g, mem, k, to, held);
             Answer::Ok
         }
@@ -47,10 +47,10 @@ pub fn get(g: Geometry, mem: &[u32], k: u32, i: u32, f: u32) -> Answer
     let Held::Record(at) = slot else {
         return Answer::Refused(7);
     };
-    match records::value_place(g, mem, at, f) {
-        Place::Refused(n) => Answer::Refused(n),
-        Place::At(place) => {
-            let value = layout::word(g, mem, place);
+    match records::value_at(g, mem, at, f) {
+        FieldAt::Refused(n) => Answer::Refused(n),
+        FieldAt::Word(word) => {
+            let value = records::field(g, mem, word);
             Answer::Number(value)
         }
     }
@@ -71,10 +71,10 @@ pub fn put(g: Geometry, mem: &mut [u32], k: u32, i: u32, f: u32, v: u32) -> Answ
     let Held::Record(at) = slot else {
         return Answer::Refused(7);
     };
-    match records::value_place(g, mem, at, f) {
-        Place::Refused(n) => Answer::Refused(n),
-        Place::At(place) => {
-            layout::set_word(g, mem, place, v);
+    match records::value_at(g, mem, at, f) {
+        FieldAt::Refused(n) => Answer::Refused(n),
+        FieldAt::Word(word) => {
+            records::set_field(g, mem, word, v);
             Answer::Ok
         }
     }
@@ -99,6 +99,5 @@ pub fn shape(g: Geometry, mem: &[u32], k: u32, i: u32) -> Answer
     if end <= at {
         return Answer::Refused(13);
     }
-    let header = layout::word(g, mem, at);
-    Answer::Shape(header / 65536, header % 65536)
+    Answer::Shape(records::shape(g, mem, at))
 }

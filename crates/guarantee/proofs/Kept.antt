@@ -6,10 +6,11 @@ use native.Mathlib.Omega.{arith}
 use lib.Dec.{eqb, leb}
 use borrow.Author.Tests.{eqb-true, eqb-false, leb-true}
 use Rattle.rules.specs.Pick.{pick}
-use Rattle.classes.specs.Class.{classOf, maxFields, IsClass}
+use Rattle.classes.specs.Class.{maxFields, IsClass}
 use Rattle.classes.specs.declared.SizeClass.{SizeClass}
 use Rattle.classes.specs.declared.SizeClass.the-variants.{Class, TooBig}
 use Rattle.classes.proofs.Smallest.{class-limit, class-found}
+use Rattle.classes.specs.Record.{ofCounts, classOfRecord}
 use Rattle.layout.specs.declared.Geometry.{Geometry}
 use Rattle.layout.specs.Geometry.{mutatorCount, rootCount, segmentOf}
 use Rattle.layout.specs.Mem.{Mem, Sizes}
@@ -45,7 +46,7 @@ use Rattle.theory.specs.MachineCalls as calls
 
 -- ---- make: from a held segment, or from one that is taken first
 
-module _ (g : Geometry) (m : Mem) (s : Sizes g m) (c : Ordered g m) (k d cl p n : ℕ) (l : k < mutatorCount) (a : isAttached m k ≡ true) (h : d < rootCount) (e : classOf (p + n) ≡ Class cl) where
+module _ (g : Geometry) (m : Mem) (s : Sizes g m) (c : Ordered g m) (k d cl p n : ℕ) (l : k < mutatorCount) (a : isAttached m k ≡ true) (h : d < rootCount) (e : classOfRecord (ofCounts p n) ≡ Class cl) where
   is-class : IsClass cl
   is-class = class-found (p + n) cl e
 
@@ -54,10 +55,10 @@ module _ (g : Geometry) (m : Mem) (s : Sizes g m) (c : Ordered g m) (k d cl p n 
     in-order : Ordered g m₁
     in-order = ordered-of g m₁ (t .sizes) (t .structure) (agree-inv (segmentOf g) (view g m) (view g m₁) (t .prepared) (to-inv g m s c))
 
-    from-held : Kept struckOut g m (c-make k d p n) (inSegment g m m₁ k d cl r p n)
+    from-held : Kept struckOut g m (c-make k d p n) (inSegment g m m₁ k d cl r (ofCounts p n))
     from-held =
-        let x = handed g m₁ (t .sizes) in-order k d cl r p n l (t .known) h e (t .holds) in
-        subst (λ f. Kept struckOut g m (c-make k d p n) (inBlock g m m₁ f k d cl r p n)) (sym (x .1)) (agrees (record {
+        let x = handed g m₁ (t .sizes) in-order k d cl r (ofCounts p n) l (t .known) h e (t .holds) in
+        subst (λ f. Kept struckOut g m (c-make k d p n) (inBlock g m m₁ f k d cl r (ofCounts p n))) (sym (x .1)) (agrees (record {
           ready = m₁;
           prepared = t .prepared;
           shows = t .shows;
@@ -67,7 +68,7 @@ module _ (g : Geometry) (m : Mem) (s : Sizes g m) (c : Ordered g m) (k d cl p n 
           moves = record { structure = x .3 .structure; occupied = λ u. x .3 .occupied (t .occupied u); agree = x .3 .agree; steady = λ i q y. let z = x .3 .steady i q y in let w = t .steady i q (z .0) in (w .0, z .1 ∙ w .1) };
         }))
 
-  by-source : Kept struckOut g m (c-make k d p n) (fromSource g m k d cl p n (sourceOf g m k cl))
+  by-source : Kept struckOut g m (c-make k d p n) (fromSource g m k d cl (ofCounts p n) (sourceOf g m k cl))
   by-source = go (eqb (holding m k cl) 0) (eqb (count g m (partStack cl)) 0) (eqb (count g m freeStack) 0) refl refl refl
     where
       some-of : (x : ℕ) → eqb x 0 ≡ false → 1 ≤ x
@@ -78,7 +79,7 @@ module _ (g : Geometry) (m : Mem) (s : Sizes g m) (c : Ordered g m) (k d cl p n 
       own q = record { sizes = s; structure = moves-self g m c .structure; occupied = λ u i q f. u i q; prepared = agree-self g m; shows = refl; steady = λ i q y. (y, refl); holds = q; known = a }
 
       go : (x y z : Bool) → eqb (holding m k cl) 0 ≡ x → eqb (count g m (partStack cl)) 0 ≡ y → eqb (count g m freeStack) 0 ≡ z
-          → Kept struckOut g m (c-make k d p n) (fromSource g m k d cl p n (pick x (pick y (pick z noRoom (unused (top g m freeStack))) (part (top g m (partStack cl)))) (held (holding m k cl - 1))))
+          → Kept struckOut g m (c-make k d p n) (fromSource g m k d cl (ofCounts p n) (pick x (pick y (pick z noRoom (unused (top g m freeStack))) (part (top g m (partStack cl)))) (held (holding m k cl - 1))))
       go false y z q i j = let w = some-of (holding m k cl) q in from-held m (holding m k cl - 1) (own (omega arith))
       go true false z q i j = from-held _ _ (taken-part g m s c k cl l a is-class (eqb-true _ _ q) (some-of _ i))
       go true true false q i j = from-held _ _ (taken-free g m s c k cl l a is-class (eqb-true _ _ q) (some-of _ j))
@@ -90,9 +91,9 @@ make-kept g m s c k d p n e =
     let x = by-ok (observe m) k _ e in
     let y = root-ok d _ (x .3) in
     let z = require-ok (leb (p + n) maxFields) 9 0 (omega arith) (y .1) in
-    go (classOf (p + n)) refl (x .0) (x .1) (y .0) (leb-true _ _ (z .0))
+    go (classOfRecord (ofCounts p n)) refl (x .0) (x .1) (y .0) (leb-true _ _ (z .0))
   where
-    go : (o : SizeClass) → classOf (p + n) ≡ o → k < mutatorCount → isAttached m k ≡ true → d < rootCount → p + n ≤ maxFields → Kept struckOut g m (c-make k d p n) (ofClass m o (λ cl. made g m k d cl p n))
+    go : (o : SizeClass) → classOfRecord (ofCounts p n) ≡ o → k < mutatorCount → isAttached m k ≡ true → d < rootCount → p + n ≤ maxFields → Kept struckOut g m (c-make k d p n) (ofClass m o (λ cl. made g m k d cl (ofCounts p n)))
     go (Class cl) q l a h f = by-source g m s c k d cl p n l a h q
     go TooBig q l a h f = absurd (let w = class-limit (p + n) q in omega arith)
 

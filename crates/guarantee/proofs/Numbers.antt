@@ -6,6 +6,7 @@ use mathlib.Core.Option.{Option, none, some, Option·some-injective}
 use Prim.Native.Nat.{ℕ, zero, suc, _≤_}
 use native.Mathlib.Omega.{arith}
 use lib.Dec.{ltb}
+use Rattle.classes.specs.declared.RecordShape.{RecordShape}
 use Rattle.layout.specs.Geometry.{rootCount}
 use Rattle.theory.specs.Calls.{Call, c-attach, c-detach, c-check, c-leave, c-enter, c-spawn, c-make, c-load, c-store, c-copy, c-clear, c-put, c-get, c-same, c-shape, Observation, require, ifRecord, a-ok, a-no, refusal, refuse, onRecord}
 use Rattle.theory.specs.Unbounded.{Unbounded, uobserve, uact, uexec}
@@ -26,7 +27,7 @@ pub refused-as : (r : Answer) (n : ℕ) → refusalOf r ≡ some n → r ≡ Ref
 refused-as Ok n e = none-some e
 refused-as (Number v) n e = none-some e
 refused-as (Same b) n e = none-some e
-refused-as (Shape p q) n e = none-some e
+refused-as (Shape s) n e = none-some e
 refused-as (Refused x) n e = ap Refused (Option·some-injective x n e)
 
 pub of-number : (r : Answer) (n : ℕ) → refusalOf r ≡ some n → answerOf r ≡ a-no n
@@ -36,7 +37,7 @@ pub is-ok : (r : Answer) → answerOf r ≡ a-ok → r ≡ Ok
 is-ok Ok e = refl
 is-ok (Number v) e = cc
 is-ok (Same b) e = cc
-is-ok (Shape p q) e = cc
+is-ok (Shape s) e = cc
 is-ok (Refused n) e = cc
 
 -- ---- refusals 2 to 9
@@ -52,7 +53,7 @@ unfolding require
 require-stays true n rest h r = r
 require-stays false n rest h r = record { either = inr h }
 
-record-stays : (o : Option (ℕ × ℕ)) (rest : ℕ × ℕ → ℕ) → ((s : ℕ × ℕ) → Stays (rest s)) → Stays (ifRecord o rest)
+record-stays : (o : Option RecordShape) (rest : RecordShape → ℕ) → ((s : RecordShape) → Stays (rest s)) → Stays (ifRecord o rest)
 unfolding ifRecord
 record-stays none rest r = record { either = inr (omega arith, omega arith) }
 record-stays (some s) rest r = r s

@@ -9,6 +9,8 @@ use Rattle.rules.specs.Pick.{pick}
 use Rattle.classes.specs.Class.{classOf}
 use Rattle.classes.specs.declared.SizeClass.{SizeClass}
 use Rattle.classes.specs.declared.SizeClass.the-variants.{Class, TooBig}
+use Rattle.classes.specs.Record.{ofCounts, classOfRecord}
+use Rattle.classes.specs.declared.RecordShape.{RecordShape}
 use Rattle.layout.specs.declared.Geometry.{Geometry}
 use Rattle.layout.specs.Mem.{Mem}
 use Rattle.bitmap_search.specs.declared.Found.{Found}
@@ -37,21 +39,21 @@ record-same : (o : Option ℕ) (m : Mem) (K : ℕ → Answer × Mem) (n : ℕ) �
 record-same none m K n h e = refl
 record-same (some at) m K n h e = result (K at .0) n (h at) e
 
-block-same : (g : Geometry) (m m₁ : Mem) (f : Found) (k d c s p q n : ℕ) → inBlock g m m₁ f k d c s p q .0 ≡ a-no n → inBlock g m m₁ f k d c s p q .1 ≡ m
-block-same g m m₁ (Block b) k d c s p q n e = result a-ok n refl e
-block-same g m m₁ Nothing k d c s p q n e = refl
-block-same g m m₁ Torn k d c s p q n e = refl
+block-same : (g : Geometry) (m m₁ : Mem) (f : Found) (k d c s : ℕ) (shape : RecordShape) (n : ℕ) → inBlock g m m₁ f k d c s shape .0 ≡ a-no n → inBlock g m m₁ f k d c s shape .1 ≡ m
+block-same g m m₁ (Block b) k d c s shape n e = result a-ok n refl e
+block-same g m m₁ Nothing k d c s shape n e = refl
+block-same g m m₁ Torn k d c s shape n e = refl
 
-source-same : (g : Geometry) (m : Mem) (k d c p q : ℕ) (o : Source) (n : ℕ) → fromSource g m k d c p q o .0 ≡ a-no n → fromSource g m k d c p q o .1 ≡ m
-source-same g m k d c p q (held s) n e = block-same g m m (free g m s c (place m s)) k d c s p q n e
-source-same g m k d c p q (part s) n e = block-same g m (takes g (pop g m (partStack c)) k c s (place m s)) (free g (takes g (pop g m (partStack c)) k c s (place m s)) s c (place (takes g (pop g m (partStack c)) k c s (place m s)) s)) k d c s p q n e
-source-same g m k d c p q (unused s) n e = block-same g m (freshened g (takes g (pop g m freeStack) k c s 0) s c) (free g (freshened g (takes g (pop g m freeStack) k c s 0) s c) s c (place (freshened g (takes g (pop g m freeStack) k c s 0) s c) s)) k d c s p q n e
-source-same g m k d c p q noRoom n e = refl
+source-same : (g : Geometry) (m : Mem) (k d c : ℕ) (shape : RecordShape) (o : Source) (n : ℕ) → fromSource g m k d c shape o .0 ≡ a-no n → fromSource g m k d c shape o .1 ≡ m
+source-same g m k d c shape (held s) n e = block-same g m m (free g m s c (place m s)) k d c s shape n e
+source-same g m k d c shape (part s) n e = block-same g m (takes g (pop g m (partStack c)) k c s (place m s)) (free g (takes g (pop g m (partStack c)) k c s (place m s)) s c (place (takes g (pop g m (partStack c)) k c s (place m s)) s)) k d c s shape n e
+source-same g m k d c shape (unused s) n e = block-same g m (freshened g (takes g (pop g m freeStack) k c s 0) s c) (free g (freshened g (takes g (pop g m freeStack) k c s 0) s c) s c (place (freshened g (takes g (pop g m freeStack) k c s 0) s c) s)) k d c s shape n e
+source-same g m k d c shape noRoom n e = refl
 
-made-same : (g : Geometry) (m : Mem) (k d p q : ℕ) (o : SizeClass) (n : ℕ) → ofClass m o (λ c. made g m k d c p q) .0 ≡ a-no n → ofClass m o (λ c. made g m k d c p q) .1 ≡ m
+made-same : (g : Geometry) (m : Mem) (k d : ℕ) (shape : RecordShape) (o : SizeClass) (n : ℕ) → ofClass m o (λ c. made g m k d c shape) .0 ≡ a-no n → ofClass m o (λ c. made g m k d c shape) .1 ≡ m
 unfolding made
-made-same g m k d p q (Class c) n e = source-same g m k d c p q (sourceOf g m k c) n e
-made-same g m k d p q TooBig n e = refl
+made-same g m k d shape (Class c) n e = source-same g m k d c shape (sourceOf g m k c) n e
+made-same g m k d shape TooBig n e = refl
 
 act-same : (g : Geometry) (m : Mem) (c : Call) (n : ℕ) → act g m c .0 ≡ a-no n → act g m c .1 ≡ m
 unfolding act
@@ -61,7 +63,7 @@ act-same g m (c-detach k) n e = unless-same (inHandshake (phase m)) m _ n e
 act-same g m (c-check k) n e = result a-ok n refl e
 act-same g m (c-leave k) n e = result a-ok n refl e
 act-same g m (c-enter k) n e = result a-ok n refl e
-act-same g m (c-make k d p q) n e = made-same g m k d p q (classOf (p + q)) n e
+act-same g m (c-make k d p q) n e = made-same g m k d (ofCounts p q) (classOfRecord (ofCounts p q)) n e
 act-same g m (c-load k d i f) n e = record-same (record? (root m k i)) m _ n (λ at. refl) e
 act-same g m (c-store k i f j) n e = record-same (record? (root m k i)) m _ n (λ at. refl) e
 act-same g m (c-copy k d i) n e = result a-ok n refl e
@@ -117,22 +119,22 @@ pub roomless-of : (g : Geometry) (m : Mem) (k d p q : ℕ) → exec g m (c-make 
 unfolding exec act made
 roomless-of g m k d p q e = go (refusal (observe m) (c-make k d p q)) refl (refusal-stays (observe m) (c-make k d p q) .either) e
   where
-    block : (m₁ : Mem) (f : Found) (c s : ℕ) → inBlock g m m₁ f k d c s p q .0 ≡ a-no 10 → ⊥
+    block : (m₁ : Mem) (f : Found) (c s : ℕ) → inBlock g m m₁ f k d c s (ofCounts p q) .0 ≡ a-no 10 → ⊥
     block m₁ (Block b) c s e = result a-ok 10 refl e
     block m₁ Nothing c s e = other 13 10 (λ z. omega arith) e
     block m₁ Torn c s e = other 13 10 (λ z. omega arith) e
 
-    from : refusal (observe m) (c-make k d p q) ≡ 0 → (c : ℕ) → classOf (p + q) ≡ Class c → (o : Source) → sourceOf g m k c ≡ o → fromSource g m k d c p q o .0 ≡ a-no 10 → Roomless g m k d p q
+    from : refusal (observe m) (c-make k d p q) ≡ 0 → (c : ℕ) → classOf (p + q) ≡ Class c → (o : Source) → sourceOf g m k c ≡ o → fromSource g m k d c (ofCounts p q) o .0 ≡ a-no 10 → Roomless g m k d p q
     from z c h (held s) i e = absurd (block m (free g m s c (place m s)) c s e)
     from z c h (part s) i e = absurd (block (takes g (pop g m (partStack c)) k c s (place m s)) (free g (takes g (pop g m (partStack c)) k c s (place m s)) s c (place (takes g (pop g m (partStack c)) k c s (place m s)) s)) c s e)
     from z c h (unused s) i e = absurd (block (freshened g (takes g (pop g m freeStack) k c s 0) s c) (free g (freshened g (takes g (pop g m freeStack) k c s 0) s c) s c (place (freshened g (takes g (pop g m freeStack) k c s 0) s c) s)) c s e)
     from z c h noRoom i e = record { lower = z; class = c; sized = h; source = i }
 
-    classed : refusal (observe m) (c-make k d p q) ≡ 0 → (o : SizeClass) → classOf (p + q) ≡ o → ofClass m o (λ c. fromSource g m k d c p q (sourceOf g m k c)) .0 ≡ a-no 10 → Roomless g m k d p q
+    classed : refusal (observe m) (c-make k d p q) ≡ 0 → (o : SizeClass) → classOf (p + q) ≡ o → ofClass m o (λ c. fromSource g m k d c (ofCounts p q) (sourceOf g m k c)) .0 ≡ a-no 10 → Roomless g m k d p q
     classed z (Class c) h e = from z c h (sourceOf g m k c) refl e
     classed z TooBig h e = other 9 10 (λ y. omega arith) e
 
-    go : (x : ℕ) → refusal (observe m) (c-make k d p q) ≡ x → (x ≡ 0) ⊎ ((2 ≤ x) × (x ≤ 9)) → refuse x m (ofClass m (classOf (p + q)) (λ c. fromSource g m k d c p q (sourceOf g m k c))) .0 ≡ a-no 10 → Roomless g m k d p q
+    go : (x : ℕ) → refusal (observe m) (c-make k d p q) ≡ x → (x ≡ 0) ⊎ ((2 ≤ x) × (x ≤ 9)) → refuse x m (ofClass m (classOf (p + q)) (λ c. fromSource g m k d c (ofCounts p q) (sourceOf g m k c))) .0 ≡ a-no 10 → Roomless g m k d p q
     go zero z l e = classed z (classOf (p + q)) refl e
     go (suc x) z (inl y) e = absurd (omega arith)
     go (suc x) z (inr y) e = other (suc x) 10 (λ w. let l = y .1 in omega arith) e
@@ -140,6 +142,6 @@ roomless-of g m k d p q e = go (refusal (observe m) (c-make k d p q)) refl (refu
 pub roomless-is : (g : Geometry) (m : Mem) (k d p q : ℕ) → Roomless g m k d p q → exec g m (c-make k d p q) .0 ≡ a-no 10
 unfolding exec act made
 roomless-is g m k d p q r =
-    ap (λ x. refuse x m (ofClass m (classOf (p + q)) (λ c. fromSource g m k d c p q (sourceOf g m k c))) .0) (r .lower)
-    ∙ ap (λ o. ofClass m o (λ c. fromSource g m k d c p q (sourceOf g m k c)) .0) (r .sized)
-    ∙ ap (λ o. fromSource g m k d (r .class) p q o .0) (r .source)
+    ap (λ x. refuse x m (ofClass m (classOf (p + q)) (λ c. fromSource g m k d c (ofCounts p q) (sourceOf g m k c))) .0) (r .lower)
+    ∙ ap (λ o. ofClass m o (λ c. fromSource g m k d c (ofCounts p q) (sourceOf g m k c)) .0) (r .sized)
+    ∙ ap (λ o. fromSource g m k d (r .class) (ofCounts p q) o .0) (r .source)

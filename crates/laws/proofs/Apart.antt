@@ -9,7 +9,7 @@ use Rattle.layout.specs.declared.Geometry.{Geometry}
 use Rattle.layout.specs.Geometry.{segmentWords, segmentOf}
 use Rattle.layout.specs.Mem.{Mem}
 use Rattle.model.specs.Fields.{class}
-use Rattle.model.specs.Records.{pointers, values, blockOf}
+use Rattle.model.specs.Records.{pointerCount, valueCount, blockOf}
 use Rattle.model.specs.Consistent.{RecordOk}
 use Rattle.layout.proofs.Sizes.{one-way, within, segment-below}
 use Rattle.laws.proofs.Blocks.{of-block, block-within}
@@ -43,15 +43,15 @@ module _ (g : Geometry) (m : Mem) where
 
   -- a record's segment has a class, and header and fields are words of its block
   pub class-of : (at : ℕ) → RecordOk g m at → IsClass (class m (segmentOf g at))
-  class-of at r = class-found (pointers m at + values m at) (class m (segmentOf g at)) (r .sized)
+  class-of at r = class-found (pointerCount m at + valueCount m at) (class m (segmentOf g at)) (r .sized)
 
-  field-in : (at : ℕ) → RecordOk g m at → (i : ℕ) → i ≤ pointers m at + values m at → i < blockWords (class m (segmentOf g at))
-  field-in at r i l = let z = class-holds (pointers m at + values m at) (class m (segmentOf g at)) (r .sized) in omega arith
+  field-in : (at : ℕ) → RecordOk g m at → (i : ℕ) → i ≤ pointerCount m at + valueCount m at → i < blockWords (class m (segmentOf g at))
+  field-in at r i l = let z = class-holds (pointerCount m at + valueCount m at) (class m (segmentOf g at)) (r .sized) in omega arith
 
-  pub fields-apart : (x y : ℕ) → RecordOk g m x → RecordOk g m y → (i j : ℕ) → i ≤ pointers m x + values m x → j ≤ pointers m y + values m y → x + i ≡ y + j → x ≡ y
+  pub fields-apart : (x y : ℕ) → RecordOk g m x → RecordOk g m y → (i j : ℕ) → i ≤ pointerCount m x + valueCount m x → j ≤ pointerCount m y + valueCount m y → x + i ≡ y + j → x ≡ y
   fields-apart x y r q i j l h e = heads-apart x y (class-of x r) (class-of y q) (r .aligned) (q .aligned) i j (field-in x r i l) (field-in y q j h) e
 
-  pub field-inside : (at : ℕ) → RecordOk g m at → (i : ℕ) → i ≤ pointers m at + values m at → at + i < g .segments * segmentWords g
+  pub field-inside : (at : ℕ) → RecordOk g m at → (i : ℕ) → i ≤ pointerCount m at + valueCount m at → at + i < g .segments * segmentWords g
   field-inside at r i l =
       let a = head-within at (class-of at r) (r .aligned) i (field-in at r i l) in
       let d = div-add-mod' at (segmentWords g) in

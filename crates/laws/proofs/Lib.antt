@@ -15,6 +15,7 @@ pub mod ReleaseOne
 pub mod Released
 pub mod Lowest
 pub mod Bitmaps
+pub mod Headers
 pub mod Blocks
 pub mod Apart
 pub mod Rooted

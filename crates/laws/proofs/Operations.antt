@@ -13,7 +13,7 @@ use Rattle.theory.specs.Phases.{Phase, idle, sync1, sync2, mark, sweep, Duty, n
 use Rattle.model.specs.Rules.{phaseNumber}
 use Rattle.model.specs.Fields.{phase, traceCount, setTraceCount, acksAt, acks, root, setTag}
 use Rattle.model.specs.Segments.{stacked, count}
-use Rattle.model.specs.Records.{record?, pointers, pointer, marked, queued, setQueued, clearQueued}
+use Rattle.model.specs.Records.{record?, pointerCount, pointer, marked, queued, setQueued, clearQueued}
 use Rattle.model.specs.Tracing.{push, barrier, pushRoots, pushPointers, popped, traced, onTop}
 use Rattle.model.specs.Mutators.{given, acknowledged}
 use Rattle.model.specs.Collector.{collects, condemned, acksReset, marksCleared, started}
@@ -61,7 +61,7 @@ module _ (g : Geometry) where
       sizes-marked g (clearQueued g (setTraceCount m (traceCount m - 1)) at) b at
 
   pub sizes-traced : (m : Mem) → Sizes g m → (at : ℕ) → Sizes g (traced g m at)
-  sizes-traced m s at = sizes-pointers (popped g m at) (sizes-popped m s at) at (pointers m at)
+  sizes-traced m s at = sizes-pointers (popped g m at) (sizes-popped m s at) at (pointerCount m at)
 
   -- ---- acknowledgements, and stacks of segments
 

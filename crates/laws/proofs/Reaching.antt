@@ -8,13 +8,14 @@ use native.Mathlib.Omega.{arith}
 use lib.Dec.{ltb}
 use lib.ListN.{length}
 use borrow.Author.Tests.{lt-ltb, le-ltb}
+use Rattle.classes.specs.declared.RecordShape.{RecordShape}
 use Rattle.layout.specs.declared.Geometry.{Geometry}
 use Rattle.layout.specs.Geometry.{len, wrongSize, mutatorCount, rootCount}
 use Rattle.layout.specs.Mem.{Mem, memOf}
 use Rattle.theory.specs.Calls.{Call, require, ifRecord, refusal}
 use Rattle.model.specs.declared.Answer.the-variants.{Refused}
 use Rattle.model.specs.Fields.{root}
-use Rattle.model.specs.Records.{pointers, values}
+use Rattle.model.specs.Records.{pointerCount, valueCount, shapeOf}
 use Rattle.model.specs.Calls.{isAttached, observe}
 use Rattle.model.specs.Promise.{Promise}
 use Rattle.laws.proofs.Apart.{field-inside}
@@ -27,14 +28,14 @@ pub record Names (g : Geometry) (xs : List ℕ) (k i at : ℕ) : Type 0 where
   pub word : root (memOf g xs) k i ≡ suc at
 
 -- only what a test says of the record in root i of mutator k can refuse the call
-pub record Reaches (c : Call) (g : Geometry) (xs : List ℕ) (k i : ℕ) (test : ℕ × ℕ → ℕ) : Type 0 where
+pub record Reaches (c : Call) (g : Geometry) (xs : List ℕ) (k i : ℕ) (test : RecordShape → ℕ) : Type 0 where
   pub size : wrongSize g (length xs) ≡ false
   pub known : k < mutatorCount
   pub within : i < rootCount
   pub attached : isAttached (memOf g xs) k ≡ true
   pub rest : ifRecord (observe (memOf g xs) .shape k i) test ≡ refusal (observe (memOf g xs)) c
 
-module _ (c : Call) (g : Geometry) (xs : List ℕ) (k i : ℕ) (test : ℕ × ℕ → ℕ) (q : Reaches c g xs k i test) where
+module _ (c : Call) (g : Geometry) (xs : List ℕ) (k i : ℕ) (test : RecordShape → ℕ) (q : Reaches c g xs k i test) where
   abbrev m : Mem
   m = memOf g xs
 
@@ -47,16 +48,16 @@ module _ (c : Call) (g : Geometry) (xs : List ℕ) (k i : ℕ) (test : ℕ × �
   nil-7 e = refused c g xs (q .size) (ap (λ o. ifRecord o test) (sym (shape-nil e)) ∙ q .rest) (λ z. omega arith)
 
   module _ (at : ℕ) (p : Names g xs k i at) where
-    shape-at : observe m .shape k i ≡ some (pointers m at, values m at)
+    shape-at : observe m .shape k i ≡ some (shapeOf m at)
     shape-at = rw (q .attached, lt-ltb _ _ (q .within), p .word)
 
     -- the refusal is what the test says of the record's shape
-    pub by-test : (x : ℕ) → x ≡ test (pointers m at, values m at) → x ≡ refusal (observe m) c
+    pub by-test : (x : ℕ) → x ≡ test (shapeOf m at) → x ≡ refusal (observe m) c
     unfolding ifRecord
     by-test x t = t ∙ ap (λ o. ifRecord o test) (sym shape-at) ∙ q .rest
 
     -- "13, torn": a word of the record off the heap
-    pub off-13 : (y : ℕ) → y ≤ pointers m at + values m at → len g Region.heap ≤ at + y → Promise c g xs (Refused 13) xs
+    pub off-13 : (y : ℕ) → y ≤ pointerCount m at + valueCount m at → len g Region.heap ≤ at + y → Promise c g xs (Refused 13) xs
     off-13 y l o =
         torn-13 c g xs (q .size)
         (λ s. let t = field-inside g m at (rooted m k i at (q .known) (q .within) (q .attached) (p .word) g s) y l in omega arith)
@@ -65,7 +66,7 @@ module _ (c : Call) (g : Geometry) (xs : List ℕ) (k i : ℕ) (test : ℕ × �
     header-13 l = off-13 0 (omega arith) (omega arith)
 
     -- field f of n, where the test asks for it
-    module _ (n f : ℕ) (asks : test (pointers m at, values m at) ≡ require (ltb f n) 8 0) where
+    module _ (n f : ℕ) (asks : test (shapeOf m at) ≡ require (ltb f n) 8 0) where
       pub has-0 : f < n → 0 ≡ refusal (observe m) c
       unfolding require
       has-0 l = by-test 0 (sym (asks ∙ rw (lt-ltb _ _ l) refl))

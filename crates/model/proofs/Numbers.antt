@@ -8,6 +8,7 @@ use Prim.Native.Nat.{ℕ, _≤_}
 use native.Mathlib.Omega.{arith}
 use lib.Dec.{T, eqb, leb, leb→le}
 use borrow.Author.Tests.{eqb-true}
+use Rattle.classes.specs.declared.RecordShape.{RecordShape}
 use Rattle.rules.specs.Pick.{pick}
 use Rattle.rules.proofs.Table.{and-left, and-right}
 use Rattle.theory.specs.Calls.{Call, c-attach, c-detach, c-check, c-leave, c-enter, c-spawn, c-make, c-load, c-store, c-copy, c-clear, c-put, c-get, c-same, c-shape, Observation, require, ifRecord, refusal}
@@ -22,7 +23,7 @@ unfolding require
 require-among ns true n rest a r = r
 require-among ns false n rest a r = record { either = inr a }
 
-record-among : (ns : List ℕ) (o : Option (ℕ × ℕ)) (rest : ℕ × ℕ → ℕ) → among 7 ns ≡ true → ((s : ℕ × ℕ) → Among ns (rest s)) → Among ns (ifRecord o rest)
+record-among : (ns : List ℕ) (o : Option RecordShape) (rest : RecordShape → ℕ) → among 7 ns ≡ true → ((s : RecordShape) → Among ns (rest s)) → Among ns (ifRecord o rest)
 unfolding ifRecord
 record-among ns none rest a r = record { either = inr (a, omega arith) }
 record-among ns (some s) rest a r = r s

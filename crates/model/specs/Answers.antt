@@ -7,6 +7,7 @@ use mathlib.Core.Option.{Option, none, some}
 use Prim.Native.Nat.{ℕ, _≤_, _<_}
 use lib.Dec.{eqb}
 use Rattle.rules.specs.Pick.{pick}
+use Rattle.classes.specs.declared.RecordShape.{RecordShape}
 use Rattle.layout.specs.declared.Geometry.{Geometry}
 use Rattle.layout.specs.Geometry.{mutatorCount, mostBlocks}
 use Rattle.theory.specs.Phases.{sweep}
@@ -29,7 +30,7 @@ abbrev pub answerOf : Answer → theory.Answer
 answerOf Ok = a-ok
 answerOf (Number v) = a-num v
 answerOf (Same b) = a-flag b
-answerOf (Shape p n) = a-shape p n
+answerOf (Shape s) = a-shape s
 answerOf (Refused n) = a-no n
 
 -- of step
@@ -62,7 +63,7 @@ refusalIn a-done = none
 refusalIn a-idle = none
 refusalIn (a-num v) = none
 refusalIn (a-flag b) = none
-refusalIn (a-shape p n) = none
+refusalIn (a-shape s) = none
 refusalIn (a-no n) = some n
 refusalIn (a-waiting n) = none
 refusalIn (a-swept s f) = none
@@ -91,7 +92,7 @@ abbrev pub IsFlag : theory.Answer → Type 0
 IsFlag a = (b : Bool) × (a ≡ a-flag b)
 
 abbrev pub IsShape : theory.Answer → Type 0
-IsShape a = (p n : ℕ) × (a ≡ a-shape p n)
+IsShape a = (s : RecordShape) × (a ≡ a-shape s)
 
 abbrev pub ResultOf : Call → theory.Answer → Type 0
 ResultOf (c-attach k) a = IsOk a

@@ -2,9 +2,9 @@
 -- 10 and 11, and what it does.
 use mathlib.Core.Bool.{Bool, not}
 use mathlib.Core.Option.{Option·map}
-use Prim.Native.Nat.{ℕ, _+_}
+use Prim.Native.Nat.{ℕ}
 use lib.Dec.{eqb, ltb}
-use Rattle.classes.specs.Class.{classOf}
+use Rattle.classes.specs.Record.{ofCounts, classOfRecord}
 use Rattle.classes.specs.declared.SizeClass.{SizeClass}
 use Rattle.classes.specs.declared.SizeClass.the-variants.{Class, TooBig}
 use Rattle.layout.specs.declared.Geometry.{Geometry}
@@ -13,7 +13,7 @@ use Rattle.layout.specs.Mem.{Mem}
 use Rattle.theory.specs.Phases.{duty, inHandshake}
 use Rattle.theory.specs.Calls.{Call, c-attach, c-detach, c-check, c-leave, c-enter, c-spawn, c-make, c-load, c-store, c-copy, c-clear, c-put, c-get, c-same, c-shape, Answer, a-ok, a-num, a-flag, a-shape, a-no, Observation, shapeIf, refusal, refuse, onRecord, unless, sameRef}
 use Rattle.model.specs.Fields.{phase, absent, inside, outside, state, setMutatorState, acks, root, setRoot}
-use Rattle.model.specs.Records.{record?, pointers, values, pointer, setPointer, value, setValue}
+use Rattle.model.specs.Records.{record?, shapeOf, pointer, setPointer, value, setValue}
 use Rattle.model.specs.Tracing.{barrier}
 use Rattle.model.specs.Mutators.{acknowledged, attached, detached}
 use Rattle.model.specs.Making.{made}
@@ -29,7 +29,7 @@ abbrev pub observe : Mem → Observation
 observe m = record {
   attached = isAttached m;
   inside = isInside m;
-  shape = λ k i. shapeIf (isAttached m k) (ltb i rootCount) (Option·map (λ at. (pointers m at, values m at)) (record? (root m k i)));
+  shape = λ k i. shapeIf (isAttached m k) (ltb i rootCount) (Option·map (shapeOf m) (record? (root m k i)));
 }
 
 abbrev pub ofClass : Mem → SizeClass → (ℕ → Answer × Mem) → Answer × Mem
@@ -44,7 +44,7 @@ act g m (c-detach k) = unless (inHandshake (phase m)) 11 m (detached g m k)
 act g m (c-check k) = (a-ok, acknowledged g m k)
 act g m (c-leave k) = (a-ok, setMutatorState (acknowledged g m k) k outside)
 act g m (c-enter k) = (a-ok, setMutatorState m k inside)
-act g m (c-make k d p n) = ofClass m (classOf (p + n)) (λ c. made g m k d c p n)
+act g m (c-make k d p n) = ofClass m (classOfRecord (ofCounts p n)) (λ c. made g m k d c (ofCounts p n))
 act g m (c-load k d i f) = onRecord (record? (root m k i)) m (λ at. (a-ok, setRoot m k d (pointer m at f)))
 act g m (c-store k i f j) =
     onRecord (record? (root m k i)) m (λ at. (a-ok, setPointer (barrier g (duty (phase m) (acks m k)) m (record? (root m k j)) (record? (pointer m at f))) at f (root m k j)))
@@ -53,7 +53,7 @@ act g m (c-clear k d) = (a-ok, setRoot m k d 0)
 act g m (c-put k i f v) = onRecord (record? (root m k i)) m (λ at. (a-ok, setValue m at f v))
 act g m (c-get k i f) = onRecord (record? (root m k i)) m (λ at. (a-num (value m at f), m))
 act g m (c-same k i j) = (a-flag (sameRef (record? (root m k i)) (record? (root m k j))), m)
-act g m (c-shape k i) = onRecord (record? (root m k i)) m (λ at. (a-shape (pointers m at) (values m at), m))
+act g m (c-shape k i) = onRecord (record? (root m k i)) m (λ at. (a-shape (shapeOf m at), m))
 
 -- "The lowest number that applies is given."
 unfoldable pub exec : Geometry → Mem → Call → Answer × Mem

@@ -7,7 +7,8 @@ use Prim.Native.Nat.{ℕ, suc, _+_, _*_, _%_, _≤_, _<_}
 use lib.Dec.{eqb}
 use Rattle.words.specs.Bits.{bitAt, onesAmong}
 use Rattle.words.specs.Tree.{Tree}
-use Rattle.classes.specs.Class.{IsClass, blockWords, classOf}
+use Rattle.classes.specs.Class.{IsClass, blockWords}
+use Rattle.classes.specs.Record.{classOfRecord}
 use Rattle.classes.specs.declared.SizeClass.the-variants.{Class}
 use Rattle.layout.specs.declared.Geometry.{Geometry}
 use Rattle.layout.specs.Geometry.{mutatorCount, mutatorWords, entryWords, segmentWords, mostBlocks, blocksIn, segmentOf, bitIn}
@@ -16,7 +17,7 @@ use Rattle.theory.specs.Phases.{Phase, idle, sync1, sync2, mark, sweep}
 use Rattle.model.specs.Rules.{phaseNumber}
 use Rattle.model.specs.Fields.{phase, traceCount, absent, outside, state, acks, holding, tag, class, place, owner}
 use Rattle.model.specs.Segments.{freeStack, partStack, count, entry, above, bitmap, usedBit}
-use Rattle.model.specs.Records.{pointers, values, blockOf, marked, queued}
+use Rattle.model.specs.Records.{shapeOf, blockOf, marked, queued}
 use Rattle.rules.specs.Pick.{oneIf}
 use Rattle.model.specs.Reaching.{IsEntry, Live, Reached, Covered, IsRoot, PointsTo}
 use Rattle.model.specs.Tag as Tag
@@ -101,7 +102,7 @@ pub record RecordOk (g : Geometry) (m : Mem) (at : ℕ) : Type 0 where
   pub used : tag m (segmentOf g at) ≡ Tag.free → ⊥
   pub aligned : at % segmentWords g % blockWords (class m (segmentOf g at)) ≡ 0
   pub block : usedBit g m (segmentOf g at) (blockOf g m at) ≡ 1
-  pub sized : classOf (pointers m at + values m at) ≡ Class (class m (segmentOf g at))
+  pub sized : classOfRecord (shapeOf m at) ≡ Class (class m (segmentOf g at))
 
 -- ---- the trace stack
 

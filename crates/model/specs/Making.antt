@@ -4,6 +4,7 @@ use mathlib.Core.Path.{_≡_}
 use Prim.Native.Nat.{ℕ, suc, _+_, _-_, _<_}
 use lib.Dec.{eqb}
 use Rattle.rules.specs.Pick.{pick}
+use Rattle.classes.specs.declared.RecordShape.{RecordShape}
 use Rattle.layout.specs.Geometry.{blocksIn}
 use Rattle.layout.specs.declared.Geometry.{Geometry}
 use Rattle.layout.specs.Mem.{Mem}
@@ -54,26 +55,26 @@ advanced g m k c s p Torn = setHolding (setSegmentState g m s (Full c)) k c 0
 abbrev pub blackened : Geometry → Mem → ℕ → ℕ → Mem
 blackened g m k at = pick (black (phase m) (acks m k)) (setMarked g m at) m
 
--- the record of p pointers and n values in block b of segment s, into root d
-unfoldable pub handedOut : Geometry → Mem → ℕ → ℕ → ℕ → ℕ → ℕ → ℕ → ℕ → Mem
-handedOut g m k d c s b p n =
-    setRoot (blackened g (written (advanced g m k c s (b + 1) (free g m s c (b + 1))) (headerOf g s c b) p n) k (headerOf g s c b)) k d (suc (headerOf g s c b))
+-- the record of a shape in block b of segment s, into root d
+unfoldable pub handedOut : Geometry → Mem → ℕ → ℕ → ℕ → ℕ → ℕ → RecordShape → Mem
+handedOut g m k d c s b shape =
+    setRoot (blackened g (written (advanced g m k c s (b + 1) (free g m s c (b + 1))) (headerOf g s c b) shape) k (headerOf g s c b)) k d (suc (headerOf g s c b))
 
 -- the block at or after the place; a held segment always has one
-abbrev pub inBlock : Geometry → Mem → Mem → Found → ℕ → ℕ → ℕ → ℕ → ℕ → ℕ → Answer × Mem
-inBlock g m taken (Block b) k d c s p n = (a-ok, handedOut g taken k d c s b p n)
-inBlock g m taken Nothing k d c s p n = (a-no 13, m)
-inBlock g m taken Torn k d c s p n = (a-no 13, m)
+abbrev pub inBlock : Geometry → Mem → Mem → Found → ℕ → ℕ → ℕ → ℕ → RecordShape → Answer × Mem
+inBlock g m taken (Block b) k d c s shape = (a-ok, handedOut g taken k d c s b shape)
+inBlock g m taken Nothing k d c s shape = (a-no 13, m)
+inBlock g m taken Torn k d c s shape = (a-no 13, m)
 
-abbrev pub inSegment : Geometry → Mem → Mem → ℕ → ℕ → ℕ → ℕ → ℕ → ℕ → Answer × Mem
-inSegment g m taken k d c s p n = inBlock g m taken (free g taken s c (place taken s)) k d c s p n
+abbrev pub inSegment : Geometry → Mem → Mem → ℕ → ℕ → ℕ → ℕ → RecordShape → Answer × Mem
+inSegment g m taken k d c s shape = inBlock g m taken (free g taken s c (place taken s)) k d c s shape
 
-abbrev pub fromSource : Geometry → Mem → ℕ → ℕ → ℕ → ℕ → ℕ → Source → Answer × Mem
-fromSource g m k d c p n (held s) = inSegment g m m k d c s p n
-fromSource g m k d c p n (part s) = inSegment g m (takes g (pop g m (partStack c)) k c s (place m s)) k d c s p n
-fromSource g m k d c p n (unused s) = inSegment g m (freshened g (takes g (pop g m freeStack) k c s 0) s c) k d c s p n
-fromSource g m k d c p n noRoom = (a-no 10, m)
+abbrev pub fromSource : Geometry → Mem → ℕ → ℕ → ℕ → RecordShape → Source → Answer × Mem
+fromSource g m k d c shape (held s) = inSegment g m m k d c s shape
+fromSource g m k d c shape (part s) = inSegment g m (takes g (pop g m (partStack c)) k c s (place m s)) k d c s shape
+fromSource g m k d c shape (unused s) = inSegment g m (freshened g (takes g (pop g m freeStack) k c s 0) s c) k d c s shape
+fromSource g m k d c shape noRoom = (a-no 10, m)
 
 -- a make of class c by mutator k into root d
-unfoldable pub made : Geometry → Mem → ℕ → ℕ → ℕ → ℕ → ℕ → Answer × Mem
-made g m k d c p n = fromSource g m k d c p n (sourceOf g m k c)
+unfoldable pub made : Geometry → Mem → ℕ → ℕ → ℕ → RecordShape → Answer × Mem
+made g m k d c shape = fromSource g m k d c shape (sourceOf g m k c)

@@ -9,7 +9,7 @@ use Rattle.layout.specs.Geometry.{mutatorCount, rootCount}
 use Rattle.layout.specs.Mem.{Mem, traceWord}
 use Rattle.theory.specs.Reach.{Reach, Cover}
 use Rattle.model.specs.Fields.{traceCount, absent, state, root}
-use Rattle.model.specs.Records.{pointers, pointer, marked}
+use Rattle.model.specs.Records.{pointerCount, pointer, marked}
 
 -- a root of an attached mutator names the record at a word
 pub record IsRoot (m : Mem) (at : ℕ) : Type 0 where
@@ -29,7 +29,7 @@ pub record IsEntry (m : Mem) (at : ℕ) : Type 0 where
 -- a pointer of the record at x names the one at y
 pub record PointsTo (m : Mem) (x y : ℕ) : Type 0 where
   pub field : ℕ
-  pub within : field < pointers m x
+  pub within : field < pointerCount m x
   pub names : pointer m x field ≡ suc y
 
 -- "records reachable from slots or trace stack"

@@ -5,6 +5,8 @@ use Prim.Native.Nat.{ℕ, zero, suc, _+_, _*_, _/_, _%_}
 use lib.ListN.{replicate}
 use Rattle.words.specs.Bits.{bitAt, setBit, clearBit}
 use Rattle.classes.specs.Class.{blockWords}
+use Rattle.classes.specs.Record.{ofCounts, pointerCountOf, valueCountOf, fieldCountOf}
+use Rattle.classes.specs.declared.RecordShape.{RecordShape}
 use Rattle.layout.specs.declared.Geometry.{Geometry}
 use Rattle.layout.specs.Geometry.{segmentWords, segmentOf, bitIn}
 use Rattle.layout.specs.Mem.{Mem, heapWord, setHeap, setRun, withRegion}
@@ -19,11 +21,24 @@ record? (suc at) = some at
 -- ---- the record at a word
 
 -- P in the header's upper half, N in its lower half
-abbrev pub pointers : Mem → ℕ → ℕ
-pointers m at = heapWord m at / 65536
+abbrev pub halfWord : ℕ
+halfWord = 65536
 
-abbrev pub values : Mem → ℕ → ℕ
-values m at = heapWord m at % 65536
+abbrev pub headerWord : RecordShape → ℕ
+headerWord s = pointerCountOf s * halfWord + valueCountOf s
+
+-- the shape that a header word says. Above this file definitions go by the shape, and only laws of the header unfold it
+unfoldable pub headerShape : ℕ → RecordShape
+headerShape w = ofCounts (w / halfWord) (w % halfWord)
+
+abbrev pub shapeOf : Mem → ℕ → RecordShape
+shapeOf m at = headerShape (heapWord m at)
+
+abbrev pub pointerCount : Mem → ℕ → ℕ
+pointerCount m at = pointerCountOf (shapeOf m at)
+
+abbrev pub valueCount : Mem → ℕ → ℕ
+valueCount m at = valueCountOf (shapeOf m at)
 
 abbrev pub pointer : Mem → ℕ → ℕ → ℕ
 pointer m at f = heapWord m (at + 1 + f)
@@ -32,14 +47,14 @@ abbrev pub setPointer : Mem → ℕ → ℕ → ℕ → Mem
 setPointer m at f v = setHeap m (at + 1 + f) v
 
 abbrev pub value : Mem → ℕ → ℕ → ℕ
-value m at f = heapWord m (at + 1 + pointers m at + f)
+value m at f = heapWord m (at + 1 + pointerCount m at + f)
 
 abbrev pub setValue : Mem → ℕ → ℕ → ℕ → Mem
-setValue m at f v = setHeap m (at + 1 + pointers m at + f) v
+setValue m at f v = setHeap m (at + 1 + pointerCount m at + f) v
 
 -- "Links start nil, numbers 0"
-abbrev pub written : Mem → ℕ → ℕ → ℕ → Mem
-written m at p n = setRun (setHeap m at (p * 65536 + n)) Region.heap (at + 1) (replicate (p + n) 0)
+abbrev pub written : Mem → ℕ → RecordShape → Mem
+written m at s = setRun (setHeap m at (headerWord s)) Region.heap (at + 1) (replicate (fieldCountOf s) 0)
 
 -- ---- its block
 

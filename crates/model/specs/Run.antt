@@ -39,7 +39,7 @@ abbrev pub declared : theory.Answer → Answer
 declared a-ok = Ok
 declared (a-num v) = Number v
 declared (a-flag b) = Same b
-declared (a-shape p n) = Shape p n
+declared (a-shape s) = Shape s
 declared (a-no n) = Refused n
 declared a-moved = Ok
 declared a-traced = Ok
@@ -59,7 +59,7 @@ declaredStep (a-no n) = stepAnswer.Refused n
 declaredStep a-ok = stepAnswer.Idle
 declaredStep (a-num v) = stepAnswer.Idle
 declaredStep (a-flag b) = stepAnswer.Idle
-declaredStep (a-shape p n) = stepAnswer.Idle
+declaredStep (a-shape s) = stepAnswer.Idle
 
 -- the segments' states, where the output has their length
 abbrev pub shownStates : Bool → Mem → List ℕ → Look

@@ -8,7 +8,7 @@ use Rattle.layout.specs.declared.Geometry.{Geometry}
 use Rattle.layout.specs.Mem.{Mem, setTrace}
 use Rattle.theory.specs.Phases.{Duty, nothing, both, old}
 use Rattle.model.specs.Fields.{traceCount, setTraceCount, root}
-use Rattle.model.specs.Records.{record?, pointers, pointer, marked, queued, setMarked, setQueued, clearQueued}
+use Rattle.model.specs.Records.{record?, pointerCount, pointer, marked, queued, setMarked, setQueued, clearQueued}
 
 -- on top of the stack, with its bit
 abbrev pub onTop : Geometry → Mem → ℕ → Mem
@@ -40,4 +40,4 @@ abbrev pub popped : Geometry → Mem → ℕ → Mem
 popped g m at = setMarked g (clearQueued g (setTraceCount m (traceCount m - 1)) at) at
 
 abbrev pub traced : Geometry → Mem → ℕ → Mem
-traced g m at = pushPointers g (popped g m at) at (pointers m at)
+traced g m at = pushPointers g (popped g m at) at (pointerCount m at)

@@ -1,5 +1,6 @@
 // The declared types of the heap: what a root or pointer holds, a segment's state, the answers, and the phases with their rules.
 // The definitions that every call is held to stand in specs/.
+use classes::RecordShape;
 ghost use mathlib.Core.Path.{_≡_};
 ghost use Rattle.theory.specs.Phases.{duty, owes, black, inHandshake};
 ghost use Rattle.model.specs.Rules.{phaseOf, dutyOf};
@@ -53,7 +54,7 @@ pub enum Answer {
     Ok,
     Number(u32),
     Same(bool),
-    Shape(u32, u32),
+    Shape(RecordShape),
     Refused(u32),
 }
 

@@ -2,6 +2,7 @@
 -- 13 does not come up here, and 1 is not the model's.
 use mathlib.Core.Bool.{true, false}
 use mathlib.Core.List.{List, [], _∷_}
+use Rattle.classes.specs.Record.{ofCounts}
 use Rattle.theory.specs.Calls.{c-attach, c-detach, c-check, c-leave, c-enter, c-spawn, c-make, c-load, c-store, c-copy, c-clear, c-put, c-get, c-same, c-shape, a-num, a-flag, a-shape}
 use Rattle.model_cases.specs.Replies.{Line, _⇒_, opening, start, call, answer, ok, no}
 
@@ -35,7 +36,7 @@ refusals =
     ∷ call (c-make 0 0 4294967295 4294967295) ⇒ no 9
     -- 8, at the record's ends
     ∷ call (c-make 0 0 2 510) ⇒ ok
-    ∷ call (c-shape 0 0) ⇒ answer (a-shape 2 510)
+    ∷ call (c-shape 0 0) ⇒ answer (a-shape (ofCounts 2 510))
     ∷ call (c-load 0 1 0 1) ⇒ ok
     ∷ call (c-load 0 1 0 2) ⇒ no 8
     ∷ call (c-store 0 0 2 0) ⇒ no 8

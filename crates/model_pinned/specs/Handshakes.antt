@@ -1,6 +1,7 @@
 -- Who answers in the two handshakes, what a store enters before, between and after the answers, and who may come and go when. All records of
 -- the first segment are of class 12: a reference is 1 + the index of a header, so they are 1, 1025, 2049 and 3073.
 use mathlib.Core.List.{List, [], _∷_}
+use Rattle.classes.specs.Record.{ofCounts}
 use Rattle.theory.specs.Phases.{idle, sync1, sync2, mark}
 use Rattle.theory.specs.Calls.{c-attach, c-detach, c-check, c-leave, c-enter, c-spawn, c-make, c-load, c-store, c-clear, c-shape, a-shape}
 use Rattle.model.specs.declared.Step.the-variants.{Waiting, Moved, Traced, Swept, Done}
@@ -21,7 +22,7 @@ handshakes =
     ∷ call (c-clear 0 2) ⇒ ok
     -- spawn: root 0 alone is the copy
     ∷ call (c-spawn 1 0 3) ⇒ ok
-    ∷ call (c-shape 1 0) ⇒ answer (a-shape 1 511)
+    ∷ call (c-shape 1 0) ⇒ answer (a-shape (ofCounts 1 511))
     ∷ call (c-shape 1 3) ⇒ no 7
     ∷ call (c-spawn 2 0 0) ⇒ ok
     ∷ call (c-attach 3) ⇒ ok

@@ -1,4 +1,4 @@
--- Laws of words and fields.
-pub mod Placing
+-- Laws of words, shapes and fields.
+pub mod FieldTests
 pub mod Found
 pub mod Reaching

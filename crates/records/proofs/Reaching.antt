@@ -5,6 +5,7 @@ use mathlib.Core.List.{List}
 use Prim.Native.Nat.{ℕ, zero, suc, _+_, _≤_, _<_}
 use native.Mathlib.Omega.{arith}
 use lib.Dec.{ltb}
+use Rattle.classes.specs.declared.RecordShape.{RecordShape}
 use Rattle.layout.specs.declared.Geometry.{Geometry}
 use Rattle.layout.specs.Mem.{Mem, memOf}
 use Rattle.theory.specs.Calls.{Call, require, pointer?, value?, refusal}
@@ -12,14 +13,14 @@ use Rattle.model.specs.declared.Answer.the-variants.{Refused}
 use Rattle.model.specs.declared.Held.{Held}
 use Rattle.model.specs.declared.Held.the-variants.{Nil, Record}
 use Rattle.model.specs.Fields.{root}
-use Rattle.model.specs.Records.{pointers, values}
+use Rattle.model.specs.Records.{pointerCount, valueCount, shapeOf}
 use Rattle.model.specs.Calls.{observe}
 use Rattle.model.specs.Promise.{Promise}
 use Rattle.laws.proofs.Reaching.{Names, Reaches, nil-7, off-13, header-13, has-0, field-8}
-use Rattle.records.specs.declared.Place.the-variants.{At}
-use Rattle.records.specs.Places.{heldOf, pointerPlace, valuePlace}
-use Rattle.records.proofs.Found.{Lacks, missing, off, beyond, pointer-stands, pointer-lacks, value-stands, value-lacks}
-use Rattle.records.specs.declared.Place.the-variants as place
+use Rattle.records.specs.declared.FieldAt.the-variants.{Word}
+use Rattle.records.specs.FieldWords.{heldOf, pointerAt, valueAt}
+use Rattle.records.proofs.Found.{FieldMissing, no-field, off, beyond, pointer-found, pointer-missing, value-found, value-missing}
+use Rattle.records.specs.declared.FieldAt.the-variants as found
 
 -- ---- what a root's word names
 
@@ -42,7 +43,7 @@ is-record (suc w) at e = ap suc (sym (ap named e))
 pub names : (g : Geometry) (xs : List ℕ) (k i w at : ℕ) → w ≡ root (memOf g xs) k i → Record at ≡ heldOf w → Names g xs k i at
 names g xs k i w at r h = record { word = sym r ∙ is-record w at h }
 
-pub held-7 : (c : Call) (g : Geometry) (xs : List ℕ) (k i : ℕ) (test : ℕ × ℕ → ℕ) → Reaches c g xs k i test → (w : ℕ) → w ≡ root (memOf g xs) k i → Nil ≡ heldOf w → Promise c g xs (Refused 7) xs
+pub held-7 : (c : Call) (g : Geometry) (xs : List ℕ) (k i : ℕ) (test : RecordShape → ℕ) → Reaches c g xs k i test → (w : ℕ) → w ≡ root (memOf g xs) k i → Nil ≡ heldOf w → Promise c g xs (Refused 7) xs
 held-7 c g xs k i test q w r h = nil-7 c g xs k i test q (sym r ∙ is-nil w h)
 
 -- ---- a call on a pointer, or on a value, of the record
@@ -52,24 +53,24 @@ module _ (c : Call) (g : Geometry) (xs : List ℕ) (k i f at : ℕ) (p : Names g
   m = memOf g xs
 
   -- field f of n at word u, y words behind the header, where the test asks for it
-  module _ (test : ℕ × ℕ → ℕ) (q : Reaches c g xs k i test) (n u y : ℕ) (asks : test (pointers m at, values m at) ≡ require (ltb f n) 8 0)
-      (is : u ≡ at + y) (fits : f < n → y ≤ pointers m at + values m at) where
-    lacks : (x : ℕ) → Lacks g at n f u x → Promise c g xs (Refused x) xs
-    lacks x (missing e l) = subst (λ x. Promise c g xs (Refused x) xs) (sym e) (field-8 c g xs k i test q at p n f asks l)
-    lacks x (off e l) = subst (λ x. Promise c g xs (Refused x) xs) (sym e) (header-13 c g xs k i test q at p l)
-    lacks x (beyond e h l) = subst (λ x. Promise c g xs (Refused x) xs) (sym e) (off-13 c g xs k i test q at p y (fits h) (omega arith))
+  module _ (test : RecordShape → ℕ) (q : Reaches c g xs k i test) (n u y : ℕ) (asks : test (shapeOf m at) ≡ require (ltb f n) 8 0)
+      (is : u ≡ at + y) (fits : f < n → y ≤ pointerCount m at + valueCount m at) where
+    missing : (x : ℕ) → FieldMissing g at n f u x → Promise c g xs (Refused x) xs
+    missing x (no-field e l) = subst (λ x. Promise c g xs (Refused x) xs) (sym e) (field-8 c g xs k i test q at p n f asks l)
+    missing x (off e l) = subst (λ x. Promise c g xs (Refused x) xs) (sym e) (header-13 c g xs k i test q at p l)
+    missing x (beyond e h l) = subst (λ x. Promise c g xs (Refused x) xs) (sym e) (off-13 c g xs k i test q at p y (fits h) (omega arith))
 
-  pub pointer-0 : Reaches c g xs k i (pointer? f) → (u : ℕ) → At u ≡ pointerPlace g m at f → 0 ≡ refusal (observe m) c
-  pointer-0 q u e = has-0 c g xs k i (pointer? f) q at p (pointers m at) f refl (pointer-stands g m at f u e .has)
+  pub pointer-0 : Reaches c g xs k i (pointer? f) → (u : ℕ) → Word u ≡ pointerAt g m at f → 0 ≡ refusal (observe m) c
+  pointer-0 q u e = has-0 c g xs k i (pointer? f) q at p (pointerCount m at) f refl (pointer-found g m at f u e .has)
 
-  pub pointer-refused : Reaches c g xs k i (pointer? f) → (x : ℕ) → place.Refused x ≡ pointerPlace g m at f → Promise c g xs (Refused x) xs
+  pub pointer-refused : Reaches c g xs k i (pointer? f) → (x : ℕ) → found.Refused x ≡ pointerAt g m at f → Promise c g xs (Refused x) xs
   pointer-refused q x e =
-      lacks (pointer? f) q (pointers m at) (at + 1 + f) (1 + f) refl (omega arith) (λ l. omega arith) x (pointer-lacks g m at f x e)
+      missing (pointer? f) q (pointerCount m at) (at + 1 + f) (1 + f) refl (omega arith) (λ l. omega arith) x (pointer-missing g m at f x e)
 
-  pub value-0 : Reaches c g xs k i (value? f) → (u : ℕ) → At u ≡ valuePlace g m at f → 0 ≡ refusal (observe m) c
-  value-0 q u e = has-0 c g xs k i (value? f) q at p (values m at) f refl (value-stands g m at f u e .has)
+  pub value-0 : Reaches c g xs k i (value? f) → (u : ℕ) → Word u ≡ valueAt g m at f → 0 ≡ refusal (observe m) c
+  value-0 q u e = has-0 c g xs k i (value? f) q at p (valueCount m at) f refl (value-found g m at f u e .has)
 
-  pub value-refused : Reaches c g xs k i (value? f) → (x : ℕ) → place.Refused x ≡ valuePlace g m at f → Promise c g xs (Refused x) xs
+  pub value-refused : Reaches c g xs k i (value? f) → (x : ℕ) → found.Refused x ≡ valueAt g m at f → Promise c g xs (Refused x) xs
   value-refused q x e =
-      lacks (value? f) q (values m at) (at + 1 + pointers m at + f) (1 + pointers m at + f) refl (omega arith) (λ l. omega arith) x
-      (value-lacks g m at f x e)
+      missing (value? f) q (valueCount m at) (at + 1 + pointerCount m at + f) (1 + pointerCount m at + f) refl (omega arith) (λ l. omega arith) x
+      (value-missing g m at f x e)

@@ -1,2 +1,2 @@
--- What a word names, and where fields stand.
-pub mod Places
+-- What a word names, and the words of a record's fields.
+pub mod FieldWords

@@ -1,16 +1,23 @@
-// Records in the lent slice: what a root's word names, and the word of a field. Over memory of any content a field's word lies in the
-// heap, or the answer is 13.
+// Records in the lent slice: what a root's word names, a record's shape, and the words of its fields. Over memory of any content a field's
+// word lies in the heap, or the answer is 13.
+use classes::RecordShape;
 use layout::Geometry;
 use model::Held;
 ghost use mathlib.Core.Path.{_≡_};
+ghost use Prim.Native.Nat.{_<_};
 ghost use lib.ListN.{length};
-ghost use Rattle.layout.specs.Geometry.{Sized};
-ghost use Rattle.layout.specs.Mem.{memOf};
-ghost use Rattle.records.specs.Places.{heldOf, pointerPlace, valuePlace};
+ghost use Rattle.layout.specs.Geometry.{Sized, len};
+ghost use Rattle.layout.specs.Mem.{memOf, heapWord, setHeap};
+ghost use Rattle.model.specs.Records.{shapeOf};
+ghost use Rattle.records.specs.FieldWords.{heldOf, pointerAt, valueAt};
+ghost use Rattle.layout.specs.Region as Region;
 
-// A word of the heap, or a refusal's number.
-pub enum Place {
-    At(usize),
+// A header word has the pointers' count in its upper half, and the values' in its lower.
+const HALF_WORD: u32 = 65536;
+
+// The word of a field in the heap, or a refusal's number.
+pub enum FieldAt {
+    Word(usize),
     Refused(u32),
 }
 
@@ -23,41 +30,69 @@ pub fn held_of(w: u32) -> Held
     Held::Record((w - 1) as usize)
 }
 
+// The shape of the record at a word.
+pub fn shape(g: Geometry, mem: &[u32], at: usize) -> RecordShape
+    requires { ⌜ (Sized g (length (now mem))) × (at < len g Region.heap) ⌝ }
+    ensures { λ r. ⌜ r ≡ shapeOf (memOf g (now (mem .entry))) at ⌝ }
+{
+    let header = layout::word(g, mem, at);
+    RecordShape {
+        pointer_count: header / HALF_WORD,
+        value_count: header % HALF_WORD,
+    }
+}
+
 // Pointer f of the record at a word.
-pub fn pointer_place(g: Geometry, mem: &[u32], at: usize, f: u32) -> Place
+pub fn pointer_at(g: Geometry, mem: &[u32], at: usize, f: u32) -> FieldAt
     requires { ⌜ Sized g (length (now mem)) ⌝ }
-    ensures { λ r. ⌜ r ≡ pointerPlace g (memOf g (now (mem .entry))) at f ⌝ }
+    ensures { λ r. ⌜ r ≡ pointerAt g (memOf g (now (mem .entry))) at f ⌝ }
 {
     let end = layout::heap_words(g);
     if end <= at {
-        return Place::Refused(13);
+        return FieldAt::Refused(13);
     }
-    if layout::word(g, mem, at) / 65536 <= f {
-        return Place::Refused(8);
+    let shape = shape(g, mem, at);
+    if shape.pointer_count <= f {
+        return FieldAt::Refused(8);
     }
-    let place = at + 1 + f as usize;
-    if end <= place {
-        return Place::Refused(13);
+    let word = at + 1 + f as usize;
+    if end <= word {
+        return FieldAt::Refused(13);
     }
-    Place::At(place)
+    FieldAt::Word(word)
 }
 
 // Value f of the record at a word.
-pub fn value_place(g: Geometry, mem: &[u32], at: usize, f: u32) -> Place
+pub fn value_at(g: Geometry, mem: &[u32], at: usize, f: u32) -> FieldAt
     requires { ⌜ Sized g (length (now mem)) ⌝ }
-    ensures { λ r. ⌜ r ≡ valuePlace g (memOf g (now (mem .entry))) at f ⌝ }
+    ensures { λ r. ⌜ r ≡ valueAt g (memOf g (now (mem .entry))) at f ⌝ }
 {
     let end = layout::heap_words(g);
     if end <= at {
-        return Place::Refused(13);
+        return FieldAt::Refused(13);
     }
-    let header = layout::word(g, mem, at);
-    if header % 65536 <= f {
-        return Place::Refused(8);
+    let shape = shape(g, mem, at);
+    if shape.value_count <= f {
+        return FieldAt::Refused(8);
     }
-    let place = at + 1 + (header / 65536) as usize + f as usize;
-    if end <= place {
-        return Place::Refused(13);
+    let word = at + 1 + shape.pointer_count as usize + f as usize;
+    if end <= word {
+        return FieldAt::Refused(13);
     }
-    Place::At(place)
+    FieldAt::Word(word)
+}
+
+// What a field's word holds.
+pub fn field(g: Geometry, mem: &[u32], word: usize) -> u32
+    requires { ⌜ (Sized g (length (now mem))) × (word < len g Region.heap) ⌝ }
+    ensures { λ r. ⌜ r ≡ heapWord (memOf g (now (mem .entry))) word ⌝ }
+{
+    layout::word(g, mem, word)
+}
+
+pub fn set_field(g: Geometry, mem: &mut [u32], word: usize, v: u32)
+    requires { ⌜ (Sized g (length (now mem))) × (word < len g Region.heap) ⌝ }
+    ensures { λ _. ⌜ memOf g (now (mem .exit)) ≡ setHeap (memOf g (now (mem .entry))) word v ⌝ }
+{
+    layout::set_word(g, mem, word, v);
 }

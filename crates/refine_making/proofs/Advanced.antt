@@ -7,6 +7,7 @@ use native.Mathlib.Omega.{arith}
 use lib.ListN.{length, getD}
 use Rattle.words.specs.Bits.{bitAt}
 use Rattle.classes.specs.Class.{firstClass}
+use Rattle.classes.specs.declared.RecordShape.{RecordShape}
 use Rattle.layout.specs.declared.Geometry.{Geometry}
 use Rattle.layout.specs.Geometry.{mutatorWords, segmentRecordWords, blocksIn}
 use Rattle.layout.specs.Mem.{Mem, setMutator, Sizes}
@@ -23,7 +24,7 @@ use Rattle.laws.proofs.Lengths.{sizes-state, sizes-mutator}
 use Rattle.refine_making.proofs.Request.{Request}
 use Rattle.refine_making.proofs.Result.{Moved}
 
-module _ (g : Geometry) (m : Mem) (s : Sizes g m) (k d cl r b p n : ℕ) (q : Request g m k d cl r b p n) where
+module _ (g : Geometry) (m : Mem) (s : Sizes g m) (k d cl r b : ℕ) (shape : RecordShape) (q : Request g m k d cl r b shape) where
   room : r * segmentRecordWords + ownerAt < length (m .segments)
   room = let z = s .segments in let l = q .inside in omega arith
 

@@ -8,6 +8,8 @@ use native.Mathlib.Omega.{arith}
 use lib.Dec.{eqb}
 use lib.ListN.{replicate}
 use borrow.Author.Tests.{eq-eqb, eqb-true}
+use Rattle.classes.specs.declared.RecordShape.{RecordShape}
+use Rattle.classes.specs.Record.{pointerCountOf, valueCountOf}
 use Rattle.layout.specs.declared.Geometry.{Geometry}
 use Rattle.layout.specs.Geometry.{rootCount, segmentOf, bitIn}
 use Rattle.layout.specs.Mem.{Mem, heapWord, Sizes}
@@ -17,7 +19,7 @@ use Rattle.theory.proofs.Updates.{upd-hit, upd-other, upd-hit₁, upd-miss₁}
 use Rattle.theory.proofs.Agree.{Agree}
 use Rattle.model.specs.Fields.{phase, acks, root, tag, class}
 use Rattle.model.specs.Segments.{usedBit}
-use Rattle.model.specs.Records.{record?, pointers, values, pointer, marked, blockOf, recordBit, headerOf}
+use Rattle.model.specs.Records.{record?, pointerCount, pointer, marked, blockOf, recordBit, headerOf}
 use Rattle.model.specs.Reaching.{Live, isMarked}
 use Rattle.classes.specs.Class.{IsClass}
 use Rattle.model.specs.Consistent.{RecordOk}
@@ -39,19 +41,19 @@ use Rattle.refine_making.proofs.Unused as unused
 use Rattle.refine_making.proofs.Newborn as newborn
 use Rattle.model.specs.Tag as Tag
 
-module _ (g : Geometry) (m : Mem) (s : Sizes g m) (c : Ordered g m) (m′ : Mem) (k d cl r b p n : ℕ) (q : Request g m k d cl r b p n) (a : Result g m m′ k d cl r b p n) where
+module _ (g : Geometry) (m : Mem) (s : Sizes g m) (c : Ordered g m) (m′ : Mem) (k d cl r b : ℕ) (shape : RecordShape) (q : Request g m k d cl r b shape) (a : Result g m m′ k d cl r b shape) where
   abbrev h : ℕ
   h = headerOf g r cl b
 
   abbrev pub after : machine.State
-  after = machine.make (view g m) k d h p (replicate n 0)
+  after = machine.make (view g m) k d h (pointerCountOf shape) (replicate (valueCountOf shape) 0)
 
   -- what is live afterwards is the new record or was live before
   pub old-or-new : (x : ℕ) → machine.Live after x → (Live m x × (x ≢ h)) ⊎ (x ≡ h)
-  old-or-new x l = go (making.live-back (segmentOf g) (view g m) (to-inv g m s c) k d h p (replicate n 0) (unused.not-used g m c k d cl r b p n q) (unused.not-collected g m c k d cl r b p n q) l)
+  old-or-new x l = go (making.live-back (segmentOf g) (view g m) (to-inv g m s c) k d h (pointerCountOf shape) (replicate (valueCountOf shape) 0) (unused.not-used g m c k d cl r b shape q) (unused.not-collected g m c k d cl r b shape q) l)
     where
       go : machine.Live (view g m) x ⊎ (x ≡ h) → (Live m x × (x ≢ h)) ⊎ (x ≡ h)
-      go (inl y) = inl (to-live g m s c y, making.live-other (segmentOf g) (view g m) (to-inv g m s c) k d h p (replicate n 0) (unused.not-used g m c k d cl r b p n q) (unused.not-collected g m c k d cl r b p n q) x y)
+      go (inl y) = inl (to-live g m s c y, making.live-other (segmentOf g) (view g m) (to-inv g m s c) k d h (pointerCountOf shape) (replicate (valueCountOf shape) 0) (unused.not-used g m c k d cl r b shape q) (unused.not-collected g m c k d cl r b shape q) x y)
       go (inr e) = inr e
 
   -- ---- another record
@@ -64,28 +66,28 @@ module _ (g : Geometry) (m : Mem) (s : Sizes g m) (c : Ordered g m) (m′ : Mem)
     of-class = c .segments (segmentOf g x) (segment-below g x (ok .inside)) .classes (ok .used)
 
     pub header-on : heapWord m′ x ≡ heapWord m x
-    header-on = apart.header-same g m m′ k d cl r b p n q a x ok of-class f
+    header-on = apart.header-same g m m′ k d cl r b shape q a x ok of-class f
 
-    pub pointers-on : pointers m′ x ≡ pointers m x
-    pointers-on = apart.pointers-same g m m′ k d cl r b p n q a x ok of-class f
+    pub pointers-on : pointerCount m′ x ≡ pointerCount m x
+    pointers-on = apart.pointers-same g m m′ k d cl r b shape q a x ok of-class f
 
     fields-on : valuesOf m′ x ≡ valuesOf m x
-    fields-on = apart.fields-same g m m′ k d cl r b p n q a x ok of-class f
+    fields-on = apart.fields-same g m m′ k d cl r b shape q a x ok of-class f
 
-    pointer-on : (i : ℕ) → i < pointers m x → pointer m′ x i ≡ pointer m x i
-    pointer-on i y = apart.pointer-same g m m′ k d cl r b p n q a x ok of-class f i y
+    pointer-on : (i : ℕ) → i < pointerCount m x → pointer m′ x i ≡ pointer m x i
+    pointer-on i y = apart.pointer-same g m m′ k d cl r b shape q a x ok of-class f i y
 
     pub used-on : isUsed g m′ x ≡ true
     used-on =
-        let e : usedBit g m′ (segmentOf g x) (blockOf g m′ x) ≡ 1 = ap (usedBit g m′ (segmentOf g x)) (standing.block-same g m m′ k d cl r b p n q a x) ∙ standing.used-on g m m′ k d cl r b p n q a (segmentOf g x) (blockOf g m x) (ok .block) in
-        and-both _ _ (ne-not _ _ (standing.tag-used g m m′ k d cl r b p n q a (segmentOf g x) (ok .used))) (eq-eqb _ _ e)
+        let e : usedBit g m′ (segmentOf g x) (blockOf g m′ x) ≡ 1 = ap (usedBit g m′ (segmentOf g x)) (standing.block-same g m m′ k d cl r b shape q a x) ∙ standing.used-on g m m′ k d cl r b shape q a (segmentOf g x) (blockOf g m x) (ok .block) in
+        and-both _ _ (ne-not _ _ (standing.tag-used g m m′ k d cl r b shape q a (segmentOf g x) (ok .used))) (eq-eqb _ _ e)
 
     -- its bit is another
     pub bit-other : recordBit g m x ≡ bitIn g r b → ⊥
     bit-other e = f (same-bit g m x h of-class (header-is-class g cl (q .isClass) r b (q .below) m (q .ofClass)) (ok .aligned) (header-head g cl (q .isClass) r b (q .below) m (q .ofClass)) (e ∙ sym (header-bit g cl (q .isClass) r b (q .below) m (q .ofClass))))
 
     mark-on : (isHead g m′ x && isMarked g m′ x) ≡ (isHead g m x && isMarked g m x)
-    mark-on = standing.mark-same g m m′ k d cl r b p n q a x bit-other
+    mark-on = standing.mark-same g m m′ k d cl r b shape q a x bit-other
 
   -- ---- the machine's functions, changed at the new record
 
@@ -107,7 +109,7 @@ module _ (g : Geometry) (m : Mem) (s : Sizes g m) (c : Ordered g m) (m′ : Mem)
   -- ---- condemned segments
 
   fated-on : (x : ℕ) → eqb (tag m (segmentOf g x)) Tag.condemned ≡ true → (isHead g m′ x && isMarked g m′ x) ≡ upd (λ at. isHead g m at && isMarked g m at) h (black (phase m) (acks m k)) x
-  fated-on x e = standing.mark-same g m m′ k d cl r b p n q a x other-bit ∙ sym (upd-other (λ at. isHead g m at && isMarked g m at) h (black (phase m) (acks m k)) x other)
+  fated-on x e = standing.mark-same g m m′ k d cl r b shape q a x other-bit ∙ sym (upd-other (λ at. isHead g m at && isMarked g m at) h (black (phase m) (acks m k)) x other)
     where
       four : tag m (segmentOf g x) ≡ Tag.condemned
       four = eqb-true (tag m (segmentOf g x)) 4 e
@@ -125,40 +127,40 @@ module _ (g : Geometry) (m : Mem) (s : Sizes g m) (c : Ordered g m) (m′ : Mem)
       other-bit y =
           let u = of-block g m x of in
           let v = blocks-most g (class m (segmentOf g x)) of in
-          away (standing.bit-there g m m′ k d cl r b p n q a (segmentOf g x) (blockOf g m x) (omega arith) y .0)
+          away (standing.bit-there g m m′ k d cl r b shape q a (segmentOf g x) (blockOf g m x) (omega arith) y .0)
 
   -- ---- roots
 
   root-on : (i j : ℕ) → j < rootCount → record? (root m′ i j) ≡ upd2 (λ x y. record? (root m x y)) k d (some h) i j
   root-on i j l = upd2-by (λ x y. record? (root m x y)) k d (some h) i j (record? (root m′ i j))
       (λ e f. ap (λ z. record? (root m′ z j)) e ∙ ap (λ z. record? (root m′ k z)) f ∙ ap record? (a .named))
-      (λ f. ap record? (standing.root-same g m m′ k d cl r b p n q a i j l f))
+      (λ f. ap record? (standing.root-same g m m′ k d cl r b shape q a i j l f))
 
   -- ---- pointers of live records
 
-  pointer-at : (x f : ℕ) → machine.Live after x → f < upd (pointers m) h p x → record? (pointer m′ x f) ≡ upd {A = ℕ → Option ℕ} (λ at f. record? (pointer m at f)) h (λ _. none) x f
+  pointer-at : (x f : ℕ) → machine.Live after x → f < upd (pointerCount m) h (pointerCountOf shape) x → record? (pointer m′ x f) ≡ upd {A = ℕ → Option ℕ} (λ at f. record? (pointer m at f)) h (λ _. none) x f
   pointer-at x f l y = go (old-or-new x l)
     where
       go : (Live m x × (x ≢ h)) ⊎ (x ≡ h) → record? (pointer m′ x f) ≡ upd {A = ℕ → Option ℕ} (λ at f. record? (pointer m at f)) h (λ _. none) x f
-      go (inl z) = ap record? (pointer-on x (z .0) (z .1) f (subst (λ w. f < w) (upd-other (pointers m) h p x (z .1)) y)) ∙ sym (upd-miss₁ (λ at f. record? (pointer m at f)) h (λ _. none) x f (z .1))
+      go (inl z) = ap record? (pointer-on x (z .0) (z .1) f (subst (λ w. f < w) (upd-other (pointerCount m) h (pointerCountOf shape) x (z .1)) y)) ∙ sym (upd-miss₁ (λ at f. record? (pointer m at f)) h (λ _. none) x f (z .1))
       go (inr e) =
           ap (λ z. record? (pointer m′ z f)) e
-          ∙ ap record? (newborn.pointer-there g m c m′ k d cl r b p n q a f (subst (λ w. f < w) (upd-hit (pointers m) h p x e) y))
+          ∙ ap record? (newborn.pointer-there g m c m′ k d cl r b shape q a f (subst (λ w. f < w) (upd-hit (pointerCount m) h (pointerCountOf shape) x e) y))
           ∙ sym (upd-hit₁ (λ at f. record? (pointer m at f)) h (λ _. none) x f e)
 
   pub agree : Agree (segmentOf g) after (view g m′)
   agree = record {
-    phase = standing.phase-same g m m′ k d cl r b p n q a;
-    stack = standing.stack-same g m m′ k d cl r b p n q a;
-    attached = λ i. ap (λ z. not (eqb z 0)) (standing.state-same g m m′ k d cl r b p n q a i);
-    inside = λ i. ap (λ z. eqb z 1) (standing.state-same g m m′ k d cl r b p n q a i);
-    acks = standing.acks-same g m m′ k d cl r b p n q a;
+    phase = standing.phase-same g m m′ k d cl r b shape q a;
+    stack = standing.stack-same g m m′ k d cl r b shape q a;
+    attached = λ i. ap (λ z. not (eqb z 0)) (standing.state-same g m m′ k d cl r b shape q a i);
+    inside = λ i. ap (λ z. eqb z 1) (standing.state-same g m m′ k d cl r b shape q a i);
+    acks = standing.acks-same g m m′ k d cl r b shape q a;
     root = λ i j x l. root-on i j l;
-    marked = λ t. changed (λ at. isHead g m at && isMarked g m at) (λ at. isHead g m′ at && isMarked g m′ at) (black (phase m) (acks m k)) (newborn.mark-there g m c m′ k d cl r b p n q a t) mark-on;
+    marked = λ t. changed (λ at. isHead g m at && isMarked g m at) (λ at. isHead g m′ at && isMarked g m′ at) (black (phase m) (acks m k)) (newborn.mark-there g m c m′ k d cl r b shape q a t) mark-on;
     condemnedMarks = fated-on;
-    condemned = λ y. standing.tag-test g m m′ k d cl r b p n q a 4 y (λ z. omega arith) (λ z. omega arith);
-    pointers = changed (pointers m) (pointers m′) p (newborn.pointers-there g m c m′ k d cl r b p n q a) pointers-on;
-    values = changed (valuesOf m) (valuesOf m′) (replicate n 0) (newborn.fields-there g m c m′ k d cl r b p n q a) fields-on;
+    condemned = λ y. standing.tag-test g m m′ k d cl r b shape q a 4 y (λ z. omega arith) (λ z. omega arith);
+    pointerCount = changed (pointerCount m) (pointerCount m′) (pointerCountOf shape) (newborn.pointers-there g m c m′ k d cl r b shape q a) pointers-on;
+    values = changed (valuesOf m) (valuesOf m′) (replicate (valueCountOf shape) 0) (newborn.fields-there g m c m′ k d cl r b shape q a) fields-on;
     pointer = pointer-at;
-    used = changed (isUsed g m) (isUsed g m′) true (newborn.is-used-there g m c m′ k d cl r b p n q a) (λ x l f. used-on x l f ∙ sym (used-of g m s c x l));
+    used = changed (isUsed g m) (isUsed g m′) true (newborn.is-used-there g m c m′ k d cl r b shape q a) (λ x l f. used-on x l f ∙ sym (used-of g m s c x l));
   }

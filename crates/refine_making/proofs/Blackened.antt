@@ -10,6 +10,7 @@ use Rattle.rules.specs.Pick.{pick}
 use Rattle.words.specs.Bits.{bitAt, setBit}
 use Rattle.words.proofs.Lists.{set-there, set-elsewhere}
 use Rattle.classes.specs.Class.{firstClass}
+use Rattle.classes.specs.declared.RecordShape.{RecordShape}
 use Rattle.layout.specs.declared.Geometry.{Geometry}
 use Rattle.layout.specs.Geometry.{mutatorWords, mostBlocks, bitIn}
 use Rattle.layout.specs.Mem.{Mem, setMutator, setHeap, setRun, Sizes}
@@ -27,12 +28,12 @@ use Rattle.refine_making.proofs.Result.{Moved, StillHeld, NowFull, Resu
 use Rattle.refine_making.proofs.Advanced.{moved}
 use Rattle.refine_making.proofs.Written as words
 
-module _ (g : Geometry) (m : Mem) (k d cl r b p n : ℕ) (q : Request g m k d cl r b p n) (m₁ : Mem) (v : Moved g m m₁ k cl r b) where
+module _ (g : Geometry) (m : Mem) (k d cl r b : ℕ) (shape : RecordShape) (q : Request g m k d cl r b shape) (m₁ : Mem) (v : Moved g m m₁ k cl r b) where
   abbrev h : ℕ
   h = headerOf g r cl b
 
   abbrev m₂ : Mem
-  m₂ = written m₁ h p n
+  m₂ = written m₁ h shape
 
   sizes₂ : Sizes g m₂
   sizes₂ = sizes-heap-run g _ (sizes-heap g m₁ (v .sizes) _ _) _ _
@@ -67,7 +68,7 @@ module _ (g : Geometry) (m : Mem) (k d cl r b p n : ℕ) (q : Request g m k d cl
 
   -- ---- the segment's record
 
-  module _ (m₄ : Mem) (same : m₄ .segments ≡ m₁ .segments) (table : m₄ .mutators ≡ words.rooted g m k d cl r b p n q m₁ v) where
+  module _ (m₄ : Mem) (same : m₄ .segments ≡ m₁ .segments) (table : m₄ .mutators ≡ words.rooted g m k d cl r b shape q m₁ v) where
     record-on : {x t c a o : ℕ} → Recorded m₁ x t c a o → Recorded m₄ x t c a o
     record-on z = recorded-as m₁ m₄ _ _ _ _ _ same z
 
@@ -80,7 +81,7 @@ module _ (g : Geometry) (m : Mem) (k d cl r b p n : ℕ) (q : Request g m k d cl
         go : StillHeld g m m₁ k cl r b ⊎ NowFull g m₁ k cl r → StillHeld g m m₄ k cl r b ⊎ NowFull g m₄ k cl r
         go (inl x) = inl (record {
           recorded = record-on (x .recorded);
-          held = ap (λ (ws : List ℕ). getD ws (k * mutatorWords + heldFrom + (cl - firstClass)) 0) table ∙ words.still-held g m k d cl r b p n q m₁ v ∙ x .held;
+          held = ap (λ (ws : List ℕ). getD ws (k * mutatorWords + heldFrom + (cl - firstClass)) 0) table ∙ words.still-held g m k d cl r b shape q m₁ v ∙ x .held;
           next = x .next;
           after = x .after;
           below = x .below;
@@ -88,14 +89,14 @@ module _ (g : Geometry) (m : Mem) (k d cl r b p n : ℕ) (q : Request g m k d cl
         })
         go (inr x) = inr (record {
           recorded = record-on (x .recorded);
-          held = ap (λ (ws : List ℕ). getD ws (k * mutatorWords + heldFrom + (cl - firstClass)) 0) table ∙ words.still-held g m k d cl r b p n q m₁ v ∙ x .held;
+          held = ap (λ (ws : List ℕ). getD ws (k * mutatorWords + heldFrom + (cl - firstClass)) 0) table ∙ words.still-held g m k d cl r b shape q m₁ v ∙ x .held;
         })
 
   -- ---- all of it
 
   -- with the marks that are left
   ended : (ma : List ℕ) → Sizes g (beside m₂ (m₂ .control) (m₂ .mutators) ma (m₂ .queued) (m₂ .trace) (m₂ .heap)) → ((i : ℕ) → (i ≡ bitIn g r b → ⊥) → bitAt ma i ≡ bitAt (m .marks) i) → (black (phase m) (acks m k) ≡ true → bitAt ma (bitIn g r b) ≡ 1)
-      → (black (phase m) (acks m k) ≡ false → bitAt ma (bitIn g r b) ≡ bitAt (m .marks) (bitIn g r b)) → Result g m (setRoot (beside m₂ (m₂ .control) (m₂ .mutators) ma (m₂ .queued) (m₂ .trace) (m₂ .heap)) k d (suc h)) k d cl r b p n
+      → (black (phase m) (acks m k) ≡ false → bitAt ma (bitIn g r b) ≡ bitAt (m .marks) (bitIn g r b)) → Result g m (setRoot (beside m₂ (m₂ .control) (m₂ .mutators) ma (m₂ .queued) (m₂ .trace) (m₂ .heap)) k d (suc h)) k d cl r b shape
   unfolding setHeap setRun setMutator
   ended ma z o x y = record {
     sizes = sizes-mutator g _ z _ _;
@@ -104,29 +105,29 @@ module _ (g : Geometry) (m : Mem) (k d cl r b p n : ℕ) (q : Request g m k d cl
     bitmaps = v .bitmaps;
     queued = v .queued;
     trace = v .trace;
-    words = words.words-on g m k d cl r b p n q m₁ v;
-    named = words.at-root g m k d cl r b p n q m₁ v;
+    words = words.words-on g m k d cl r b shape q m₁ v;
+    named = words.at-root g m k d cl r b shape q m₁ v;
     others = others-on _ refl refl;
     segment = segment-on _ refl refl;
-    header = words.at-header g m k d cl r b p n q m₁ v;
-    fields = words.at-field g m k d cl r b p n q m₁ v;
-    before = words.at-before g m k d cl r b p n q m₁ v;
-    behind = words.at-behind g m k d cl r b p n q m₁ v;
+    header = words.at-header g m k d cl r b shape q m₁ v;
+    fields = words.at-field g m k d cl r b shape q m₁ v;
+    before = words.at-before g m k d cl r b shape q m₁ v;
+    behind = words.at-behind g m k d cl r b shape q m₁ v;
     marks = o;
     born = x;
     unborn = y;
   }
 
-  finished : (t : Bool) → black (phase m₁) (acks m₁ k) ≡ t → Result g m (setRoot (pick t (setMarked g m₂ h) m₂) k d (suc h)) k d cl r b p n
+  finished : (t : Bool) → black (phase m₁) (acks m₁ k) ≡ t → Result g m (setRoot (pick t (setMarked g m₂ h) m₂) k d (suc h)) k d cl r b shape
   unfolding setHeap setRun setMarked setMutator
-  finished true e = ended _ (sizes-marked g m₂ sizes₂ h) mark-other (λ x. mark-there) (λ x. absurd (true≢false (sym e ∙ words.black-same g m k d cl r b p n q m₁ v ∙ x)))
-  finished false e = ended _ sizes₂ (λ i f. marks₁ i) (λ x. absurd (true≢false (sym x ∙ sym (words.black-same g m k d cl r b p n q m₁ v) ∙ e))) (λ x. marks₁ (bitIn g r b))
+  finished true e = ended _ (sizes-marked g m₂ sizes₂ h) mark-other (λ x. mark-there) (λ x. absurd (true≢false (sym e ∙ words.black-same g m k d cl r b shape q m₁ v ∙ x)))
+  finished false e = ended _ sizes₂ (λ i f. marks₁ i) (λ x. absurd (true≢false (sym x ∙ sym (words.black-same g m k d cl r b shape q m₁ v) ∙ e))) (λ x. marks₁ (bitIn g r b))
 
-  filled : Result g m (setRoot (blackened g m₂ k h) k d (suc h)) k d cl r b p n
+  filled : Result g m (setRoot (blackened g m₂ k h) k d (suc h)) k d cl r b shape
   unfolding setHeap setRun
   filled = finished (black (phase m₁) (acks m₁ k)) refl
 
 -- the memory that is handed out
-pub result : (g : Geometry) (m : Mem) → Sizes g m → (k d cl r b p n : ℕ) → Request g m k d cl r b p n → Result g m (handedOut g m k d cl r b p n) k d cl r b p n
+pub result : (g : Geometry) (m : Mem) → Sizes g m → (k d cl r b : ℕ) (shape : RecordShape) → Request g m k d cl r b shape → Result g m (handedOut g m k d cl r b shape) k d cl r b shape
 unfolding handedOut
-result g m s k d cl r b p n q = filled g m k d cl r b p n q _ (moved g m s k d cl r b p n q)
+result g m s k d cl r b shape q = filled g m k d cl r b shape q _ (moved g m s k d cl r b shape q)

@@ -2,10 +2,11 @@
 -- machine's. Assumes nothing.
 use mathlib.Core.Path.{_≡_}
 use mathlib.Core.Bool.{true}
-use Prim.Native.Nat.{ℕ, suc, _+_, _<_}
+use Prim.Native.Nat.{ℕ, suc, _<_}
 use lib.ListN.{replicate}
-use Rattle.classes.specs.Class.{classOf}
 use Rattle.classes.specs.declared.SizeClass.the-variants.{Class}
+use Rattle.classes.specs.declared.RecordShape.{RecordShape}
+use Rattle.classes.specs.Record.{pointerCountOf, valueCountOf, classOfRecord}
 use Rattle.layout.specs.declared.Geometry.{Geometry}
 use Rattle.layout.specs.Geometry.{mutatorCount, rootCount, segmentOf}
 use Rattle.layout.specs.Mem.{Mem, Sizes}
@@ -38,20 +39,20 @@ pub record HandsOut (g : Geometry) (m m′ : Mem) (r : ℕ) (st : State) : Type 
   pub steady : Steady g m m′
 
 module _ (g : Geometry) (m : Mem) (s : Sizes g m) (c : Ordered g m) where
-  hands-out : (k d cl r b p n : ℕ) → Request g m k d cl r b p n → HandsOut g m (handedOut g m k d cl r b p n) r (make (view g m) k d (headerOf g r cl b) p (replicate n 0))
-  hands-out k d cl r b p n q =
-      let a = result g m s k d cl r b p n q in
+  hands-out : (k d cl r b : ℕ) (shape : RecordShape) → Request g m k d cl r b shape → HandsOut g m (handedOut g m k d cl r b shape) r (make (view g m) k d (headerOf g r cl b) (pointerCountOf shape) (replicate (valueCountOf shape) 0))
+  hands-out k d cl r b shape q =
+      let a = result g m s k d cl r b shape q in
       record {
-        structure = structure g m s c (handedOut g m k d cl r b p n) k d cl r b p n q a;
-        occupied = occupied-ok g m c (handedOut g m k d cl r b p n) k d cl r b p n q a;
-        agree = agree g m s c (handedOut g m k d cl r b p n) k d cl r b p n q a;
-        steady = λ x l e. (standing.tag-back g m (handedOut g m k d cl r b p n) k d cl r b p n q a x e .0, standing.class-same g m (handedOut g m k d cl r b p n) k d cl r b p n q a x);
+        structure = structure g m s c (handedOut g m k d cl r b shape) k d cl r b shape q a;
+        occupied = occupied-ok g m c (handedOut g m k d cl r b shape) k d cl r b shape q a;
+        agree = agree g m s c (handedOut g m k d cl r b shape) k d cl r b shape q a;
+        steady = λ x l e. (standing.tag-back g m (handedOut g m k d cl r b shape) k d cl r b shape q a x e .0, standing.class-same g m (handedOut g m k d cl r b shape) k d cl r b shape q a x);
       }
 
-  pub handed : (k d cl r p n : ℕ) → k < mutatorCount → isAttached m k ≡ true → d < rootCount → classOf (p + n) ≡ Class cl → holding m k cl ≡ suc r
+  pub handed : (k d cl r : ℕ) (shape : RecordShape) → k < mutatorCount → isAttached m k ≡ true → d < rootCount → classOfRecord shape ≡ Class cl → holding m k cl ≡ suc r
       → (b : ℕ) × (free g m r cl (place m r) ≡ Block b)
-      × Permitted (segmentOf g) (headerOf g r cl b) (view g m) (c-make k d p n)
-      × HandsOut g m (handedOut g m k d cl r b p n) r (make (view g m) k d (headerOf g r cl b) p (replicate n 0))
-  handed k d cl r p n few att within sized holds =
-      let f = requested g m c k d cl r p n few att within sized holds in
-      (f .0, f .1, (unused.not-used g m c k d cl r (f .0) p n (f .2), unused.not-collected g m c k d cl r (f .0) p n (f .2)), hands-out k d cl r (f .0) p n (f .2))
+      × Permitted (segmentOf g) (headerOf g r cl b) (view g m) (c-make k d (pointerCountOf shape) (valueCountOf shape))
+      × HandsOut g m (handedOut g m k d cl r b shape) r (make (view g m) k d (headerOf g r cl b) (pointerCountOf shape) (replicate (valueCountOf shape) 0))
+  handed k d cl r shape few att within sized holds =
+      let f = requested g m c k d cl r shape few att within sized holds in
+      (f .0, f .1, (unused.not-used g m c k d cl r (f .0) shape (f .2), unused.not-collected g m c k d cl r (f .0) shape (f .2)), hands-out k d cl r (f .0) shape (f .2))

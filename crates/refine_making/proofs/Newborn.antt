@@ -6,6 +6,8 @@ use native.Mathlib.Omega.{arith}
 use lib.ListN.{replicate}
 use borrow.Author.Tests.{eq-eqb, ne-eqb}
 use Rattle.words.specs.Bits.{bitAt}
+use Rattle.classes.specs.declared.RecordShape.{RecordShape}
+use Rattle.classes.specs.Record.{pointerCountOf, valueCountOf}
 use Rattle.layout.specs.declared.Geometry.{Geometry}
 use Rattle.layout.specs.Geometry.{segmentWords, segmentOf, bitIn}
 use Rattle.layout.specs.Mem.{Mem, heapWord}
@@ -15,13 +17,13 @@ use Rattle.theory.proofs.Invariant.{Tracing}
 use Rattle.model.specs.Fields.{phase, acks, tag, class}
 use Rattle.model.specs.Segments.{usedBit}
 use Rattle.classes.specs.Class.{blockWords}
-use Rattle.model.specs.Records.{pointers, values, pointer, value, marked, blockOf, recordBit, headerOf}
+use Rattle.model.specs.Records.{headerShape, shapeOf, pointerCount, valueCount, pointer, value, marked, blockOf, recordBit, headerOf}
 use Rattle.model.specs.Reaching.{isMarked}
 use Rattle.refine_view.specs.Kept.{Ordered}
 use Rattle.refine_view.specs.View.{valuesOf, isHead, isUsed}
 use Rattle.laws.proofs.Bools.{and-both, ne-not}
-use Rattle.layout.proofs.Sizes.{bytes-are}
-use Rattle.laws.proofs.Blocks.{header-segment, header-block, header-bit, header-class, header-head, block-within}
+use Rattle.laws.proofs.Headers.{shape-written}
+use Rattle.laws.proofs.Blocks.{header-segment, header-block, header-bit, header-class, header-head}
 use Rattle.laws.proofs.Tables.{tab-zeros}
 use Rattle.refine_making.proofs.Request.{Request}
 use Rattle.refine_making.proofs.Result.{Result}
@@ -29,49 +31,49 @@ use Rattle.refine_making.proofs.Standing as standing
 use Rattle.refine_making.proofs.Unused as unused
 use Rattle.model.specs.Tag as Tag
 
-module _ (g : Geometry) (m : Mem) (c : Ordered g m) (m′ : Mem) (k d cl r b p n : ℕ) (q : Request g m k d cl r b p n) (a : Result g m m′ k d cl r b p n) where
+module _ (g : Geometry) (m : Mem) (c : Ordered g m) (m′ : Mem) (k d cl r b : ℕ) (shape : RecordShape) (q : Request g m k d cl r b shape) (a : Result g m m′ k d cl r b shape) where
   abbrev h : ℕ
   h = headerOf g r cl b
 
   -- ---- the new record
 
-  small : n < 65536
-  small = let z = block-within g cl (q .isClass) b (q .below) in let w = q .fits in let y = bytes-are g in let e = y .1 in let f = y .3 in omega arith
+  pub shape-there : shapeOf m′ h ≡ shape
+  shape-there = ap headerShape (a .header) ∙ shape-written shape cl (q .sized)
 
-  pub pointers-there : pointers m′ h ≡ p
-  pointers-there = let e = a .header in let l = small in omega arith
+  pub pointers-there : pointerCount m′ h ≡ pointerCountOf shape
+  pointers-there = ap pointerCountOf shape-there
 
-  pub values-there : values m′ h ≡ n
-  values-there = let e = a .header in let l = small in omega arith
+  values-there : valueCount m′ h ≡ valueCountOf shape
+  values-there = ap valueCountOf shape-there
 
-  pub pointer-there : (f : ℕ) → f < p → pointer m′ h f ≡ 0
+  pub pointer-there : (f : ℕ) → f < pointerCountOf shape → pointer m′ h f ≡ 0
   pointer-there f l = a .fields f (omega arith)
 
-  value-there : (f : ℕ) → f < n → value m′ h f ≡ 0
-  value-there f l = ap (λ z. heapWord m′ (h + 1 + z + f)) pointers-there ∙ (let e : h + 1 + p + f ≡ h + 1 + (p + f) = omega arith in ap (heapWord m′) e) ∙ a .fields (p + f) (omega arith)
+  value-there : (f : ℕ) → f < valueCountOf shape → value m′ h f ≡ 0
+  value-there f l = ap (λ z. heapWord m′ (h + 1 + z + f)) pointers-there ∙ (let e : h + 1 + pointerCountOf shape + f ≡ h + 1 + (pointerCountOf shape + f) = omega arith in ap (heapWord m′) e) ∙ a .fields (pointerCountOf shape + f) (omega arith)
 
-  pub fields-there : valuesOf m′ h ≡ replicate n 0
-  fields-there = ap (λ z. tab z (value m′ h)) values-there ∙ tab-zeros n (value m′ h) value-there
+  pub fields-there : valuesOf m′ h ≡ replicate (valueCountOf shape) 0
+  fields-there = ap (λ z. tab z (value m′ h)) values-there ∙ tab-zeros (valueCountOf shape) (value m′ h) value-there
 
   pub class-at : class m′ (segmentOf g h) ≡ cl
-  class-at = header-class g cl (q .isClass) r b (q .below) m′ (standing.class-there g m m′ k d cl r b p n q a)
+  class-at = header-class g cl (q .isClass) r b (q .below) m′ (standing.class-there g m m′ k d cl r b shape q a)
 
   pub aligned-there : h % segmentWords g % blockWords (class m′ (segmentOf g h)) ≡ 0
-  aligned-there = header-head g cl (q .isClass) r b (q .below) m′ (standing.class-there g m m′ k d cl r b p n q a)
+  aligned-there = header-head g cl (q .isClass) r b (q .below) m′ (standing.class-there g m m′ k d cl r b shape q a)
 
   bit-there : recordBit g m′ h ≡ bitIn g r b
-  bit-there = header-bit g cl (q .isClass) r b (q .below) m′ (standing.class-there g m m′ k d cl r b p n q a)
+  bit-there = header-bit g cl (q .isClass) r b (q .below) m′ (standing.class-there g m m′ k d cl r b shape q a)
 
   pub used-there : usedBit g m′ (segmentOf g h) (blockOf g m′ h) ≡ 1
   used-there =
       ap (λ z. usedBit g m′ z (blockOf g m′ h)) (header-segment g cl (q .isClass) r b (q .below))
-      ∙ ap (usedBit g m′ r) (header-block g cl (q .isClass) r b (q .below) m′ (standing.class-there g m m′ k d cl r b p n q a))
-      ∙ standing.used-there g m m′ k d cl r b p n q a
+      ∙ ap (usedBit g m′ r) (header-block g cl (q .isClass) r b (q .below) m′ (standing.class-there g m m′ k d cl r b shape q a))
+      ∙ standing.used-there g m m′ k d cl r b shape q a
 
   pub tag-at : tag m′ (segmentOf g h) ≡ Tag.free → ⊥
   tag-at e =
       let z : tag m′ (segmentOf g h) ≡ tag m′ r = ap (tag m′) (header-segment g cl (q .isClass) r b (q .below)) in
-      let l = standing.tag-there g m m′ k d cl r b p n q a .0 in
+      let l = standing.tag-there g m m′ k d cl r b shape q a .0 in
       omega arith
 
   pub is-used-there : isUsed g m′ h ≡ true
@@ -83,5 +85,5 @@ module _ (g : Geometry) (m : Mem) (c : Ordered g m) (m′ : Mem) (k d cl r b p n
       go : (x : Bool) → black (phase m) (acks m k) ≡ x → isMarked g m′ h ≡ x
       go true e = eq-eqb (marked g m′ h) 1 (ap (bitAt (m′ .marks)) bit-there ∙ a .born e)
       go false e =
-          let z : marked g m′ h ≡ 0 = ap (bitAt (m′ .marks)) bit-there ∙ a .unborn e ∙ unused.not-marked g m c k d cl r b p n q t in
+          let z : marked g m′ h ≡ 0 = ap (bitAt (m′ .marks)) bit-there ∙ a .unborn e ∙ unused.not-marked g m c k d cl r b shape q t in
           ne-eqb (marked g m′ h) 1 (λ y. omega arith)

@@ -4,9 +4,11 @@ use mathlib.Core.Bool.{true}
 use Prim.Native.Nat.{ℕ, suc, _+_, _-_, _≤_, _<_}
 use native.Mathlib.Omega.{arith}
 use Rattle.words.specs.Bits.{bitAt}
-use Rattle.classes.specs.Class.{classOf, IsClass, blockWords}
+use Rattle.classes.specs.Class.{IsClass, blockWords}
 use Rattle.classes.specs.declared.SizeClass.the-variants.{Class}
 use Rattle.classes.proofs.Smallest.{class-found, class-holds}
+use Rattle.classes.specs.declared.RecordShape.{RecordShape}
+use Rattle.classes.specs.Record.{fieldCountOf, classOfRecord}
 use Rattle.layout.specs.declared.Geometry.{Geometry}
 use Rattle.layout.specs.Geometry.{mutatorCount, rootCount, blocksIn}
 use Rattle.layout.specs.Mem.{Mem}
@@ -20,14 +22,14 @@ use Rattle.refine_view.specs.Kept.{Ordered}
 use Rattle.laws.proofs.Bools.{not-eq}
 use Rattle.model.specs.Tag as Tag
 
--- mutator k makes a record of p pointers and n values into its root d, out of block b of its segment r of class cl
-pub record Request (g : Geometry) (m : Mem) (k d cl r b p n : ℕ) : Type 0 where
+-- mutator k makes a record of a shape into its root d, out of block b of its segment r of class cl
+pub record Request (g : Geometry) (m : Mem) (k d cl r b : ℕ) (shape : RecordShape) : Type 0 where
   pub few : k < mutatorCount
   pub attached : state m k ≡ absent → ⊥
   pub within : d < rootCount
-  pub sized : classOf (p + n) ≡ Class cl
+  pub sized : classOfRecord shape ≡ Class cl
   pub isClass : IsClass cl
-  pub fits : 1 + (p + n) ≤ blockWords cl
+  pub fits : 1 + fieldCountOf shape ≤ blockWords cl
   pub inside : r < g .segments
   pub isHeld : tag m r ≡ Tag.held
   pub ofClass : class m r ≡ cl
@@ -43,21 +45,21 @@ found bit n p (Block b) h i l k z = (b, refl, h .0, h .1, h .2)
 found bit n p Nothing h i l k z = absurd (h i l k z)
 found bit n p Torn h i l k z = absurd h
 
-module _ (g : Geometry) (m : Mem) (c : Ordered g m) (k d cl r p n : ℕ) (few : k < mutatorCount) (att : isAttached m k ≡ true) (within : d < rootCount) (sized : classOf (p + n) ≡ Class cl) (holds : holding m k cl ≡ suc r) where
+module _ (g : Geometry) (m : Mem) (c : Ordered g m) (k d cl r : ℕ) (shape : RecordShape) (few : k < mutatorCount) (att : isAttached m k ≡ true) (within : d < rootCount) (sized : classOfRecord shape ≡ Class cl) (holds : holding m k cl ≡ suc r) where
   is-class : IsClass cl
-  is-class = class-found (p + n) cl sized
+  is-class = class-found (fieldCountOf shape) cl sized
 
-  fit : 1 + (p + n) ≤ blockWords cl
-  fit = let l = class-holds (p + n) cl sized in omega arith
+  fit : 1 + fieldCountOf shape ≤ blockWords cl
+  fit = let l = class-holds (fieldCountOf shape) cl sized in omega arith
 
   -- a held segment has a free block at or after its place
-  pub requested : (b : ℕ) × (free g m r cl (place m r) ≡ Block b) × Request g m k d cl r b p n
+  pub requested : (b : ℕ) × (free g m r cl (place m r) ≡ Block b) × Request g m k d cl r b shape
   requested = go (c .mutators k few .holds cl r is-class holds)
     where
-      go : (r < g .segments) × (tag m r ≡ Tag.held) × (class m r ≡ cl) × (owner m r ≡ k) → (b : ℕ) × (free g m r cl (place m r) ≡ Block b) × Request g m k d cl r b p n
+      go : (r < g .segments) × (tag m r ≡ Tag.held) × (class m r ≡ cl) × (owner m r ≡ k) → (b : ℕ) × (free g m r cl (place m r) ≡ Block b) × Request g m k d cl r b shape
       go h = on (c .segments r (h .0) .remains (let e = h .1 in omega arith) (let e = h .1 in omega arith))
         where
-          on : (b : ℕ) × (place m r ≤ b) × (b < blocksIn g (class m r)) × (bitAt (bitmap g m r) b ≡ 0) → (b : ℕ) × (free g m r cl (place m r) ≡ Block b) × Request g m k d cl r b p n
+          on : (b : ℕ) × (place m r ≤ b) × (b < blocksIn g (class m r)) × (bitAt (bitmap g m r) b ≡ 0) → (b : ℕ) × (free g m r cl (place m r) ≡ Block b) × Request g m k d cl r b shape
           on i =
               let f = found (bitAt (bitmap g m r)) (blocksIn g cl) (place m r) (free g m r cl (place m r)) (next-is (bitAt (bitmap g m r)) (blocksIn g cl) (place m r)) (i .0) (i .1) (subst (λ z. i .0 < blocksIn g z) (h .2) (i .2)) (i .3) in (
                 f .0,

@@ -5,13 +5,15 @@ use mathlib.Core.Logic.{_⊎_}
 use Prim.Native.Nat.{ℕ, suc, _+_, _-_, _*_, _≤_, _<_}
 use Rattle.words.specs.Bits.{bitAt}
 use Rattle.classes.specs.Class.{firstClass}
+use Rattle.classes.specs.declared.RecordShape.{RecordShape}
+use Rattle.classes.specs.Record.{fieldCountOf}
 use Rattle.layout.specs.declared.Geometry.{Geometry}
 use Rattle.layout.specs.Geometry.{mutatorWords, blocksIn, bitIn}
 use Rattle.layout.specs.Mem.{Mem, mutatorWord, heapWord, Sizes}
 use Rattle.theory.specs.Phases.{black}
 use Rattle.model.specs.Fields.{phase, heldFrom, acks, root, holding, tag, class, place, owner}
 use Rattle.model.specs.Segments.{bitmap}
-use Rattle.model.specs.Records.{headerOf}
+use Rattle.model.specs.Records.{headerOf, headerWord}
 use Rattle.laws.proofs.Words.{Recorded}
 
 -- the segment is still held, with a free block at or after its place
@@ -42,8 +44,8 @@ pub record Moved (g : Geometry) (m m′ : Mem) (k cl r b : ℕ) : Type 0 where
   pub others : (x : ℕ) → (x ≡ r → ⊥) → Recorded m′ x (tag m x) (class m x) (place m x) (owner m x)
   pub segment : StillHeld g m m′ k cl r b ⊎ NowFull g m′ k cl r
 
--- a record of p pointers and n values in block b of segment r, in root d of mutator k
-pub record Result (g : Geometry) (m m′ : Mem) (k d cl r b p n : ℕ) : Type 0 where
+-- a record of a shape in block b of segment r, in root d of mutator k
+pub record Result (g : Geometry) (m m′ : Mem) (k d cl r b : ℕ) (shape : RecordShape) : Type 0 where
   pub sizes : Sizes g m′
   pub control : m′ .control ≡ m .control
   pub stacks : m′ .stacks ≡ m .stacks
@@ -54,10 +56,10 @@ pub record Result (g : Geometry) (m m′ : Mem) (k d cl r b p n : ℕ) : Type 0 
   pub named : root m′ k d ≡ suc (headerOf g r cl b)
   pub others : (x : ℕ) → (x ≡ r → ⊥) → Recorded m′ x (tag m x) (class m x) (place m x) (owner m x)
   pub segment : StillHeld g m m′ k cl r b ⊎ NowFull g m′ k cl r
-  pub header : heapWord m′ (headerOf g r cl b) ≡ p * 65536 + n
-  pub fields : (i : ℕ) → i < p + n → heapWord m′ (headerOf g r cl b + 1 + i) ≡ 0
+  pub header : heapWord m′ (headerOf g r cl b) ≡ headerWord shape
+  pub fields : (i : ℕ) → i < fieldCountOf shape → heapWord m′ (headerOf g r cl b + 1 + i) ≡ 0
   pub before : (i : ℕ) → i < headerOf g r cl b → heapWord m′ i ≡ heapWord m i
-  pub behind : (i : ℕ) → headerOf g r cl b + (p + n) < i → heapWord m′ i ≡ heapWord m i
+  pub behind : (i : ℕ) → headerOf g r cl b + fieldCountOf shape < i → heapWord m′ i ≡ heapWord m i
   pub marks : (i : ℕ) → (i ≡ bitIn g r b → ⊥) → bitAt (m′ .marks) i ≡ bitAt (m .marks) i
   pub born : black (phase m) (acks m k) ≡ true → bitAt (m′ .marks) (bitIn g r b) ≡ 1
   pub unborn : black (phase m) (acks m k) ≡ false → bitAt (m′ .marks) (bitIn g r b) ≡ bitAt (m .marks) (bitIn g r b)

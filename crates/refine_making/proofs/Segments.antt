@@ -6,6 +6,7 @@ use Prim.Native.Nat.{ℕ, suc, _-_, _≤_, _<_}
 use native.Mathlib.Omega.{arith}
 use Rattle.rules.proofs.Order.{same-or-not}
 use Rattle.words.specs.Bits.{bitAt}
+use Rattle.classes.specs.declared.RecordShape.{RecordShape}
 use Rattle.layout.specs.declared.Geometry.{Geometry}
 use Rattle.layout.specs.Geometry.{mutatorCount, blocksIn}
 use Rattle.layout.specs.Mem.{Mem}
@@ -19,7 +20,7 @@ use Rattle.refine_making.proofs.Result.{StillHeld, NowFull, Result}
 use Rattle.refine_making.proofs.Standing as standing
 use Rattle.model.specs.Tag as Tag
 
-module _ (g : Geometry) (m : Mem) (c : Ordered g m) (m′ : Mem) (k d cl r b p n : ℕ) (q : Request g m k d cl r b p n) (a : Result g m m′ k d cl r b p n) where
+module _ (g : Geometry) (m : Mem) (c : Ordered g m) (m′ : Mem) (k d cl r b : ℕ) (shape : RecordShape) (q : Request g m k d cl r b shape) (a : Result g m m′ k d cl r b shape) where
   -- ---- another segment
 
   module _ (x : ℕ) (l : x < g .segments) (f : x ≡ r → ⊥) where
@@ -27,7 +28,7 @@ module _ (g : Geometry) (m : Mem) (c : Ordered g m) (m′ : Mem) (k d cl r b p n
     ok = c .segments x l
 
     held-on : tag m x ≡ Tag.held → holding m′ (owner m x) (class m x) ≡ suc x
-    held-on e = standing.holding-same g m m′ k d cl r b p n q a (owner m x) (class m x) (ok .classes (λ z. omega arith)) other ∙ ok .held e .2
+    held-on e = standing.holding-same g m m′ k d cl r b shape q a (owner m x) (class m x) (ok .classes (λ z. omega arith)) other ∙ ok .held e .2
       where
         other : owner m x ≡ k → class m x ≡ cl → ⊥
         other y z =
@@ -36,12 +37,12 @@ module _ (g : Geometry) (m : Mem) (c : Ordered g m) (m′ : Mem) (k d cl r b p n
             f (omega arith)
 
     other-ok : SegmentOk g m′ x
-    other-ok = segment-same g m m′ x ok (a .others x f) (standing.bitmap-same g m m′ k d cl r b p n q a x) (λ e. (λ y. ok .held e .1 (sym (standing.state-same g m m′ k d cl r b p n q a (owner m x)) ∙ y), held-on e))
+    other-ok = segment-same g m m′ x ok (a .others x f) (standing.bitmap-same g m m′ k d cl r b shape q a x) (λ e. (λ y. ok .held e .1 (sym (standing.state-same g m m′ k d cl r b shape q a (owner m x)) ∙ y), held-on e))
 
   -- ---- the segment of the block
 
   class-there : IsClass (class m′ r)
-  class-there = subst IsClass (sym (standing.class-there g m m′ k d cl r b p n q a)) (q .isClass)
+  class-there = subst IsClass (sym (standing.class-there g m m′ k d cl r b shape q a)) (q .isClass)
 
   same-segment : StillHeld g m m′ k cl r b ⊎ NowFull g m′ k cl r → SegmentOk g m′ r
   same-segment (inl x) =
@@ -52,12 +53,12 @@ module _ (g : Geometry) (m : Mem) (c : Ordered g m) (m′ : Mem) (k d cl r b p n
         free = λ e. absurd (omega arith);
         unowned = λ h. absurd (h t);
         classes = λ h. class-there;
-        remains = λ u v. (x .next, subst (λ z. z ≤ x .next) (sym (o .place)) (x .after), subst (λ z. x .next < blocksIn g z) (sym (o .class)) (x .below), ap (λ (ws : List ℕ). bitAt ws (x .next)) (standing.bitmap-same g m m′ k d cl r b p n q a r) ∙ x .unused);
+        remains = λ u v. (x .next, subst (λ z. z ≤ x .next) (sym (o .place)) (x .after), subst (λ z. x .next < blocksIn g z) (sym (o .class)) (x .below), ap (λ (ws : List ℕ). bitAt ws (x .next)) (standing.bitmap-same g m m′ k d cl r b shape q a r) ∙ x .unused);
         full = λ u. absurd (omega arith);
         condemned = λ u. absurd (omega arith);
         held = λ e. (
           subst (λ w. w < mutatorCount) (sym (o .owner)) (q .few),
-          λ y. q .attached (sym (standing.state-same g m m′ k d cl r b p n q a k) ∙ ap (state m′) (sym (o .owner)) ∙ y),
+          λ y. q .attached (sym (standing.state-same g m m′ k d cl r b shape q a k) ∙ ap (state m′) (sym (o .owner)) ∙ y),
           ap (λ w. holding m′ w (class m′ r)) (o .owner) ∙ ap (holding m′ k) (o .class) ∙ x .held,
         );
       }
@@ -79,11 +80,11 @@ module _ (g : Geometry) (m : Mem) (c : Ordered g m) (m′ : Mem) (k d cl r b p n
   segments-ok x l = ⊎-elim (λ e. subst (SegmentOk g m′) (sym e) (same-segment (a .segment))) (other-ok x l) (same-or-not x r)
 
   pub trees-ok : (x : ℕ) → x < g .segments → TreeOk g m′ x
-  trees-ok x l = tree-same g m m′ x (c .trees x l) (λ e. a .others x (λ f. let y : tag m r ≡ Tag.free = ap (tag m) (sym f) ∙ e in let z = q .isHeld in omega arith) .tag ∙ e) (standing.class-same g m m′ k d cl r b p n q a x) (standing.bitmap-same g m m′ k d cl r b p n q a x)
+  trees-ok x l = tree-same g m m′ x (c .trees x l) (λ e. a .others x (λ f. let y : tag m r ≡ Tag.free = ap (tag m) (sym f) ∙ e in let z = q .isHeld in omega arith) .tag ∙ e) (standing.class-same g m m′ k d cl r b shape q a x) (standing.bitmap-same g m m′ k d cl r b shape q a x)
 
   -- the block handed out is in use, and the other segments are as they were
   pub occupied-ok : ((x : ℕ) → x < g .segments → (x ≡ r → ⊥) → Occupied g m x) → EachOccupied g m′
-  occupied-ok u x l = ⊎-elim (λ e. subst (Occupied g m′) (sym e) there) (λ f. occupied-by g m m′ x (u x l f) (a .others x f) (standing.bitmap-same g m m′ k d cl r b p n q a x)) (same-or-not x r)
+  occupied-ok u x l = ⊎-elim (λ e. subst (Occupied g m′) (sym e) there) (λ f. occupied-by g m m′ x (u x l f) (a .others x f) (standing.bitmap-same g m m′ k d cl r b shape q a x)) (same-or-not x r)
     where
       there : Occupied g m′ r
-      there _ _ = (b, subst (λ z. b < blocksIn g z) (sym (standing.class-there g m m′ k d cl r b p n q a)) (q .below), standing.used-there g m m′ k d cl r b p n q a)
+      there _ _ = (b, subst (λ z. b < blocksIn g z) (sym (standing.class-there g m m′ k d cl r b shape q a)) (q .below), standing.used-there g m m′ k d cl r b shape q a)

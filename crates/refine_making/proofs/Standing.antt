@@ -12,6 +12,7 @@ use Rattle.rules.specs.Pick.{pick}
 use Rattle.rules.proofs.Order.{same-or-not}
 use Rattle.words.specs.Bits.{bitAt}
 use Rattle.classes.specs.Class.{firstClass, IsClass, blockWords}
+use Rattle.classes.specs.declared.RecordShape.{RecordShape}
 use Rattle.layout.specs.declared.Geometry.{Geometry}
 use Rattle.layout.specs.Geometry.{rootCount, segmentWords, mostBlocks, segmentOf, bitIn}
 use Rattle.layout.specs.Mem.{Mem, controlWord, traceWord}
@@ -31,7 +32,7 @@ use Rattle.refine_making.proofs.Result.{StillHeld, NowFull, Result}
 use Rattle.layout.proofs.Sizes.{one-way}
 use Rattle.model.specs.Tag as Tag
 
-module _ (g : Geometry) (m m′ : Mem) (k d cl r b p n : ℕ) (q : Request g m k d cl r b p n) (a : Result g m m′ k d cl r b p n) where
+module _ (g : Geometry) (m m′ : Mem) (k d cl r b : ℕ) (shape : RecordShape) (q : Request g m k d cl r b shape) (a : Result g m m′ k d cl r b shape) where
   -- ---- control and the trace stack
 
   pub phase-same : phase m′ ≡ phase m

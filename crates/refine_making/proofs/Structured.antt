@@ -1,12 +1,14 @@
 -- The words that a make leaves are in order: mutators, stacks, records, trace stack and marks. Assumes nothing.
 use mathlib.Core.Path.{_≡_, sym, _∙_, ap, subst}
 use mathlib.Core.Logic.{_⊎_, inl, inr, _≢_}
-use Prim.Native.Nat.{ℕ, suc, _+_, _-_, _≤_, _<_}
+use Prim.Native.Nat.{ℕ, suc, _-_, _≤_, _<_}
 use native.Mathlib.Omega.{arith}
 use Rattle.rules.proofs.Order.{same-or-not}
 use Rattle.words.specs.Bits.{bitAt}
-use Rattle.classes.specs.Class.{classOf, IsClass}
+use Rattle.classes.specs.Class.{IsClass}
 use Rattle.classes.specs.declared.SizeClass.the-variants.{Class}
+use Rattle.classes.specs.declared.RecordShape.{RecordShape}
+use Rattle.classes.specs.Record.{classOfRecord}
 use Rattle.layout.specs.declared.Geometry.{Geometry}
 use Rattle.layout.specs.Geometry.{mutatorCount, blocksIn, segmentOf, bitIn}
 use Rattle.layout.specs.Mem.{Mem, Sizes}
@@ -14,7 +16,7 @@ use Rattle.theory.specs.Phases.{sync1, black}
 use Rattle.theory.proofs.Agree.{live-back}
 use Rattle.model.specs.Fields.{phase, state, acks, holding, tag, class, owner}
 use Rattle.model.specs.Segments.{freeStack, partStack}
-use Rattle.model.specs.Records.{values, blockOf, headerOf}
+use Rattle.model.specs.Records.{blockOf, headerOf}
 use Rattle.model.specs.Reaching.{Live}
 use Rattle.model.specs.Consistent.{MutatorOk, StackOk, isFree, isPart, RecordOk, BlockInUse, MarksOf}
 use Rattle.refine_view.specs.View.{view}
@@ -34,7 +36,7 @@ use Rattle.refine_making.proofs.Standing as standing
 use Rattle.refine_making.proofs.Newborn as newborn
 use Rattle.model.specs.Tag as Tag
 
-module _ (g : Geometry) (m : Mem) (s : Sizes g m) (c : Ordered g m) (m′ : Mem) (k d cl r b p n : ℕ) (q : Request g m k d cl r b p n) (a : Result g m m′ k d cl r b p n) where
+module _ (g : Geometry) (m : Mem) (s : Sizes g m) (c : Ordered g m) (m′ : Mem) (k d cl r b : ℕ) (shape : RecordShape) (q : Request g m k d cl r b shape) (a : Result g m m′ k d cl r b shape) where
   abbrev h : ℕ
   h = headerOf g r cl b
 
@@ -49,36 +51,36 @@ module _ (g : Geometry) (m : Mem) (s : Sizes g m) (c : Ordered g m) (m′ : Mem)
   new y e (inr w) = let t = w .held in absurd (omega arith)
 
   mutators-ok : (j : ℕ) → j < mutatorCount → MutatorOk g m′ j
-  mutators-ok = mutators-table g m m′ (c .mutators) k cl (standing.state-same g m m′ k d cl r b p n q a) (standing.acks-same g m m′ k d cl r b p n q a)
+  mutators-ok = mutators-table g m m′ (c .mutators) k cl (standing.state-same g m m′ k d cl r b shape q a) (standing.acks-same g m m′ k d cl r b shape q a)
       (λ j z i w. let away : j ≡ k → ⊥ = λ u. q .attached (ap (state m) (sym u) ∙ z) in a .words j i (omega arith) (λ u v. away u) (λ u v. away u))
-      (standing.holding-same g m m′ k d cl r b p n q a)
+      (standing.holding-same g m m′ k d cl r b shape q a)
       (λ j x y f t u v. a .others y (λ w. f (sym v ∙ ap (owner m) w ∙ q .ofMutator) (sym u ∙ ap (class m) w ∙ q .ofClass)))
       (λ y e. new y e (a .segment))
 
   -- ---- stacks of segments
 
   free-ok : StackOk g m′ freeStack (isFree m′)
-  free-ok = stack-by g m m′ freeStack (isFree m) (isFree m′) (a .stacks) (c .freeSegments) (λ x l. standing.tag-test g m m′ k d cl r b p n q a 0 x (λ z. omega arith) (λ z. omega arith))
+  free-ok = stack-by g m m′ freeStack (isFree m) (isFree m′) (a .stacks) (c .freeSegments) (λ x l. standing.tag-test g m m′ k d cl r b shape q a 0 x (λ z. omega arith) (λ z. omega arith))
 
   part-ok : (x : ℕ) → IsClass x → StackOk g m′ (partStack x) (isPart m′ x)
-  part-ok x i = stack-by g m m′ (partStack x) (isPart m x) (isPart m′ x) (a .stacks) (c .partSegments x i) (λ y l. part-same m m′ x y (standing.tag-test g m m′ k d cl r b p n q a 1 y (λ z. omega arith) (λ z. omega arith)) (standing.class-same g m m′ k d cl r b p n q a y))
+  part-ok x i = stack-by g m m′ (partStack x) (isPart m x) (isPart m′ x) (a .stacks) (c .partSegments x i) (λ y l. part-same m m′ x y (standing.tag-test g m m′ k d cl r b shape q a 1 y (λ z. omega arith) (λ z. omega arith)) (standing.class-same g m m′ k d cl r b shape q a y))
 
   -- ---- records
 
   old-record : (x : ℕ) → Live m x → x ≢ h → RecordOk g m′ x
-  old-record x l f = let o = c .records x l in record-by g m m′ x (standing.class-same g m m′ k d cl r b p n q a (segmentOf g x)) o (standing.tag-used g m m′ k d cl r b p n q a (segmentOf g x) (o .used)) (standing.used-on g m m′ k d cl r b p n q a (segmentOf g x) (blockOf g m x) (o .block)) (header-on g m s c m′ k d cl r b p n q a x l f)
+  old-record x l f = let o = c .records x l in record-by g m m′ x (standing.class-same g m m′ k d cl r b shape q a (segmentOf g x)) o (standing.tag-used g m m′ k d cl r b shape q a (segmentOf g x) (o .used)) (standing.used-on g m m′ k d cl r b shape q a (segmentOf g x) (blockOf g m x) (o .block)) (header-on g m s c m′ k d cl r b shape q a x l f)
 
   new-record : RecordOk g m′ h
   new-record = record {
     inside = let z = header-inside g cl (q .isClass) r b (q .below) (q .inside) in let w = q .fits in omega arith;
-    used = newborn.tag-at g m c m′ k d cl r b p n q a;
-    aligned = newborn.aligned-there g m c m′ k d cl r b p n q a;
-    block = newborn.used-there g m c m′ k d cl r b p n q a;
-    sized = ap (λ z. classOf (z + values m′ h)) (newborn.pointers-there g m c m′ k d cl r b p n q a) ∙ ap (λ z. classOf (p + z)) (newborn.values-there g m c m′ k d cl r b p n q a) ∙ q .sized ∙ ap Class (sym (newborn.class-at g m c m′ k d cl r b p n q a));
+    used = newborn.tag-at g m c m′ k d cl r b shape q a;
+    aligned = newborn.aligned-there g m c m′ k d cl r b shape q a;
+    block = newborn.used-there g m c m′ k d cl r b shape q a;
+    sized = ap classOfRecord (newborn.shape-there g m c m′ k d cl r b shape q a) ∙ q .sized ∙ ap Class (sym (newborn.class-at g m c m′ k d cl r b shape q a));
   }
 
   records-ok : (x : ℕ) → Live m′ x → RecordOk g m′ x
-  records-ok x l = go (old-or-new g m s c m′ k d cl r b p n q a x (live-back (segmentOf g) (after g m s c m′ k d cl r b p n q a) (view g m′) (agree g m s c m′ k d cl r b p n q a) (live-on g m′ l)))
+  records-ok x l = go (old-or-new g m s c m′ k d cl r b shape q a x (live-back (segmentOf g) (after g m s c m′ k d cl r b shape q a) (view g m′) (agree g m s c m′ k d cl r b shape q a) (live-on g m′ l)))
     where
       go : (Live m x × (x ≢ h)) ⊎ (x ≡ h) → RecordOk g m′ x
       go (inl y) = old-record x (y .0) (y .1)
@@ -87,18 +89,18 @@ module _ (g : Geometry) (m : Mem) (s : Sizes g m) (c : Ordered g m) (m′ : Mem)
   -- ---- the trace stack
 
   trace-ok : QueuedOk g m′
-  trace-ok = queued-by g m m′ (structure-of g m c .trace) (standing.count-same g m m′ k d cl r b p n q a) (standing.trace-same g m m′ k d cl r b p n q a) (a .queued) (λ x e. standing.bit-same g m m′ k d cl r b p n q a x)
+  trace-ok = queued-by g m m′ (structure-of g m c .trace) (standing.count-same g m m′ k d cl r b shape q a) (standing.trace-same g m m′ k d cl r b shape q a) (a .queued) (λ x e. standing.bit-same g m m′ k d cl r b shape q a x)
 
   -- ---- marks
 
   use-on : (x i : ℕ) → BlockInUse g m x i → BlockInUse g m′ x i
-  use-on x i u = use-by g m m′ x i u (standing.class-same g m m′ k d cl r b p n q a x) (standing.tag-used g m m′ k d cl r b p n q a x (u .used)) (standing.used-on g m m′ k d cl r b p n q a x i (u .block))
+  use-on x i u = use-by g m m′ x i u (standing.class-same g m m′ k d cl r b shape q a x) (standing.tag-used g m m′ k d cl r b shape q a x (u .used)) (standing.used-on g m m′ k d cl r b shape q a x i (u .block))
 
   use-new : BlockInUse g m′ r b
   use-new = record {
-    used = λ e. let z = standing.tag-there g m m′ k d cl r b p n q a .0 in omega arith;
-    within = subst (λ z. b < blocksIn g z) (sym (standing.class-there g m m′ k d cl r b p n q a)) (q .below);
-    block = standing.used-there g m m′ k d cl r b p n q a;
+    used = λ e. let z = standing.tag-there g m m′ k d cl r b shape q a .0 in omega arith;
+    within = subst (λ z. b < blocksIn g z) (sym (standing.class-there g m m′ k d cl r b shape q a)) (q .below);
+    block = standing.used-there g m m′ k d cl r b shape q a;
   }
 
   marks-of : (test : ℕ → Type 0) → MarksOf g m test → MarksOf g m′ test
@@ -106,7 +108,7 @@ module _ (g : Geometry) (m : Mem) (s : Sizes g m) (c : Ordered g m) (m′ : Mem)
     where
       go : (bitIn g x i ≡ bitIn g r b) ⊎ (bitIn g x i ≡ bitIn g r b → ⊥) → BlockInUse g m′ x i
       go (inl z) =
-          let w = standing.bit-there g m m′ k d cl r b p n q a x i y z in
+          let w = standing.bit-there g m m′ k d cl r b shape q a x i y z in
           subst (λ u. BlockInUse g m′ u i) (sym (w .0)) (subst (BlockInUse g m′ r) (sym (w .1)) use-new)
       go (inr z) = use-on x i (o x i l t y (sym (a .marks (bitIn g x i) z) ∙ e))
 
@@ -120,13 +122,13 @@ module _ (g : Geometry) (m : Mem) (s : Sizes g m) (c : Ordered g m) (m′ : Mem)
 
   pub structure : Structure g m′
   structure = record {
-    phases = subst (λ z. z ≤ 4) (sym (standing.phase-word g m m′ k d cl r b p n q a)) (c .phases);
-    segments = segments-ok g m c m′ k d cl r b p n q a;
-    trees = trees-ok g m c m′ k d cl r b p n q a;
+    phases = subst (λ z. z ≤ 4) (sym (standing.phase-word g m m′ k d cl r b shape q a)) (c .phases);
+    segments = segments-ok g m c m′ k d cl r b shape q a;
+    trees = trees-ok g m c m′ k d cl r b shape q a;
     mutators = mutators-ok;
     freeSegments = free-ok;
     partSegments = part-ok;
     records = records-ok;
     trace = trace-ok;
-    marks = subst (λ ph. MarksIn ph g m′) (sym (standing.phase-same g m m′ k d cl r b p n q a)) (marks-by g m m′ (λ x t. standing.tag-back g m m′ k d cl r b p n q a x t .0) marks-of (phase m) blank (structure-of g m c .marks));
+    marks = subst (λ ph. MarksIn ph g m′) (sym (standing.phase-same g m m′ k d cl r b shape q a)) (marks-by g m m′ (λ x t. standing.tag-back g m m′ k d cl r b shape q a x t .0) marks-of (phase m) blank (structure-of g m c .marks));
   }

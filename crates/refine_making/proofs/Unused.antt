@@ -10,6 +10,7 @@ use Rattle.rules.proofs.Order.{same-or-not}
 use Rattle.words.specs.Bits.{bitAt}
 use Rattle.words.proofs.Word.{one-of-not-zero}
 use Rattle.words.proofs.Lists.{at-lt}
+use Rattle.classes.specs.declared.RecordShape.{RecordShape}
 use Rattle.layout.specs.Geometry.{mostBlocks, segmentOf, bitIn}
 use Rattle.layout.specs.declared.Geometry.{Geometry}
 use Rattle.layout.specs.Mem.{Mem}
@@ -28,7 +29,7 @@ use Rattle.refine_making.proofs.Request.{Request}
 use Rattle.layout.proofs.Sizes.{within}
 use Rattle.model.specs.Tag as Tag
 
-module _ (g : Geometry) (m : Mem) (c : Ordered g m) (k d cl r b p n : ℕ) (q : Request g m k d cl r b p n) where
+module _ (g : Geometry) (m : Mem) (c : Ordered g m) (k d cl r b : ℕ) (shape : RecordShape) (q : Request g m k d cl r b shape) where
   abbrev h : ℕ
   h = headerOf g r cl b
 

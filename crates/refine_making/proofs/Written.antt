@@ -7,50 +7,52 @@ use native.Mathlib.Omega.{arith}
 use lib.ListN.{length, set, getD, replicate, length-set, length-replicate, getD-replicate}
 use lib.Seq.{getD-set-same, getD-set-other}
 use Rattle.classes.specs.Class.{firstClass}
+use Rattle.classes.specs.declared.RecordShape.{RecordShape}
+use Rattle.classes.specs.Record.{fieldCountOf}
 use Rattle.layout.specs.declared.Geometry.{Geometry}
 use Rattle.layout.specs.Geometry.{mutatorWords}
 use Rattle.layout.specs.Mem.{Mem, mutatorWord, heapWord, spliced}
 use Rattle.theory.specs.Phases.{black}
 use Rattle.model.specs.Fields.{phase, acksAt, heldFrom, acks, holding}
-use Rattle.model.specs.Records.{headerOf, written}
+use Rattle.model.specs.Records.{headerOf, written, headerWord}
 use Rattle.model.specs.Rules.{phaseOf}
 use Rattle.laws.proofs.Windows.{spliced-in, spliced-out}
 use Rattle.laws.proofs.Blocks.{header-inside}
 use Rattle.refine_making.proofs.Request.{Request}
 use Rattle.refine_making.proofs.Result.{Moved}
 
-module _ (g : Geometry) (m : Mem) (k d cl r b p n : ℕ) (q : Request g m k d cl r b p n) (m₁ : Mem) (v : Moved g m m₁ k cl r b) where
+module _ (g : Geometry) (m : Mem) (k d cl r b : ℕ) (shape : RecordShape) (q : Request g m k d cl r b shape) (m₁ : Mem) (v : Moved g m m₁ k cl r b) where
   abbrev pub h : ℕ
   h = headerOf g r cl b
 
   abbrev pub m₂ : Mem
-  m₂ = written m₁ h p n
+  m₂ = written m₁ h shape
 
   -- ---- the words of the heap
 
-  inside : h + (1 + (p + n)) ≤ length (m₁ .heap)
+  inside : h + (1 + (fieldCountOf shape)) ≤ length (m₁ .heap)
   inside = let z = v .sizes .heap in let a = header-inside g cl (q .isClass) r b (q .below) (q .inside) in let f = q .fits in omega arith
 
-  zeros : length {A = ℕ} (replicate (p + n) 0) ≡ p + n
-  zeros = length-replicate {A = ℕ} (p + n) 0
+  zeros : length {A = ℕ} (replicate (fieldCountOf shape) 0) ≡ fieldCountOf shape
+  zeros = length-replicate {A = ℕ} (fieldCountOf shape) 0
 
   abbrev pub written-heap : List ℕ
-  written-heap = spliced (set (m₁ .heap) h (p * 65536 + n)) (h + 1) (replicate (p + n) 0)
+  written-heap = spliced (set (m₁ .heap) h (headerWord shape)) (h + 1) (replicate (fieldCountOf shape) 0)
 
-  pub at-header : getD written-heap h 0 ≡ p * 65536 + n
-  at-header = spliced-out (replicate (p + n) 0) _ (h + 1) h (inl (omega arith)) ∙ getD-set-same (m₁ .heap) h (p * 65536 + n) 0 (let z = inside in omega arith)
+  pub at-header : getD written-heap h 0 ≡ headerWord shape
+  at-header = spliced-out (replicate (fieldCountOf shape) 0) _ (h + 1) h (inl (omega arith)) ∙ getD-set-same (m₁ .heap) h (headerWord shape) 0 (let z = inside in omega arith)
 
-  pub at-field : (i : ℕ) → i < p + n → getD written-heap (h + 1 + i) 0 ≡ 0
-  at-field i l = let z = inside in let y = length-set (m₁ .heap) h (p * 65536 + n) in let w = zeros in spliced-in (replicate (p + n) 0) (set (m₁ .heap) h (p * 65536 + n)) (h + 1) i (omega arith) (omega arith) ∙ getD-replicate (p + n) i 0 0 l
+  pub at-field : (i : ℕ) → i < fieldCountOf shape → getD written-heap (h + 1 + i) 0 ≡ 0
+  at-field i l = let z = inside in let y = length-set (m₁ .heap) h (headerWord shape) in let w = zeros in spliced-in (replicate (fieldCountOf shape) 0) (set (m₁ .heap) h (headerWord shape)) (h + 1) i (omega arith) (omega arith) ∙ getD-replicate (fieldCountOf shape) i 0 0 l
 
   old-word : (i : ℕ) → getD (m₁ .heap) i 0 ≡ heapWord m i
   old-word i = ap (λ (ws : List ℕ). getD ws i 0) (v .heap)
 
   pub at-before : (i : ℕ) → i < h → getD written-heap i 0 ≡ heapWord m i
-  at-before i l = spliced-out (replicate (p + n) 0) _ (h + 1) i (inl (omega arith)) ∙ getD-set-other (m₁ .heap) h i (p * 65536 + n) 0 (λ e. omega arith) ∙ old-word i
+  at-before i l = spliced-out (replicate (fieldCountOf shape) 0) _ (h + 1) i (inl (omega arith)) ∙ getD-set-other (m₁ .heap) h i (headerWord shape) 0 (λ e. omega arith) ∙ old-word i
 
-  pub at-behind : (i : ℕ) → h + (p + n) < i → getD written-heap i 0 ≡ heapWord m i
-  at-behind i l = spliced-out (replicate (p + n) 0) _ (h + 1) i (inr (let z = zeros in omega arith)) ∙ getD-set-other (m₁ .heap) h i (p * 65536 + n) 0 (λ e. omega arith) ∙ old-word i
+  pub at-behind : (i : ℕ) → h + fieldCountOf shape < i → getD written-heap i 0 ≡ heapWord m i
+  at-behind i l = spliced-out (replicate (fieldCountOf shape) 0) _ (h + 1) i (inr (let z = zeros in omega arith)) ∙ getD-set-other (m₁ .heap) h i (headerWord shape) 0 (λ e. omega arith) ∙ old-word i
 
   -- ---- the words of the mutators
 

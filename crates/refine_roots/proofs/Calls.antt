@@ -3,15 +3,17 @@ use mathlib.Core.Path.{_≡_, refl, sym, ap}
 use Prim.Native.Nat.{ℕ, suc, _-_}
 use native.Mathlib.Omega.{arith}
 use lib.Dec.{ltb}
-use lib.ListN.{length, getD}
+use lib.ListN.{getD}
 use borrow.Author.Tests.{ltb-true}
+use Rattle.classes.specs.Record.{ofCounts}
 use Rattle.layout.specs.declared.Geometry.{Geometry}
 use Rattle.layout.specs.Mem.{Mem, Sizes}
 use Rattle.theory.specs.Reach.{root, next}
+use Rattle.theory.specs.MachineCalls.{shapeAt}
 use Rattle.theory.specs.Calls.{c-load, c-copy, c-clear, c-get, c-same, c-shape, a-ok, a-num, a-shape, pointer?, value?, refusal}
 use Rattle.theory.proofs.Refusals.{by-ok, root-ok, require-ok}
 use Rattle.model.specs.Fields.{setRoot}
-use Rattle.model.specs.Records.{record?, pointers, values, pointer, value}
+use Rattle.model.specs.Records.{record?, pointerCount, valueCount, pointer, value, shapeOf}
 use Rattle.model.specs.Calls.{observe, act}
 use Rattle.refine_view.specs.View.{view, valuesOf}
 use Rattle.refine_view.specs.Kept.{Ordered, ActKept}
@@ -32,7 +34,7 @@ module _ (g : Geometry) (m : Mem) (s : Sizes g m) (c : Ordered g m) where
       let r = root-ok i _ (q .1) in
       let w = wanted-in g m k i (pointer? f) (p .1) (r .0) (r .1) in
       let n : fields.root m k i ≡ suc (w .at) = named _ _ (w .is) in
-      let x = ltb-true _ _ (require-ok (ltb f (pointers m (w .at))) 8 0 (omega arith) (w .asked) .0) in
+      let x = ltb-true _ _ (require-ok (ltb f (pointerCount m (w .at))) 8 0 (omega arith) (w .asked) .0) in
       let h = on-record g m (record? (fields.root m k i)) (w .at) (w .is) (λ at. (a-ok, setRoot m k d (pointer m at f))) (λ at. (a-ok, machine.setRoot (view g m) k d (record? (pointer m at f)))) refl
       (root-moves g m s c k d (pointer m (w .at) f) (p .0) (p .1) (q .0) (λ b y. next (root (is-root m k i (w .at) (p .0) (r .0) (p .1) n)) (record { field = f; within = x; names = y }))) in
       matches-by g m _ _ tt (h .0) (h .1)
@@ -60,8 +62,8 @@ module _ (g : Geometry) (m : Mem) (s : Sizes g m) (c : Ordered g m) where
       let p = by-ok (observe m) k _ e in
       let r = root-ok i _ (p .3) in
       let w = wanted-in g m k i (value? f) (p .1) (r .0) (r .1) in
-      let x = ltb-true _ _ (require-ok (ltb f (values m (w .at))) 8 0 (omega arith) (w .asked) .0) in
-      let h = on-record g m (record? (fields.root m k i)) (w .at) (w .is) (λ at. (a-num (value m at f), m)) (λ at. (a-num (getD (valuesOf m at) f 0), view g m)) (ap a-num (sym (getD-tab (values m (w .at)) (value m (w .at)) f x))) (moves-self g m c) in
+      let x = ltb-true _ _ (require-ok (ltb f (valueCount m (w .at))) 8 0 (omega arith) (w .asked) .0) in
+      let h = on-record g m (record? (fields.root m k i)) (w .at) (w .is) (λ at. (a-num (value m at f), m)) (λ at. (a-num (getD (valuesOf m at) f 0), view g m)) (ap a-num (sym (getD-tab (valueCount m (w .at)) (value m (w .at)) f x))) (moves-self g m c) in
       matches-by g m _ _ tt (h .0) (h .1)
 
   pub same-kept : (k i j : ℕ) → refusal (observe m) (c-same k i j) ≡ 0 → ActKept g m (c-same k i j)
@@ -74,5 +76,5 @@ module _ (g : Geometry) (m : Mem) (s : Sizes g m) (c : Ordered g m) where
       let p = by-ok (observe m) k _ e in
       let r = root-ok i _ (p .3) in
       let w = wanted-in g m k i (λ _. 0) (p .1) (r .0) (r .1) in
-      let h = on-record g m (record? (fields.root m k i)) (w .at) (w .is) (λ at. (a-shape (pointers m at) (values m at), m)) (λ at. (a-shape (pointers m at) (length (valuesOf m at)), view g m)) (ap (a-shape (pointers m (w .at))) (sym (length-tab (values m (w .at)) (value m (w .at))))) (moves-self g m c) in
+      let h = on-record g m (record? (fields.root m k i)) (w .at) (w .is) (λ at. (a-shape (shapeOf m at), m)) (λ at. (a-shape (shapeAt (view g m) at), view g m)) (ap (λ n. a-shape (ofCounts (pointerCount m (w .at)) n)) (sym (length-tab (valueCount m (w .at)) (value m (w .at))))) (moves-self g m c) in
       matches-by g m _ _ tt (h .0) (h .1)

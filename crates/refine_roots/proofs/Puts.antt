@@ -16,7 +16,7 @@ use Rattle.theory.specs.TraceStack.{tab}
 use Rattle.theory.specs.Update.{upd}
 use Rattle.theory.proofs.Agree.{Agree}
 use Rattle.model.specs.Fields.{phase, traceCount}
-use Rattle.model.specs.Records.{record?, pointers, values, pointer, value, setValue}
+use Rattle.model.specs.Records.{record?, pointerCount, valueCount, pointer, value, setValue}
 use Rattle.model.specs.Calls.{observe, act}
 use Rattle.model.specs.Reaching.{Live}
 use Rattle.model.specs.Consistent.{RecordOk}
@@ -53,36 +53,36 @@ module _ (g : Geometry) (m : Mem) (i v : ℕ) (o : Structure g m) (heads : (x : 
 
 -- ---- a field of a live record
 
-module _ (g : Geometry) (m : Mem) (s : Sizes g m) (c : Ordered g m) (at : ℕ) (r : RecordOk g m at) (f v : ℕ) (h : f < values m at) where
+module _ (g : Geometry) (m : Mem) (s : Sizes g m) (c : Ordered g m) (at : ℕ) (r : RecordOk g m at) (f v : ℕ) (h : f < valueCount m at) where
   abbrev place : ℕ
-  place = at + 1 + pointers m at + f
+  place = at + 1 + pointerCount m at + f
 
   abbrev after : Mem
   after = setHeap m place v
 
-  offset : place ≡ at + (1 + pointers m at + f)
+  offset : place ≡ at + (1 + pointerCount m at + f)
   offset = omega arith
 
   -- a word of a record that is in order, but the one that is set
-  other : (x : ℕ) → RecordOk g m x → (i : ℕ) → i ≤ pointers m x + values m x → (x ≡ at → i ≡ 1 + pointers m at + f → ⊥) → heapWord after (x + i) ≡ heapWord m (x + i)
+  other : (x : ℕ) → RecordOk g m x → (i : ℕ) → i ≤ pointerCount m x + valueCount m x → (x ≡ at → i ≡ 1 + pointerCount m at + f → ⊥) → heapWord after (x + i) ≡ heapWord m (x + i)
   unfolding setHeap
   other x q i l d = getD-set-other (m .heap) place (x + i) v 0 (λ e. clash (e ∙ offset))
     where
-      clash : x + i ≡ at + (1 + pointers m at + f) → ⊥
-      clash e = let z = fields-apart g m x at q r i (1 + pointers m at + f) l (omega arith) e in d z (omega arith)
+      clash : x + i ≡ at + (1 + pointerCount m at + f) → ⊥
+      clash e = let z = fields-apart g m x at q r i (1 + pointerCount m at + f) l (omega arith) e in d z (omega arith)
 
   there : heapWord after place ≡ v
   unfolding setHeap
-  there = let z = s .heap in let w = field-inside g m at r (1 + pointers m at + f) (omega arith) in getD-set-same (m .heap) place v 0 (omega arith)
+  there = let z = s .heap in let w = field-inside g m at r (1 + pointerCount m at + f) (omega arith) in getD-set-same (m .heap) place v 0 (omega arith)
 
   header : (x : ℕ) → RecordOk g m x → heapWord after x ≡ heapWord m x
   header x q = let e : x ≡ x + 0 = omega arith in ap (heapWord after) e ∙ other x q 0 (omega arith) (λ y z. omega arith) ∙ ap (heapWord m) (sym e)
 
-  pointer-at : (x i : ℕ) → RecordOk g m x → i < pointers m x → pointer after x i ≡ pointer m x i
-  pointer-at x i q l = pointer-by m after x (header x q) i (other x q (1 + i) (omega arith) (λ y z. let p : pointers m x ≡ pointers m at = ap (pointers m) y in omega arith))
+  pointer-at : (x i : ℕ) → RecordOk g m x → i < pointerCount m x → pointer after x i ≡ pointer m x i
+  pointer-at x i q l = pointer-by m after x (header x q) i (other x q (1 + i) (omega arith) (λ y z. let p : pointerCount m x ≡ pointerCount m at = ap (pointerCount m) y in omega arith))
 
-  value-word : (x i : ℕ) → RecordOk g m x → i < values m x → (x ≡ at → i ≡ f → ⊥) → heapWord after (x + (1 + pointers m x + i)) ≡ heapWord m (x + (1 + pointers m x + i))
-  value-word x i q l d = other x q (1 + pointers m x + i) (omega arith) (λ y z. let p : pointers m x ≡ pointers m at = ap (pointers m) y in d y (omega arith))
+  value-word : (x i : ℕ) → RecordOk g m x → i < valueCount m x → (x ≡ at → i ≡ f → ⊥) → heapWord after (x + (1 + pointerCount m x + i)) ≡ heapWord m (x + (1 + pointerCount m x + i))
+  value-word x i q l d = other x q (1 + pointerCount m x + i) (omega arith) (λ y z. let p : pointerCount m x ≡ pointerCount m at = ap (pointerCount m) y in d y (omega arith))
 
   value-there : value after at f ≡ v
   value-there = ap (λ z. heapWord after (at + 1 + z + f)) (pointers-by m after at (header at r)) ∙ there
@@ -93,7 +93,7 @@ module _ (g : Geometry) (m : Mem) (s : Sizes g m) (c : Ordered g m) (at : ℕ) (
       here : valuesOf after at ≡ set (valuesOf m at) f v
       here =
           ap (λ n. tab n (value after at)) (values-by m after at (header at r))
-          ∙ sym (tab-set (values m at) (value m at) (value after at) f v h value-there (λ i l d. value-by m after at (header at r) i (value-word at i r l (λ y z. d z))))
+          ∙ sym (tab-set (valueCount m at) (value m at) (value after at) f v h value-there (λ i l d. value-by m after at (header at r) i (value-word at i r l (λ y z. d z))))
 
   agree : Agree (segmentOf g) (machine.setValues (view g m) at (set (valuesOf m at) f v)) (view g after)
   unfolding setHeap
@@ -107,7 +107,7 @@ module _ (g : Geometry) (m : Mem) (s : Sizes g m) (c : Ordered g m) (at : ℕ) (
     marked = λ t b q. refl;
     condemnedMarks = λ b e. refl;
     condemned = λ x. refl;
-    pointers = λ x p. pointers-by m after x (header x (to-record g m s c x p));
+    pointerCount = λ x p. pointers-by m after x (header x (to-record g m s c x p));
     values = λ x p. values-at x (to-record g m s c x p);
     pointer = λ x i p l. ap record? (pointer-at x i (to-record g m s c x p) l);
     used = λ b q. refl;
@@ -127,7 +127,7 @@ put-kept g m s c k i f v e =
     let r = root-ok i _ (p .3) in
     let w = wanted-in g m k i (value? f) (p .1) (r .0) (r .1) in
     let n : fields.root m k i ≡ suc (w .at) = named _ _ (w .is) in
-    let x = ltb-true _ _ (require-ok (ltb f (values m (w .at))) 8 0 (omega arith) (w .asked) .0) in
+    let x = ltb-true _ _ (require-ok (ltb f (valueCount m (w .at))) 8 0 (omega arith) (w .asked) .0) in
     let h = on-record g m (record? (fields.root m k i)) (w .at) (w .is) (λ at. (a-ok, setValue m at f v)) (λ at. (a-ok, machine.setValues (view g m) at (set (valuesOf m at) f v))) refl
     (value-moves g m s c (w .at) (c .records (w .at) (live-root m k i (w .at) (p .0) (r .0) (p .1) n)) f v x) in
     matches-by g m _ _ tt (h .0) (h .1)

@@ -3,13 +3,13 @@ use mathlib.Core.Path.{_≡_, refl, sym, _∙_, subst}
 use mathlib.Core.Bool.{Bool, true, false, _&&_}
 use mathlib.Core.Option.{Option, none, some, Option·none-ne-some, Option·some-injective}
 use mathlib.Core.List.{List}
-use Prim.Native.Nat.{ℕ, zero, suc, _+_, _-_, _≤_, _<_}
+use Prim.Native.Nat.{ℕ, zero, suc, _-_, _≤_, _<_}
 use native.Mathlib.Omega.{arith}
 use lib.Dec.{eqb}
 use Rattle.rules.specs.Pick.{pick}
-use Rattle.classes.specs.Class.{classOf}
 use Rattle.classes.specs.declared.SizeClass.{SizeClass}
 use Rattle.classes.specs.declared.SizeClass.the-variants.{Class, TooBig}
+use Rattle.classes.specs.Record.{ofCounts, classOfRecord}
 use Rattle.layout.specs.declared.Geometry.{Geometry}
 use Rattle.layout.specs.Mem.{Mem}
 use Rattle.layout.specs.Geometry.{mutatorCount, blocksIn, mostBlocks}
@@ -21,7 +21,7 @@ use Rattle.theory.specs.Calls.{Call, c-attach, c-detach, c-check, c-leave, c-en
 use Rattle.model.specs.Answers.{answerOf, stepAnswerOf, refusalIn, IsOk, ResultOf, StepResult, isWaiting, isMoved, isTraced, isSwept, isDone, isIdle, among, mayGive, startMayGive}
 use Rattle.model.specs.Fields.{phase, inside, state, acks, place, root, class, traceCount}
 use Rattle.model.specs.Segments.{freeStack, partStack, pop, free, inUse}
-use Rattle.model.specs.Records.{record?, pointers, values, value}
+use Rattle.model.specs.Records.{record?, value, shapeOf}
 use Rattle.model.specs.Making.{Source, held, part, unused, noRoom, sourceOf, takes, freshened, inBlock, fromSource, made}
 use Rattle.model.specs.Calls.{ofClass, act}
 use Rattle.model.specs.Collector.{anyFull, started, startIn, startOf, moves, traces, lowest, swept, sweeps, waiting, outsideAnswered, stepIn, stepOf}
@@ -73,12 +73,12 @@ module _ (g : Geometry) (m : Mem) (k d p n : ℕ) where
   made-ok : Fine a-ok
   made-ok = gives _ _ a-ok refl refl refl
 
-  block-answers : (taken : Mem) (f : Found) (c s : ℕ) → Fine (inBlock g m taken f k d c s p n .0)
+  block-answers : (taken : Mem) (f : Found) (c s : ℕ) → Fine (inBlock g m taken f k d c s (ofCounts p n) .0)
   block-answers taken (Block b) c s = made-ok
   block-answers taken Nothing c s = refuses _ _ 13 refl (λ q. omega arith)
   block-answers taken Torn c s = refuses _ _ 13 refl (λ q. omega arith)
 
-  source-answers : (c : ℕ) (x : Source) → Fine (fromSource g m k d c p n x .0)
+  source-answers : (c : ℕ) (x : Source) → Fine (fromSource g m k d c (ofCounts p n) x .0)
   source-answers c (held s) = block-answers m (free g m s c (place m s)) c s
   source-answers c (part s) =
       let taken : Mem = takes g (pop g m (partStack c)) k c s (place m s) in
@@ -88,11 +88,11 @@ module _ (g : Geometry) (m : Mem) (k d p n : ℕ) where
       block-answers taken (free g taken s c (place taken s)) c s
   source-answers c noRoom = refuses _ _ 10 refl (λ q. omega arith)
 
-  made-answers : (c : ℕ) → Fine (made g m k d c p n .0)
+  made-answers : (c : ℕ) → Fine (made g m k d c (ofCounts p n) .0)
   unfolding made
   made-answers c = source-answers c (sourceOf g m k c)
 
-  class-answers : (x : SizeClass) → Fine (ofClass m x (λ c. made g m k d c p n) .0)
+  class-answers : (x : SizeClass) → Fine (ofClass m x (λ c. made g m k d c (ofCounts p n)) .0)
   class-answers (Class c) = made-answers c
   class-answers TooBig = refuses _ _ 9 refl (λ q. omega arith)
 
@@ -106,7 +106,7 @@ act-answers g m (c-detach k) = unless-answers _ _ (inHandshake (phase m)) m _ re
 act-answers g m (c-check k) = gives _ _ a-ok refl refl refl
 act-answers g m (c-leave k) = gives _ _ a-ok refl refl refl
 act-answers g m (c-enter k) = gives _ _ a-ok refl refl refl
-act-answers g m (c-make k d p n) = class-answers g m k d p n (classOf (p + n))
+act-answers g m (c-make k d p n) = class-answers g m k d p n (classOfRecord (ofCounts p n))
 act-answers g m (c-load k d i f) = record-answers _ _ (record? (root m k i)) m _ refl (λ at. gives _ _ a-ok refl refl refl)
 act-answers g m (c-store k i f j) = record-answers _ _ (record? (root m k i)) m _ refl (λ at. gives _ _ a-ok refl refl refl)
 act-answers g m (c-copy k d i) = gives _ _ a-ok refl refl refl
@@ -114,7 +114,7 @@ act-answers g m (c-clear k d) = gives _ _ a-ok refl refl refl
 act-answers g m (c-put k i f v) = record-answers _ _ (record? (root m k i)) m _ refl (λ at. gives _ _ a-ok refl refl refl)
 act-answers g m (c-get k i f) = record-answers _ _ (record? (root m k i)) m _ refl (λ at. gives _ _ (a-num (value m at f)) refl refl (value m at f, refl))
 act-answers g m (c-same k i j) = gives _ _ (a-flag (sameRef (record? (root m k i)) (record? (root m k j)))) refl refl (sameRef (record? (root m k i)) (record? (root m k j)), refl)
-act-answers g m (c-shape k i) = record-answers _ _ (record? (root m k i)) m _ refl (λ at. gives _ _ (a-shape (pointers m at) (values m at)) refl refl (pointers m at, values m at, refl))
+act-answers g m (c-shape k i) = record-answers _ _ (record? (root m k i)) m _ refl (λ at. gives _ _ (a-shape (shapeOf m at)) refl refl (shapeOf m at, refl))
 
 -- ---- start
 

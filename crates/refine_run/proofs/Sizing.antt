@@ -5,9 +5,11 @@ use mathlib.Core.List.{_∷_, _++_}
 use Prim.Native.Nat.{ℕ, zero, suc, _+_, _-_, _*_}
 use lib.Dec.{eqb}
 use lib.ListN.{replicate}
-use Rattle.classes.specs.Class.{firstClass, classCount, classOf}
+use Rattle.classes.specs.Class.{firstClass, classCount}
 use Rattle.classes.specs.declared.SizeClass.{SizeClass}
 use Rattle.classes.specs.declared.SizeClass.the-variants.{Class, TooBig}
+use Rattle.classes.specs.Record.{ofCounts, fieldCountOf, classOfRecord}
+use Rattle.classes.specs.declared.RecordShape.{RecordShape}
 use Rattle.layout.specs.declared.Geometry.{Geometry}
 use Rattle.layout.specs.Geometry.{mutatorWords, rootCount, blocksIn, bitmapWords}
 use Rattle.layout.specs.Mem.{Mem, setHeap, Sizes}
@@ -19,7 +21,7 @@ use Rattle.theory.specs.Calls.{Call, c-attach, c-detach, c-check, c-leave, c-en
 use Rattle.model.specs.declared.SegmentState.the-variants.{Part, Held, Full}
 use Rattle.model.specs.Fields.{phase, acks, inside, outside, holding, place, root, stateAt, heldFrom}
 use Rattle.model.specs.Segments.{partStack, freeStack, stacked, count, pop, bitmap, above, free}
-use Rattle.model.specs.Records.{record?, pointers, pointer, headerOf, written}
+use Rattle.model.specs.Records.{record?, pointerCount, pointer, headerOf, written, headerWord}
 use Rattle.model.specs.Mutators.{acknowledged, attached, detached, released, releasedOne}
 use Rattle.model.specs.Making.{Source, held, part, unused, noRoom, sourceOf, takes, freshened, advanced, blackened, handedOut, inBlock, fromSource, made}
 use Rattle.model.specs.Calls.{observe, ofClass, act, exec}
@@ -59,45 +61,45 @@ module _ (g : Geometry) where
   sizes-advanced m z k c s p Nothing = sizes-mutator g (segments.setSegmentState g m s (Full c)) (sizes-state g m z s (Full c)) (k * mutatorWords + heldFrom + (c - firstClass)) 0
   sizes-advanced m z k c s p Torn = sizes-mutator g (segments.setSegmentState g m s (Full c)) (sizes-state g m z s (Full c)) (k * mutatorWords + heldFrom + (c - firstClass)) 0
 
-  sizes-written : (m : Mem) → Sizes g m → (at p n : ℕ) → Sizes g (written m at p n)
-  sizes-written m z at p n = sizes-heap-run g (setHeap m at (p * 65536 + n)) (sizes-heap g m z at (p * 65536 + n)) (at + 1) (replicate (p + n) 0)
+  sizes-written : (m : Mem) → Sizes g m → (at : ℕ) (shape : RecordShape) → Sizes g (written m at shape)
+  sizes-written m z at shape = sizes-heap-run g (setHeap m at (headerWord shape)) (sizes-heap g m z at (headerWord shape)) (at + 1) (replicate (fieldCountOf shape) 0)
 
   sizes-blackened : (m : Mem) → Sizes g m → (k at : ℕ) → Sizes g (blackened g m k at)
   sizes-blackened m z k at = sizes-pick g (black (phase m) (acks m k)) _ m (sizes-marked g m z at) z
 
-  sizes-handed : (m : Mem) → Sizes g m → (k d c s b p n : ℕ) → Sizes g (handedOut g m k d c s b p n)
+  sizes-handed : (m : Mem) → Sizes g m → (k d c s b : ℕ) (shape : RecordShape) → Sizes g (handedOut g m k d c s b shape)
   unfolding handedOut
-  sizes-handed m z k d c s b p n =
+  sizes-handed m z k d c s b shape =
       let at : ℕ = headerOf g s c b in
       let m₁ : Mem = advanced g m k c s (b + 1) (free g m s c (b + 1)) in
       let z₁ : Sizes g m₁ = sizes-advanced m z k c s (b + 1) (free g m s c (b + 1)) in
-      let m₂ : Mem = written m₁ at p n in
-      let z₂ : Sizes g m₂ = sizes-written m₁ z₁ at p n in
+      let m₂ : Mem = written m₁ at shape in
+      let z₂ : Sizes g m₂ = sizes-written m₁ z₁ at shape in
       sizes-mutator g (blackened g m₂ k at) (sizes-blackened m₂ z₂ k at) (k * mutatorWords + d) (suc at)
 
-  sizes-block : (m taken : Mem) → Sizes g m → Sizes g taken → (f : Found) (k d c s p n : ℕ) → Sizes g (inBlock g m taken f k d c s p n .1)
-  sizes-block m taken z y (Block b) k d c s p n = sizes-handed taken y k d c s b p n
-  sizes-block m taken z y Nothing k d c s p n = z
-  sizes-block m taken z y Torn k d c s p n = z
+  sizes-block : (m taken : Mem) → Sizes g m → Sizes g taken → (f : Found) (k d c s : ℕ) (shape : RecordShape) → Sizes g (inBlock g m taken f k d c s shape .1)
+  sizes-block m taken z y (Block b) k d c s shape = sizes-handed taken y k d c s b shape
+  sizes-block m taken z y Nothing k d c s shape = z
+  sizes-block m taken z y Torn k d c s shape = z
 
-  sizes-source : (m : Mem) → Sizes g m → (k d c p n : ℕ) (x : Source) → Sizes g (fromSource g m k d c p n x .1)
-  sizes-source m z k d c p n (held s) = sizes-block m m z z (free g m s c (place m s)) k d c s p n
-  sizes-source m z k d c p n (part s) =
+  sizes-source : (m : Mem) → Sizes g m → (k d c : ℕ) (shape : RecordShape) (x : Source) → Sizes g (fromSource g m k d c shape x .1)
+  sizes-source m z k d c shape (held s) = sizes-block m m z z (free g m s c (place m s)) k d c s shape
+  sizes-source m z k d c shape (part s) =
       let popped : Mem = pop g m (partStack c) in
       let y : Sizes g popped = sizes-stack g m z (partStack c * (1 + g .segments)) (count g m (partStack c) - 1) in
       let taken : Mem = takes g popped k c s (place m s) in
-      sizes-block m taken z (sizes-takes popped y k c s (place m s)) (free g taken s c (place taken s)) k d c s p n
-  sizes-source m z k d c p n (unused s) =
+      sizes-block m taken z (sizes-takes popped y k c s (place m s)) (free g taken s c (place taken s)) k d c s shape
+  sizes-source m z k d c shape (unused s) =
       let popped : Mem = pop g m freeStack in
       let y : Sizes g popped = sizes-stack g m z (freeStack * (1 + g .segments)) (count g m freeStack - 1) in
       let owned : Mem = takes g popped k c s 0 in
       let taken : Mem = freshened g owned s c in
-      sizes-block m taken z (sizes-bitmap g owned (sizes-takes popped y k c s 0) (s * bitmapWords g) (fresh (above g c) (blocksIn g c) (bitmap g owned s))) (free g taken s c (place taken s)) k d c s p n
-  sizes-source m z k d c p n noRoom = z
+      sizes-block m taken z (sizes-bitmap g owned (sizes-takes popped y k c s 0) (s * bitmapWords g) (fresh (above g c) (blocksIn g c) (bitmap g owned s))) (free g taken s c (place taken s)) k d c s shape
+  sizes-source m z k d c shape noRoom = z
 
-  sizes-made : (m : Mem) → Sizes g m → (k d c p n : ℕ) → Sizes g (made g m k d c p n .1)
+  sizes-made : (m : Mem) → Sizes g m → (k d c : ℕ) (shape : RecordShape) → Sizes g (made g m k d c shape .1)
   unfolding made
-  sizes-made m z k d c p n = sizes-source m z k d c p n (sourceOf g m k c)
+  sizes-made m z k d c shape = sizes-source m z k d c shape (sourceOf g m k c)
 
   -- ---- calls
 
@@ -125,14 +127,14 @@ module _ (g : Geometry) where
   sizes-act m z (c-check k) = sizes-acknowledged g m z k
   sizes-act m z (c-leave k) = sizes-mutator g (acknowledged g m k) (sizes-acknowledged g m z k) (k * mutatorWords + stateAt) outside
   sizes-act m z (c-enter k) = sizes-mutator g m z (k * mutatorWords + stateAt) inside
-  sizes-act m z (c-make k d p n) = sizes-class m z (classOf (p + n)) (λ c. made g m k d c p n) (λ c. sizes-made m z k d c p n)
+  sizes-act m z (c-make k d p n) = sizes-class m z (classOfRecord (ofCounts p n)) (λ c. made g m k d c (ofCounts p n)) (λ c. sizes-made m z k d c (ofCounts p n))
   sizes-act m z (c-load k d i f) = sizes-record (record? (root m k i)) m _ z (λ at. sizes-mutator g m z (k * mutatorWords + d) (pointer m at f))
   sizes-act m z (c-store k i f j) =
       sizes-record (record? (root m k i)) m _ z
       (λ at. sizes-heap g _ (sizes-barrier g (duty (phase m) (acks m k)) m z (record? (root m k j)) (record? (pointer m at f))) (at + 1 + f) (root m k j))
   sizes-act m z (c-copy k d i) = sizes-mutator g m z (k * mutatorWords + d) (root m k i)
   sizes-act m z (c-clear k d) = sizes-mutator g m z (k * mutatorWords + d) 0
-  sizes-act m z (c-put k i f v) = sizes-record (record? (root m k i)) m _ z (λ at. sizes-heap g m z (at + 1 + pointers m at + f) v)
+  sizes-act m z (c-put k i f v) = sizes-record (record? (root m k i)) m _ z (λ at. sizes-heap g m z (at + 1 + pointerCount m at + f) v)
   sizes-act m z (c-get k i f) = sizes-record (record? (root m k i)) m _ z (λ at. z)
   sizes-act m z (c-same k i j) = z
   sizes-act m z (c-shape k i) = sizes-record (record? (root m k i)) m _ z (λ at. z)

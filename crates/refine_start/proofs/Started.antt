@@ -18,7 +18,7 @@ use Rattle.theory.proofs.Agree.{Agree}
 use Rattle.model.specs.Rules.{phaseOf}
 use Rattle.model.specs.Fields.{phase, traceCount, absent, stateAt, acksAt, state, tag, class, place, owner, root, holding}
 use Rattle.model.specs.Segments.{freeStack, partStack, usedBit}
-use Rattle.model.specs.Records.{record?, pointers, values, pointer, blockOf, recordBit, marked}
+use Rattle.model.specs.Records.{record?, pointerCount, pointer, blockOf, recordBit, marked}
 use Rattle.model.specs.Collector.{isFull, collects, started}
 use Rattle.model.proofs.Collecting.{collects-full}
 use Rattle.model.specs.Reaching.{Live, isMarked}
@@ -214,7 +214,7 @@ module _ (g : Geometry) (m m′ : Mem) (z : Sizes g m) (ok : Ordered g m) (quiet
     marked = λ t at l. no-mark at;
     condemnedMarks = λ at e. no-mark at;
     condemned = collected;
-    pointers = λ at l. pointers-by m m′ at (word-same at);
+    pointerCount = λ at l. pointers-by m m′ at (word-same at);
     values = λ at l. fields-by m m′ at (word-same at) (λ f h. word-same _);
     pointer = λ at f l h. ap record? (word-same (at + 1 + f));
     used = λ at l. used-test at;

@@ -77,7 +77,7 @@ module _ (g : Geometry) (m : Mem) (s : Sizes g m) (c : Ordered g m) (ph : phase 
         marked = λ q. absurd (subst Tracing ph q);
         condemnedMarks = fated-agrees;
         condemned = collect-agrees;
-        pointers = λ x p. pointers-by m m′ x (heap-same m m′ (o .left .heap) x);
+        pointerCount = λ x p. pointers-by m m′ x (heap-same m m′ (o .left .heap) x);
         values = λ x p. fields-by m m′ x (heap-same m m′ (o .left .heap) x) (λ f l. heap-same m m′ (o .left .heap) _);
         pointer = λ x f p h. ap record? (heap-same m m′ (o .left .heap) _);
         used = λ x p. used-agrees x (to-live g m s c p);

@@ -241,7 +241,7 @@ module _ (g : Geometry) (m : Mem) (s : Sizes g m) (c : Ordered g m) (k : ℕ) (f
     marked = λ _ b l. marked-live g m s c emptied (parted .segments) (parted .stacks) (m .bitmaps) stands b (was-live l);
     condemnedMarks = marked-condemned g m s c emptied (parted .segments) (parted .stacks) (m .bitmaps) stands;
     condemned = collect-same g m s c emptied (parted .segments) (parted .stacks) (m .bitmaps) stands;
-    pointers = λ b l. refl;
+    pointerCount = λ b l. refl;
     values = λ b l. refl;
     pointer = λ b f l h. refl;
     used = λ b l. used-live g m s c emptied (parted .segments) (parted .stacks) (m .bitmaps) stands b (was-live l);

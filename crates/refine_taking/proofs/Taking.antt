@@ -13,6 +13,7 @@ use Rattle.rules.proofs.Order.{same-or-not}
 use Rattle.words.specs.Bits.{bitAt}
 use Rattle.words.specs.Tree.{Tree}
 use Rattle.classes.specs.Class.{firstClass, IsClass}
+use Rattle.classes.specs.declared.RecordShape.{RecordShape}
 use Rattle.layout.specs.declared.Geometry.{Geometry}
 use Rattle.layout.specs.Geometry.{mutatorCount, mutatorWords, rootCount, blocksIn, segmentOf}
 use Rattle.layout.specs.Mem.{Mem, mutatorWord, Sizes}
@@ -166,7 +167,7 @@ module _ (g : Geometry) (m : Mem) (s : Sizes g m) (c : Ordered g m) (mu se st bi
     marked = λ _ b l. marked-live g m s c mu se st bi stands b (to-live g m s c l);
     condemnedMarks = marked-condemned g m s c mu se st bi stands;
     condemned = collect-same g m s c mu se st bi stands;
-    pointers = λ b l. refl;
+    pointerCount = λ b l. refl;
     values = λ b l. refl;
     pointer = λ b f l h. refl;
     used = λ b l. used-live g m s c mu se st bi stands b (to-live g m s c l);
@@ -177,7 +178,7 @@ module _ (g : Geometry) (m : Mem) (s : Sizes g m) (c : Ordered g m) (mu se st bi
   shape-same : (k′ i : ℕ) → calls.observe (view g m₁) .shape k′ i ≡ calls.observe (view g m) .shape k′ i
   shape-same k′ i = go (ltb i rootCount) refl
     where
-      none-past : (a b : Bool) (x y : Option (ℕ × ℕ)) → shapeIf a false x ≡ shapeIf b false y
+      none-past : (a b : Bool) (x y : Option RecordShape) → shapeIf a false x ≡ shapeIf b false y
       none-past true true x y = refl
       none-past true false x y = refl
       none-past false true x y = refl

@@ -68,7 +68,7 @@ module _ (g : Geometry) (m : Mem) (s : Sizes g m) (c : Ordered g m) (k : ℕ) (f
       marked = λ x b h. refl;
       condemnedMarks = λ b h. refl;
       condemned = λ x. refl;
-      pointers = λ b h. refl;
+      pointerCount = λ b h. refl;
       values = λ b h. refl;
       pointer = λ b f h x. refl;
       used = λ b h. refl;

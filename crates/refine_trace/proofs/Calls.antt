@@ -12,7 +12,7 @@ use Rattle.theory.specs.Calls.{Answer, a-ok, c-check, c-leave, c-store, refusal
 use Rattle.theory.specs.Machine.{check, store}
 use Rattle.theory.proofs.Refusals.{by-ok, root-ok, require-ok}
 use Rattle.model.specs.Fields.{phase, acks}
-use Rattle.model.specs.Records.{record?, pointers, pointer, setPointer}
+use Rattle.model.specs.Records.{record?, pointerCount, pointer, setPointer}
 use Rattle.model.specs.Calls.{observe, act, isAttached}
 use Rattle.model.specs.Mutators.{acknowledged}
 use Rattle.refine_view.specs.View.{view}
@@ -51,7 +51,7 @@ module _ (g : Geometry) (m : Mem) (s : Sizes g m) (c : Ordered g m) where
       let b = root-ok i _ (a .3) in
       let d = root-ok j _ (b .1) in
       let w = wanted-in g m k i (pointer? f) (a .1) (b .0) (d .1) in
-      let l = ltb-true _ _ (require-ok (ltb f (pointers m (w .at))) 8 0 (omega arith) (w .asked) .0) in
+      let l = ltb-true _ _ (require-ok (ltb f (pointerCount m (w .at))) 8 0 (omega arith) (w .asked) .0) in
       let h = on-record g m (record? (fields.root m k i)) (w .at) (w .is) (stored k f (fields.root m k j)) (λ at. (a-ok, store (view g m) k at f (record? (fields.root m k j)))) refl
       (store-moves g m s c k (w .at) f (fields.root m k j) (i, a .1, b .0, w .is) l (λ x z. (j, a .1, d .0, z))) in
       matches-by g m _ _ tt (h .0) (h .1)

@@ -14,7 +14,7 @@ use Rattle.theory.specs.Machine.{State, Holds, store}
 use Rattle.theory.proofs.Agree.{Agree}
 use Rattle.model.specs.Rules.{phaseOf}
 use Rattle.model.specs.Fields.{phase, acks}
-use Rattle.model.specs.Records.{record?, pointers, values, pointer, setPointer}
+use Rattle.model.specs.Records.{record?, pointerCount, pointer, setPointer}
 use Rattle.model.specs.Consistent.{RecordOk}
 use Rattle.refine_view.specs.View.{view, stackOf}
 use Rattle.refine_view.specs.Kept.{Ordered, Structure, Moves}
@@ -33,7 +33,7 @@ use Rattle.model.specs.Tracing as tracing
 
 module _ (g : Geometry) (m : Mem) (s : Sizes g m) (c : Ordered g m) where
   -- mutator k stores the word w of one of its roots into pointer f of the record at a word that another of its roots names
-  module _ (k at f w : ℕ) (holds : Holds (view g m) k at) (few : f < pointers m at) (from : (x : ℕ) → record? w ≡ some x → Holds (view g m) k x) where
+  module _ (k at f w : ℕ) (holds : Holds (view g m) k at) (few : f < pointerCount m at) (from : (x : ℕ) → record? w ≡ some x → Holds (view g m) k x) where
     at-live : machine.Live (view g m) at
     at-live = root (inl (k, holds))
 
@@ -82,7 +82,7 @@ module _ (g : Geometry) (m : Mem) (s : Sizes g m) (c : Ordered g m) where
         marked = λ x b h. refl;
         condemnedMarks = λ b h. refl;
         condemned = λ x. refl;
-        pointers = λ b h. pointers-kept g m s (c .segments) at f w at-record few b (to-record g m s c b (was-live h));
+        pointerCount = λ b h. pointers-kept g m s (c .segments) at f w at-record few b (to-record g m s c b (was-live h));
         values = λ b h. values-kept g m s (c .segments) at f w at-record few b (to-record g m s c b (was-live h));
         pointer = λ b i h l. pointer-kept g m s (c .segments) at f w at-record few b (to-record g m s c b (was-live h)) i l;
         used = λ b h. refl;

@@ -23,7 +23,7 @@ use Rattle.theory.proofs.Agree.{Agree}
 use Rattle.theory.proofs.Updates.{tab-inv}
 use Rattle.model.specs.Rules.{phaseOf}
 use Rattle.model.specs.Fields.{phase, traceCount, tag, class}
-use Rattle.model.specs.Records.{record?, pointers, pointer, recordBit, setMarked, clearQueued}
+use Rattle.model.specs.Records.{record?, pointerCount, pointer, recordBit, setMarked, clearQueued}
 use Rattle.model.specs.Tracing.{popped, traced}
 use Rattle.model.specs.Collector.{traces}
 use Rattle.classes.specs.Class.{IsClass}
@@ -93,18 +93,18 @@ module _ (g : Geometry) (m : Mem) (s : Sizes g m) (c : Ordered g m) (marking : p
       stack = ap (stackOf (over base (set (m .control) 1 (traceCount m - 1)) (clearBit (m .queued) (recordBit g m at)) (m .trace))) (count-after g m (c .segments) (m .control) (m .queued) (m .trace) (entered-self g m s c) n some-left) ∙ entries-same m (over base (set (m .control) 1 (traceCount m - 1)) (clearBit (m .queued) (recordBit g m at)) (m .trace)) n (λ i h. refl);
     }
 
-    pointer-live : (i x : ℕ) → i < pointers m at → record? (pointer m at i) ≡ some x → machine.Live (view g m) x
+    pointer-live : (i x : ℕ) → i < pointerCount m at → record? (pointer m at i) ≡ some x → machine.Live (view g m) x
     pointer-live i x l e = next at-live (i, l, e)
 
-    pointers-in : Pushed g base (traced g m at) (pushes (view g base .marked) (tab (pointers m at) (λ i. record? (pointer m at i))) (stackOf m n))
+    pointers-in : Pushed g base (traced g m at) (pushes (view g base .marked) (tab (pointerCount m at) (λ i. record? (pointer m at i))) (stackOf m n))
     unfolding setControl setMarked clearQueued
-    pointers-in = pointers-pushed g base (segments-marked g m s (c .segments) at at-record) (popped g m at) (stackOf m n) popped-pushed at (pointers m at) (λ i x l e. record-marked g m s (c .segments) at at-record x (to-record g m s c x (pointer-live i x l e)))
+    pointers-in = pointers-pushed g base (segments-marked g m s (c .segments) at at-record) (popped g m at) (stackOf m n) popped-pushed at (pointerCount m at) (λ i x l e. record-marked g m s (c .segments) at at-record x (to-record g m s c x (pointer-live i x l e)))
 
     same-marks : (x : ℕ) → machine.Live (view g m) x → view g base .marked x ≡ upd (view g m .marked) at true x
     same-marks x p = marked-view g m s (c .segments) at at-record x (class-of g m x (to-record g m s c x p))
 
     all-pushed : Pushed g base (traced g m at) (next-state .stack)
-    all-pushed = subst (Pushed g base (traced g m at)) (pushes-alike (view g base .marked) (upd (view g m .marked) at true) (tab (pointers m at) (λ i. record? (pointer m at i))) (stackOf m n) (λ x h. let z = tab-inv (pointers m at) (λ i. record? (pointer m at i)) h in same-marks x (pointer-live (z .0) x (z .1) (z .2)))) pointers-in
+    all-pushed = subst (Pushed g base (traced g m at)) (pushes-alike (view g base .marked) (upd (view g m .marked) at true) (tab (pointerCount m at) (λ i. record? (pointer m at i))) (stackOf m n) (λ x h. let z = tab-inv (pointerCount m at) (λ i. record? (pointer m at i)) h in same-marks x (pointer-live (z .0) x (z .1) (z .2)))) pointers-in
 
     condemned-class : (x : ℕ) → eqb (tag m (segmentOf g x)) Tag.condemned ≡ true → IsClass (class m (segmentOf g x))
     condemned-class x e = let u : tag m (segmentOf g x) ≡ Tag.condemned = eqb-true _ _ e in c .segments (segmentOf g x) (in-range g m s (segmentOf g x) (λ z. omega arith)) .classes (λ z. omega arith)
@@ -125,7 +125,7 @@ module _ (g : Geometry) (m : Mem) (s : Sizes g m) (c : Ordered g m) (marking : p
         marked = λ x b h. same-marks b (was-live h);
         condemnedMarks = λ b h. marked-view g m s (c .segments) at at-record b (condemned-class b h);
         condemned = λ x. refl;
-        pointers = λ b h. refl;
+        pointerCount = λ b h. refl;
         values = λ b h. refl;
         pointer = λ b i h l. refl;
         used = λ b h. refl;

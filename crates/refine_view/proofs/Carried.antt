@@ -1,10 +1,12 @@
 -- Order carried over from one memory to another by the words that stay: records, blocks in use, the trace stack, marks. Assumes nothing.
 use mathlib.Core.Path.{_≡_, refl, sym, _∙_, ap, subst}
 use mathlib.Core.List.{List}
-use Prim.Native.Nat.{ℕ, _+_, _*_, _/_, _%_, _≤_, _<_}
+use Prim.Native.Nat.{ℕ, _*_, _/_, _%_, _≤_, _<_}
 use Rattle.words.specs.Bits.{bitAt, onesAmong}
-use Rattle.classes.specs.Class.{classOf, blockWords}
+use Rattle.classes.specs.Class.{blockWords}
 use Rattle.classes.specs.declared.SizeClass.the-variants.{Class}
+use Rattle.classes.specs.Record.{classOfRecord}
+use Rattle.laws.proofs.Headers.{shape-by}
 use Rattle.layout.specs.declared.Geometry.{Geometry}
 use Rattle.layout.specs.Geometry.{segmentWords, mostBlocks, blocksIn, segmentOf, bitIn}
 use Rattle.layout.specs.Mem.{Mem, traceWord, heapWord}
@@ -32,7 +34,7 @@ module _ (g : Geometry) (m m′ : Mem) (at : ℕ) (c : class m′ (segmentOf g a
     used = t;
     aligned = ap (λ z. at % segmentWords g % blockWords z) c ∙ r .aligned;
     block = ap (usedBit g m′ (segmentOf g at)) block-by ∙ u;
-    sized = ap (λ (w : ℕ). classOf (w / 65536 + w % 65536)) h ∙ r .sized ∙ ap Class (sym c);
+    sized = ap classOfRecord (shape-by m m′ at h) ∙ r .sized ∙ ap Class (sym c);
   }
 
 pub use-by : (g : Geometry) (m m′ : Mem) (s b : ℕ) → BlockInUse g m s b → class m′ s ≡ class m s → (tag m′ s ≡ Tag.free → ⊥) → usedBit g m′ s b ≡ 1 → BlockInUse g m′ s b

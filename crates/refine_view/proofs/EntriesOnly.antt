@@ -27,7 +27,7 @@ module _ (g : Geometry) (m : Mem) (l : List ℕ) (A I : ℕ → Bool) (K : ℕ �
   now = beside m (m .control) l (m .marks) (m .queued) (m .trace) (m .heap)
 
   abbrev after : machine.State
-  after = record { pointers = view g m .pointers; values = view g m .values; pointer = view g m .pointer; used = view g m .used; condemned = view g m .condemned; marked = view g m .marked; stack = view g m .stack; attached = A; inside = I; acks = K; root = R; phase = view g m .phase }
+  after = record { pointerCount = view g m .pointerCount; values = view g m .values; pointer = view g m .pointer; used = view g m .used; condemned = view g m .condemned; marked = view g m .marked; stack = view g m .stack; attached = A; inside = I; acks = K; root = R; phase = view g m .phase }
 
   pub record Shows : Type 0 where
     pub mutators : (k : ℕ) → k < mutatorCount → MutatorOk g now k
@@ -50,7 +50,7 @@ module _ (g : Geometry) (m : Mem) (l : List ℕ) (A I : ℕ → Bool) (K : ℕ �
       marked = λ t b q. refl;
       condemnedMarks = λ b q. refl;
       condemned = λ x. refl;
-      pointers = λ b q. refl;
+      pointerCount = λ b q. refl;
       values = λ b q. refl;
       pointer = λ b f q i. refl;
       used = λ b q. refl;

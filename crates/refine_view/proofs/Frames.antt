@@ -2,10 +2,12 @@
 use mathlib.Core.Path.{_≡_, refl, sym, _∙_, ap}
 use mathlib.Core.Bool.{Bool}
 use mathlib.Core.List.{List}
-use Prim.Native.Nat.{ℕ, _+_, _/_, _%_, _≤_, _<_}
+use Prim.Native.Nat.{ℕ, _≤_, _<_}
 use native.Mathlib.Omega.{arith}
 use lib.ListN.{getD}
-use Rattle.classes.specs.Class.{classOf, IsClass}
+use Rattle.classes.specs.Class.{IsClass}
+use Rattle.classes.specs.Record.{classOfRecord}
+use Rattle.laws.proofs.Headers.{shape-by}
 use Rattle.layout.specs.declared.Geometry.{Geometry}
 use Rattle.layout.specs.Geometry.{mutatorCount}
 use Rattle.layout.specs.Mem.{Mem, heapWord}
@@ -54,7 +56,7 @@ module _ (g : Geometry) (m : Mem) (co mu ma qu tr he : List ℕ) where
   stack-beside t test o = record { number = o .number; members = o .members; once = o .once; all = o .all }
 
   pub record-beside : (at : ℕ) → heapWord now at ≡ heapWord m at → RecordOk g m at → RecordOk g now at
-  record-beside at e r = record { inside = r .inside; used = r .used; aligned = r .aligned; block = r .block; sized = ap (λ (w : ℕ). classOf (w / 65536 + w % 65536)) e ∙ r .sized }
+  record-beside at e r = record { inside = r .inside; used = r .used; aligned = r .aligned; block = r .block; sized = ap classOfRecord (shape-by m now at e) ∙ r .sized }
 
   pub use-beside : (s b : ℕ) → BlockInUse g m s b → BlockInUse g now s b
   use-beside s b u = record { used = u .used; within = u .within; block = u .block }

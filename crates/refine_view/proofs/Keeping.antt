@@ -8,6 +8,8 @@ use native.Mathlib.Omega.{arith}
 use lib.Dec.{ltb}
 use borrow.Author.Tests.{lt-ltb, ltb-true}
 use Rattle.rules.specs.Pick.{pick}
+use Rattle.classes.specs.declared.RecordShape.{RecordShape}
+use Rattle.classes.specs.Record.{ofCounts}
 use Rattle.layout.specs.declared.Geometry.{Geometry}
 use Rattle.layout.specs.Geometry.{rootCount, segmentWords, segmentOf}
 use Rattle.layout.specs.Mem.{Mem, Sizes}
@@ -19,7 +21,7 @@ use Rattle.theory.proofs.CallKeeps.{Coupled}
 use Rattle.theory.proofs.Agree.{Agree}
 use Rattle.theory.proofs.Invariant.{none-some}
 use Rattle.model.specs.Fields.{phase, acks}
-use Rattle.model.specs.Records.{record?, pointers, values, pointer}
+use Rattle.model.specs.Records.{record?, pointerCount, valueCount, pointer, shapeOf}
 use Rattle.model.specs.Calls.{isAttached, isInside, observe, act}
 use Rattle.model.specs.Reaching.{Live}
 use Rattle.refine_view.specs.View.{view, valuesOf}
@@ -36,9 +38,9 @@ use Rattle.model.specs.Fields as fields
 pub face-same : (g : Geometry) (m : Mem) → calls.observe (view g m) ≡ observe m
 face-same g m = λ i. record { attached = isAttached m; inside = isInside m; shape = fun-ext (λ k. fun-ext (λ j. shape k j)) i }
   where
-    of : (o : Option ℕ) → Option·map (calls.shapeAt (view g m)) o ≡ Option·map (λ at. (pointers m at, values m at)) o
+    of : (o : Option ℕ) → Option·map (calls.shapeAt (view g m)) o ≡ Option·map (shapeOf m) o
     of none = refl
-    of (some at) = ap (λ n. some (pointers m at, n)) (length-tab (values m at) _)
+    of (some at) = ap (λ n. some (ofCounts (pointerCount m at) n)) (length-tab (valueCount m at) _)
 
     shape : (k j : ℕ) → calls.observe (view g m) .shape k j ≡ observe m .shape k j
     shape k j = ap (shapeIf (isAttached m k) (ltb j rootCount)) (of (record? (fields.root m k j)))
@@ -56,7 +58,7 @@ agree-self g m = record {
   marked = λ t b l. refl;
   condemnedMarks = λ b e. refl;
   condemned = λ g. refl;
-  pointers = λ b l. refl;
+  pointerCount = λ b l. refl;
   values = λ b l. refl;
   pointer = λ b f l h. refl;
   used = λ b l. refl;
@@ -77,7 +79,7 @@ unless-kept out g m m′ c n e false h = agrees (h refl)
 -- ---- a call on the record in a root
 
 -- the record in a root that is wanted
-wanted : (o : Option ℕ) (f : ℕ → ℕ × ℕ) (rest : ℕ × ℕ → ℕ) (a b : Bool) → a ≡ true → b ≡ true → ifRecord (shapeIf a b (Option·map f o)) rest ≡ 0 → (at : ℕ) × (o ≡ some at) × (rest (f at) ≡ 0)
+wanted : (o : Option ℕ) (f : ℕ → RecordShape) (rest : RecordShape → ℕ) (a b : Bool) → a ≡ true → b ≡ true → ifRecord (shapeIf a b (Option·map f o)) rest ≡ 0 → (at : ℕ) × (o ≡ some at) × (rest (f at) ≡ 0)
 unfolding ifRecord
 wanted none f rest a b p q e = absurd (let z : 7 ≡ 0 = (rw (p, q) at e) in omega arith)
 wanted (some at) f rest a b p q e = (at, refl, rw (p, q) at e)
@@ -89,13 +91,13 @@ on-record g m o at e K L h v = subst (λ o. (onRecord o m K .0 ≡ onRecord o (v
 
 module _ (g : Geometry) (m : Mem) where
   -- the record in root i of mutator k, and what is asked of it
-  pub record Wanted (k i : ℕ) (rest : ℕ × ℕ → ℕ) : Type 0 where
+  pub record Wanted (k i : ℕ) (rest : RecordShape → ℕ) : Type 0 where
     pub at : ℕ
     pub is : record? (fields.root m k i) ≡ some at
-    pub asked : rest (pointers m at, values m at) ≡ 0
+    pub asked : rest (shapeOf m at) ≡ 0
 
-  pub wanted-in : (k i : ℕ) (rest : ℕ × ℕ → ℕ) → isAttached m k ≡ true → i < rootCount → ifRecord (observe m .shape k i) rest ≡ 0 → Wanted k i rest
-  wanted-in k i rest a h e = let w = wanted (record? (fields.root m k i)) (λ at. (pointers m at, values m at)) rest (isAttached m k) (ltb i rootCount) a (lt-ltb _ _ h) e in record { at = w .0; is = w .1; asked = w .2 }
+  pub wanted-in : (k i : ℕ) (rest : RecordShape → ℕ) → isAttached m k ≡ true → i < rootCount → ifRecord (observe m .shape k i) rest ≡ 0 → Wanted k i rest
+  wanted-in k i rest a h e = let w = wanted (record? (fields.root m k i)) (shapeOf m) rest (isAttached m k) (ltb i rootCount) a (lt-ltb _ _ h) e in record { at = w .0; is = w .1; asked = w .2 }
 
 -- ---- consistent memory as an unbounded heap: a record's position is the word of its header
 
@@ -103,7 +105,7 @@ module _ (g : Geometry) (m : Mem) where
   abbrev pub self : Unbounded
   self = record {
     count = g .segments * segmentWords g;
-    pointers = pointers m;
+    pointerCount = pointerCount m;
     values = valuesOf m;
     pointer = λ at f. record? (pointer m at f);
     attached = isAttached m;
@@ -139,7 +141,7 @@ module _ (g : Geometry) (m : Mem) where
         rec = λ b p. record {
           id = b;
           is = put-live b (to-live g m s c p);
-          pointers = refl;
+          pointerCount = refl;
           values = refl;
           pointer = λ f l. same-self (record? (pointer m b f)) (λ y e. to-live g m s c (next p (f, l, e)));
         };

@@ -5,6 +5,7 @@ use Prim.Native.Nat.{ℕ, _≤_}
 use native.Mathlib.Omega.{arith}
 use lib.ListN.{getD, set}
 use lib.Seq.{getD-set-same, getD-set-other}
+use Rattle.model.specs.Records.{pointerCount}
 use Rattle.layout.specs.Geometry.{segmentOf}
 use Rattle.layout.specs.declared.Geometry.{Geometry}
 use Rattle.layout.specs.Mem.{Mem, setControl, Sizes}
@@ -74,7 +75,7 @@ module _ (g : Geometry) (m m′ : Mem) (st : State) (v : Moves g m m′ st) (s :
     marked = λ t. a .marked (tracing t);
     condemnedMarks = a .condemnedMarks;
     condemned = a .condemned;
-    pointers = a .pointers;
+    pointerCount = a .pointerCount;
     values = a .values;
     pointer = a .pointer;
     used = a .used;

@@ -4,11 +4,13 @@ use mathlib.Core.Logic.{_⊎_, inl, inr}
 use mathlib.Core.Bool.{true, _&&_}
 use mathlib.Core.Option.{some, Option·some-injective}
 use mathlib.Core.List.{_∷_, List·Memᴰ, List·Memᴰ·head, List·Memᴰ·tail, List·Memᴰ·cases-cons, List·Memᴰ·not-nil}
-use Prim.Native.Nat.{ℕ, zero, suc, _+_, _-_, _/_, _≤_, _<_}
+use Prim.Native.Nat.{ℕ, zero, suc, _+_, _-_, _≤_, _<_}
 use native.Mathlib.Omega.{arith}
 use lib.ListN.{List·getD-eq-default}
 use borrow.Author.Tests.{eq-eqb}
 use Rattle.rules.proofs.Order.{le-or-lt, same-or-not}
+use Rattle.classes.specs.Record.{pointerCountOf}
+use Rattle.laws.proofs.Headers.{shape-by}
 use Rattle.layout.specs.declared.Geometry.{Geometry}
 use Rattle.layout.specs.Geometry.{mutatorCount, rootCount}
 use Rattle.layout.specs.Mem.{Mem, traceWord, heapWord, Sizes}
@@ -147,7 +149,7 @@ pub entry-was : (m m′ : Mem) → traceCount m′ ≡ traceCount m → ((i : �
 entry-was m m′ c e x r = record { index = r .index; within = subst (λ z. r .index < z) c (r .within); names = sym (e (r .index)) ∙ r .names }
 
 pub edge-was : (m m′ : Mem) → ((i : ℕ) → heapWord m′ i ≡ heapWord m i) → (x y : ℕ) → PointsTo m′ x y → PointsTo m x y
-edge-was m m′ e x y r = record { field = r .field; within = subst (λ w. r .field < w / 65536) (e x) (r .within); names = sym (e (x + 1 + r .field)) ∙ r .names }
+edge-was m m′ e x y r = record { field = r .field; within = subst (λ s. r .field < pointerCountOf s) (shape-by m m′ x (e x)) (r .within); names = sym (e (x + 1 + r .field)) ∙ r .names }
 
 pub live-was : (m m′ : Mem) → ((x : ℕ) → IsRoot m′ x → IsRoot m x) → ((x : ℕ) → IsEntry m′ x → IsEntry m x) → ((x y : ℕ) → PointsTo m′ x y → PointsTo m x y) → {x : ℕ} → Live m′ x → Live m x
 live-was m m′ r e d p = reach-map {R = λ x. IsRoot m′ x ⊎ IsEntry m′ x} {R′ = λ x. IsRoot m x ⊎ IsEntry m x} base (λ x y q z. inl (d x y z)) p

@@ -11,7 +11,7 @@ use Rattle.theory.specs.Machine.{State}
 use Rattle.model.specs.Fields.{phase, traceCount, acks, root, tag, class}
 use Rattle.model.specs.Segments.{usedBit}
 use Rattle.classes.specs.Class.{blockWords}
-use Rattle.model.specs.Records.{record?, pointers, values, pointer, value, blockOf}
+use Rattle.model.specs.Records.{record?, pointerCount, valueCount, pointer, value, blockOf}
 use Rattle.model.specs.Calls.{isAttached, isInside}
 use Rattle.model.specs.Reaching.{isMarked}
 use Rattle.model.specs.Tag as Tag
@@ -23,7 +23,7 @@ stackOf m (suc n) = (traceWord m n - 1) ∷ stackOf m n
 
 -- the data fields of the record at a word
 abbrev pub valuesOf : Mem → ℕ → List ℕ
-valuesOf m at = tab (values m at) (value m at)
+valuesOf m at = tab (valueCount m at) (value m at)
 
 -- whether a word is the first of a block
 abbrev pub isHead : Geometry → Mem → ℕ → Bool
@@ -34,7 +34,7 @@ isUsed g m at = not (eqb (tag m (segmentOf g at)) Tag.free) && eqb (usedBit g m 
 
 abbrev pub view : Geometry → Mem → State
 view g m = record {
-  pointers = pointers m;
+  pointerCount = pointerCount m;
   pointer = λ at f. record? (pointer m at f);
   values = valuesOf m;
   used = isUsed g m;

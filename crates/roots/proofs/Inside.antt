@@ -6,6 +6,7 @@ use mathlib.Core.List.{List}
 use Prim.Native.Nat.{ℕ, _≤_, _<_}
 use lib.ListN.{length}
 use borrow.Author.Tests.{lt-ltb, le-ltb, eq-eqb, ne-eqb}
+use Rattle.classes.specs.declared.RecordShape.{RecordShape}
 use Rattle.layout.specs.declared.Geometry.{Geometry}
 use Rattle.layout.specs.Geometry.{mutatorCount, rootCount, wrongSize}
 use Rattle.layout.specs.Mem.{Mem, memOf}
@@ -59,7 +60,7 @@ module _ (g : Geometry) (xs : List ℕ) (k i n : ℕ) (s : n ≡ insideThen (mem
   unfolding insideThen
   in-range-at z = let p = by-ok (observe (memOf g xs)) k _ (sym s ∙ z) in (p .0, root-ok i _ (p .3) .0)
 
-  module _ (c : Call) (e : wrongSize g (length xs) ≡ false) (test : ℕ × ℕ → ℕ)
+  module _ (c : Call) (e : wrongSize g (length xs) ≡ false) (test : RecordShape → ℕ)
       (is : insideThen (memOf g xs) k (ifRoot i (ifRecord (observe (memOf g xs) .shape k i) test)) ≡ refusal (observe (memOf g xs)) c) where
     pub refused-at : (n ≡ 0 → ⊥) → Promise c g xs (Refused n) xs
     unfolding insideThen
@@ -88,7 +89,7 @@ module _ (g : Geometry) (xs : List ℕ) (k i j n : ℕ) (s : n ≡ insideThen (m
       let q = root-ok i _ (p .3) in
       (p .0, q .0, root-ok j _ (q .1) .0)
 
-  module _ (c : Call) (e : wrongSize g (length xs) ≡ false) (r : ℕ) (test : ℕ × ℕ → ℕ)
+  module _ (c : Call) (e : wrongSize g (length xs) ≡ false) (r : ℕ) (test : RecordShape → ℕ)
       (is : insideThen (memOf g xs) k (ifRoot i (ifRoot j (ifRecord (observe (memOf g xs) .shape k r) test))) ≡ refusal (observe (memOf g xs)) c) where
     pub refused-with : (n ≡ 0 → ⊥) → Promise c g xs (Refused n) xs
     unfolding insideThen

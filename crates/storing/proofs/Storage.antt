@@ -18,7 +18,7 @@ use Rattle.model.specs.declared.Answer.the-variants.{Ok, Refused}
 use Rattle.model.specs.declared.Duty.{Duty}
 use Rattle.model.specs.Rules.{phaseOf, dutyOf}
 use Rattle.model.specs.Fields.{phase, acks}
-use Rattle.model.specs.Records.{record?, pointers, pointer}
+use Rattle.model.specs.Records.{record?, pointerCount, pointer}
 use Rattle.model.specs.Tracing.{barrier}
 use Rattle.model.specs.Calls.{act}
 use Rattle.model.specs.Consistent.{RecordOk, Consistent}
@@ -28,9 +28,9 @@ use Rattle.laws.proofs.Rooted.{rooted, live-root}
 use Rattle.laws.proofs.Reaching.{Names, Reaches}
 use Rattle.roots.specs.Inside.{insideThen}
 use Rattle.roots.proofs.Inside.{refused-with, reaches-with}
-use Rattle.records.specs.declared.Place.the-variants.{At}
-use Rattle.records.specs.Places.{pointerPlace}
-use Rattle.records.proofs.Found.{Stands, pointer-stands}
+use Rattle.records.specs.declared.FieldAt.the-variants.{Word}
+use Rattle.records.specs.FieldWords.{pointerAt}
+use Rattle.records.proofs.Found.{FieldFound, pointer-found}
 use Rattle.records.proofs.Reaching.{pointer-0}
 use Rattle.tracing.specs.Pushing.{BarrierRuns, ruleOf}
 use Rattle.tracing.proofs.Succeeds.{push-succeeds, push-succeeds-next}
@@ -85,7 +85,7 @@ module _ (g : Geometry) (xs : List ℕ) (k i f j at : ℕ) (q : Reaches (c-store
   unfolding act
   acts = rw (w .word) refl
 
-  module _ (c : Consistent g m) (h : f < pointers m at) where
+  module _ (c : Consistent g m) (h : f < pointerCount m at) where
     new-ok : (x : ℕ) → fields.root m k j ≡ suc x → RecordOk g m x
     new-ok x e = rooted m k j x (q .known) l (q .attached) e g c
 
@@ -101,13 +101,13 @@ module _ (g : Geometry) (xs : List ℕ) (k i f j at : ℕ) (q : Reaches (c-store
         let lq : length (m .queued) ≡ g .segments * markWords g = length-region g xs Region.queued (z .is) (omega arith) in
         push-succeeds-next g m c (omega arith) lq (fields.root m k j) (pointer m at f) new-ok old-ok x
 
-  pub store-by : (p v : ℕ) (r : Answer) (ys : List ℕ) → At p ≡ pointerPlace g m at f → v ≡ fields.root m k j → Stores g m k p v r (memOf g ys) → Promise (c-store k i f j) g xs r ys
+  pub store-by : (p v : ℕ) (r : Answer) (ys : List ℕ) → Word p ≡ pointerAt g m at f → v ≡ fields.root m k j → Stores g m k p v r (memOf g ys) → Promise (c-store k i f j) g xs r ys
   store-by p v r ys a e s =
-      let t = pointer-stands g m at f p a in
+      let t = pointer-found g m at f p a in
       go t (subst (λ y. ((r ≡ Ok) × (memOf g ys ≡ stored g m k y (fields.root m k j))) ⊎ ((r ≡ Refused 13) × Hinders g m (fields.root m k j) (heapWord m y))) (t .is)
       (subst (λ y. ((r ≡ Ok) × (memOf g ys ≡ stored g m k p y)) ⊎ ((r ≡ Refused 13) × Hinders g m y (heapWord m p))) e (s .either)))
     where
-      go : Stands g at (pointers m at) f (at + 1 + f) p
+      go : FieldFound g at (pointerCount m at) f (at + 1 + f) p
           → ((r ≡ Ok) × (memOf g ys ≡ stored g m k (at + 1 + f) (fields.root m k j))) ⊎ ((r ≡ Refused 13) × Hinders g m (fields.root m k j) (heapWord m (at + 1 + f)))
           → Promise (c-store k i f j) g xs r ys
       go t (inl (u, y)) =

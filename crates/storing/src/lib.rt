@@ -4,7 +4,7 @@ use layout::Geometry;
 use model::Answer;
 use model::Held;
 use model::Phase;
-use records::Place;
+use records::FieldAt;
 ghost use mathlib.Core.Path.{_≡_};
 ghost use Prim.Native.Nat.{_<_};
 ghost use lib.ListN.{length};
@@ -16,9 +16,9 @@ ghost use Rattle.storing.specs.Stored.{Stores};
 ghost use Rattle.layout.specs.Region as Region;
 
 // A word of the heap gets a value, after the barrier of mutator k.
-fn store_at(g: Geometry, mem: &mut [u32], k: u32, place: usize, new: u32) -> Answer
-    requires { ⌜ (Sized g (length (now mem))) × (k < mutatorCount) × (place < len g Region.heap) ⌝ }
-    ensures { λ r. ⌜ Stores g (memOf g (now (mem .entry))) k place new r (memOf g (now (mem .exit))) ⌝ }
+fn store_at(g: Geometry, mem: &mut [u32], k: u32, word: usize, new: u32) -> Answer
+    requires { ⌜ (Sized g (length (now mem))) × (k < mutatorCount) × (word < len g Region.heap) ⌝ }
+    ensures { λ r. ⌜ Stores g (memOf g (now (mem .entry))) k word new r (memOf g (now (mem .exit))) ⌝ }
 {
     let phase = Phase {
         number: layout::control(g, mem, 0),
@@ -28,9 +28,9 @@ fn store_at(g: Geometry, mem: &mut [u32], k: u32, place: usize, new: u32) -> Ans
         mem,
         k as usize * layout::MUTATOR_WORDS + layout::ACKS_AT,
     ));
-    let old = layout::word(g, mem, place);
+    let old = records::field(g, mem, word);
     if tracing::barrier(g, mem, duty, new, old) {
-        layout::set_word(g, mem, place, new);
+        records::set_field(g, mem, word, new);
         return Answer::Ok;
     }
     Answer::Refused(13)
@@ -51,11 +51,11 @@ pub fn store(g: Geometry, mem: &mut [u32], k: u32, i: u32, f: u32, j: u32) -> An
     let Held::Record(at) = slot else {
         return Answer::Refused(7);
     };
-    match records::pointer_place(g, mem, at, f) {
-        Place::Refused(n) => Answer::Refused(n),
-        Place::At(place) => {
+    match records::pointer_at(g, mem, at, f) {
+        FieldAt::Refused(n) => Answer::Refused(n),
+        FieldAt::Word(word) => {
             let new = roots::root(g, mem, k, j);
-            store_at(g, mem, k, place, new)
+            store_at(g, mem, k, word, new)
         }
     }
 }

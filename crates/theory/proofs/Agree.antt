@@ -27,9 +27,9 @@ pub record Agree (segmentOf : ℕ → ℕ) (st st′ : State) : Type 0 where
   pub marked : Tracing (st .phase) → (b : ℕ) → Live st b → st′ .marked b ≡ st .marked b
   pub condemnedMarks : (b : ℕ) → st .condemned (segmentOf b) ≡ true → st′ .marked b ≡ st .marked b
   pub condemned : (g : ℕ) → st′ .condemned g ≡ st .condemned g
-  pub pointers : (b : ℕ) → Live st b → st′ .pointers b ≡ st .pointers b
+  pub pointerCount : (b : ℕ) → Live st b → st′ .pointerCount b ≡ st .pointerCount b
   pub values : (b : ℕ) → Live st b → st′ .values b ≡ st .values b
-  pub pointer : (b f : ℕ) → Live st b → f < st .pointers b → st′ .pointer b f ≡ st .pointer b f
+  pub pointer : (b f : ℕ) → Live st b → f < st .pointerCount b → st′ .pointer b f ≡ st .pointer b f
   pub used : (b : ℕ) → Live st b → st′ .used b ≡ st .used b
 
 module _ (segmentOf : ℕ → ℕ) (st st′ : State) (a : Agree segmentOf st st′) where
@@ -40,10 +40,10 @@ module _ (segmentOf : ℕ → ℕ) (st st′ : State) (a : Agree segmentOf st st
   holds-on i b h = (h .0, a .attached i ∙ h .1, h .2, a .root i (h .0) (h .1) (h .2) ∙ h .3)
 
   edge-back : (x y : ℕ) → Live st x → Points st′ x y → Points st x y
-  edge-back x y p e = let l : e .0 < st .pointers x = subst (λ z. e .0 < z) (a .pointers x p) (e .1) in (e .0, l, sym (a .pointer x (e .0) p l) ∙ e .2)
+  edge-back x y p e = let l : e .0 < st .pointerCount x = subst (λ z. e .0 < z) (a .pointerCount x p) (e .1) in (e .0, l, sym (a .pointer x (e .0) p l) ∙ e .2)
 
   edge-on : (x y : ℕ) → Live st x → Points st x y → Points st′ x y
-  edge-on x y p e = (e .0, subst (λ z. e .0 < z) (sym (a .pointers x p)) (e .1), a .pointer x (e .0) p (e .1) ∙ e .2)
+  edge-on x y p e = (e .0, subst (λ z. e .0 < z) (sym (a .pointerCount x p)) (e .1), a .pointer x (e .0) p (e .1) ∙ e .2)
 
   pub live-back : {b : ℕ} → Live st′ b → Live st b
   live-back p = reach-ind (Live st) r (λ x y q h e. next h (edge-back x y h e)) p
@@ -97,9 +97,9 @@ module _ (segmentOf : ℕ → ℕ) (st st′ : State) (a : Agree segmentOf st st
     rec = λ b h. let p = live-back h in let c = s .rec b p in record {
       id = c .id;
       is = c .is;
-      pointers = a .pointers b p ∙ c .pointers;
+      pointerCount = a .pointerCount b p ∙ c .pointerCount;
       values = a .values b p ∙ c .values;
-      pointer = λ f l. let l′ : f < st .pointers b = subst (λ z. f < z) (a .pointers b p) l in rw (a .pointer b f p l′) (c .pointer f l′);
+      pointer = λ f l. let l′ : f < st .pointerCount b = subst (λ z. f < z) (a .pointerCount b p) l in rw (a .pointer b f p l′) (c .pointer f l′);
     };
     inj = s .inj;
     old = s .old;
@@ -125,8 +125,8 @@ module _ (segmentOf : ℕ → ℕ) (st st′ : State) (a : Agree segmentOf st st
     marked = λ t x h. b .marked (subst Tracing (sym (a .phase)) t) x (live-on h) ∙ a .marked t x h;
     condemnedMarks = λ x d. b .condemnedMarks x (a .condemned (segmentOf x) ∙ d) ∙ a .condemnedMarks x d;
     condemned = λ x. b .condemned x ∙ a .condemned x;
-    pointers = λ x h. b .pointers x (live-on h) ∙ a .pointers x h;
+    pointerCount = λ x h. b .pointerCount x (live-on h) ∙ a .pointerCount x h;
     values = λ x h. b .values x (live-on h) ∙ a .values x h;
-    pointer = λ x f h l. b .pointer x f (live-on h) (subst (λ z. f < z) (sym (a .pointers x h)) l) ∙ a .pointer x f h l;
+    pointer = λ x f h l. b .pointer x f (live-on h) (subst (λ z. f < z) (sym (a .pointerCount x h)) l) ∙ a .pointer x f h l;
     used = λ x h. b .used x (live-on h) ∙ a .used x h;
   }

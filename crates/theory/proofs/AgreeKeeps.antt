@@ -26,7 +26,7 @@ module _ (segmentOf : ℕ → ℕ) (st st′ : State) (a : Agree segmentOf st st
     marked = λ t x h. a .marked t x (back x h);
     condemnedMarks = a .condemnedMarks;
     condemned = a .condemned;
-    pointers = λ x h. a .pointers x (back x h);
+    pointerCount = λ x h. a .pointerCount x (back x h);
     values = λ x h. a .values x (back x h);
     pointer = λ x f h. a .pointer x f (back x h);
     used = λ x h. a .used x (back x h);
@@ -43,7 +43,7 @@ module _ (segmentOf : ℕ → ℕ) (st st′ : State) (a : Agree segmentOf st st
     marked = a .marked;
     condemnedMarks = a .condemnedMarks;
     condemned = a .condemned;
-    pointers = a .pointers;
+    pointerCount = a .pointerCount;
     values = a .values;
     pointer = a .pointer;
     used = a .used;

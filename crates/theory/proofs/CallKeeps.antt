@@ -25,6 +25,7 @@ use Rattle.theory.specs.Phases.{Phase, idle, sync1, sync2, mark, sweep, 
 use Rattle.theory.specs.Reach.{root, next}
 use Rattle.theory.specs.Unbounded.{Unbounded, puts, uAttach, uSetInside, uSetValues, ushapeAt, uobserve, uact}
 use Rattle.theory.specs.Update.{upd}
+use Rattle.classes.specs.Record.{ofCounts}
 use Rattle.layout.specs.Geometry.{rootCount, mutatorCount}
 
 -- ---- both sides show the same face
@@ -37,7 +38,7 @@ module _ (put : ℕ → Option ℕ) (st : State) (un : Unbounded) (s : Simulates
   shape-eq (some b) (some r) c l =
       let q = s .rec b (l b refl) in
       let e : q .id ≡ r = (let z : put b ≡ some r = cc in Option·some-injective (q .id) r (sym (q .is) ∙ z)) in
-      ap some (λ i. ((q .pointers ∙ ap (un .pointers) e) i, length ((q .values ∙ ap (un .values) e) i)))
+      ap some (λ i. ofCounts ((q .pointerCount ∙ ap (un .pointerCount) e) i) (length ((q .values ∙ ap (un .values) e) i)))
 
   sh-eq : (i k : ℕ) → observe st .shape i k ≡ uobserve un .shape i k
   sh-eq i k = go (st .attached i) (un .attached i) (ltb k rootCount) refl (s .attached i) refl
@@ -132,7 +133,7 @@ module _ (segmentOf : ℕ → ℕ) (block : ℕ) (P : ℕ → Type 0) (put : ℕ
       let c = root-ok s _ (b .1) in
       onRecord-ok (st .root i s) (un .root i s) (same-at i s (a .1) (c .0)) _ _ (λ x r p q u.
       let h : Holds st i x = (s, a .1, c .0, p) in
-      let l : f < st .pointers x = ltb-true f (st .pointers x) (require-ok _ 8 0 (omega arith) (shape-ok (st .attached i) (ltb s rootCount) (st .root i s) (shapeAt st) (pointer? f) x (a .1) (lt-ltb _ _ (c .0)) p (c .1)) .0) in
+      let l : f < st .pointerCount x = ltb-true f (st .pointerCount x) (require-ok _ 8 0 (omega arith) (shape-ok (st .attached i) (ltb s rootCount) (st .root i s) (shapeAt st) (pointer? f) x (a .1) (lt-ltb _ _ (c .0)) p (c .1)) .0) in
       let v : Same put (st .pointer x f) (un .pointer r f) = subst (λ z. Same put (st .pointer x f) (un .pointer z f)) (same-id x r (root (inl (i, h))) u) (o .sim .rec x (root (inl (i, h))) .pointer f l) in
       (record { same = refl; ok = record { inv = load-inv segmentOf st (o .inv) i d x f h l; sim = root-sim segmentOf put st un (o .inv) (o .sim) i d (st .pointer x f) (un .pointer r f) v (λ b k. next (root (i, h)) (f, l, k)); few = o .few; comp = root-comp segmentOf P st (o .inv) (o .comp) i d (st .pointer x f) (λ b k. next (root (i, h)) (f, l, k)) } }))
 
@@ -143,7 +144,7 @@ module _ (segmentOf : ℕ → ℕ) (block : ℕ) (P : ℕ → Type 0) (put : ℕ
       let c = root-ok t _ (b .1) in
       onRecord-ok (st .root i s) (un .root i s) (same-at i s (a .1) (b .0)) _ _ (λ x r p q u.
       let h : Holds st i x = (s, a .1, b .0, p) in
-      let l : f < st .pointers x = ltb-true f (st .pointers x) (require-ok _ 8 0 (omega arith) (shape-ok (st .attached i) (ltb s rootCount) (st .root i s) (shapeAt st) (pointer? f) x (a .1) (lt-ltb _ _ (b .0)) p (c .1)) .0) in
+      let l : f < st .pointerCount x = ltb-true f (st .pointerCount x) (require-ok _ 8 0 (omega arith) (shape-ok (st .attached i) (ltb s rootCount) (st .root i s) (shapeAt st) (pointer? f) x (a .1) (lt-ltb _ _ (b .0)) p (c .1)) .0) in
       let n : (y : ℕ) → st .root i t ≡ some y → Holds st i y = (λ y k. (t, a .1, c .0, k)) in
       (record { same = refl; ok = record { inv = store-inv segmentOf st (o .inv) i x f (st .root i t) h l n; sim = store-sim segmentOf put st un (o .inv) (o .sim) i x f r (st .root i t) (un .root i t) h l n u (same-at i t (a .1) (c .0)); few = o .few; comp = store-comp segmentOf P st (o .inv) (o .comp) i x f (st .root i t) h l n } }))
 
@@ -171,7 +172,7 @@ module _ (segmentOf : ℕ → ℕ) (block : ℕ) (P : ℕ → Type 0) (put : ℕ
       onRecord-ok (st .root i s) (un .root i s) (same-at i s (a .1) (b .0)) _ _ (λ x r p q u.
       let h : Live st x = root (inl (i, (s, a .1, b .0, p))) in
       let n : st .values x ≡ un .values r = o .sim .rec x h .values ∙ ap (un .values) (same-id x r h u) in
-      let m : st .pointers x ≡ un .pointers r = o .sim .rec x h .pointers ∙ ap (un .pointers) (same-id x r h u) in
+      let m : st .pointerCount x ≡ un .pointerCount r = o .sim .rec x h .pointerCount ∙ ap (un .pointerCount) (same-id x r h u) in
       stay _ _ cc)
 
   act-same : (i s t : ℕ) → refusal (observe st) (c-same i s t) ≡ 0 → Alike segmentOf P put (act block st (c-same i s t)) (uact un (c-same i s t))

@@ -36,7 +36,7 @@ module _ (segmentOf : ℕ → ℕ) (P : ℕ → Type 0) (st : State) (inv : Inv 
   pub root-comp : (i k : ℕ) (v : Option ℕ) → ((b : ℕ) → v ≡ some b → Reached st b) → Complete segmentOf P (setRoot st i k v)
   root-comp i k v h = same-comp _ (λ b p. root-live segmentOf st inv i k v h p) (λ b. refl) (λ g. refl)
 
-  pub store-comp : (i a f : ℕ) (new : Option ℕ) → Holds st i a → f < st .pointers a → ((b : ℕ) → new ≡ some b → Holds st i b) → Complete segmentOf P (store st i a f new)
+  pub store-comp : (i a f : ℕ) (new : Option ℕ) → Holds st i a → f < st .pointerCount a → ((b : ℕ) → new ≡ some b → Holds st i b) → Complete segmentOf P (store st i a f new)
   store-comp i a f new ha hf hn = same-comp _ (λ b p. Store.live-back segmentOf st inv i a f new ha hf hn p) (λ b. refl) (λ g. refl)
 
   pub values-comp : (a : ℕ) (z : List ℕ) → Complete segmentOf P (setValues st a z)

@@ -206,10 +206,10 @@ module _ (segmentOf : ℕ → ℕ) (st : State) (inv : Inv segmentOf st) (b : �
   rest-stack = record { white = λ x h. upd-other (st .marked) b true x (rest-other x h) ∙ inv .stack .white x (grey-rest x h); nodup = (subst Nodup hl (inv .stack .nodup)) .1 }
 
   child-in : (y : ℕ) → Points st b y → In (after .marked) (after .stack) y
-  child-in y e = pushes-did (after .marked) (tab (st .pointers b) (st .pointer b)) l y (Memᴰ·cast (sym (e .2)) (tab-mem (st .pointers b) (st .pointer b) (e .0) (e .1)))
+  child-in y e = pushes-did (after .marked) (tab (st .pointerCount b) (st .pointer b)) l y (Memᴰ·cast (sym (e .2)) (tab-mem (st .pointerCount b) (st .pointer b) (e .0) (e .1)))
 
   pub grey-back : (x : ℕ) → Grey after x → Live st x
-  grey-back x g = ⊎-elim (λ h. root (inr (grey-rest x h))) (λ h. next (root (inr grey-top)) (tab-inv (st .pointers b) (st .pointer b) h)) (pushes-inv (after .marked) (tab (st .pointers b) (st .pointer b)) l g)
+  grey-back x g = ⊎-elim (λ h. root (inr (grey-rest x h))) (λ h. next (root (inr grey-top)) (tab-inv (st .pointerCount b) (st .pointer b) h)) (pushes-inv (after .marked) (tab (st .pointerCount b) (st .pointer b)) l g)
 
   pub live-back : {x : ℕ} → Live after x → Live st x
   live-back p = reach-map (λ x h. ⊎-elim (λ (r : Root st x). root (inl r)) (grey-back x) h) (λ x y q e. inl e) p
@@ -222,13 +222,13 @@ module _ (segmentOf : ℕ → ℕ) (st : State) (inv : Inv segmentOf st) (b : �
 
   trace-safe : (x : ℕ) → Covered st x → Covered after x
   trace-safe x h = safe-map mark-mono
-      (λ x g. ⊎-elim (λ q. inl (ap (after .marked) q ∙ upd-same (st .marked) b true)) (λ h. inr (root (pushes-keep (after .marked) (tab (st .pointers b) (st .pointer b)) l h))) (grey-cases x g))
+      (λ x g. ⊎-elim (λ q. inl (ap (after .marked) q ∙ upd-same (st .marked) b true)) (λ h. inr (root (pushes-keep (after .marked) (tab (st .pointerCount b) (st .pointer b)) l h))) (grey-cases x g))
       (λ x y p w e. ⊎-elim (λ q. inr (child-safe x y (q .0) e)) (λ q. inl (q .1 ∙ w, e)) (upd-cases (st .marked) b true x)) h
 
   pub trace-inv : Inv segmentOf after
   trace-inv = record {
     valid = λ x p. inv .valid x (live-back p);
-    stack = pushes-stack (after .marked) (tab (st .pointers b) (st .pointer b)) l rest-stack;
+    stack = pushes-stack (after .marked) (tab (st .pointerCount b) (st .pointer b)) l rest-stack;
     quiet = λ q. absurd (subst Quiet hp q);
     blank = λ e. absurd (omega (arith, ap phaseNo (sym hp ∙ e)));
     first = inv .first;

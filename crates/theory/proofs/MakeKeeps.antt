@@ -36,16 +36,16 @@ module _ (segmentOf : ℕ → ℕ) (st : State) (inv : Inv segmentOf st) (i d b 
       go (inr q) = inl (h .0, h .1, h .2, sym q ∙ h .3)
 
   pub edge-back : (x y : ℕ) → Points after x y → (x ≢ b) × Points st x y
-  edge-back x y e = go (upd-cases (st .pointer) b (λ _. none) x) (upd-cases (st .pointers) b n x)
+  edge-back x y e = go (upd-cases (st .pointer) b (λ _. none) x) (upd-cases (st .pointerCount) b n x)
     where
       go : ((x ≡ b) × (after .pointer x ≡ (λ _. none))) ⊎ ((x ≢ b) × (after .pointer x ≡ st .pointer x))
-          → ((x ≡ b) × (after .pointers x ≡ n)) ⊎ ((x ≢ b) × (after .pointers x ≡ st .pointers x)) → (x ≢ b) × Points st x y
+          → ((x ≡ b) × (after .pointerCount x ≡ n)) ⊎ ((x ≢ b) × (after .pointerCount x ≡ st .pointerCount x)) → (x ≢ b) × Points st x y
       go (inl q) w = none-some (sym (ap (λ (g : ℕ → Option ℕ). g (e .0)) (q .1)) ∙ e .2)
       go (inr q) (inl w) = absurd (q .0 (w .0))
       go (inr q) (inr w) = (q .0, (e .0, subst (λ z. e .0 < z) (w .1) (e .1), sym (ap (λ (g : ℕ → Option ℕ). g (e .0)) (q .1)) ∙ e .2))
 
   pub edge-on : (x y : ℕ) → x ≢ b → Points st x y → Points after x y
-  edge-on x y k e = (e .0, subst (λ z. e .0 < z) (sym (upd-other (st .pointers) b n x k)) (e .1), ap (λ (g : ℕ → Option ℕ). g (e .0)) (upd-other (st .pointer) b (λ _. none) x k) ∙ e .2)
+  edge-on x y k e = (e .0, subst (λ z. e .0 < z) (sym (upd-other (st .pointerCount) b n x k)) (e .1), ap (λ (g : ℕ → Option ℕ). g (e .0)) (upd-other (st .pointer) b (λ _. none) x k) ∙ e .2)
 
   pub reached-back : {x : ℕ} → Reached after x → Reached st x ⊎ (x ≡ b)
   reached-back p = reach-ind (λ x. Reached st x ⊎ (x ≡ b)) (λ x h. ⊎-elim (λ q. inl (root (h .0, q))) (λ q. inr (q .1)) (make-holds (h .0) x (h .1)))

@@ -6,6 +6,7 @@ use Prim.Native.Nat.{ℕ, _<_}
 use native.Mathlib.Omega.{arith}
 use lib.Dec.{ltb}
 use borrow.Author.Tests.{lt-ltb, ltb-true}
+use Rattle.classes.specs.declared.RecordShape.{RecordShape}
 use Rattle.theory.specs.Calls.{Observation, shapeIf, require, ifRecord, ifInside, ifRoot}
 use Rattle.layout.specs.Geometry.{rootCount, mutatorCount}
 
@@ -26,7 +27,7 @@ by-ok F i k e =
 pub root-ok : (d k : ℕ) → ifRoot d k ≡ 0 → (d < rootCount) × (k ≡ 0)
 root-ok d k e = let a = require-ok (ltb d rootCount) 6 k (omega arith) e in (ltb-true _ _ (a .0), a .1)
 
-pub shape-ok : (b c : Bool) (v : Option ℕ) (g : ℕ → ℕ × ℕ) (k : ℕ × ℕ → ℕ) (a : ℕ) → b ≡ true → c ≡ true → v ≡ some a → ifRecord (shapeIf b c (Option·map g v)) k ≡ 0 → k (g a) ≡ 0
+pub shape-ok : (b c : Bool) (v : Option ℕ) (g : ℕ → RecordShape) (k : RecordShape → ℕ) (a : ℕ) → b ≡ true → c ≡ true → v ≡ some a → ifRecord (shapeIf b c (Option·map g v)) k ≡ 0 → k (g a) ≡ 0
 unfolding ifRecord
 shape-ok b c v g k a p q e h = rw (p, q, e) at h
 

@@ -27,9 +27,9 @@ Same put v w = Option·map put v ≡ Option·map some w
 pub record SameRecord (put : ℕ → Option ℕ) (st : State) (un : Unbounded) (b : ℕ) : Type 0 where
   pub id : ℕ
   pub is : put b ≡ some id
-  pub pointers : st .pointers b ≡ un .pointers id
+  pub pointerCount : st .pointerCount b ≡ un .pointerCount id
   pub values : st .values b ≡ un .values id
-  pub pointer : (f : ℕ) → f < st .pointers b → Same put (st .pointer b f) (un .pointer id f)
+  pub pointer : (f : ℕ) → f < st .pointerCount b → Same put (st .pointer b f) (un .pointer id f)
 
 pub record Simulates (put : ℕ → Option ℕ) (st : State) (un : Unbounded) : Type 0 where
   pub attached : (i : ℕ) → st .attached i ≡ un .attached i
@@ -82,7 +82,7 @@ module _ (put : ℕ → Option ℕ) (st : State) (un : Unbounded) (s : Simulates
       let c = s .rec x l in
       let v = same-some put (st .pointer x (d .0)) (un .pointer (c .id) (d .0)) y (c .pointer (d .0) (d .1)) (d .2) in
       let q : c .id ≡ r = Option·some-injective (c .id) r (sym (c .is) ∙ e) in
-      (v .0, v .2, (d .0, subst (λ z. d .0 < un .pointers z) q (subst (λ z. d .0 < z) (c .pointers) (d .1)), ap (λ z. un .pointer z (d .0)) (sym q) ∙ v .1))
+      (v .0, v .2, (d .0, subst (λ z. d .0 < un .pointerCount z) q (subst (λ z. d .0 < z) (c .pointerCount) (d .1)), ap (λ z. un .pointer z (d .0)) (sym q) ∙ v .1))
 
   pub reach-up : {b : ℕ} → Reached st b → (r : ℕ) × (put b ≡ some r) × UReached un r
   reach-up p = reach-ind (λ b. (r : ℕ) × (put b ≡ some r) × UReached un r) (λ b h. root-up (h .0) b (h .1)) step p
@@ -101,7 +101,7 @@ module _ (put : ℕ → Option ℕ) (st : State) (un : Unbounded) (s : Simulates
       step x y q h e =
           let c = s .rec (h .0) (reached-live st (h .2)) in
           let k : c .id ≡ x = Option·some-injective (c .id) x (sym (c .is) ∙ h .1) in
-          let l : e .0 < st .pointers (h .0) = subst (λ z. e .0 < z) (sym (c .pointers)) (subst (λ z. e .0 < un .pointers z) (sym k) (e .1)) in
+          let l : e .0 < st .pointerCount (h .0) = subst (λ z. e .0 < z) (sym (c .pointerCount)) (subst (λ z. e .0 < un .pointerCount z) (sym k) (e .1)) in
           let v = same-back put (st .pointer (h .0) (e .0)) (un .pointer (c .id) (e .0)) y (c .pointer (e .0) l) (ap (λ z. un .pointer z (e .0)) k ∙ e .2) in
           (v .0, v .2, next (h .2) (e .0, l, v .1))
 
@@ -109,7 +109,7 @@ module _ (put : ℕ → Option ℕ) (st : State) (un : Unbounded) (s : Simulates
 
 -- whatever leaves roots and pointers alone, and makes nothing live
 abbrev pub gc : State → (ℕ → Bool) → (ℕ → Bool) → (ℕ → Bool) → List ℕ → (ℕ → ℕ) → Phase → State
-gc st u d m l a p = record { pointers = st .pointers; values = st .values; pointer = st .pointer; used = u; condemned = d; marked = m; stack = l; attached = st .attached; inside = st .inside; acks = a; root = st .root; phase = p }
+gc st u d m l a p = record { pointerCount = st .pointerCount; values = st .values; pointer = st .pointer; used = u; condemned = d; marked = m; stack = l; attached = st .attached; inside = st .inside; acks = a; root = st .root; phase = p }
 
 pub gc-sim : (put : ℕ → Option ℕ) (st : State) (un : Unbounded) (s : Simulates put st un) (u d m : ℕ → Bool) (l : List ℕ) (a : ℕ → ℕ) (p : Phase)
     → ((b : ℕ) → Live (gc st u d m l a p) b → Live st b) → Simulates put (gc st u d m l a p) un
@@ -117,7 +117,7 @@ gc-sim put st un s u d m l a p back = record {
   attached = s .attached;
   inside = s .inside;
   root = s .root;
-  rec = λ b h. let c = s .rec b (back b h) in record { id = c .id; is = c .is; pointers = c .pointers; values = c .values; pointer = c .pointer };
+  rec = λ b h. let c = s .rec b (back b h) in record { id = c .id; is = c .is; pointerCount = c .pointerCount; values = c .values; pointer = c .pointer };
   inj = s .inj;
   old = s .old;
 }
@@ -128,7 +128,7 @@ module _ (segmentOf : ℕ → ℕ) (put : ℕ → Option ℕ) (st : State) (un :
     attached = s .attached;
     inside = s .inside;
     root = λ j n o l. upd2-rel (Same put) (st .root) (un .root) i k v w j n c (s .root j n o l);
-    rec = λ b h. let c = s .rec b (back b h) in record { id = c .id; is = c .is; pointers = c .pointers; values = c .values; pointer = c .pointer };
+    rec = λ b h. let c = s .rec b (back b h) in record { id = c .id; is = c .is; pointerCount = c .pointerCount; values = c .values; pointer = c .pointer };
     inj = s .inj;
     old = s .old;
   }
@@ -136,7 +136,7 @@ module _ (segmentOf : ℕ → ℕ) (put : ℕ → Option ℕ) (st : State) (un :
       back : (b : ℕ) → Live (setRoot st i k v) b → Live st b
       back b h = root-live segmentOf st inv i k v r h
 
-  pub store-sim : (i a f r : ℕ) (new w : Option ℕ) → Holds st i a → f < st .pointers a → ((b : ℕ) → new ≡ some b → Holds st i b) → put a ≡ some r → Same put new w → Simulates put (store st i a f new) (uStore un r f w)
+  pub store-sim : (i a f r : ℕ) (new w : Option ℕ) → Holds st i a → f < st .pointerCount a → ((b : ℕ) → new ≡ some b → Holds st i b) → put a ≡ some r → Same put new w → Simulates put (store st i a f new) (uStore un r f w)
   store-sim i a f r new w ha hf hn e c = record {
     attached = s .attached;
     inside = s .inside;
@@ -146,7 +146,7 @@ module _ (segmentOf : ℕ → ℕ) (put : ℕ → Option ℕ) (st : State) (un :
     old = s .old;
   }
     where
-      lnk′ : (b : ℕ) (q : SameRecord put st un b) (g : ℕ) → g < st .pointers b → Dec (b ≡ a) → Same put (upd2 (st .pointer) a f new b g) (upd2 (un .pointer) r f w (q .id) g)
+      lnk′ : (b : ℕ) (q : SameRecord put st un b) (g : ℕ) → g < st .pointerCount b → Dec (b ≡ a) → Same put (upd2 (st .pointer) a f new b g) (upd2 (un .pointer) r f w (q .id) g)
       lnk′ b q g l (yes k) =
           let d : q .id ≡ r = Option·some-injective (q .id) r (sym (q .is) ∙ ap put k ∙ e) in
           rw (upd-hit₁ (st .pointer) a (upd (st .pointer a) f new) b g k, upd-hit₁ (un .pointer) r (upd (un .pointer r) f w) (q .id) g d)
@@ -156,7 +156,7 @@ module _ (segmentOf : ℕ → ℕ) (put : ℕ → Option ℕ) (st : State) (un :
           (q .pointer g l)
 
       rec′ : (b : ℕ) → Live (store st i a f new) b → SameRecord put (store st i a f new) (uStore un r f w) b
-      rec′ b h = let q = s .rec b (Store.live-back segmentOf st inv i a f new ha hf hn h) in record { id = q .id; is = q .is; pointers = q .pointers; values = q .values; pointer = λ g l. lnk′ b q g l (ℕ-discrete b a) }
+      rec′ b h = let q = s .rec b (Store.live-back segmentOf st inv i a f new ha hf hn h) in record { id = q .id; is = q .is; pointerCount = q .pointerCount; values = q .values; pointer = λ g l. lnk′ b q g l (ℕ-discrete b a) }
 
   -- the new record's number is the list's length
   pub make-sim : (i d b n : ℕ) (z : List ℕ) → st .used b ≡ false → st .condemned (segmentOf b) ≡ false → Simulates (upd put b (some (un .count))) (make st i d b n z) (uMake un i d n z)
@@ -192,7 +192,7 @@ module _ (segmentOf : ℕ → ℕ) (put : ℕ → Option ℕ) (st : State) (un :
       rec′ x (inr e) = record {
         id = un .count;
         is = upd-hit put b (some (un .count)) x e;
-        pointers = upd-hit (st .pointers) b n x e ∙ sym (upd-same (un .pointers) (un .count) n);
+        pointerCount = upd-hit (st .pointerCount) b n x e ∙ sym (upd-same (un .pointerCount) (un .count) n);
         values = upd-hit (st .values) b z x e ∙ sym (upd-same (un .values) (un .count) z);
         pointer = λ g l. rw (upd-hit₁ (st .pointer) b (λ _. none) x g e, upd-hit₁ (un .pointer) (un .count) (λ _. none) (un .count) g refl);
       }
@@ -203,9 +203,9 @@ module _ (segmentOf : ℕ → ℕ) (put : ℕ → Option ℕ) (st : State) (un :
           record {
             id = q .id;
             is = upd-other put b (some (un .count)) x nb ∙ q .is;
-            pointers = upd-other (st .pointers) b n x nb ∙ q .pointers ∙ sym (upd-other (un .pointers) (un .count) n (q .id) nr);
+            pointerCount = upd-other (st .pointerCount) b n x nb ∙ q .pointerCount ∙ sym (upd-other (un .pointerCount) (un .count) n (q .id) nr);
             values = upd-other (st .values) b z x nb ∙ q .values ∙ sym (upd-other (un .values) (un .count) z (q .id) nr);
-            pointer = λ g l. let l′ : g < st .pointers x = subst (λ z. g < z) (upd-other (st .pointers) b n x nb) l in
+            pointer = λ g l. let l′ : g < st .pointerCount x = subst (λ z. g < z) (upd-other (st .pointerCount) b n x nb) l in
                 rw (upd-miss₁ (st .pointer) b (λ _. none) x g nb, upd-miss₁ (un .pointer) (un .count) (λ _. none) (q .id) g nr) (lift (st .pointer x g) (un .pointer (q .id) g) (λ c e. next h (g, l′, e)) (q .pointer g l′));
           }
 
@@ -214,7 +214,7 @@ module _ (segmentOf : ℕ → ℕ) (put : ℕ → Option ℕ) (st : State) (un :
     attached = λ j. upd-rel _≡_ (st .attached) (un .attached) i true true j refl (λ _. s .attached j);
     inside = λ j. upd-rel _≡_ (st .inside) (un .inside) i true true j refl (λ _. s .inside j);
     root = λ j k o l. upd-rel (λ (f g : ℕ → Option ℕ). Same put (f k) (g k)) (st .root) (un .root) i (upd (λ _. none) 0 v) (upd (λ _. none) 0 w) j (upd-rel (Same put) (λ _. none) (λ _. none) 0 v w k c (λ _. refl)) (λ m. s .root j k (sym (upd-other (st .attached) i true j m) ∙ o) l);
-    rec = λ b h. let c = s .rec b (attach-live segmentOf st inv i v hv n1 n2 h) in record { id = c .id; is = c .is; pointers = c .pointers; values = c .values; pointer = c .pointer };
+    rec = λ b h. let c = s .rec b (attach-live segmentOf st inv i v hv n1 n2 h) in record { id = c .id; is = c .is; pointerCount = c .pointerCount; values = c .values; pointer = c .pointer };
     inj = s .inj;
     old = s .old;
   }
@@ -224,7 +224,7 @@ module _ (segmentOf : ℕ → ℕ) (put : ℕ → Option ℕ) (st : State) (un :
     attached = λ j. upd-rel _≡_ (st .attached) (un .attached) i false false j refl (λ _. s .attached j);
     inside = λ j. upd-rel _≡_ (st .inside) (un .inside) i false false j refl (λ _. s .inside j);
     root = λ j k o l. upd-rel (λ (f g : ℕ → Option ℕ). Same put (f k) (g k)) (st .root) (un .root) i (λ _. none) (λ _. none) j refl (λ m. s .root j k (sym (upd-other (st .attached) i false j m) ∙ o) l);
-    rec = λ b h. let c = s .rec b (detach-live segmentOf st inv i h) in record { id = c .id; is = c .is; pointers = c .pointers; values = c .values; pointer = c .pointer };
+    rec = λ b h. let c = s .rec b (detach-live segmentOf st inv i h) in record { id = c .id; is = c .is; pointerCount = c .pointerCount; values = c .values; pointer = c .pointer };
     inj = s .inj;
     old = s .old;
   }
@@ -234,7 +234,7 @@ module _ (segmentOf : ℕ → ℕ) (put : ℕ → Option ℕ) (st : State) (un :
     attached = s .attached;
     inside = λ j. upd-rel _≡_ (st .inside) (un .inside) i v v j refl (λ _. s .inside j);
     root = s .root;
-    rec = λ b h. let c = s .rec b h in record { id = c .id; is = c .is; pointers = c .pointers; values = c .values; pointer = c .pointer };
+    rec = λ b h. let c = s .rec b h in record { id = c .id; is = c .is; pointerCount = c .pointerCount; values = c .values; pointer = c .pointer };
     inj = s .inj;
     old = s .old;
   }
@@ -248,4 +248,4 @@ module _ (segmentOf : ℕ → ℕ) (put : ℕ → Option ℕ) (st : State) (un :
       num b q (no k) = upd-other (st .values) a z b k ∙ q .values ∙ sym (upd-other (un .values) r z (q .id) (λ d. k (s .inj b a r (q .is ∙ ap some d) e)))
 
       rec′ : (b : ℕ) → Live st b → SameRecord put (setValues st a z) (uSetValues un r z) b
-      rec′ b h = let q = s .rec b h in record { id = q .id; is = q .is; pointers = q .pointers; values = num b q (ℕ-discrete b a); pointer = q .pointer }
+      rec′ b h = let q = s .rec b h in record { id = q .id; is = q .is; pointerCount = q .pointerCount; values = num b q (ℕ-discrete b a); pointer = q .pointer }

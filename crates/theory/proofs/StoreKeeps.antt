@@ -17,7 +17,7 @@ duty-sync2 zero h = absurd (omega arith)
 duty-sync2 (suc n) h = refl
 
 module _ (segmentOf : ℕ → ℕ) (st : State) (inv : Inv segmentOf st) (i a f : ℕ) (new : Option ℕ)
-    (ha : Holds st i a) (hf : f < st .pointers a) (hn : (b : ℕ) → new ≡ some b → Holds st i b) where
+    (ha : Holds st i a) (hf : f < st .pointerCount a) (hn : (b : ℕ) → new ≡ some b → Holds st i b) where
   abbrev after : State
   after = store st i a f new
 

@@ -5,6 +5,8 @@ use mathlib.Core.Option.{Option, none, some}
 use Prim.Native.Nat.{ℕ, zero, suc, _+_}
 use lib.Dec.{ltb, leb, eqb}
 use Rattle.classes.specs.Class.{maxFields}
+use Rattle.classes.specs.Record.{hasPointer, hasValue}
+use Rattle.classes.specs.declared.RecordShape.{RecordShape}
 use Rattle.layout.specs.Geometry.{mutatorCount, rootCount}
 
 -- document 01, "Scripts"
@@ -27,7 +29,7 @@ pub data Answer : Type 0 where
   a-ok a-moved a-traced a-done a-idle : Answer
   a-num : ℕ → Answer
   a-flag : Bool → Answer
-  a-shape : (pointers values : ℕ) → Answer
+  a-shape : RecordShape → Answer
   a-no : ℕ → Answer
   a-waiting : (mutators : ℕ) → Answer
   a-swept : (segment freed : ℕ) → Answer
@@ -36,7 +38,7 @@ pub data Answer : Type 0 where
 pub record Observation : Type 0 where
   pub attached : ℕ → Bool
   pub inside : ℕ → Bool
-  pub shape : ℕ → ℕ → Option (ℕ × ℕ)
+  pub shape : ℕ → ℕ → Option RecordShape
 
 -- the refusal n unless the test holds, and then what follows; 0 stands for none
 unfoldable pub require : Bool → ℕ → ℕ → ℕ
@@ -44,7 +46,7 @@ require true n rest = rest
 require false n rest = n
 
 -- "7, dark: nil in the slot whose record is wanted"
-unfoldable pub ifRecord : Option (ℕ × ℕ) → (ℕ × ℕ → ℕ) → ℕ
+unfoldable pub ifRecord : Option RecordShape → (RecordShape → ℕ) → ℕ
 ifRecord none rest = 7
 ifRecord (some shape) rest = rest shape
 
@@ -57,11 +59,11 @@ abbrev pub ifRoot : ℕ → ℕ → ℕ
 ifRoot k rest = require (ltb k rootCount) 6 rest
 
 -- "8, field: no such link or number"
-abbrev pub pointer? : ℕ → ℕ × ℕ → ℕ
-pointer? f shape = require (ltb f (shape .0)) 8 0
+abbrev pub pointer? : ℕ → RecordShape → ℕ
+pointer? f shape = require (hasPointer shape f) 8 0
 
-abbrev pub value? : ℕ → ℕ × ℕ → ℕ
-value? f shape = require (ltb f (shape .1)) 8 0
+abbrev pub value? : ℕ → RecordShape → ℕ
+value? f shape = require (hasValue shape f) 8 0
 
 -- the lowest of the numbers 2 to 9 that applies, and 0 where none does
 abbrev pub refusal : Observation → Call → ℕ
@@ -85,7 +87,7 @@ refusal F (c-same i s t) = ifInside F i (ifRoot s (ifRoot t 0))
 refusal F (c-shape i s) = ifInside F i (ifRoot s (ifRecord (F .shape i s) (λ _. 0)))
 
 -- the shape in a root of an attached mutator
-abbrev pub shapeIf : Bool → Bool → Option (ℕ × ℕ) → Option (ℕ × ℕ)
+abbrev pub shapeIf : Bool → Bool → Option RecordShape → Option RecordShape
 shapeIf true true o = o
 shapeIf true false o = none
 shapeIf false b o = none

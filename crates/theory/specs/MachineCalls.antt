@@ -11,12 +11,14 @@ use Rattle.theory.specs.Calls.{Call, Answer, Observation, shapeIf, onRec
 use Rattle.theory.specs.Phases.{Phase, idle, sync1, sync2, mark, sweep, inHandshake, owes}
 use Rattle.theory.specs.Reach.{root}
 use Rattle.rules.specs.Pick.{oneIf}
+use Rattle.classes.specs.Record.{ofCounts}
+use Rattle.classes.specs.declared.RecordShape.{RecordShape}
 use Rattle.layout.specs.Geometry.{rootCount, mutatorCount}
 
 -- ---- what it shows of itself, as the unbounded heap does
 
-abbrev pub shapeAt : State → ℕ → ℕ × ℕ
-shapeAt st b = (st .pointers b, length (st .values b))
+abbrev pub shapeAt : State → ℕ → RecordShape
+shapeAt st b = ofCounts (st .pointerCount b) (length (st .values b))
 
 abbrev pub observe : State → Observation
 observe st = record { attached = st .attached; inside = st .inside; shape = λ i k. shapeIf (st .attached i) (ltb k rootCount) (Option·map (shapeAt st) (st .root i k)) }
@@ -39,7 +41,7 @@ act b st (c-clear i d) = (a-ok, setRoot st i d none)
 act b st (c-put i s k v) = onRecord (st .root i s) st (λ a. (a-ok, setValues st a (set (st .values a) k v)))
 act b st (c-get i s k) = onRecord (st .root i s) st (λ a. (a-num (getD (st .values a) k 0), st))
 act b st (c-same i s t) = (a-flag (sameRef (st .root i s) (st .root i t)), st)
-act b st (c-shape i s) = onRecord (st .root i s) st (λ a. (a-shape (st .pointers a) (length (st .values a)), st))
+act b st (c-shape i s) = onRecord (st .root i s) st (λ a. (a-shape (shapeAt st a), st))
 
 -- when it may: mutators come outside the handshakes, and the block handed out is not in use and lies in no condemned segment
 abbrev pub Permitted : (ℕ → ℕ) → ℕ → State → Call → Type 0

@@ -8,6 +8,8 @@ use mathlib.Core.List.{List, [], _∷_}
 use Prim.Native.Nat.{ℕ, suc, _<_}
 use lib.Dec.{ltb}
 use lib.ListN.{length, getD, set, replicate}
+use Rattle.classes.specs.Record.{ofCounts}
+use Rattle.classes.specs.declared.RecordShape.{RecordShape}
 use Rattle.layout.specs.Geometry.{rootCount}
 use Rattle.theory.specs.Reach.{Reach}
 use Rattle.theory.specs.Update.{upd, upd2}
@@ -16,7 +18,7 @@ use Rattle.theory.specs.Calls.{Call, c-attach, c-detach, c-check, c-leav
 -- the records are those below the count: how many pointer fields each has, the pointers, and the data fields' values
 pub record Unbounded : Type 0 where
   pub count : ℕ
-  pub pointers : ℕ → ℕ
+  pub pointerCount : ℕ → ℕ
   pub values : ℕ → List ℕ
   pub pointer : ℕ → ℕ → Option ℕ
   pub attached : ℕ → Bool
@@ -24,12 +26,12 @@ pub record Unbounded : Type 0 where
   pub root : ℕ → ℕ → Option ℕ
 
 abbrev pub empty : Unbounded
-empty = record { count = 0; pointers = λ _. 0; values = λ _. []; pointer = λ _ _. none; attached = λ _. false; inside = λ _. false; root = λ _ _. none }
+empty = record { count = 0; pointerCount = λ _. 0; values = λ _. []; pointer = λ _ _. none; attached = λ _. false; inside = λ _. false; root = λ _ _. none }
 
 abbrev pub uSetRoot : Unbounded → ℕ → ℕ → Option ℕ → Unbounded
 uSetRoot un i k w = record {
   count = un .count;
-  pointers = un .pointers;
+  pointerCount = un .pointerCount;
   values = un .values;
   pointer = un .pointer;
   attached = un .attached;
@@ -40,7 +42,7 @@ uSetRoot un i k w = record {
 abbrev pub uStore : Unbounded → ℕ → ℕ → Option ℕ → Unbounded
 uStore un r f w = record {
   count = un .count;
-  pointers = un .pointers;
+  pointerCount = un .pointerCount;
   values = un .values;
   pointer = upd2 (un .pointer) r f w;
   attached = un .attached;
@@ -52,7 +54,7 @@ uStore un r f w = record {
 abbrev pub uMake : Unbounded → ℕ → ℕ → ℕ → List ℕ → Unbounded
 uMake un i d n z = record {
   count = suc (un .count);
-  pointers = upd (un .pointers) (un .count) n;
+  pointerCount = upd (un .pointerCount) (un .count) n;
   values = upd (un .values) (un .count) z;
   pointer = upd (un .pointer) (un .count) (λ _. none);
   attached = un .attached;
@@ -64,7 +66,7 @@ uMake un i d n z = record {
 abbrev pub uAttach : Unbounded → ℕ → Option ℕ → Unbounded
 uAttach un i w = record {
   count = un .count;
-  pointers = un .pointers;
+  pointerCount = un .pointerCount;
   values = un .values;
   pointer = un .pointer;
   attached = upd (un .attached) i true;
@@ -75,7 +77,7 @@ uAttach un i w = record {
 abbrev pub uDetach : Unbounded → ℕ → Unbounded
 uDetach un i = record {
   count = un .count;
-  pointers = un .pointers;
+  pointerCount = un .pointerCount;
   values = un .values;
   pointer = un .pointer;
   attached = upd (un .attached) i false;
@@ -86,7 +88,7 @@ uDetach un i = record {
 abbrev pub uSetValues : Unbounded → ℕ → List ℕ → Unbounded
 uSetValues un r z = record {
   count = un .count;
-  pointers = un .pointers;
+  pointerCount = un .pointerCount;
   values = upd (un .values) r z;
   pointer = un .pointer;
   attached = un .attached;
@@ -97,7 +99,7 @@ uSetValues un r z = record {
 abbrev pub uSetInside : Unbounded → ℕ → Bool → Unbounded
 uSetInside un i v = record {
   count = un .count;
-  pointers = un .pointers;
+  pointerCount = un .pointerCount;
   values = un .values;
   pointer = un .pointer;
   attached = un .attached;
@@ -105,8 +107,8 @@ uSetInside un i v = record {
   root = un .root;
 }
 
-abbrev pub ushapeAt : Unbounded → ℕ → ℕ × ℕ
-ushapeAt un b = (un .pointers b, length (un .values b))
+abbrev pub ushapeAt : Unbounded → ℕ → RecordShape
+ushapeAt un b = ofCounts (un .pointerCount b) (length (un .values b))
 
 abbrev pub uobserve : Unbounded → Observation
 uobserve un = record { attached = un .attached; inside = un .inside; shape = λ i k. shapeIf (un .attached i) (ltb k rootCount) (Option·map (ushapeAt un) (un .root i k)) }
@@ -127,7 +129,7 @@ uact un (c-clear i d) = (a-ok, uSetRoot un i d none)
 uact un (c-put i s k v) = onRecord (un .root i s) un (λ a. (a-ok, uSetValues un a (set (un .values a) k v)))
 uact un (c-get i s k) = onRecord (un .root i s) un (λ a. (a-num (getD (un .values a) k 0), un))
 uact un (c-same i s t) = (a-flag (sameRef (un .root i s) (un .root i t)), un)
-uact un (c-shape i s) = onRecord (un .root i s) un (λ a. (a-shape (un .pointers a) (length (un .values a)), un))
+uact un (c-shape i s) = onRecord (un .root i s) un (λ a. (a-shape (ushapeAt un a), un))
 
 -- "If a number from 2 to 9 applies in this state, it answers the lowest and nothing changes."
 abbrev pub uexec : Unbounded → Call → Answer × Unbounded
@@ -138,7 +140,7 @@ abbrev pub URoot : Unbounded → ℕ → Type 0
 URoot un r = (i : ℕ) × (k : ℕ) × (un .attached i ≡ true) × (k < rootCount) × (un .root i k ≡ some r)
 
 abbrev pub UPoints : Unbounded → ℕ → ℕ → Type 0
-UPoints un x y = (f : ℕ) × (f < un .pointers x) × (un .pointer x f ≡ some y)
+UPoints un x y = (f : ℕ) × (f < un .pointerCount x) × (un .pointer x f ≡ some y)
 
 -- "A record is reached when .. a slot of an inside or outside script names it, or a link of a reached record."
 abbrev pub UReached : Unbounded → ℕ → Type 0

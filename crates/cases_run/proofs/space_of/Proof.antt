@@ -5,22 +5,22 @@ use native.Mathlib.Nat.{le-trans}
 use native.Mathlib.Omega.{arith}
 use borrow.Author.Needs.{needs}
 use Rattle.words.proofs.Trees.{words-in}
-use Rattle.classes.specs.declared.Shape.{Shape}
+use Rattle.classes.specs.declared.SegmentShape.{SegmentShape}
 use Rattle.classes.specs.Shape.{segmentSize, blocksOf}
 use Rattle.classes.proofs.Shapes.{shape-is, shape-levels-pos, class-fits}
 use Rattle.cases_run.proofs.space_of.Tie as tie
 use Rattle.cases_run.proofs.space_of.Statement.{statement}
 
-shape-of-requires : tie.Need-shape-of-requires
-shape-of-requires c κs = search needs
+segment-shape-requires : tie.Need-segment-shape-requires
+segment-shape-requires c κs = search needs
 
 enum-known-shaped : tie.Need-enum-known-shaped
 enum-known-shaped c = search needs
 
 sub-t5 : tie.Need-sub-t5
 sub-t5 c =
-    let i = shape-is segmentSize (c .before .before .before .before .before .args .class) (c .before .before .shaped .given .0 .0) (sym (c .before .before .shaped .given .1) ∙ c .before .before .before .before .shape-of .ensures) in
-    let e = ap (λ (x : Shape). x .levels) (i .shape) in
+    let i = shape-is segmentSize (c .before .before .before .before .before .args .class) (c .before .before .shaped .given .0 .0) (sym (c .before .before .shaped .given .1) ∙ c .before .before .before .before .segment-shape .ensures) in
+    let e = ap (λ (x : SegmentShape). x .levels) (i .shape) in
     omega (arith, shape-levels-pos (blocksOf segmentSize (c .before .before .before .before .before .args .class)))
 
 enum-told : tie.Need-enum-told
@@ -29,7 +29,7 @@ enum-told c = search needs
 returns : tie.Need-returns
 returns c =
     let x = c .before .before .shaped .given .0 .0 in
-    let i = shape-is segmentSize (c .before .before .before .before .before .args .class) x (sym (c .before .before .shaped .given .1) ∙ c .before .before .before .before .shape-of .ensures) in
+    let i = shape-is segmentSize (c .before .before .before .before .before .args .class) x (sym (c .before .before .shaped .given .1) ∙ c .before .before .before .before .segment-shape .ensures) in
     let f = class-fits (c .before .before .before .before .before .args .class) x i in
     (f, le-trans (words-in (x .levels - 1) (x .blocks)) f)
 
@@ -38,4 +38,4 @@ returns-2 c = search needs
 
 pub space-of-spec : {M : Type 1} → statement M
 space-of-spec =
-    tie.close (tie.spec shape-of-requires enum-known-shaped sub-t5 enum-told returns returns-2)
+    tie.close (tie.spec segment-shape-requires enum-known-shaped sub-t5 enum-told returns returns-2)

@@ -5,7 +5,7 @@ use Rattle.layout.proofs.Regions.{sized}
 use Rattle.theory.specs.Calls.{c-get}
 use Rattle.laws.proofs.Promised.{size-1}
 use Rattle.roots.proofs.Inside.{in-range-at}
-use Rattle.records.proofs.Found.{value-stands}
+use Rattle.records.proofs.Found.{value-found}
 use Rattle.records.proofs.Reaching.{names, held-7, value-refused}
 use Rattle.field_calls.proofs.Answering.{get-refused, get-reaches, get-done}
 use Rattle.field_calls.proofs.get.Tie as tie
@@ -45,18 +45,18 @@ returns-3 c =
     (c .before .before .before .root .ensures)
     (sym (c .enum-told .given .1) ∙ c .before .before .held-of .ensures)
 
-value-place-requires : tie.Need-value-place-requires
-value-place-requires c κs = sized _ _ (sym (c .before .before .before .before .before .before .before .before .wrong-size .ensures) ∙ c .before .before .before .before .before .before .before .if1 .left)
+value-at-requires : tie.Need-value-at-requires
+value-at-requires c κs = sized _ _ (sym (c .before .before .before .before .before .before .before .before .wrong-size .ensures) ∙ c .before .before .before .before .before .before .before .if1 .left)
 
 enum-known-n : tie.Need-enum-known-n
 enum-known-n c = search needs
 
-enum-known-place : tie.Need-enum-known-place
-enum-known-place c = search needs
+enum-known-word : tie.Need-enum-known-word
+enum-known-word c = search needs
 
-word-requires : tie.Need-word-requires
-word-requires c κs =
-    let t = value-stands _ _ _ _ _ (sym (c .before .place .given .1) ∙ c .before .before .before .value-place .ensures) in
+field-requires : tie.Need-field-requires
+field-requires c κs =
+    let t = value-found _ _ _ _ _ (sym (c .before .word .given .1) ∙ c .before .before .before .value-at .ensures) in
     (sized _ _ (sym (c .before .before .before .before .before .before .before .before .before .before .before .before .wrong-size .ensures) ∙ c .before .before .before .before .before .before .before .before .before .before .before .if1 .left), t .within)
 
 returns-4 : tie.Need-returns-4
@@ -65,15 +65,15 @@ returns-4 c =
     (names _ _ _ _ _ _ (c .before .before .before .before .before .before .before .before .root .ensures) (sym (c .before .before .before .before .before .slot .given .1) ∙ c .before .before .before .before .before .before .before .held-of .ensures))
     (get-reaches _ _ _ _ _ (sym (c .before .before .before .before .before .before .before .before .before .before .before .before .wrong-size .ensures) ∙ c .before .before .before .before .before .before .before .before .before .before .before .if1 .left) (c .before .before .before .before .before .before .before .before .before .before .root-refusal .ensures) _ (c .before .before .before .before .before .before .before .before .before .if2 .left))
     _
-    (sym (c .before .n .given .1) ∙ c .before .before .before .value-place .ensures)
+    (sym (c .before .n .given .1) ∙ c .before .before .before .value-at .ensures)
 
 returns-5 : tie.Need-returns-5
 returns-5 c =
     get-done _ _ _ _ _ _ _ _
     (get-reaches _ _ _ _ _ (sym (c .before .before .before .before .before .before .before .before .before .before .before .before .before .wrong-size .ensures) ∙ c .before .before .before .before .before .before .before .before .before .before .before .before .if1 .left) (c .before .before .before .before .before .before .before .before .before .before .before .root-refusal .ensures) _ (c .before .before .before .before .before .before .before .before .before .before .if2 .left))
     (names _ _ _ _ _ _ (c .before .before .before .before .before .before .before .before .before .root .ensures) (sym (c .before .before .before .before .before .before .slot .given .1) ∙ c .before .before .before .before .before .before .before .before .held-of .ensures))
-    (sym (c .before .before .place .given .1) ∙ c .before .before .before .before .value-place .ensures)
-    (c .word .ensures)
+    (sym (c .before .before .word .given .1) ∙ c .before .before .before .before .value-at .ensures)
+    (c .field .ensures)
 
 pub get-spec : {M : Type 1} → statement M
 get-spec =
@@ -88,9 +88,9 @@ get-spec =
     enum-known-slot
     enum-told
     returns-3
-    value-place-requires
+    value-at-requires
     enum-known-n
-    enum-known-place
-    word-requires
+    enum-known-word
+    field-requires
     returns-4
     returns-5)

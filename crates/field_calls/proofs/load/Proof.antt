@@ -5,7 +5,7 @@ use Rattle.layout.proofs.Regions.{sized}
 use Rattle.theory.specs.Calls.{c-load}
 use Rattle.laws.proofs.Promised.{size-1}
 use Rattle.roots.proofs.Inside.{in-range}
-use Rattle.records.proofs.Found.{pointer-stands}
+use Rattle.records.proofs.Found.{pointer-found}
 use Rattle.records.proofs.Reaching.{names, held-7, pointer-refused}
 use Rattle.field_calls.proofs.Answering.{load-refused, load-reaches, load-done}
 use Rattle.field_calls.proofs.load.Tie as tie
@@ -51,18 +51,18 @@ returns-3 c =
     (c .before .before .before .root .ensures)
     (sym (c .enum-told .given .1) ∙ c .before .before .held-of .ensures)
 
-pointer-place-requires : tie.Need-pointer-place-requires
-pointer-place-requires c κs = sized _ _ (sym (c .before .before .before .before .before .before .before .before .before .before .before .wrong-size .ensures) ∙ c .before .before .before .before .before .before .before .before .before .before .if1 .left)
+pointer-at-requires : tie.Need-pointer-at-requires
+pointer-at-requires c κs = sized _ _ (sym (c .before .before .before .before .before .before .before .before .before .before .before .wrong-size .ensures) ∙ c .before .before .before .before .before .before .before .before .before .before .if1 .left)
 
 enum-known-n : tie.Need-enum-known-n
 enum-known-n c = search needs
 
-enum-known-place : tie.Need-enum-known-place
-enum-known-place c = search needs
+enum-known-word : tie.Need-enum-known-word
+enum-known-word c = search needs
 
-word-requires : tie.Need-word-requires
-word-requires c κs =
-    let t = pointer-stands _ _ _ _ _ (sym (c .before .before .place .given .1) ∙ c .before .before .before .before .pointer-place .ensures) in
+field-requires : tie.Need-field-requires
+field-requires c κs =
+    let t = pointer-found _ _ _ _ _ (sym (c .before .before .word .given .1) ∙ c .before .before .before .before .pointer-at .ensures) in
     (sized _ _ (sym (c .before .before .before .before .before .before .before .before .before .before .before .before .before .before .before .before .wrong-size .ensures) ∙ c .before .before .before .before .before .before .before .before .before .before .before .before .before .before .before .if1 .left), t .within)
 
 set-root-requires : tie.Need-set-root-requires
@@ -79,7 +79,7 @@ returns-4 c =
     (names _ _ _ _ _ _ (c .before .before .before .before .before .before .before .before .before .root .ensures) (sym (c .before .before .before .before .before .before .slot .given .1) ∙ c .before .before .before .before .before .before .before .before .held-of .ensures))
     (load-reaches _ _ _ _ _ _ _ (sym (c .before .before .before .before .before .before .before .before .before .before .before .before .before .before .before .wrong-size .ensures) ∙ c .before .before .before .before .before .before .before .before .before .before .before .before .before .before .if1 .left) (c .before .before .before .before .before .before .before .before .before .before .before .before .roots-refusal .ensures) (c .before .before .before .before .before .before .before .before .before .before .before .if2 .left))
     _
-    (sym (c .before .n .given .1) ∙ c .before .before .before .pointer-place .ensures)
+    (sym (c .before .n .given .1) ∙ c .before .before .before .pointer-at .ensures)
 
 same-length-4 : tie.Need-same-length-4
 same-length-4 c = search needs
@@ -89,8 +89,8 @@ returns-5 c =
     load-done _ _ _ _ _ _ _ _ _ _
     (load-reaches _ _ _ _ _ _ _ (sym (c .before .before .before .before .before .before .before .before .before .before .before .before .before .before .before .before .before .before .before .before .before .wrong-size .ensures) ∙ c .before .before .before .before .before .before .before .before .before .before .before .before .before .before .before .before .before .before .before .before .if1 .left) (c .before .before .before .before .before .before .before .before .before .before .before .before .before .before .before .before .before .before .roots-refusal .ensures) (c .before .before .before .before .before .before .before .before .before .before .before .before .before .before .before .before .before .if2 .left))
     (names _ _ _ _ _ _ (c .before .before .before .before .before .before .before .before .before .before .before .before .before .before .before .root .ensures) (sym (c .before .before .before .before .before .before .before .before .before .before .before .before .slot .given .1) ∙ c .before .before .before .before .before .before .before .before .before .before .before .before .before .before .held-of .ensures))
-    (sym (c .before .before .before .before .before .before .before .place .given .1) ∙ c .before .before .before .before .before .before .before .before .before .pointer-place .ensures)
-    (c .before .before .before .before .word .ensures)
+    (sym (c .before .before .before .before .before .before .before .word .given .1) ∙ c .before .before .before .before .before .before .before .before .before .pointer-at .ensures)
+    (c .before .before .before .before .field .ensures)
     (c .before .before .set-root .ensures)
 
 pub load-spec : {M : Type 1} → statement M
@@ -108,10 +108,10 @@ load-spec =
     enum-told
     same-length-2
     returns-3
-    pointer-place-requires
+    pointer-at-requires
     enum-known-n
-    enum-known-place
-    word-requires
+    enum-known-word
+    field-requires
     set-root-requires
     same-length-3
     returns-4

@@ -5,7 +5,7 @@ use Rattle.layout.proofs.Regions.{sized}
 use Rattle.theory.specs.Calls.{c-put}
 use Rattle.laws.proofs.Promised.{size-1}
 use Rattle.roots.proofs.Inside.{in-range-at}
-use Rattle.records.proofs.Found.{value-stands}
+use Rattle.records.proofs.Found.{value-found}
 use Rattle.records.proofs.Reaching.{names, held-7, value-refused}
 use Rattle.field_calls.proofs.Answering.{put-refused, put-reaches, put-done}
 use Rattle.field_calls.proofs.put.Tie as tie
@@ -51,18 +51,18 @@ returns-3 c =
     (c .before .before .before .root .ensures)
     (sym (c .enum-told .given .1) ∙ c .before .before .held-of .ensures)
 
-value-place-requires : tie.Need-value-place-requires
-value-place-requires c κs = sized _ _ (sym (c .before .before .before .before .before .before .before .before .before .before .before .wrong-size .ensures) ∙ c .before .before .before .before .before .before .before .before .before .before .if1 .left)
+value-at-requires : tie.Need-value-at-requires
+value-at-requires c κs = sized _ _ (sym (c .before .before .before .before .before .before .before .before .before .before .before .wrong-size .ensures) ∙ c .before .before .before .before .before .before .before .before .before .before .if1 .left)
 
 enum-known-n : tie.Need-enum-known-n
 enum-known-n c = search needs
 
-enum-known-place : tie.Need-enum-known-place
-enum-known-place c = search needs
+enum-known-word : tie.Need-enum-known-word
+enum-known-word c = search needs
 
-set-word-requires : tie.Need-set-word-requires
-set-word-requires c κs =
-    let t = value-stands _ _ _ _ _ (sym (c .before .before .place .given .1) ∙ c .before .before .before .before .value-place .ensures) in
+set-field-requires : tie.Need-set-field-requires
+set-field-requires c κs =
+    let t = value-found _ _ _ _ _ (sym (c .before .before .word .given .1) ∙ c .before .before .before .before .value-at .ensures) in
     (sized _ _ (sym (c .before .before .before .before .before .before .before .before .before .before .before .before .before .before .before .before .wrong-size .ensures) ∙ c .before .before .before .before .before .before .before .before .before .before .before .before .before .before .before .if1 .left), t .within)
 
 same-length-3 : tie.Need-same-length-3
@@ -74,7 +74,7 @@ returns-4 c =
     (names _ _ _ _ _ _ (c .before .before .before .before .before .before .before .before .before .root .ensures) (sym (c .before .before .before .before .before .before .slot .given .1) ∙ c .before .before .before .before .before .before .before .before .held-of .ensures))
     (put-reaches _ _ _ _ _ (sym (c .before .before .before .before .before .before .before .before .before .before .before .before .before .before .before .wrong-size .ensures) ∙ c .before .before .before .before .before .before .before .before .before .before .before .before .before .before .if1 .left) (c .before .before .before .before .before .before .before .before .before .before .before .before .root-refusal .ensures) _ _ (c .before .before .before .before .before .before .before .before .before .before .before .if2 .left))
     _
-    (sym (c .before .n .given .1) ∙ c .before .before .before .value-place .ensures)
+    (sym (c .before .n .given .1) ∙ c .before .before .before .value-at .ensures)
 
 same-length-4 : tie.Need-same-length-4
 same-length-4 c = search needs
@@ -84,8 +84,8 @@ returns-5 c =
     put-done _ _ _ _ _ _ _ _ _
     (put-reaches _ _ _ _ _ (sym (c .before .before .before .before .before .before .before .before .before .before .before .before .before .before .before .before .before .before .before .wrong-size .ensures) ∙ c .before .before .before .before .before .before .before .before .before .before .before .before .before .before .before .before .before .before .if1 .left) (c .before .before .before .before .before .before .before .before .before .before .before .before .before .before .before .before .root-refusal .ensures) _ _ (c .before .before .before .before .before .before .before .before .before .before .before .before .before .before .before .if2 .left))
     (names _ _ _ _ _ _ (c .before .before .before .before .before .before .before .before .before .before .before .before .before .root .ensures) (sym (c .before .before .before .before .before .before .before .before .before .before .slot .given .1) ∙ c .before .before .before .before .before .before .before .before .before .before .before .before .held-of .ensures))
-    (sym (c .before .before .before .before .before .place .given .1) ∙ c .before .before .before .before .before .before .before .value-place .ensures)
-    (c .before .before .set-word .ensures)
+    (sym (c .before .before .before .before .before .word .given .1) ∙ c .before .before .before .before .before .before .before .value-at .ensures)
+    (c .before .before .set-field .ensures)
 
 pub put-spec : {M : Type 1} → statement M
 put-spec =
@@ -102,10 +102,10 @@ put-spec =
     enum-told
     same-length-2
     returns-3
-    value-place-requires
+    value-at-requires
     enum-known-n
-    enum-known-place
-    set-word-requires
+    enum-known-word
+    set-field-requires
     same-length-3
     returns-4
     same-length-4

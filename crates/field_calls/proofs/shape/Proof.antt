@@ -57,15 +57,15 @@ returns-4 c =
     (names _ _ _ _ _ _ (c .before .before .before .before .before .before .root .ensures) (sym (c .before .before .before .slot .given .1) ∙ c .before .before .before .before .before .held-of .ensures))
     (omega (arith, c .before .heap-words .ensures, c .if3 .taken))
 
-word-requires : tie.Need-word-requires
-word-requires c κs = (sized _ _ (sym (c .before .before .before .before .before .before .before .before .before .before .wrong-size .ensures) ∙ c .before .before .before .before .before .before .before .before .before .if1 .left), omega (arith, c .before .heap-words .ensures, c .if3 .left))
+shape-requires : tie.Need-shape-requires
+shape-requires c κs = (sized _ _ (sym (c .before .before .before .before .before .before .before .before .before .before .wrong-size .ensures) ∙ c .before .before .before .before .before .before .before .before .before .if1 .left), omega (arith, c .before .heap-words .ensures, c .if3 .left))
 
 returns-5 : tie.Need-returns-5
 returns-5 c =
     shape-done _ _ _ _ _ _
     (shape-reaches _ _ _ _ _ (sym (c .before .before .before .before .before .before .before .before .before .before .before .wrong-size .ensures) ∙ c .before .before .before .before .before .before .before .before .before .before .if1 .left) (c .before .before .before .before .before .before .before .before .before .root-refusal .ensures) (c .before .before .before .before .before .before .before .before .if2 .left))
     (names _ _ _ _ _ _ (c .before .before .before .before .before .before .before .root .ensures) (sym (c .before .before .before .before .slot .given .1) ∙ c .before .before .before .before .before .before .held-of .ensures))
-    (c .word .ensures)
+    (c .shape .ensures)
 
 pub shape-spec : {M : Type 1} → statement M
 shape-spec =
@@ -82,5 +82,5 @@ shape-spec =
     returns-3
     heap-words-requires
     returns-4
-    word-requires
+    shape-requires
     returns-5)

@@ -1,6 +1,6 @@
 -- `records::held_of` meets its contract. Assumes nothing.
 use borrow.Author.Needs.{needs}
-use Rattle.records.proofs.Placing.{held-record}
+use Rattle.records.proofs.FieldTests.{held-record}
 use Rattle.records.proofs.held_of.Tie as tie
 use Rattle.records.proofs.held_of.Statement.{statement}
 

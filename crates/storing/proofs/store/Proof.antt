@@ -5,7 +5,7 @@ use Rattle.layout.proofs.Regions.{sized}
 use Rattle.theory.specs.Calls.{c-store}
 use Rattle.laws.proofs.Promised.{size-1}
 use Rattle.roots.proofs.Inside.{in-range}
-use Rattle.records.proofs.Found.{pointer-stands}
+use Rattle.records.proofs.Found.{pointer-found}
 use Rattle.records.proofs.Reaching.{names, held-7, pointer-refused}
 use Rattle.storing.proofs.Storage.{store-refused, store-reaches, store-by}
 use Rattle.storing.proofs.store.Tie as tie
@@ -48,14 +48,14 @@ returns-3 : tie.Need-returns-3
 returns-3 c =
     held-7 (c-store _ _ _ _) _ _ _ _ _ (store-reaches _ _ _ _ _ _ _ (sym (c .before .before .before .before .before .before .before .before .before .wrong-size .ensures) ∙ c .before .before .before .before .before .before .before .before .if1 .left) (c .before .before .before .before .before .before .roots-refusal .ensures) (c .before .before .before .before .before .if2 .left)) _ (c .before .before .before .root .ensures) (sym (c .enum-told .given .1) ∙ c .before .before .held-of .ensures)
 
-pointer-place-requires : tie.Need-pointer-place-requires
-pointer-place-requires c κs = sized _ _ (sym (c .before .before .before .before .before .before .before .before .before .before .before .wrong-size .ensures) ∙ c .before .before .before .before .before .before .before .before .before .before .if1 .left)
+pointer-at-requires : tie.Need-pointer-at-requires
+pointer-at-requires c κs = sized _ _ (sym (c .before .before .before .before .before .before .before .before .before .before .before .wrong-size .ensures) ∙ c .before .before .before .before .before .before .before .before .before .before .if1 .left)
 
 enum-known-n : tie.Need-enum-known-n
 enum-known-n c = search needs
 
-enum-known-place : tie.Need-enum-known-place
-enum-known-place c = search needs
+enum-known-word : tie.Need-enum-known-word
+enum-known-word c = search needs
 
 root-requires-2 : tie.Need-root-requires-2
 root-requires-2 c κs =
@@ -67,7 +67,7 @@ store-at-requires : tie.Need-store-at-requires
 store-at-requires c κs =
     let a = c .before .before .before .before .before .before .before .before .before .before .before .before .before .before .before .before .before .before .before .before .args in
     let p = in-range _ _ _ (a .i) (a .j) _ (c .before .before .before .before .before .before .before .before .before .before .before .before .before .before .before .roots-refusal .ensures) (c .before .before .before .before .before .before .before .before .before .before .before .before .before .before .if2 .left) in
-    let t = pointer-stands _ _ _ _ _ (sym (c .before .before .before .before .place .given .1) ∙ c .before .before .before .before .before .before .pointer-place .ensures) in
+    let t = pointer-found _ _ _ _ _ (sym (c .before .before .before .before .word .given .1) ∙ c .before .before .before .before .before .before .pointer-at .ensures) in
     (sized _ _ (sym (c .before .before .before .before .before .before .before .before .before .before .before .before .before .before .before .before .before .before .wrong-size .ensures) ∙ c .before .before .before .before .before .before .before .before .before .before .before .before .before .before .before .before .before .if1 .left), p .0, t .within)
 
 same-length-3 : tie.Need-same-length-3
@@ -77,7 +77,7 @@ returns-4 : tie.Need-returns-4
 returns-4 c =
     pointer-refused (c-store _ _ _ _) _ _ _ _ _ _
     (names _ _ _ _ _ _ (c .before .before .before .before .before .before .before .before .before .root .ensures) (sym (c .before .before .before .before .before .before .slot .given .1) ∙ c .before .before .before .before .before .before .before .before .held-of .ensures))
-    (store-reaches _ _ _ _ _ _ _ (sym (c .before .before .before .before .before .before .before .before .before .before .before .before .before .before .before .wrong-size .ensures) ∙ c .before .before .before .before .before .before .before .before .before .before .before .before .before .before .if1 .left) (c .before .before .before .before .before .before .before .before .before .before .before .before .roots-refusal .ensures) (c .before .before .before .before .before .before .before .before .before .before .before .if2 .left)) _ (sym (c .before .n .given .1) ∙ c .before .before .before .pointer-place .ensures)
+    (store-reaches _ _ _ _ _ _ _ (sym (c .before .before .before .before .before .before .before .before .before .before .before .before .before .before .before .wrong-size .ensures) ∙ c .before .before .before .before .before .before .before .before .before .before .before .before .before .before .if1 .left) (c .before .before .before .before .before .before .before .before .before .before .before .before .roots-refusal .ensures) (c .before .before .before .before .before .before .before .before .before .before .before .if2 .left)) _ (sym (c .before .n .given .1) ∙ c .before .before .before .pointer-at .ensures)
 
 same-length-4 : tie.Need-same-length-4
 same-length-4 c = search needs
@@ -88,7 +88,7 @@ returns-5 c =
     let p = in-range _ _ _ (a .i) (a .j) _ (c .before .before .before .before .before .before .before .before .before .before .before .before .before .before .before .before .before .before .roots-refusal .ensures) (c .before .before .before .before .before .before .before .before .before .before .before .before .before .before .before .before .before .if2 .left) in
     store-by _ _ _ _ _ _ _ (store-reaches _ _ _ _ _ _ _ (sym (c .before .before .before .before .before .before .before .before .before .before .before .before .before .before .before .before .before .before .before .before .before .wrong-size .ensures) ∙ c .before .before .before .before .before .before .before .before .before .before .before .before .before .before .before .before .before .before .before .before .if1 .left) (c .before .before .before .before .before .before .before .before .before .before .before .before .before .before .before .before .before .before .roots-refusal .ensures) (c .before .before .before .before .before .before .before .before .before .before .before .before .before .before .before .before .before .if2 .left))
     (names _ _ _ _ _ _ (c .before .before .before .before .before .before .before .before .before .before .before .before .before .before .before .root .ensures) (sym (c .before .before .before .before .before .before .before .before .before .before .before .before .slot .given .1) ∙ c .before .before .before .before .before .before .before .before .before .before .before .before .before .before .held-of .ensures))
-    (p .2) _ _ _ _ (sym (c .before .before .before .before .before .before .before .place .given .1) ∙ c .before .before .before .before .before .before .before .before .before .pointer-place .ensures) (c .before .before .before .before .root2 .ensures) (c .before .before .store-at .ensures)
+    (p .2) _ _ _ _ (sym (c .before .before .before .before .before .before .before .word .given .1) ∙ c .before .before .before .before .before .before .before .before .before .pointer-at .ensures) (c .before .before .before .before .root2 .ensures) (c .before .before .store-at .ensures)
 
 pub store-spec : {M : Type 1} → statement M
 store-spec =
@@ -105,9 +105,9 @@ store-spec =
     enum-told
     same-length-2
     returns-3
-    pointer-place-requires
+    pointer-at-requires
     enum-known-n
-    enum-known-place
+    enum-known-word
     root-requires-2
     store-at-requires
     same-length-3

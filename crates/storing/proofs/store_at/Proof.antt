@@ -19,28 +19,28 @@ mutator-requires c κs = search needs
 duty-requires : tie.Need-duty-requires
 duty-requires c κs = search needs
 
-word-requires : tie.Need-word-requires
-word-requires c κs = search needs
+field-requires : tie.Need-field-requires
+field-requires c κs = search needs
 
 barrier-requires : tie.Need-barrier-requires
 barrier-requires c κs = search needs
 
-set-word-requires : tie.Need-set-word-requires
-set-word-requires c κs = search needs
+set-field-requires : tie.Need-set-field-requires
+set-field-requires c κs = search needs
 
 same-length : tie.Need-same-length
 same-length c = search needs
 
 returns : tie.Need-returns
 returns c =
-    stores-ok _ _ _ _ _ _ _ _ _ _ _ (c .before .before .before .before .before .before .before .before .before .before .before .before .before .before .control .ensures) (c .before .before .before .before .before .before .before .before .before .before .before .before .mutator .ensures) (c .before .before .before .before .before .before .before .before .before .before .before .duty .ensures) (c .before .before .before .before .before .before .before .before .before .word .ensures) (c .before .before .before .before .before .before .before .barrier .ensures)
-    _ (c .before .before .before .before .if1 .taken) (c .before .before .set-word .ensures)
+    stores-ok _ _ _ _ _ _ _ _ _ _ _ (c .before .before .before .before .before .before .before .before .before .before .before .before .before .before .control .ensures) (c .before .before .before .before .before .before .before .before .before .before .before .before .mutator .ensures) (c .before .before .before .before .before .before .before .before .before .before .before .duty .ensures) (c .before .before .before .before .before .before .before .before .before .field .ensures) (c .before .before .before .before .before .before .before .barrier .ensures)
+    _ (c .before .before .before .before .if1 .taken) (c .before .before .set-field .ensures)
 
 same-length-2 : tie.Need-same-length-2
 same-length-2 c = search needs
 
 returns-2 : tie.Need-returns-2
-returns-2 c = stores-13 _ _ _ _ _ _ _ _ _ _ _ (c .before .before .before .before .before .before .before .before .before .before .control .ensures) (c .before .before .before .before .before .before .before .before .mutator .ensures) (c .before .before .before .before .before .before .before .duty .ensures) (c .before .before .before .before .before .word .ensures) (c .before .before .before .barrier .ensures) (c .if1 .left)
+returns-2 c = stores-13 _ _ _ _ _ _ _ _ _ _ _ (c .before .before .before .before .before .before .before .before .before .before .control .ensures) (c .before .before .before .before .before .before .before .before .mutator .ensures) (c .before .before .before .before .before .before .before .duty .ensures) (c .before .before .before .before .before .field .ensures) (c .before .before .before .barrier .ensures) (c .if1 .left)
 
 pub store-at-spec : {M : Type 1} → statement M
 store-at-spec =
@@ -51,9 +51,9 @@ store-at-spec =
     add-mutator
     mutator-requires
     duty-requires
-    word-requires
+    field-requires
     barrier-requires
-    set-word-requires
+    set-field-requires
     same-length
     returns
     same-length-2

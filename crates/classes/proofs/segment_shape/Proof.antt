@@ -1,4 +1,4 @@
--- `classes::shape_of` meets its contract: the shape of each class is one test at each of the table's entries, which is computed.
+-- `classes::segment_shape` meets its contract: the shape of each class is one test at each of the table's entries, which is computed.
 -- Assumes nothing.
 use mathlib.Core.Path.{_≡_, sym, ap, _∙_}
 use mathlib.Core.List.{List, [], _∷_}
@@ -9,35 +9,35 @@ use lib.Dec.{T, eqb, eqb→eq}
 use lib.ListN.{getD}
 use borrow.Author.Needs.{needs}
 use Rattle.rules.proofs.Table.{and-left, and-right, every-at}
-use Rattle.classes.specs.declared.Shape.{Shape}
+use Rattle.classes.specs.declared.SegmentShape.{SegmentShape}
 use Rattle.classes.specs.declared.ClassShape.the-variants.{Of}
 use Rattle.classes.specs.Class.{firstClass, IsClass}
-use Rattle.classes.specs.Shape.{segmentSize, blocksOf, shapeFor, shapeOf}
+use Rattle.classes.specs.Shape.{segmentSize, blocksOf, shapeFor, segmentShape}
 use Rattle.classes.proofs.Every.{class-passes, class-passed}
-use Rattle.classes.proofs.shape_of.Tie as tie
-use Rattle.classes.proofs.shape_of.Statement.{statement}
+use Rattle.classes.proofs.segment_shape.Tie as tie
+use Rattle.classes.proofs.segment_shape.Statement.{statement}
 
 -- a shape from its five numbers
-shape : ℕ → ℕ → ℕ → ℕ → ℕ → Shape
+shape : ℕ → ℕ → ℕ → ℕ → ℕ → SegmentShape
 shape n l a b c = record { blocks = n; levels = l; words0 = a; words1 = b; words2 = c }
 
 -- the table, and what stands past its end
-table : List Shape
+table : List SegmentShape
 unfolding shape
 table =
     shape 2048 3 64 2 1 ∷ shape 1024 2 32 1 0 ∷ shape 512 2 16 1 0 ∷ shape 256 2 8 1 0 ∷ shape 128 2 4 1 0 ∷ shape 64 2 2 1 0
     ∷ shape 32 1 1 0 0 ∷ shape 16 1 1 0 0 ∷ shape 8 1 1 0 0 ∷ shape 4 1 1 0 0 ∷ []
 
-past : Shape
+past : SegmentShape
 unfolding shape
 past = shape 0 0 0 0 0
 
-same : Shape → Shape → Bool
+same : SegmentShape → SegmentShape → Bool
 same x y =
     eqb (x .blocks) (y .blocks)
     && (eqb (x .levels) (y .levels) && (eqb (x .words0) (y .words0) && (eqb (x .words1) (y .words1) && eqb (x .words2) (y .words2))))
 
-same-eq : (x y : Shape) → T (same x y) → x ≡ y
+same-eq : (x y : SegmentShape) → T (same x y) → x ≡ y
 unfolding same
 same-eq x y t =
     let b = eqb→eq (x .blocks) (y .blocks) (and-left (eqb (x .blocks) (y .blocks)) _ t) in
@@ -51,11 +51,11 @@ same-eq x y t =
     λ i. record { blocks = b i; levels = l i; words0 = w0 i; words1 = w1 i; words2 = w2 i }
 
 -- the rule at entry k: it is the shape of class k + 3
-right : ℕ → Shape → Bool
+right : ℕ → SegmentShape → Bool
 unfolding same
 right k x = same x (shapeFor (blocksOf segmentSize (firstClass + k)))
 
-in-table : (class : ℕ) → IsClass class → Of (getD table (class - firstClass) past) ≡ shapeOf segmentSize class
+in-table : (class : ℕ) → IsClass class → Of (getD table (class - firstClass) past) ≡ segmentShape segmentSize class
 unfolding table past right
 in-table class k =
     let e : firstClass + (class - firstClass) ≡ class = omega arith in
@@ -85,6 +85,6 @@ returns c = in-table _ (class-passed _ (sym (c .before .before .is-class .ensure
 returns-2 : tie.Need-returns-2
 returns-2 c = rw (sym (c .before .is-class .ensures) ∙ c .if1 .left)
 
-pub shape-of-spec : {M : Type 1} → statement M
-shape-of-spec =
+pub segment-shape-spec : {M : Type 1} → statement M
+segment-shape-spec =
     tie.close (tie.spec is-class-requires sub-i cast-i mul-shape array-copy-out-shape returns returns-2)

@@ -1,0 +1,16 @@
+-- `records::shape` meets its contract. Assumes nothing.
+use mathlib.Core.Path.{ap}
+use borrow.Author.Needs.{needs}
+use Rattle.model.specs.Records.{headerShape}
+use Rattle.records.proofs.shape.Tie as tie
+use Rattle.records.proofs.shape.Statement.{statement}
+
+word-requires : tie.Need-word-requires
+word-requires c κs = search needs
+
+returns : tie.Need-returns
+unfolding headerShape
+returns c = ap headerShape (c .word .ensures)
+
+pub shape-spec : {M : Type 1} → statement M
+shape-spec = tie.close (tie.spec word-requires returns)
