@@ -12,7 +12,7 @@ use Rattle.layout.specs.Mem.{Mem, memOf, heapWord, setHeap}
 use Rattle.theory.specs.Calls.{c-load, c-get, c-put, c-shape, a-ok, a-num, a-shape, ifRoot, pointer?, value?}
 use Rattle.model.specs.declared.Answer.the-variants.{Ok, Number, Shape, Refused}
 use Rattle.model.specs.Fields.{setRoot}
-use Rattle.model.specs.Records.{pointer, value, setValue, shapeOf}
+use Rattle.model.specs.Records.{InHalves, pointer, value, setValue, shapeOf}
 use Rattle.model.specs.Calls.{act}
 use Rattle.model.specs.Promise.{Promise}
 use Rattle.laws.proofs.Promised.{done}
@@ -106,8 +106,8 @@ module _ (g : Geometry) (xs : List ℕ) (k i at : ℕ) where
   unfolding act
   shape-acts w = rw (w .word) refl
 
-  pub shape-done : (s : RecordShape) → Reaches (c-shape k i) g xs k i (λ _. 0) → Names g xs k i at → s ≡ shapeOf m at → Promise (c-shape k i) g xs (Shape s) xs
-  shape-done s q w u =
-      done (c-shape k i) g xs (q .size) (by-test (c-shape k i) g xs k i (λ _. 0) q at w 0 refl) (s, refl) refl
+  pub shape-done : (s : RecordShape) → Reaches (c-shape k i) g xs k i (λ _. 0) → Names g xs k i at → s ≡ shapeOf m at → InHalves s → Promise (c-shape k i) g xs (Shape s) xs
+  shape-done s q w u h =
+      done (c-shape k i) g xs (q .size) (by-test (c-shape k i) g xs k i (λ _. 0) q at w 0 refl) (s, refl, h) refl
       (ap a-shape u ∙ sym (ap (λ a. a .0) (shape-acts w)))
       (sym (ap (λ a. a .1) (shape-acts w)))

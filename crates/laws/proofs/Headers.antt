@@ -7,7 +7,7 @@ use Rattle.classes.specs.declared.RecordShape.{RecordShape}
 use Rattle.classes.specs.declared.SizeClass.the-variants.{Class}
 use Rattle.classes.proofs.Smallest.{class-most}
 use Rattle.layout.specs.Mem.{Mem, heapWord}
-use Rattle.model.specs.Records.{halfWord, headerWord, headerShape, shapeOf}
+use Rattle.model.specs.Records.{halfWord, InHalves, headerWord, headerShape, shapeOf}
 
 pub shape-by : (m m′ : Mem) (x : ℕ) → heapWord m′ x ≡ heapWord m x → shapeOf m′ x ≡ shapeOf m x
 shape-by m m′ x e = ap headerShape e
@@ -20,3 +20,7 @@ shape-written s c e =
     let p : headerWord s / halfWord ≡ pointerCountOf s = omega arith in
     let n : headerWord s % halfWord ≡ valueCountOf s = omega arith in
     λ i. ofCounts (p i) (n i)
+
+-- a record that has a class fits a header
+pub class-halves : (s : RecordShape) (c : ℕ) → classOfRecord s ≡ Class c → InHalves s
+class-halves s c e = let l = class-most (fieldCountOf s) c e in (omega arith, omega arith)

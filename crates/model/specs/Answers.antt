@@ -13,6 +13,7 @@ use Rattle.layout.specs.Geometry.{mutatorCount, mostBlocks}
 use Rattle.theory.specs.Phases.{sweep}
 use Rattle.theory.specs.Calls.{Call, c-attach, c-detach, c-check, c-leave, c-enter, c-spawn, c-make, c-load, c-store, c-copy, c-clear, c-put, c-get, c-same, c-shape, a-ok, a-moved, a-traced, a-done, a-idle, a-num, a-flag, a-shape, a-no, a-waiting, a-swept}
 use Rattle.model.specs.Rules.{phaseNumber}
+use Rattle.model.specs.Records.{InHalves}
 use Rattle.model.specs.declared.Answer.{Answer}
 use Rattle.model.specs.declared.Answer.the-variants.{Ok, Number, Same, Shape, Refused}
 use Rattle.model.specs.declared.Step.{Step}
@@ -91,8 +92,8 @@ IsNumber a = (v : ℕ) × (a ≡ a-num v)
 abbrev pub IsFlag : theory.Answer → Type 0
 IsFlag a = (b : Bool) × (a ≡ a-flag b)
 
-abbrev pub IsShape : theory.Answer → Type 0
-IsShape a = (s : RecordShape) × (a ≡ a-shape s)
+abbrev pub IsRecordShape : theory.Answer → Type 0
+IsRecordShape a = (s : RecordShape) × (a ≡ a-shape s) × InHalves s
 
 abbrev pub ResultOf : Call → theory.Answer → Type 0
 ResultOf (c-attach k) a = IsOk a
@@ -109,7 +110,7 @@ ResultOf (c-clear k d) a = IsOk a
 ResultOf (c-put k i f v) a = IsOk a
 ResultOf (c-get k i f) a = IsNumber a
 ResultOf (c-same k i j) a = IsFlag a
-ResultOf (c-shape k i) a = IsShape a
+ResultOf (c-shape k i) a = IsRecordShape a
 
 -- step waits for one mutator at least, and sweeps a segment of the memory, whose blocks are no more than a segment can have
 pub data StepResult (g : Geometry) : theory.Answer → Type 0 where

@@ -1,7 +1,7 @@
 -- Records in the heap: references, headers, fields, and the block and the bits of a record. Document 01: "A header word P × 65,536 + N comes
 -- first, then the links, then the numbers. A link is nil or names a record."
 use mathlib.Core.Option.{Option, none, some}
-use Prim.Native.Nat.{ℕ, zero, suc, _+_, _*_, _/_, _%_}
+use Prim.Native.Nat.{ℕ, zero, suc, _+_, _*_, _/_, _%_, _<_}
 use lib.ListN.{replicate}
 use Rattle.words.specs.Bits.{bitAt, setBit, clearBit}
 use Rattle.classes.specs.Class.{blockWords}
@@ -26,6 +26,10 @@ halfWord = 65536
 
 abbrev pub headerWord : RecordShape → ℕ
 headerWord s = pointerCountOf s * halfWord + valueCountOf s
+
+-- counts that a header's halves hold
+abbrev pub InHalves : RecordShape → Type 0
+InHalves s = (pointerCountOf s < halfWord) × (valueCountOf s < halfWord)
 
 -- the shape that a header word says. Above this file definitions go by the shape, and only laws of the header unfold it
 unfoldable pub headerShape : ℕ → RecordShape

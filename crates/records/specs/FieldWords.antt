@@ -1,13 +1,15 @@
 -- What a root or a pointer holds, and the words of a record's fields over memory of any content.
+use mathlib.Core.Path.{_≡_}
 use mathlib.Core.Bool.{Bool}
 use Prim.Native.Nat.{ℕ, zero, suc, _+_}
 use lib.Dec.{ltb}
 use Rattle.rules.specs.Pick.{pick}
 use Rattle.classes.specs.Record.{hasPointer, hasValue}
+use Rattle.classes.specs.declared.RecordShape.{RecordShape}
 use Rattle.layout.specs.declared.Geometry.{Geometry}
 use Rattle.layout.specs.Geometry.{len}
 use Rattle.layout.specs.Mem.{Mem}
-use Rattle.model.specs.Records.{shapeOf, pointerCount}
+use Rattle.model.specs.Records.{InHalves, shapeOf, pointerCount}
 use Rattle.model.specs.declared.Held.{Held}
 use Rattle.model.specs.declared.Held.the-variants.{Nil, Record}
 use Rattle.records.specs.declared.FieldAt.{FieldAt}
@@ -18,6 +20,11 @@ use Rattle.layout.specs.Region as Region
 abbrev pub heldOf : ℕ → Held
 heldOf zero = Nil
 heldOf (suc at) = Record at
+
+-- the shape of the record at a word, over memory of any content
+pub record ShapeRead (m : Mem) (at : ℕ) (r : RecordShape) : Type 0 where
+  pub shape : r ≡ shapeOf m at
+  pub small : InHalves r
 
 -- "13, torn": off the heap
 abbrev pub ifInHeap : Geometry → ℕ → FieldAt → FieldAt

@@ -8,8 +8,7 @@ ghost use Prim.Native.Nat.{_<_};
 ghost use lib.ListN.{length};
 ghost use Rattle.layout.specs.Geometry.{Sized, len};
 ghost use Rattle.layout.specs.Mem.{memOf, heapWord, setHeap};
-ghost use Rattle.model.specs.Records.{shapeOf};
-ghost use Rattle.records.specs.FieldWords.{heldOf, pointerAt, valueAt};
+ghost use Rattle.records.specs.FieldWords.{heldOf, ShapeRead, pointerAt, valueAt};
 ghost use Rattle.layout.specs.Region as Region;
 
 // A header word has the pointers' count in its upper half, and the values' in its lower.
@@ -33,7 +32,7 @@ pub fn held_of(w: u32) -> Held
 // The shape of the record at a word.
 pub fn shape(g: Geometry, mem: &[u32], at: usize) -> RecordShape
     requires { ⌜ (Sized g (length (now mem))) × (at < len g Region.heap) ⌝ }
-    ensures { λ r. ⌜ r ≡ shapeOf (memOf g (now (mem .entry))) at ⌝ }
+    ensures { λ r. ⌜ ShapeRead (memOf g (now (mem .entry))) at r ⌝ }
 {
     let header = layout::word(g, mem, at);
     RecordShape {

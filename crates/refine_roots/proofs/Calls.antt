@@ -17,7 +17,7 @@ use Rattle.model.specs.Records.{record?, pointerCount, valueCount, pointer, val
 use Rattle.model.specs.Calls.{observe, act}
 use Rattle.refine_view.specs.View.{view, valuesOf}
 use Rattle.refine_view.specs.Kept.{Ordered, ActKept}
-use Rattle.refine_view.proofs.Seeing.{named}
+use Rattle.laws.proofs.Rooted.{named}
 use Rattle.laws.proofs.Tables.{getD-tab, length-tab}
 use Rattle.refine_view.proofs.Keeping.{matches-by, moves-self, wanted-in, on-record}
 use Rattle.laws.proofs.Rooted.{is-root}

@@ -29,7 +29,8 @@ use Rattle.model.specs.Reaching.{IsRoot}
 use Rattle.model.specs.Consistent.{MutatorOk}
 use Rattle.refine_view.specs.View.{view}
 use Rattle.refine_view.specs.Kept.{Ordered, Moves, CallKept}
-use Rattle.refine_view.proofs.Seeing.{root-on, named}
+use Rattle.refine_view.proofs.Seeing.{root-on}
+use Rattle.laws.proofs.Rooted.{named}
 use Rattle.refine_view.proofs.Invariants.{to-inv, structure-of}
 use Rattle.refine_view.proofs.Keeping.{matches-by, unless-kept}
 use Rattle.laws.proofs.Rooted.{is-root}

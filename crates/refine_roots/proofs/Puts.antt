@@ -22,7 +22,8 @@ use Rattle.model.specs.Reaching.{Live}
 use Rattle.model.specs.Consistent.{RecordOk}
 use Rattle.refine_view.specs.View.{view, valuesOf}
 use Rattle.refine_view.specs.Kept.{Ordered, Structure, Moves, ActKept}
-use Rattle.refine_view.proofs.Seeing.{entries-same, live-on, named}
+use Rattle.refine_view.proofs.Seeing.{entries-same, live-on}
+use Rattle.laws.proofs.Rooted.{named}
 use Rattle.refine_view.proofs.Carried.{queued-by}
 use Rattle.refine_view.proofs.Frames.{held-self, mutator-beside, marks-beside, structure-beside}
 use Rattle.laws.proofs.Tables.{tab-set}

@@ -16,7 +16,8 @@ use Rattle.model.specs.Reaching.{Reached}
 use Rattle.refine_view.specs.View.{view}
 use Rattle.refine_view.specs.Kept.{Ordered, Moves}
 use Rattle.laws.proofs.Bools.{not-eq}
-use Rattle.refine_view.proofs.Seeing.{reached-on, named}
+use Rattle.refine_view.proofs.Seeing.{reached-on}
+use Rattle.laws.proofs.Rooted.{named}
 use Rattle.refine_view.proofs.Invariants.{to-inv, structure-of}
 use Rattle.laws.proofs.Words.{mutator-there}
 use Rattle.theory.proofs.Updates.{upd2-by}

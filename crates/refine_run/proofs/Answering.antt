@@ -17,16 +17,19 @@ use Rattle.layout.proofs.Sizes.{whole}
 use Rattle.bitmap_search.specs.declared.Found.{Found}
 use Rattle.bitmap_search.specs.declared.Found.the-variants.{Block, Nothing, Torn}
 use Rattle.theory.specs.Phases.{Phase, idle, sync1, sync2, mark, sweep, inHandshake, owes}
-use Rattle.theory.specs.Calls.{Call, c-attach, c-detach, c-check, c-leave, c-enter, c-spawn, c-make, c-load, c-store, c-copy, c-clear, c-put, c-get, c-same, c-shape, a-ok, a-moved, a-traced, a-done, a-idle, a-num, a-flag, a-shape, a-no, unless, onRecord, sameRef}
+use Rattle.theory.specs.Calls.{Call, c-attach, c-detach, c-check, c-leave, c-enter, c-spawn, c-make, c-load, c-store, c-copy, c-clear, c-put, c-get, c-same, c-shape, a-ok, a-moved, a-traced, a-done, a-idle, a-num, a-flag, a-shape, a-no, refusal, unless, onRecord, sameRef}
 use Rattle.model.specs.Answers.{answerOf, stepAnswerOf, refusalIn, IsOk, ResultOf, StepResult, isWaiting, isMoved, isTraced, isSwept, isDone, isIdle, among, mayGive, startMayGive}
 use Rattle.model.specs.Fields.{phase, inside, state, acks, place, root, class, traceCount}
 use Rattle.model.specs.Segments.{freeStack, partStack, pop, free, inUse}
 use Rattle.model.specs.Records.{record?, value, shapeOf}
 use Rattle.model.specs.Making.{Source, held, part, unused, noRoom, sourceOf, takes, freshened, inBlock, fromSource, made}
-use Rattle.model.specs.Calls.{ofClass, act}
+use Rattle.model.specs.Calls.{observe, ofClass, act}
 use Rattle.model.specs.Collector.{anyFull, started, startIn, startOf, moves, traces, lowest, swept, sweeps, waiting, outsideAnswered, stepIn, stepOf}
 use Rattle.model.specs.Consistent.{Consistent, SegmentOk}
 use Rattle.model.specs.Run.{declared, declaredStep}
+use Rattle.theory.proofs.Refusals.{by-ok, root-ok}
+use Rattle.laws.proofs.Headers.{class-halves}
+use Rattle.laws.proofs.Rooted.{named, rooted}
 use Rattle.laws.proofs.Bools.{one-less}
 use Rattle.laws.proofs.Segments.{in-use-le}
 use Rattle.laws.proofs.Lowest.{found-condemned}
@@ -98,23 +101,34 @@ module _ (g : Geometry) (m : Mem) (k d p n : ℕ) where
 
 -- ---- what a call answers that no number from 2 to 9 refuses
 
-pub act-answers : (g : Geometry) (m : Mem) (c : Call) → Answers (ResultOf c) (mayGive c) (act g m c .0)
+-- of a record that a root names
+shape-answers : (g : Geometry) (m : Mem) → Consistent g m → (k i : ℕ) → refusal (observe m) (c-shape k i) ≡ 0 → (o : Option ℕ) → record? (root m k i) ≡ o
+    → Answers (ResultOf (c-shape k i)) (mayGive (c-shape k i)) (onRecord o m (λ at. (a-shape (shapeOf m at), m)) .0)
+shape-answers g m c k i e none h = refuses _ _ 7 refl (λ q. omega arith)
+shape-answers g m c k i e (some at) h =
+    let a = by-ok (observe m) k _ e in
+    let b = root-ok i _ (a .3) in
+    let r = rooted m k i at (a .0) (b .0) (a .1) (named (root m k i) at h) g c in
+    gives _ _ (a-shape (shapeOf m at)) refl refl (shapeOf m at, refl, class-halves (shapeOf m at) _ (r .sized))
+
+-- over consistent memory, for the range of a shape
+pub act-answers : (g : Geometry) (m : Mem) → Consistent g m → (c : Call) → refusal (observe m) c ≡ 0 → Answers (ResultOf c) (mayGive c) (act g m c .0)
 unfolding act
-act-answers g m (c-attach k) = unless-answers _ _ (inHandshake (phase m)) m _ refl (gives _ _ a-ok refl refl refl)
-act-answers g m (c-spawn k p i) = unless-answers _ _ (inHandshake (phase m)) m _ refl (gives _ _ a-ok refl refl refl)
-act-answers g m (c-detach k) = unless-answers _ _ (inHandshake (phase m)) m _ refl (gives _ _ a-ok refl refl refl)
-act-answers g m (c-check k) = gives _ _ a-ok refl refl refl
-act-answers g m (c-leave k) = gives _ _ a-ok refl refl refl
-act-answers g m (c-enter k) = gives _ _ a-ok refl refl refl
-act-answers g m (c-make k d p n) = class-answers g m k d p n (classOfRecord (ofCounts p n))
-act-answers g m (c-load k d i f) = record-answers _ _ (record? (root m k i)) m _ refl (λ at. gives _ _ a-ok refl refl refl)
-act-answers g m (c-store k i f j) = record-answers _ _ (record? (root m k i)) m _ refl (λ at. gives _ _ a-ok refl refl refl)
-act-answers g m (c-copy k d i) = gives _ _ a-ok refl refl refl
-act-answers g m (c-clear k d) = gives _ _ a-ok refl refl refl
-act-answers g m (c-put k i f v) = record-answers _ _ (record? (root m k i)) m _ refl (λ at. gives _ _ a-ok refl refl refl)
-act-answers g m (c-get k i f) = record-answers _ _ (record? (root m k i)) m _ refl (λ at. gives _ _ (a-num (value m at f)) refl refl (value m at f, refl))
-act-answers g m (c-same k i j) = gives _ _ (a-flag (sameRef (record? (root m k i)) (record? (root m k j)))) refl refl (sameRef (record? (root m k i)) (record? (root m k j)), refl)
-act-answers g m (c-shape k i) = record-answers _ _ (record? (root m k i)) m _ refl (λ at. gives _ _ (a-shape (shapeOf m at)) refl refl (shapeOf m at, refl))
+act-answers g m z (c-attach k) e = unless-answers _ _ (inHandshake (phase m)) m _ refl (gives _ _ a-ok refl refl refl)
+act-answers g m z (c-spawn k p i) e = unless-answers _ _ (inHandshake (phase m)) m _ refl (gives _ _ a-ok refl refl refl)
+act-answers g m z (c-detach k) e = unless-answers _ _ (inHandshake (phase m)) m _ refl (gives _ _ a-ok refl refl refl)
+act-answers g m z (c-check k) e = gives _ _ a-ok refl refl refl
+act-answers g m z (c-leave k) e = gives _ _ a-ok refl refl refl
+act-answers g m z (c-enter k) e = gives _ _ a-ok refl refl refl
+act-answers g m z (c-make k d p n) e = class-answers g m k d p n (classOfRecord (ofCounts p n))
+act-answers g m z (c-load k d i f) e = record-answers _ _ (record? (root m k i)) m _ refl (λ at. gives _ _ a-ok refl refl refl)
+act-answers g m z (c-store k i f j) e = record-answers _ _ (record? (root m k i)) m _ refl (λ at. gives _ _ a-ok refl refl refl)
+act-answers g m z (c-copy k d i) e = gives _ _ a-ok refl refl refl
+act-answers g m z (c-clear k d) e = gives _ _ a-ok refl refl refl
+act-answers g m z (c-put k i f v) e = record-answers _ _ (record? (root m k i)) m _ refl (λ at. gives _ _ a-ok refl refl refl)
+act-answers g m z (c-get k i f) e = record-answers _ _ (record? (root m k i)) m _ refl (λ at. gives _ _ (a-num (value m at f)) refl refl (value m at f, refl))
+act-answers g m z (c-same k i j) e = gives _ _ (a-flag (sameRef (record? (root m k i)) (record? (root m k j)))) refl refl (sameRef (record? (root m k i)) (record? (root m k j)), refl)
+act-answers g m z (c-shape k i) e = shape-answers g m z k i e (record? (root m k i)) refl
 
 -- ---- start
 

@@ -1,4 +1,5 @@
--- The definitions' own answers and memories keep the promises of the calls, over words of the right length: of step where they are consistent. Assumes nothing.
+-- The definitions' own answers and memories keep the promises of the calls, over words of the right length, of step and the mutators' calls where
+-- they are consistent. Assumes nothing.
 use mathlib.Core.Path.{_≡_, refl, sym, _∙_, ap, subst}
 use mathlib.Core.Bool.{true, false, true≢false}
 use mathlib.Core.Option.{some, Option·none-ne-some}
@@ -44,18 +45,18 @@ module _ (g : Geometry) (words : List ℕ) (z : Sized g (length words)) where
   }
 
   -- a refusal from 2 to 9, or what the call answers that none of them refuses
-  exec-answers : (c : Call) → Answers (ResultOf c) (mayGive c) (exec g (memOf g words) c .0)
+  exec-answers : Consistent g (memOf g words) → (c : Call) → Answers (ResultOf c) (mayGive c) (exec g (memOf g words) c .0)
   unfolding exec
-  exec-answers c = go (refusal (observe (memOf g words)) c) refl
+  exec-answers k c = go (refusal (observe (memOf g words)) c) refl
     where
       go : (n : ℕ) → n ≡ refusal (observe (memOf g words)) c → Answers (ResultOf c) (mayGive c) (refuse n (memOf g words) (act g (memOf g words) c) .0)
-      go zero e = act-answers g (memOf g words) c
+      go zero e = act-answers g (memOf g words) k c (sym e)
       go (suc n) e =
           let p : Promise c g words (Refused (suc n)) words = refused c g words {n = suc n} right e (λ q. omega arith) in
           refuses (ResultOf c) (mayGive c) (suc n) (p .allowed (suc n) refl) (λ q. not-wrong (p .onlySize (ap (λ k. some k) q)))
 
-  pub meets-call : (c : Call) → Promise c g words (declared (exec g (memOf g words) c .0)) (flat (exec g (memOf g words) c .1))
-  meets-call c = keeps (λ g. ResultOf c) (mayGive c) (λ g m. exec g m c) (exec-answers c) (sizes-exec g (memOf g words) (sizes-of g words z) c)
+  pub meets-call : Consistent g (memOf g words) → (c : Call) → Promise c g words (declared (exec g (memOf g words) c .0)) (flat (exec g (memOf g words) c .1))
+  meets-call k c = keeps (λ g. ResultOf c) (mayGive c) (λ g m. exec g m c) (exec-answers k c) (sizes-exec g (memOf g words) (sizes-of g words z) c)
 
   pub meets-start : StartPromise g words (declared (startOf g (memOf g words) .0)) (flat (startOf g (memOf g words) .1))
   meets-start = keeps (λ g. IsOk) startMayGive startOf (start-answers g (memOf g words)) (sizes-start g (memOf g words) (sizes-of g words z))

@@ -101,7 +101,7 @@ module _ (g : Geometry) (words : List ℕ) (z : Sized g (length words)) where
       pub gets : Gets g words e
 
     pub fine : (r : Command) → Fine (answered g words r)
-    fine (call c) = record { meets = meets-call g words z c; long = length-left (call c); gets = record { geometry = refl; memory = refl; opening = λ x. x } }
+    fine (call c) = record { meets = meets-call g words z k c; long = length-left (call c); gets = record { geometry = refl; memory = refl; opening = λ x. x } }
     fine start = record { meets = meets-start g words z; long = length-left start; gets = record { geometry = refl; memory = refl; opening = λ x. x } }
     fine step = record { meets = meets-step g words z k; long = length-left step; gets = record { geometry = refl; memory = refl; opening = λ x. x } }
     fine (look q) = record { meets = (look-promise q, flat-memOf g words (z .is)); long = length-left (look q); gets = record { geometry = refl; memory = refl; opening = λ x. x } }

@@ -29,7 +29,8 @@ use Rattle.words.proofs.Counts.{lt-of}
 use Rattle.laws.proofs.Bools.{not-eq, ne-not, and-both, and-right, and-not, and-false}
 use Rattle.layout.proofs.Sizes.{segment-below}
 use Rattle.laws.proofs.Blocks.{bit-below}
-use Rattle.refine_view.proofs.Seeing.{entry-of, entry-in, live-on, live-back, reached-on, reached-back, entry-on, entry-back, edge-on, edge-back, named, naming, covered-on, covered-back, head-of, few-mutators}
+use Rattle.refine_view.proofs.Seeing.{entry-of, entry-in, live-on, live-back, reached-on, reached-back, entry-on, entry-back, edge-on, edge-back, naming, covered-on, covered-back, head-of, few-mutators}
+use Rattle.laws.proofs.Rooted.{named}
 use Rattle.theory.specs.Machine as machine
 
 -- ---- the parts of consistency that bear on the words alone

@@ -2,7 +2,7 @@
 use mathlib.Core.Path.{_≡_, refl, sym, _∙_, ap, subst}
 use mathlib.Core.Logic.{_⊎_, inl, inr}
 use mathlib.Core.Bool.{true, _&&_}
-use mathlib.Core.Option.{some, Option·some-injective}
+use mathlib.Core.Option.{some}
 use mathlib.Core.List.{_∷_, List·Memᴰ, List·Memᴰ·head, List·Memᴰ·tail, List·Memᴰ·cases-cons, List·Memᴰ·not-nil}
 use Prim.Native.Nat.{ℕ, zero, suc, _+_, _-_, _≤_, _<_}
 use native.Mathlib.Omega.{arith}
@@ -17,7 +17,7 @@ use Rattle.layout.specs.Mem.{Mem, traceWord, heapWord, Sizes}
 use Rattle.theory.specs.Reach.{Protected, root}
 use Rattle.theory.specs.Machine.{Points, Grey, LiveRoot}
 use Rattle.theory.proofs.Graph.{reach-map, prot-map}
-use Rattle.theory.proofs.Invariant.{none-some, prot-live}
+use Rattle.theory.proofs.Invariant.{prot-live}
 use Rattle.model.specs.Fields.{absent, state, traceCount}
 use Rattle.model.specs.Records.{record?}
 use Rattle.model.specs.Calls.{isAttached}
@@ -25,13 +25,10 @@ use Rattle.model.specs.Reaching.{IsRoot, IsEntry, PointsTo, Live, Reached, Cove
 use Rattle.model.specs.Consistent.{RecordOk}
 use Rattle.refine_view.specs.View.{view, stackOf, isHead}
 use Rattle.words.proofs.Counts.{lt-of}
+use Rattle.laws.proofs.Rooted.{named}
 use Rattle.laws.proofs.Bools.{not-eq, ne-not}
 use Rattle.theory.specs.Machine as machine
 use Rattle.model.specs.Fields as fields
-
-pub named : (w y : ℕ) → record? w ≡ some y → w ≡ suc y
-named zero y e = none-some e
-named (suc w) y e = ap suc (Option·some-injective w y e)
 
 pub naming : (w y : ℕ) → w ≡ suc y → record? w ≡ some y
 naming w y e = ap record? e

@@ -65,7 +65,7 @@ returns-5 c =
     shape-done _ _ _ _ _ _
     (shape-reaches _ _ _ _ _ (sym (c .before .before .before .before .before .before .before .before .before .before .before .wrong-size .ensures) ∙ c .before .before .before .before .before .before .before .before .before .before .if1 .left) (c .before .before .before .before .before .before .before .before .before .root-refusal .ensures) (c .before .before .before .before .before .before .before .before .if2 .left))
     (names _ _ _ _ _ _ (c .before .before .before .before .before .before .before .root .ensures) (sym (c .before .before .before .before .slot .given .1) ∙ c .before .before .before .before .before .before .held-of .ensures))
-    (c .shape .ensures)
+    (c .shape .ensures .shape) (c .shape .ensures .small)
 
 pub shape-spec : {M : Type 1} → statement M
 shape-spec =

@@ -14,7 +14,7 @@ shape-requires : tie.Need-shape-requires
 shape-requires c κs = search needs
 
 returns-2 : tie.Need-returns-2
-returns-2 c = no-pointer _ _ (c .before .before .before .before .heap-words .ensures) _ _ _ _ (c .before .before .shape .ensures) (c .before .before .before .if1 .left) (c .if2 .taken)
+returns-2 c = no-pointer _ _ (c .before .before .before .before .heap-words .ensures) _ _ _ _ (c .before .before .shape .ensures .shape) (c .before .before .before .if1 .left) (c .if2 .taken)
 
 add-word : tie.Need-add-word
 add-word c = search needs
@@ -23,10 +23,10 @@ add-word-2 : tie.Need-add-word-2
 add-word-2 c = search needs
 
 returns-3 : tie.Need-returns-3
-returns-3 c = pointer-torn _ _ (c .before .before .before .before .before .heap-words .ensures) _ _ _ _ (c .before .before .before .shape .ensures) (c .before .before .before .before .if1 .left) (c .before .if2 .left) (c .if3 .taken)
+returns-3 c = pointer-torn _ _ (c .before .before .before .before .before .heap-words .ensures) _ _ _ _ (c .before .before .before .shape .ensures .shape) (c .before .before .before .before .if1 .left) (c .before .if2 .left) (c .if3 .taken)
 
 returns-4 : tie.Need-returns-4
-returns-4 c = pointer-word _ _ (c .before .before .before .before .before .heap-words .ensures) _ _ _ _ (c .before .before .before .shape .ensures) (c .before .before .before .before .if1 .left) (c .before .if2 .left) (c .if3 .left)
+returns-4 c = pointer-word _ _ (c .before .before .before .before .before .heap-words .ensures) _ _ _ _ (c .before .before .before .shape .ensures .shape) (c .before .before .before .before .if1 .left) (c .before .if2 .left) (c .if3 .left)
 
 pub pointer-at-spec : {M : Type 1} → statement M
 pointer-at-spec =

@@ -1,5 +1,6 @@
 -- `records::shape` meets its contract. Assumes nothing.
 use mathlib.Core.Path.{ap}
+use native.Mathlib.Omega.{arith}
 use borrow.Author.Needs.{needs}
 use Rattle.model.specs.Records.{headerShape}
 use Rattle.records.proofs.shape.Tie as tie
@@ -10,7 +11,7 @@ word-requires c κs = search needs
 
 returns : tie.Need-returns
 unfolding headerShape
-returns c = ap headerShape (c .word .ensures)
+returns c = record { shape = ap headerShape (c .word .ensures); small = (omega arith, omega arith) }
 
 pub shape-spec : {M : Type 1} → statement M
 shape-spec = tie.close (tie.spec word-requires returns)
