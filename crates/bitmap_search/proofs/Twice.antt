@@ -1,7 +1,8 @@
 -- The next free block and whether another remains after it: where one word answers, what the answer is in a consistent tree, and what it says of the
 -- two scans. Assumes nothing.
-use mathlib.Core.Path.{_≡_, refl, sym, ap, _∙_}
+use mathlib.Core.Path.{_≡_, refl, sym, ap, _∙_, subst}
 use mathlib.Core.Bool.{true}
+use mathlib.Core.Logic.{_⊎_, inl, inr, ⊎-elim}
 use mathlib.Core.List.{List}
 use Prim.Native.Nat.{ℕ, _+_, _*_, _/_, _%_, _^_, _≤_, _<_}
 use native.Mathlib.Omega.{arith}
@@ -21,8 +22,8 @@ use Rattle.bitmap_search.specs.Scan.{nextFree}
 use Rattle.bitmap_search.specs.declared.Found.the-variants.{Block, Nothing, Torn}
 use Rattle.bitmap_search.proofs.Moves.{ahead-at}
 use Rattle.bitmap_search.specs.declared.BitPos.{BitPos}
-use Rattle.bitmap_search.specs.Twice.{remains, andAfter, reached, searchedTwo, TwoBelow, TwoPromise}
-use Rattle.bitmap_search.proofs.Scan.{is-next}
+use Rattle.bitmap_search.specs.Twice.{remains, andAfter, nextTwo, reached, searchedTwo, TwoBelow, TwoPromise}
+use Rattle.bitmap_search.proofs.Scan.{IsNext, next-is, is-next}
 use Rattle.bitmap_search.specs.Search.{forwarded, foundAt, blockAt, searched, BlockBelow}
 use Rattle.bitmap_search.specs.declared.Next.the-variants as moved
 use Rattle.bitmap_search.specs.declared.Two.the-variants as two
@@ -118,31 +119,29 @@ promised-two a ws n p r fits e = record {
 
 -- ---- what an answer says of the two searches
 
-module _ (f h : ℕ → Found) where
-  pub more-is : (p b : ℕ) → two.More b ≡ andAfter h (f p) → (f p ≡ Block b) × ((k : ℕ) × (h (b + 1) ≡ Block k))
-  more-is p b e = go (f p) refl e
+module _ (f h : ℕ → Found) (p : ℕ) where
+  abbrev pub Says : Two → Type 0
+  Says (two.More b) = (f p ≡ Block b) × ((k : ℕ) × (h (b + 1) ≡ Block k))
+  Says (two.Last b) = (f p ≡ Block b) × (h (b + 1) ≡ Nothing)
+  Says two.Nothing = f p ≡ Nothing
+  Says two.Torn = (f p ≡ Torn) ⊎ ((b : ℕ) × (f p ≡ Block b) × (h (b + 1) ≡ Torn))
+
+  pub two-says : (r : Two) → r ≡ andAfter h (f p) → Says r
+  two-says r e = subst Says (sym e) (go (f p) refl)
     where
-      then : (c : ℕ) → f p ≡ Block c → (q : Found) → h (c + 1) ≡ q → two.More b ≡ remains c q → (f p ≡ Block b) × ((k : ℕ) × (h (b + 1) ≡ Block k))
-      then c u (Block k) v z =
-          let s : c ≡ b = cc in
-          (u ∙ ap Block s, (k, ap (λ (x : ℕ). h (x + 1)) (sym s) ∙ v))
-      then c u Nothing v z = let s : _≡_ {A = ℕ} 0 1 = cc in absurd (omega arith)
-      then c u Torn v z = let s : _≡_ {A = ℕ} 0 1 = cc in absurd (omega arith)
+      then : (b : ℕ) → f p ≡ Block b → (q : Found) → h (b + 1) ≡ q → Says (remains b q)
+      then b u (Block k) v = (u, (k, v))
+      then b u Nothing v = (u, v)
+      then b u Torn v = inr (b, u, v)
 
-      go : (q : Found) → f p ≡ q → two.More b ≡ andAfter h q → (f p ≡ Block b) × ((k : ℕ) × (h (b + 1) ≡ Block k))
-      go (Block c) u z = then c u (h (c + 1)) refl z
-      go Nothing u z = let s : _≡_ {A = ℕ} 0 1 = cc in absurd (omega arith)
-      go Torn u z = let s : _≡_ {A = ℕ} 0 1 = cc in absurd (omega arith)
+      go : (q : Found) → f p ≡ q → Says (andAfter h q)
+      go (Block b) u = then b u (h (b + 1)) refl
+      go Nothing u = u
+      go Torn u = inl u
 
-  pub last-is : (p b : ℕ) → two.Last b ≡ andAfter h (f p) → (f p ≡ Block b) × (h (b + 1) ≡ Nothing)
-  last-is p b e = go (f p) refl e
-    where
-      then : (c : ℕ) → f p ≡ Block c → (q : Found) → h (c + 1) ≡ q → two.Last b ≡ remains c q → (f p ≡ Block b) × (h (b + 1) ≡ Nothing)
-      then c u Nothing v z = let s : c ≡ b = cc in (u ∙ ap Block s, ap (λ (x : ℕ). h (x + 1)) (sym s) ∙ v)
-      then c u (Block k) v z = let s : _≡_ {A = ℕ} 0 1 = cc in absurd (omega arith)
-      then c u Torn v z = let s : _≡_ {A = ℕ} 0 1 = cc in absurd (omega arith)
+-- the plain scan never meets torn words
+scan-whole : (bit : ℕ → ℕ) (n p : ℕ) → nextFree bit n p ≡ Torn → ⊥
+scan-whole bit n p e = subst (IsNext bit n p) e (next-is bit n p)
 
-      go : (q : Found) → f p ≡ q → two.Last b ≡ andAfter h q → (f p ≡ Block b) × (h (b + 1) ≡ Nothing)
-      go (Block c) u z = then c u (h (c + 1)) refl z
-      go Nothing u z = let s : _≡_ {A = ℕ} 0 1 = cc in absurd (omega arith)
-      go Torn u z = let s : _≡_ {A = ℕ} 0 1 = cc in absurd (omega arith)
+pub never-torn : (bit : ℕ → ℕ) (n p : ℕ) → two.Torn ≡ nextTwo bit n p → ⊥
+never-torn bit n p e = ⊎-elim (λ u. scan-whole bit n p u) (λ u. scan-whole bit n (u .0 + 1) (u .2)) (two-says (nextFree bit n) (nextFree bit n) p two.Torn e)

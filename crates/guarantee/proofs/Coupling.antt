@@ -24,7 +24,7 @@ use Rattle.model.specs.Fields.{phase, tag, class}
 use Rattle.model.specs.Calls.{observe, act, exec}
 use Rattle.model.specs.Collector.{started, stepOf, lowest, collects}
 use Rattle.model.specs.Consistent.{Consistent}
-use Rattle.model.specs.Lists.{Event, mutatorCall, startCall, stepCall, openingCall, lookCall, eventNumber, Ghost, putUnless, blockIn, fed, struck, remains}
+use Rattle.model.specs.Lists.{Event, mutatorCall, startCall, stepCall, openingCall, lookCall, eventNumber, Ghost, putUnless, blockIn, fed, struck, remainingCall}
 use Rattle.refine_view.specs.View.{view}
 use Rattle.refine_view.specs.Kept.{refusedOut, agrees, ActKept, CallKept, EachOccupied, Steady, Structure}
 use Rattle.refine_view.proofs.Invariants.{consistent-ordered, structure-of, consistent-of}
@@ -50,7 +50,7 @@ pub couples-any : (g : Geometry) (m : Mem) (w : Ghost) (P : ℕ → Type 0) → 
 couples-any g m w P o = record { inv = o .inv; sim = o .sim; few = o .few; comp = record { live = λ b q k. tt; black = λ b q k. tt } }
 
 -- refused 1, it does not remain
-pub unfed : (v : Event) → eventNumber v ≡ some 1 → remains struckOut v ≡ none
+pub unfed : (v : Event) → eventNumber v ≡ some 1 → remainingCall struckOut v ≡ none
 unfed (mutatorCall c r) e = ap (λ o. pick (struck struckOut o) none (some (c, r))) e
 unfed (startCall r) e = refl
 unfed (stepCall r) e = refl
@@ -66,33 +66,33 @@ module _ (g : Geometry) (m : Mem) (z : Sizes g m) (k : Consistent g m) (w : Ghos
 
   -- any other event; a call that remains is answered as the unbounded heap does
   pub record Next (v : Event) (after : List ℕ) : Type 0 where
-    pub couples : Couples g (memOf g after) (fed w (remains struckOut v) g after) P
+    pub couples : Couples g (memOf g after) (fed w (remainingCall struckOut v) g after) P
     pub steady : Steady g m (memOf g after)
-    pub answer : (x : Call × Answer) → remains struckOut v ≡ some x → answerOf (x .1) ≡ uexec (w .heap) (x .0) .0
+    pub answer : (x : Call × Answer) → remainingCall struckOut v ≡ some x → answerOf (x .1) ≡ uexec (w .heap) (x .0) .0
 
   pub data Leads (v : Event) (after : List ℕ) : Type 0 where
     goes : Next v after → Leads v after
     begins : v ≡ startCall Ok → Begun (memOf g after) → Leads v after
 
   -- nothing changes beside
-  unmoved : (v : Event) (after : List ℕ) → fed w (remains struckOut v) g after ≡ w → ((x : Call × Answer) → remains struckOut v ≡ some x → answerOf (x .1) ≡ uexec (w .heap) (x .0) .0) → memOf g after ≡ m → Leads v after
+  unmoved : (v : Event) (after : List ℕ) → fed w (remainingCall struckOut v) g after ≡ w → ((x : Call × Answer) → remainingCall struckOut v ≡ some x → answerOf (x .1) ≡ uexec (w .heap) (x .0) .0) → memOf g after ≡ m → Leads v after
   unmoved v after n a h = goes (record {
     couples = subst (λ x. Couples g (memOf g after) x P) (sym n) (subst (λ x. Couples g x w P) (sym h) o);
     steady = subst (Steady g m) (sym h) (λ s l e. (e, refl));
     answer = a;
   })
 
-  stays : (v : Event) (after : List ℕ) → remains struckOut v ≡ none → memOf g after ≡ m → Leads v after
+  stays : (v : Event) (after : List ℕ) → remainingCall struckOut v ≡ none → memOf g after ≡ m → Leads v after
   stays v after n h = unmoved v after (ap (λ x. fed w x g after) n) (λ x e. absurd (Option·none-ne-some x (sym n ∙ e))) h
 
   -- ---- a mutator's call
 
   module _ (c : Call) (r : Answer) (after : List ℕ) where
-    -- answered as the unbounded heap does, it remains
-    remaining : answerOf r ≡ uexec (w .heap) c .0 → remains struckOut (mutatorCall c r) ≡ some (c, r)
+    -- answered as the unbounded heap does, it remainingCall
+    remaining : answerOf r ≡ uexec (w .heap) c .0 → remainingCall struckOut (mutatorCall c r) ≡ some (c, r)
     remaining a = ap (λ b. pick b none (some (c, r))) (not-struck-out r (w .heap) c a)
 
-    told : answerOf r ≡ uexec (w .heap) c .0 → (x : Call × Answer) → remains struckOut (mutatorCall c r) ≡ some x → answerOf (x .1) ≡ uexec (w .heap) (x .0) .0
+    told : answerOf r ≡ uexec (w .heap) c .0 → (x : Call × Answer) → remainingCall struckOut (mutatorCall c r) ≡ some x → answerOf (x .1) ≡ uexec (w .heap) (x .0) .0
     told a x f = subst (λ x. answerOf (x .1) ≡ uexec (w .heap) (x .0) .0) (Option·some-injective (c, r) x (sym (remaining a) ∙ f)) a
 
     -- refused by a number from 2 to 9, on both sides

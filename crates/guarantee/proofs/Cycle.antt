@@ -15,7 +15,7 @@ use Rattle.theory.proofs.Invariant.{none-some}
 use Rattle.model.specs.declared.Answer.the-variants.{Ok}
 use Rattle.model.specs.Fields.{phase, traceCount, tag, class}
 use Rattle.model.specs.Collector.{collects, stepOf, stepIn, moves, traces, sweeps, swept, lowest, waiting, outsideAnswered}
-use Rattle.model.specs.Lists.{startCall, stepCall, Element, started, stepped, Meets, KeepsLength, Gets, wrongSized, eventNumber, onward, Chain, wordsAfter, Ghost, Begins, ghostStep, ghostAfter}
+use Rattle.model.specs.Lists.{startCall, stepCall, Element, startElement, stepElement, Meets, KeepsLength, Gets, wrongSized, eventNumber, onward, Chain, wordsAfter, Ghost, Begins, ghostStep, ghostAfter}
 use Rattle.refine_view.specs.View.{view}
 use Rattle.laws.proofs.Lengths.{sizes-of}
 use Rattle.refine_run.proofs.Elements.{over, is-over, ahead}
@@ -72,9 +72,9 @@ module _ (g : Geometry) (m₀ : Mem) where
 
   -- no start that is not refused
   abbrev NoStart : List Element → Type 0
-  NoStart ds = (xs ys : List Element) (u v : List ℕ) → ds ≡ xs ++ (started g u Ok v ∷ ys) → ⊥
+  NoStart ds = (xs ys : List Element) (u v : List ℕ) → ds ≡ xs ++ (startElement g u Ok v ∷ ys) → ⊥
 
-  during-on : (words : List ℕ) (w : Ghost) (P : ℕ → Type 0) (e : Element) → During words w P → ((after : List ℕ) → e ≡ started g words Ok after → ⊥) → Meets e → KeepsLength e → (wrongSized e ≡ true) ⊎ Gets g words e → During (onward words e) (ghostStep struckOut w e) P
+  during-on : (words : List ℕ) (w : Ghost) (P : ℕ → Type 0) (e : Element) → During words w P → ((after : List ℕ) → e ≡ startElement g words Ok after → ⊥) → Meets e → KeepsLength e → (wrongSized e ≡ true) ⊎ Gets g words e → During (onward words e) (ghostStep struckOut w e) P
   during-on words w P e d f q l h = go (leads-on g words w e q l h P (d .point))
     where
       go : Leads g (memOf g words) (sizes-of g words (d .point .long)) (d .point .consistent) w P (d .point .couples) (e .event) (onward words e) → During (onward words e) (ghostStep struckOut w e) P
@@ -115,45 +115,45 @@ module _ (g : Geometry) (words : List ℕ) (w : Ghost) (es : List Element) (c : 
     pub memory : memOf g (c .stepAfter) ≡ stepOf g (memOf g (c .stepBefore)) .1
     pub atEnd : Point g (c .stepAfter) heapNow Any
 
-  abbrev startElement : Element
-  startElement = started g (c .startBefore) Ok (c .startAfter)
+  abbrev cycleStart : Element
+  cycleStart = startElement g (c .startBefore) Ok (c .startAfter)
 
-  abbrev stepElement : Element
-  stepElement = stepped g (c .stepBefore) (stepAnswer.Swept (c .segment) (c .freed)) (c .stepAfter)
+  abbrev cycleSweep : Element
+  cycleSweep = stepElement g (c .stepBefore) (stepAnswer.Swept (c .segment) (c .freed)) (c .stepAfter)
 
   module _ (p : Point g (c .startBefore) heapThen Any) (i : phase (memOf g (c .startBefore)) ≡ idle) where
-    at-sweep : During g (memOf g (c .startBefore)) (c .stepBefore) heapNow Then → Chain g (c .stepBefore) (stepElement ∷ c .rest) → Cycle
+    at-sweep : During g (memOf g (c .startBefore)) (c .stepBefore) heapNow Then → Chain g (c .stepBefore) (cycleSweep ∷ c .rest) → Cycle
     at-sweep d ch =
-        let n = ahead g (c .stepBefore) stepElement (ch .0) (not-refused g (c .stepBefore) stepElement (ch .0) refl (ch .2)) in
-        let a = sweeping g (memOf g (c .stepBefore)) (memOf g (c .stepAfter)) (c .segment) (c .freed) (subst (λ x. Acts g (memOf g (c .stepBefore)) (memOf g x) (stepElement .event)) n (acts-on g (c .stepBefore) heapNow stepElement (ch .0) (ch .1) (ch .2) Then (d .point))) in
+        let n = ahead g (c .stepBefore) cycleSweep (ch .0) (not-refused g (c .stepBefore) cycleSweep (ch .0) refl (ch .2)) in
+        let a = sweeping g (memOf g (c .stepBefore)) (memOf g (c .stepAfter)) (c .segment) (c .freed) (subst (λ x. Acts g (memOf g (c .stepBefore)) (memOf g x) (cycleSweep .event)) n (acts-on g (c .stepBefore) heapNow cycleSweep (ch .0) (ch .1) (ch .2) Then (d .point))) in
         record {
           atStart = p;
           quiet = i;
           during = d;
           answer = a .0;
           memory = a .1;
-          atEnd = subst (λ x. Point g x heapNow Any) n (pass g (c .stepBefore) heapNow stepElement (point-any g (c .stepBefore) heapNow Then (d .point)) (ch .0) (ch .1) (ch .2) .point);
+          atEnd = subst (λ x. Point g x heapNow Any) n (pass g (c .stepBefore) heapNow cycleSweep (point-any g (c .stepBefore) heapNow Then (d .point)) (ch .0) (ch .1) (ch .2) .point);
         }
 
-    before-sweep : (u : List ℕ) → During g (memOf g (c .startBefore)) u heapNow Then → Chain g u (stepElement ∷ c .rest) → Cycle
+    before-sweep : (u : List ℕ) → During g (memOf g (c .startBefore)) u heapNow Then → Chain g u (cycleSweep ∷ c .rest) → Cycle
     before-sweep u d ch =
-        let h = not-refused g u stepElement (ch .0) refl (ch .2) in
-        let x = subst (λ u. During g (memOf g (c .startBefore)) u heapNow Then × Chain g u (stepElement ∷ c .rest)) (sym (h .memory)) (d, ch) in
+        let h = not-refused g u cycleSweep (ch .0) refl (ch .2) in
+        let x = subst (λ u. During g (memOf g (c .startBefore)) u heapNow Then × Chain g u (cycleSweep ∷ c .rest)) (sym (h .memory)) (d, ch) in
         at-sweep (x .0) (x .1)
 
-  at-start : Point g (c .startBefore) heapThen Any → Chain g (c .startBefore) (startElement ∷ (c .during ++ (stepElement ∷ c .rest))) → Cycle
+  at-start : Point g (c .startBefore) heapThen Any → Chain g (c .startBefore) (cycleStart ∷ (c .during ++ (cycleSweep ∷ c .rest))) → Cycle
   at-start p ch =
-      let a = accepted g (memOf g (c .startBefore)) _ (acts-on g (c .startBefore) heapThen startElement (ch .0) (ch .1) (ch .2) Any p) in
+      let a = accepted g (memOf g (c .startBefore)) _ (acts-on g (c .startBefore) heapThen cycleStart (ch .0) (ch .1) (ch .2) Any p) in
       let b = begun g (memOf g (c .startBefore)) (sizes-of g (c .startBefore) (p .long)) (p .consistent) heapThen Any (p .couples) _ (a .0) (a .1) in
-      let d : During g (memOf g (c .startBefore)) (onward (c .startBefore) startElement) heapThen Then = record { point = point-on g (c .startBefore) heapThen startElement (ch .0) (ch .1) (ch .2) Any p heapThen Then (b .couples); collected = b .collected } in
-      let y = walk-during g (memOf g (c .startBefore)) (c .during) (stepElement ∷ c .rest) (onward (c .startBefore) startElement) heapThen Then d (c .oneStart) (ch .3) in
-      before-sweep p (a .0) (wordsAfter (onward (c .startBefore) startElement) (c .during)) (y .0) (y .1)
+      let d : During g (memOf g (c .startBefore)) (onward (c .startBefore) cycleStart) heapThen Then = record { point = point-on g (c .startBefore) heapThen cycleStart (ch .0) (ch .1) (ch .2) Any p heapThen Then (b .couples); collected = b .collected } in
+      let y = walk-during g (memOf g (c .startBefore)) (c .during) (cycleSweep ∷ c .rest) (onward (c .startBefore) cycleStart) heapThen Then d (c .oneStart) (ch .3) in
+      before-sweep p (a .0) (wordsAfter (onward (c .startBefore) cycleStart) (c .during)) (y .0) (y .1)
 
-  before-start : (u : List ℕ) → Point g u heapThen Any → Chain g u (startElement ∷ (c .during ++ (stepElement ∷ c .rest))) → Cycle
+  before-start : (u : List ℕ) → Point g u heapThen Any → Chain g u (cycleStart ∷ (c .during ++ (cycleSweep ∷ c .rest))) → Cycle
   before-start u p ch =
-      let h = not-refused g u startElement (ch .0) refl (ch .2) in
-      let x = subst (λ u. Point g u heapThen Any × Chain g u (startElement ∷ (c .during ++ (stepElement ∷ c .rest)))) (sym (h .memory)) (p, ch) in
+      let h = not-refused g u cycleStart (ch .0) refl (ch .2) in
+      let x = subst (λ u. Point g u heapThen Any × Chain g u (cycleStart ∷ (c .during ++ (cycleSweep ∷ c .rest)))) (sym (h .memory)) (p, ch) in
       at-start (x .0) (x .1)
 
   pub cycle-of : Begins g words w → Chain g words es → Cycle
-  cycle-of b ch = let a = walk g (c .before) (startElement ∷ (c .during ++ (stepElement ∷ c .rest))) words w (first-point g words w b) (subst (Chain g words) (c .whole) ch) in before-start (wordsAfter words (c .before)) (a .0) (a .1)
+  cycle-of b ch = let a = walk g (c .before) (cycleStart ∷ (c .during ++ (cycleSweep ∷ c .rest))) words w (first-point g words w b) (subst (Chain g words) (c .whole) ch) in before-start (wordsAfter words (c .before)) (a .0) (a .1)

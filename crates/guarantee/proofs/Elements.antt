@@ -13,7 +13,7 @@ use Rattle.layout.specs.Mem.{memOf}
 use Rattle.layout.proofs.Regions.{sized, right-size}
 use Rattle.theory.proofs.Invariant.{none-some}
 use Rattle.model.specs.Consistent.{Consistent}
-use Rattle.model.specs.Lists.{Element, Meets, KeepsLength, Gets, wrongSized, numberOf, onward, Ghost, fed, remains, ghostStep}
+use Rattle.model.specs.Lists.{Element, Meets, KeepsLength, Gets, wrongSized, numberOf, onward, Ghost, fed, remainingCall, ghostStep}
 use Rattle.laws.proofs.Lengths.{sizes-of}
 use Rattle.refine_run.proofs.Elements.{size-number, ahead}
 use Rattle.guarantee.specs.Demand3.{struckOut}
@@ -42,10 +42,10 @@ pub point-any : (g : Geometry) (words : List ℕ) (w : Ghost) (P : ℕ → Type 
 point-any g words w P p = record { long = p .long; consistent = p .consistent; couples = couples-any g (memOf g words) w P (p .couples) }
 
 module _ (g : Geometry) (words : List ℕ) (w : Ghost) (e : Element) (q : Meets e) (l : KeepsLength e) (h : (wrongSized e ≡ true) ⊎ Gets g words e) where
-  -- what remains of an element is a call over the list's memory
-  beside : (x : (wrongSized e ≡ true) ⊎ Gets g words e) → fed w (remains struckOut (e .event)) g (onward words e) ≡ ghostStep struckOut w e
+  -- what remainingCall of an element is a call over the list's memory
+  beside : (x : (wrongSized e ≡ true) ⊎ Gets g words e) → fed w (remainingCall struckOut (e .event)) g (onward words e) ≡ ghostStep struckOut w e
   beside (inl h) = let n = unfed (e .event) (size-number e q h) in ap (λ o. fed w o g (onward words e)) n ∙ sym (ap (λ o. fed w o (e .geometry) (e .after)) n)
-  beside (inr h) = λ i. fed w (remains struckOut (e .event)) (sym (h .geometry) i) (ahead g words e q h i)
+  beside (inr h) = λ i. fed w (remainingCall struckOut (e .event)) (sym (h .geometry) i) (ahead g words e q h i)
 
   module _ (P : ℕ → Type 0) (p : Point g words w P) where
     pub acts-on : Acts g (memOf g words) (memOf g (onward words e)) (e .event)
@@ -59,5 +59,5 @@ module _ (g : Geometry) (words : List ℕ) (w : Ghost) (e : Element) (q : Meets 
         let y = sized-on g words (p .long) e q l h in
         record { long = y; consistent = acts-consistent g (memOf g words) (sizes-of g words (p .long)) (p .consistent) (e .event) (onward words e) (sizes-of g (onward words e) y) acts-on; couples = o }
 
-    pub goes-on : Couples g (memOf g (onward words e)) (fed w (remains struckOut (e .event)) g (onward words e)) P → Point g (onward words e) (ghostStep struckOut w e) P
+    pub goes-on : Couples g (memOf g (onward words e)) (fed w (remainingCall struckOut (e .event)) g (onward words e)) P → Point g (onward words e) (ghostStep struckOut w e) P
     goes-on o = point-on (ghostStep struckOut w e) P (subst (λ x. Couples g (memOf g (onward words e)) x P) (beside h) o)

@@ -23,7 +23,7 @@ use Rattle.model.specs.Opening.{opened}
 use Rattle.model.specs.Run.{Command, answered}
 use Rattle.model.specs.Consistent.{Consistent}
 use Rattle.model.specs.Looks.{Look, LookPromise, lookSized, lookNumber}
-use Rattle.model.specs.Lists.{Event, Element, Promised, Meets, eventNumber, struck, remains}
+use Rattle.model.specs.Lists.{Event, Element, Promised, Meets, eventNumber, struck, remainingCall}
 use Rattle.laws.proofs.Lengths.{sizes-of}
 use Rattle.refine_view.proofs.Invariants.{consistent-ordered}
 use Rattle.refine_view.proofs.Keeping.{self, self-good}
@@ -57,12 +57,12 @@ pub every-call-keeps : EveryCallKeeps
 every-call-keeps g words e a = subst (λ x. Consistent g (memOf g x)) (ahead g words e (a .meets) (a .gets)) (law g words e a .consistent)
 
 -- a mutator's call that remains answers as the memory itself does as an unbounded heap: a refusal is from 2 to 9
-remains-number : (g : Geometry) (words after : List ℕ) → Sized g (length words) → Consistent g (memOf g words) → (v : Event) → Acts g (memOf g words) (memOf g after) v → (x : Call × Answer) → remains struckOut v ≡ some x → (n : ℕ) → refusalOf (x .1) ≡ some n → n ≤ 9
+remains-number : (g : Geometry) (words after : List ℕ) → Sized g (length words) → Consistent g (memOf g words) → (v : Event) → Acts g (memOf g words) (memOf g after) v → (x : Call × Answer) → remainingCall struckOut v ≡ some x → (n : ℕ) → refusalOf (x .1) ≡ some n → n ≤ 9
 remains-number g words after z c v a x i n t = go (self-leads g (memOf g words) (sizes-of g words z) c v after a)
   where
     go : Leads g (memOf g words) (sizes-of g words z) c (alone g (memOf g words) (sizes-of g words z) c) Any (self-good g (memOf g words) (sizes-of g words z) (consistent-ordered g (memOf g words) c)) v after → n ≤ 9
     go (goes y) = unbounded-number (self g (memOf g words)) (x .0) n (sym (ap refusalIn (y .answer x i)) ∙ t) .1
-    go (begins e b) = absurd (Option·none-ne-some x (sym (ap (remains struckOut) e) ∙ i))
+    go (begins e b) = absurd (Option·none-ne-some x (sym (ap (remainingCall struckOut) e) ∙ i))
 
 -- no refusal is by a number above 12 that is not struck out
 module _ (g : Geometry) (words : List ℕ) (z : Sized g (length words)) (c : Consistent g (memOf g words)) (n : ℕ) (large : 12 < n) (left : struckOut n ≡ false) where

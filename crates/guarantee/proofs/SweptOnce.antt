@@ -18,7 +18,7 @@ use Rattle.model.specs.declared.Step.the-variants.{Waiting, Moved, Traced, Swep
 use Rattle.model.specs.Collector.{isFull}
 use Rattle.model.specs.Fields.{tag}
 use Rattle.model.specs.Consistent.{Consistent}
-use Rattle.model.specs.Lists.{Event, mutatorCall, startCall, stepCall, openingCall, lookCall, Element, started, stepped, Meets, KeepsLength, Gets, wrongSized, eventNumber, onward, Chain, wordsAfter}
+use Rattle.model.specs.Lists.{Event, mutatorCall, startCall, stepCall, openingCall, lookCall, Element, startElement, stepElement, Meets, KeepsLength, Gets, wrongSized, eventNumber, onward, Chain, wordsAfter}
 use Rattle.laws.proofs.Lengths.{sizes-of}
 use Rattle.laws.proofs.Segments.{in-range}
 use Rattle.refine_run.proofs.Elements.{over, is-over}
@@ -80,7 +80,7 @@ module _ (g : Geometry) where
 
   -- no start that is not refused
   abbrev NoStart : List Element → Type 0
-  NoStart ds = (xs ys : List Element) (u v : List ℕ) → ds ≡ xs ++ (started g u Ok v ∷ ys) → ⊥
+  NoStart ds = (xs ys : List Element) (u v : List ℕ) → ds ≡ xs ++ (startElement g u Ok v ∷ ys) → ⊥
 
   no-start : (words : List ℕ) (e : Element) (ds : List Element) → NoStart (e ∷ ds) → Meets e → (wrongSized e ≡ true) ⊎ Gets g words e → e .event ≡ startCall Ok → ⊥
   no-start words e ds n q h i = n [] ds words (e .after) (ap (λ x. x ∷ ds) (is-over g words e (not-refused g words e q (ap eventNumber i) h) ∙ ap (λ v. over g words v (e .after)) i))
@@ -100,9 +100,9 @@ module _ (g : Geometry) where
         never-more s e ds m (never-swept ds ys (onward words e) (o .0) (no-later e ds n) (c .3) (k ∙ f))
 
     -- one that is condemned is swept before done, once
-    once-swept : s < g .segments → (ds rest : List Element) (u v words : List ℕ) → ConsistentWords words → NoStart ds → Chain g words (ds ++ (stepped g u Done v ∷ rest)) → isCondemned (memOf g words) s ≡ true → OnceSwept g s ds
+    once-swept : s < g .segments → (ds rest : List Element) (u v words : List ℕ) → ConsistentWords words → NoStart ds → Chain g words (ds ++ (stepElement g u Done v ∷ rest)) → isCondemned (memOf g words) s ≡ true → OnceSwept g s ds
     once-swept l [] rest u v words a n c t =
-        let o = next words (stepped g u Done v) a (c .0) (c .1) (c .2) in
+        let o = next words (stepElement g u Done v) a (c .0) (c .1) (c .2) in
         let z = sizes-of g words (sized g (length words) (a .right)) in
         absurd (true≢false (sym t ∙ done-condemned g (memOf g words) z (a .consistent) s l _ (o .1)))
     once-swept l (e ∷ ds) rest u v words a n c t = go (is-sweep s e) (λ k. once-swept l ds rest u v (onward words e) (o .0) (no-later e ds n) (c .3) k)
@@ -122,7 +122,7 @@ module _ (g : Geometry) where
           freed = x .0;
           whole = ap (λ y. y ∷ ds) (is-over g words e (not-refused g words e (c .0) (ap eventNumber (x .1)) (c .2)) ∙ ap (λ w. over g words w (e .after)) (x .1));
           notEarlier = never-none s;
-          notLater = never-swept ds (stepped g u Done v ∷ rest) (onward words e) (o .0) (no-later e ds n) (c .3) (swept-condemned g (memOf g words) z (a .consistent) s _ (x .0) (subst (Acts g (memOf g words) _) (x .1) (o .1)) .1);
+          notLater = never-swept ds (stepElement g u Done v ∷ rest) (onward words e) (o .0) (no-later e ds n) (c .3) (swept-condemned g (memOf g words) z (a .consistent) s _ (x .0) (subst (Acts g (memOf g words) _) (x .1) (o .1)) .1);
         }
 
         later : (IsSweep s e → ⊥) → OnceSwept g s ds → OnceSwept g s (e ∷ ds)
@@ -145,7 +145,7 @@ pub swept-once : SweptOnce
 swept-once g words es right k ch c s f =
     let w = walk-consistent g (c .before) _ words (record { right = right; consistent = k }) (subst (Chain g words) (c .whole) ch) in
     let u = wordsAfter words (c .before) in
-    let e = started g (c .startBefore) Ok (c .startAfter) in
+    let e = startElement g (c .startBefore) Ok (c .startAfter) in
     let h = not-refused g u e (w .1 .0) refl (w .1 .2) in
     let o = next g u e (w .0) (w .1 .0) (w .1 .1) (w .1 .2) in
     let z = sizes-of g u (sized g (length u) (w .0 .right)) in

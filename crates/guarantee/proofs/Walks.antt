@@ -11,7 +11,7 @@ use Rattle.theory.specs.Calls.{Call}
 use Rattle.theory.specs.Unbounded.{uexec, uanswers}
 use Rattle.model.specs.declared.Answer.{Answer}
 use Rattle.model.specs.Answers.{answerOf}
-use Rattle.model.specs.Lists.{Element, Meets, KeepsLength, Gets, wrongSized, onward, Chain, wordsAfter, Ghost, fed, keep, remains, remainingCalls, remainingAnswers, ghostStep, ghostAfter}
+use Rattle.model.specs.Lists.{Element, Meets, KeepsLength, Gets, wrongSized, onward, Chain, wordsAfter, Ghost, fed, keep, remainingCall, remainingCalls, remainingAnswers, ghostStep, ghostAfter}
 use Rattle.laws.proofs.Lengths.{sizes-of}
 use Rattle.guarantee.specs.Demand3.{struckOut}
 use Rattle.guarantee.proofs.Coupling.{Couples, Any, couples-any, Leads, goes, begins}
@@ -21,7 +21,7 @@ module _ (g : Geometry) where
   -- the point after an element, and what a call that remains is answered
   pub record Passed (words : List ℕ) (w : Ghost) (e : Element) : Type 0 where
     pub point : Point g (onward words e) (ghostStep struckOut w e) Any
-    pub answer : (x : Call × Answer) → remains struckOut (e .event) ≡ some x → answerOf (x .1) ≡ uexec (w .heap) (x .0) .0
+    pub answer : (x : Call × Answer) → remainingCall struckOut (e .event) ≡ some x → answerOf (x .1) ≡ uexec (w .heap) (x .0) .0
 
   pub pass : (words : List ℕ) (w : Ghost) (e : Element) → Point g words w Any → Meets e → KeepsLength e → (wrongSized e ≡ true) ⊎ Gets g words e → Passed words w e
   pass words w e p q l h = go (leads-on g words w e q l h Any p)
@@ -29,7 +29,7 @@ module _ (g : Geometry) where
       go : Leads g (memOf g words) (sizes-of g words (p .long)) (p .consistent) w Any (p .couples) (e .event) (onward words e) → Passed words w e
       go (goes n) = record { point = goes-on g words w e q l h Any p (n .couples); answer = n .answer }
       go (begins i b) =
-          let n : remains struckOut (e .event) ≡ none = ap (remains struckOut) i in
+          let n : remainingCall struckOut (e .event) ≡ none = ap (remainingCall struckOut) i in
           record {
             point = point-on g words w e q l h Any p (ghostStep struckOut w e) Any (subst (λ o. Couples g (memOf g (onward words e)) (fed w o (e .geometry) (e .after)) Any) (sym n) (couples-any g (memOf g (onward words e)) w _ (b .couples)));
             answer = λ x f. absurd (Option·none-ne-some x (sym n ∙ f));
@@ -51,4 +51,4 @@ module _ (g : Geometry) where
   answers-on [] words w p c = refl
   answers-on (e ∷ es) words w p c =
       let n = pass words w e p (c .0) (c .1) (c .2) in
-      one-answer w es (e .geometry) (e .after) (remains struckOut (e .event)) (n .answer) (answers-on es (onward words e) (ghostStep struckOut w e) (n .point) (c .3))
+      one-answer w es (e .geometry) (e .after) (remainingCall struckOut (e .event)) (n .answer) (answers-on es (onward words e) (ghostStep struckOut w e) (n .point) (c .3))

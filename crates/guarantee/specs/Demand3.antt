@@ -19,7 +19,7 @@ use Rattle.model.specs.Segments.{usedBit}
 use Rattle.model.specs.Records.{headerOf}
 use Rattle.model.specs.Collector.{isFull}
 use Rattle.model.specs.Consistent.{isFree}
-use Rattle.model.specs.Lists.{Element, started, stepped, Chain, Ghost, BlockReached, Begins, remainingCalls, remainingAnswers, ghostAfter}
+use Rattle.model.specs.Lists.{Element, startElement, stepElement, Chain, Ghost, BlockReached, Begins, remainingCalls, remainingAnswers, ghostAfter}
 
 -- "Strike out .. every call refused "size", "no room" or "not now""
 abbrev pub struckOut : ℕ → Bool
@@ -46,8 +46,8 @@ pub record SweptIn (g : Geometry) (es : List Element) : Type 0 where
   pub stepAfter : List ℕ
   pub segment : ℕ
   pub freed : ℕ
-  pub whole : es ≡ before ++ (started g startBefore Ok startAfter ∷ (during ++ (stepped g stepBefore (Swept segment freed) stepAfter ∷ rest)))
-  pub oneStart : (xs ys : List Element) (u v : List ℕ) → during ≡ xs ++ (started g u Ok v ∷ ys) → ⊥
+  pub whole : es ≡ before ++ (startElement g startBefore Ok startAfter ∷ (during ++ (stepElement g stepBefore (Swept segment freed) stepAfter ∷ rest)))
+  pub oneStart : (xs ys : List Element) (u v : List ℕ) → during ≡ xs ++ (startElement g u Ok v ∷ ys) → ⊥
 
 -- "the remaining answers, one by one and in order, equal those that document 01's endless rack .. gives to the same calls"
 abbrev pub SameAnswers : Type 0

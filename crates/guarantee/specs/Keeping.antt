@@ -24,7 +24,7 @@ use Rattle.model.specs.Collector.{isFull}
 use Rattle.model.specs.Opening.{opened}
 use Rattle.model.specs.Run.{Command, run}
 use Rattle.model.specs.Consistent.{Consistent}
-use Rattle.model.specs.Lists.{stepCall, Element, called, started, stepped, Meets, KeepsLength, Gets, wrongSized, numberOf, Chain, wordsAfter, Ghost, Opened, Begins}
+use Rattle.model.specs.Lists.{stepCall, Element, callElement, startElement, stepElement, Meets, KeepsLength, Gets, wrongSized, numberOf, Chain, wordsAfter, Ghost, Opened, Begins}
 
 -- "The answer to every call, over lent memory of any length and content, is a result or one number of the table in document 01": whatever the call
 -- was lent, a refusal is one of the numbers 1 to 13
@@ -69,9 +69,9 @@ pub record OutOfRoom (g : Geometry) (m : Mem) (k d p n : ℕ) : Type 0 where
   pub noRoom : NoRoom g m k class
 
 pub record NoRoomExactly : Type 0 where
-  pub only : (g : Geometry) (words after : List ℕ) (k d p n : ℕ) (r : Answer) → Applied g words (called (c-make k d p n) g words r after)
+  pub only : (g : Geometry) (words after : List ℕ) (k d p n : ℕ) (r : Answer) → Applied g words (callElement (c-make k d p n) g words r after)
       → refusalOf r ≡ some 10 → OutOfRoom g (memOf g words) k d p n
-  pub whenever : (g : Geometry) (words after : List ℕ) (k d p n : ℕ) (r : Answer) → Applied g words (called (c-make k d p n) g words r after)
+  pub whenever : (g : Geometry) (words after : List ℕ) (k d p n : ℕ) (r : Answer) → Applied g words (callElement (c-make k d p n) g words r after)
       → OutOfRoom g (memOf g words) k d p n → refusalOf r ≡ some 10
 
 -- a cycle to its end: a start that is not refused, further calls with no such start among them, and a step that answers done
@@ -83,8 +83,8 @@ pub record EndedIn (g : Geometry) (es : List Element) : Type 0 where
   pub startAfter : List ℕ
   pub stepBefore : List ℕ
   pub stepAfter : List ℕ
-  pub whole : es ≡ before ++ (started g startBefore Ok startAfter ∷ (during ++ (stepped g stepBefore Done stepAfter ∷ rest)))
-  pub oneStart : (xs ys : List Element) (u v : List ℕ) → during ≡ xs ++ (started g u Ok v ∷ ys) → ⊥
+  pub whole : es ≡ before ++ (startElement g startBefore Ok startAfter ∷ (during ++ (stepElement g stepBefore Done stepAfter ∷ rest)))
+  pub oneStart : (xs ys : List Element) (u v : List ℕ) → during ≡ xs ++ (startElement g u Ok v ∷ ys) → ⊥
 
 -- no step of a list answers swept for segment s
 abbrev pub NeverSwept : ℕ → List Element → Type 0
@@ -97,7 +97,7 @@ pub record OnceSwept (g : Geometry) (s : ℕ) (es : List Element) : Type 0 where
   pub stepBefore : List ℕ
   pub stepAfter : List ℕ
   pub freed : ℕ
-  pub whole : es ≡ earlier ++ (stepped g stepBefore (Swept s freed) stepAfter ∷ later)
+  pub whole : es ≡ earlier ++ (stepElement g stepBefore (Swept s freed) stepAfter ∷ later)
   pub notEarlier : NeverSwept s earlier
   pub notLater : NeverSwept s later
 

@@ -14,7 +14,7 @@ use Rattle.theory.specs.Update.{upd}
 use Rattle.theory.specs.Unbounded.{empty, uanswers}
 use Rattle.theory.proofs.Invariant.{none-some}
 use Rattle.model.specs.declared.Answer.the-variants.{Ok, Refused}
-use Rattle.model.specs.Lists.{Element, called, ghostStart, byOpening}
+use Rattle.model.specs.Lists.{Element, callElement, ghostStart, byOpening}
 use Rattle.guarantee.specs.Keeping.{Applied, EndedIn}
 use Rattle.guarantee.proofs.Beginning.{opened-point}
 use Rattle.guarantee.proofs.Guarantee.{guarantee}
@@ -93,10 +93,10 @@ module _ (g : Geometry) (p : CaseRun g (commandsIn (inputs refusals)) (tail (out
   elements = elementsOf g at (commandsIn (inputs refusals)) (tail (outputs refusals))
 
   abbrev fourth : Element
-  fourth = called (c-make 0 3 2 510) g (at 42) Ok (at 43)
+  fourth = callElement (c-make 0 3 2 510) g (at 42) Ok (at 43)
 
   abbrev fifth : Element
-  fifth = called (c-make 0 4 2 510) g (at 43) (Refused 10) (at 44)
+  fifth = callElement (c-make 0 4 2 510) g (at 43) (Refused 10) (at 44)
 
   fourth-applied : Applied g (at 42) fourth
   fourth-applied = applied-to g (at 0) ghostStart elements (byOpening (p .opened)) (p .chain) (take 42 elements) (drop 43 elements) fourth refl (λ e. none-some e)

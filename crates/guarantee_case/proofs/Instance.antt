@@ -12,7 +12,7 @@ use Rattle.layout.specs.Mem.{memOf, Sizes}
 use Rattle.theory.specs.Calls.{c-check, a-ok, refusal, refuse}
 use Rattle.theory.specs.Unbounded.{Unbounded, uexec, uobserve}
 use Rattle.model.specs.declared.Answer.the-variants.{Ok}
-use Rattle.model.specs.Lists.{Event, mutatorCall, startCall, stepCall, openingCall, lookCall, Element, started, Ghost, ghostStart, byOpening, ghostAfter}
+use Rattle.model.specs.Lists.{Event, mutatorCall, startCall, stepCall, openingCall, lookCall, Element, startElement, Ghost, ghostStart, byOpening, ghostAfter}
 use Rattle.model.specs.Run.{Command}
 use Rattle.guarantee.specs.Demand3.{struckOut, SweptIn}
 use Rattle.guarantee.proofs.Cycle.{cycle-of}
@@ -45,11 +45,11 @@ abbrev pub anyStart : List Element → Bool
 anyStart [] = false
 anyStart (e ∷ es) = pick (isStart (e .event)) true (anyStart es)
 
-pub has-start : (g : Geometry) (xs ys : List Element) (u v : List ℕ) → anyStart (xs ++ (started g u Ok v ∷ ys)) ≡ true
+pub has-start : (g : Geometry) (xs ys : List Element) (u v : List ℕ) → anyStart (xs ++ (startElement g u Ok v ∷ ys)) ≡ true
 has-start g [] ys u v = refl
 has-start g (x ∷ xs) ys u v = go (isStart (x .event)) (has-start g xs ys u v)
   where
-    go : (b : Bool) → anyStart (xs ++ (started g u Ok v ∷ ys)) ≡ true → pick b true (anyStart (xs ++ (started g u Ok v ∷ ys))) ≡ true
+    go : (b : Bool) → anyStart (xs ++ (startElement g u Ok v ∷ ys)) ≡ true → pick b true (anyStart (xs ++ (startElement g u Ok v ∷ ys))) ≡ true
     go true h = refl
     go false h = h
 

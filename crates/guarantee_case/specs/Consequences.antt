@@ -8,7 +8,7 @@ use Rattle.layout.specs.Mem.{memOf}
 use Rattle.theory.specs.Calls.{c-make}
 use Rattle.model.specs.declared.Answer.the-variants.{Ok, Refused}
 use Rattle.model.specs.Consistent.{Consistent}
-use Rattle.model.specs.Lists.{Element, called, Gets, numberOf, Chain, wordsAfter, Opened, ghostStart, Begins, remainingCalls, remainingAnswers}
+use Rattle.model.specs.Lists.{Element, callElement, Gets, numberOf, Chain, wordsAfter, Opened, ghostStart, Begins, remainingCalls, remainingAnswers}
 use Rattle.guarantee.specs.Demand3.{struckOut, BlockFree}
 use Rattle.guarantee.specs.Keeping.{OutOfRoom, EndedIn, OnceSwept}
 use Rattle.model_cases.specs.Replies.{Line}
@@ -61,6 +61,6 @@ pub record OfRefusals : Type 0 where
   pub beforeFourth : List ℕ
   pub beforeFifth : List ℕ
   pub afterFifth : List ℕ
-  pub makes : calls ≡ before ++ (called (c-make 0 3 2 510) geometry beforeFourth Ok beforeFifth ∷ called (c-make 0 4 2 510) geometry beforeFifth (Refused 10) afterFifth ∷ rest)
+  pub makes : calls ≡ before ++ (callElement (c-make 0 3 2 510) geometry beforeFourth Ok beforeFifth ∷ callElement (c-make 0 4 2 510) geometry beforeFifth (Refused 10) afterFifth ∷ rest)
   pub room : OutOfRoom geometry (memOf geometry beforeFourth) 0 3 2 510 → ⊥
   pub noRoom : OutOfRoom geometry (memOf geometry beforeFifth) 0 4 2 510

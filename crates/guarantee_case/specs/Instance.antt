@@ -10,7 +10,7 @@ use Rattle.theory.specs.Calls.{c-check, c-clear, c-load, c-put, c-get, a-ok}
 use Rattle.model.specs.declared.Answer.the-variants.{Ok, Number}
 use Rattle.model.specs.Segments.{usedBit}
 use Rattle.model.specs.Collector.{isFull}
-use Rattle.model.specs.Lists.{Element, called, Chain, Opened, ghostStart, remainingCalls, remainingAnswers, ghostAfter}
+use Rattle.model.specs.Lists.{Element, callElement, Chain, Opened, ghostStart, remainingCalls, remainingAnswers, ghostAfter}
 use Rattle.guarantee.specs.Demand3.{struckOut, Unreached, SweptIn}
 
 pub record Instance : Type 0 where
@@ -36,7 +36,7 @@ pub record Instance : Type 0 where
   pub late : List Element
   pub putBefore : List ℕ
   pub putAfter : List ℕ
-  pub puts : cycle .before ≡ early ++ (called (c-put mutator root field value) geometry putBefore Ok putAfter ∷ late)
+  pub puts : cycle .before ≡ early ++ (callElement (c-put mutator root field value) geometry putBefore Ok putAfter ∷ late)
   -- between that put and the get no other mutators' calls remain than these: the root is cleared and one more, two checks in the cycle, and after
   -- the sweep a load from another root, which is answered ok
   pub gone : ℕ
@@ -50,4 +50,4 @@ pub record Instance : Type 0 where
   pub reloaded : remainingAnswers struckOut between ≡ a-ok ∷ []
   pub getBefore : List ℕ
   pub getAfter : List ℕ
-  pub gets : cycle .rest ≡ between ++ (called (c-get mutator root field) geometry getBefore (Number value) getAfter ∷ [])
+  pub gets : cycle .rest ≡ between ++ (callElement (c-get mutator root field) geometry getBefore (Number value) getAfter ∷ [])

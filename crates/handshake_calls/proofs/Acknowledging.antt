@@ -1,28 +1,31 @@
 -- An acknowledgement by the phase's number, and how check and leave keep their promises with it. Assumes nothing.
-use mathlib.Core.Path.{_≡_, refl, sym, _∙_, ap}
+use mathlib.Core.Path.{_≡_, refl, sym, _∙_, ap, subst}
 use mathlib.Core.Bool.{Bool, true, false, true≢false}
 use mathlib.Core.List.{List}
 use Prim.Native.Nat.{ℕ, zero, suc, _<_}
+use native.Mathlib.Omega.{arith}
 use lib.ListN.{length}
 use Rattle.layout.specs.declared.Geometry.{Geometry}
-use Rattle.layout.specs.Geometry.{wrongSize, mutatorCount}
-use Rattle.layout.specs.Mem.{Mem, memOf, controlWord}
+use Rattle.layout.specs.Geometry.{wrongSize, mutatorCount, rootCount}
+use Rattle.layout.specs.Mem.{Mem, memOf, controlWord, setMutator}
 use Rattle.layout.proofs.Regions.{sized}
 use Rattle.theory.specs.Phases.{owes}
 use Rattle.theory.specs.Calls.{Call, c-check, c-leave}
 use Rattle.theory.proofs.Refusals.{by-ok}
 use Rattle.model.specs.declared.Answer.the-variants.{Ok, Refused}
 use Rattle.model.specs.Rules.{phaseOf}
-use Rattle.model.specs.Fields.{phase, outside, setMutatorState, acks, setAcks}
+use Rattle.model.specs.Fields.{phase, outside, setMutatorState, acks, setAcks, root}
+use Rattle.model.specs.Tracing.{pushRoots}
 use Rattle.model.specs.Mutators.{acknowledged}
 use Rattle.model.specs.Calls.{observe, act}
 use Rattle.model.specs.Promise.{Promise}
 use Rattle.laws.proofs.Bools.{not-eq}
 use Rattle.laws.proofs.Lengths.{sizes-of}
-use Rattle.laws.proofs.Acknowledgements.{roots-ready}
+use Rattle.laws.proofs.Acknowledgements.{root-acks, roots-acks, roots-ready}
 use Rattle.laws.proofs.Promised.{done, torn-13}
 use Rattle.roots.specs.Inside.{insideThen}
-use Rattle.tracing.specs.Roots.{PushesRoots}
+use Rattle.tracing.specs.Pushing.{recordBitAt, PushFails}
+use Rattle.tracing.specs.Roots.{RootFails, PushesRoots}
 use Rattle.tracing.proofs.Roots.{roots-succeed}
 use Rattle.handshake_calls.specs.Acknowledging.{Acknowledges}
 
@@ -35,6 +38,23 @@ first-owed (suc zero) a t f = refl
 first-owed (suc (suc zero)) a t f = absurd (f refl)
 first-owed (suc (suc (suc zero))) a t f = absurd (true≢false (sym t))
 first-owed (suc (suc (suc (suc n)))) a t f = absurd (true≢false (sym t))
+
+-- nothing but roots and trace stack hinders a push
+hinders-acks : (g : Geometry) (m : Mem) (k v w : ℕ) → PushFails g (setAcks m k v) w → PushFails g m w
+unfolding setMutator recordBitAt
+hinders-acks g m k v w h = record { at = h .at; names = h .names; why = h .why }
+
+fails-acks : (g : Geometry) (m : Mem) (k v : ℕ) → RootFails g (setAcks m k v) k → RootFails g m k
+fails-acks g m k v f =
+    let l = f .within in
+    record {
+      index = f .index;
+      within = l;
+      why =
+          hinders-acks g (pushRoots g m k (f .index)) k v (root m k (f .index))
+          (subst (λ z. PushFails g z (root m k (f .index))) (roots-acks g m k v (f .index) (omega arith))
+          (subst (λ z. PushFails g (pushRoots g (setAcks m k v) k (f .index)) z) (root-acks m k v (f .index) l) (f .why)));
+    }
 
 module _ (g : Geometry) (m : Mem) (k n a : ℕ) (o : Bool) (en : n ≡ controlWord m 0) (ea : a ≡ acks m k) (eo : o ≡ owes (phaseOf n) a) where
   owed : owes (phase m) (acks m k) ≡ o
@@ -52,13 +72,15 @@ module _ (g : Geometry) (m : Mem) (k n a : ℕ) (o : Bool) (en : n ≡ controlWo
     unfolding acknowledged
     first-given f m′ e = made m′ (e ∙ rw (owed ∙ t, sym en ∙ first-owed n a (sym eo ∙ t) f) refl)
 
-    module _ (z : n ≡ 2) (r : Bool) (m₁ : Mem) (p : PushesRoots g m k r m₁) where
-      pub second-given : r ≡ true → (m′ : Mem) → m′ ≡ setAcks m₁ k 2 → Acknowledges g m k true m′
-      unfolding acknowledged
-      second-given y m′ e = made m′ (e ∙ ap (λ w. setAcks w k 2) (p .done y) ∙ rw (owed ∙ t, sym en ∙ z) refl)
-
-      pub second-fails : r ≡ false → Acknowledges g m k false m₁
-      second-fails f = record { done = λ y. absurd (true≢false (sym y)); fails = λ _. p .fails f }
+    -- set before the roots are pushed
+    pub second-given : n ≡ 2 → (m₁ : Mem) → m₁ ≡ setAcks m k 2 → (r : Bool) (m′ : Mem) → PushesRoots g m₁ k r m′ → Acknowledges g m k r m′
+    unfolding acknowledged
+    second-given z m₁ e r m′ p =
+        let q = subst (λ w. PushesRoots g w k r m′) e p in
+        record {
+          done = λ y. q .done y ∙ roots-acks g m k 2 rootCount (omega arith) ∙ rw (owed ∙ t, sym en ∙ z) refl;
+          fails = λ y. fails-acks g m k 2 (q .fails y);
+        }
 
 -- ---- how check and leave keep their promises: n is the refusal of a mutator that must be inside
 

@@ -12,7 +12,7 @@ ghost use Rattle.theory.specs.Calls.{c-check, c-leave, c-enter};
 ghost use Rattle.model.specs.Promise.{Promise};
 ghost use Rattle.handshake_calls.specs.Acknowledging.{Acknowledges};
 
-// Mutator k gives the acknowledgement that it owes, if any, in the second handshake after its roots are pushed; false where one cannot be.
+// Mutator k gives the acknowledgement that it owes, if any; in the second handshake its roots are pushed, and false says that one cannot be.
 pub fn acknowledge(g: Geometry, mem: &mut [u32], k: u32) -> bool
     requires { ⌜ (Sized g (length (now mem))) × (k < mutatorCount) ⌝ }
     ensures { λ r. ⌜ Acknowledges g (memOf g (now (mem .entry))) k r (memOf g (now (mem .exit))) ⌝ }
@@ -21,11 +21,8 @@ pub fn acknowledge(g: Geometry, mem: &mut [u32], k: u32) -> bool
     let number = phase.number;
     if phase.owes(roots::acks(g, mem, k)) {
         if number == Phase::SYNC2 {
-            if tracing::push_roots(g, mem, k) {
-                roots::set_acks(g, mem, k, 2);
-                return true;
-            }
-            return false;
+            roots::set_acks(g, mem, k, 2);
+            return tracing::push_roots(g, mem, k);
         }
         roots::set_acks(g, mem, k, 1);
     }

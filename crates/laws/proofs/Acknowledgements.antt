@@ -6,14 +6,16 @@ use Prim.Native.Nat.{ℕ, zero, suc, _+_, _*_, _≤_, _<_}
 use native.Mathlib.Omega.{arith}
 use lib.Dec.{eqb}
 use lib.ListN.{getD}
+use lib.Seq.{getD-set-other}
 use borrow.Author.Tests.{eqb-true}
 use Rattle.rules.specs.Pick.{pick}
 use Rattle.layout.specs.declared.Geometry.{Geometry}
 use Rattle.layout.specs.Geometry.{mutatorCount, mutatorWords, rootCount}
-use Rattle.layout.specs.Mem.{Mem, Sizes, controlWord, mutatorWord, setMutator}
+use Rattle.layout.specs.Mem.{Mem, Sizes, controlWord, mutatorWord, setControl, setMutator, setTrace}
 use Rattle.theory.specs.Phases.{Phase, idle, sync1, sync2, mark, sweep, owes}
 use Rattle.model.specs.Fields.{phase, absent, outside, stateAt, acksAt, state, acks, setAcks, root}
-use Rattle.model.specs.Tracing.{pushRoots}
+use Rattle.model.specs.Records.{record?, marked, queued, setQueued}
+use Rattle.model.specs.Tracing.{push, onTop, pushRoots}
 use Rattle.model.specs.Mutators.{given, acknowledged}
 use Rattle.model.specs.Collector.{outsideAnswered}
 use Rattle.model.specs.Reaching.{IsRoot}
@@ -41,6 +43,30 @@ acknowledged-by g m k P none first second = go (phase m) (owes (phase m) (acks m
 roots-untouched : (g : Geometry) (m : Mem) (k : ℕ) → Untouched m (pushRoots g m k rootCount)
 unfolding pushRoots
 roots-untouched g m k = fold-untouched g (pushRoots g m k) (root m k) (roots-next g m k) rootCount
+
+-- ---- the acknowledgements may be set before the roots are pushed
+
+push-acks : (g : Geometry) (m : Mem) (k v w : ℕ) → push g (setAcks m k v) (record? w) ≡ setAcks (push g m (record? w)) k v
+unfolding push setMutator setTrace setControl setQueued
+push-acks g m k v zero = refl
+push-acks g m k v (suc at) = go (eqb (marked g m at) 1) (eqb (queued g m at) 1)
+  where
+    go : (x y : Bool) → pick x (setAcks m k v) (pick y (setAcks m k v) (onTop g (setAcks m k v) at)) ≡ setAcks (pick x m (pick y m (onTop g m at))) k v
+    go true y = refl
+    go false true = refl
+    go false false = refl
+
+pub root-acks : (m : Mem) (k v i : ℕ) → i < rootCount → root (setAcks m k v) k i ≡ root m k i
+unfolding setMutator
+root-acks m k v i l = getD-set-other (m .mutators) (k * mutatorWords + acksAt) (k * mutatorWords + i) v 0 (λ e. omega arith)
+
+pub roots-acks : (g : Geometry) (m : Mem) (k v n : ℕ) → n ≤ rootCount → pushRoots g (setAcks m k v) k n ≡ setAcks (pushRoots g m k n) k v
+unfolding pushRoots
+roots-acks g m k v zero l = refl
+roots-acks g m k v (suc n) l =
+    ap (λ z. push g z (record? (root (setAcks m k v) k n))) (roots-acks g m k v n (omega arith))
+    ∙ ap (λ z. push g (setAcks (pushRoots g m k n) k v) (record? z)) (root-acks m k v n l)
+    ∙ push-acks g (pushRoots g m k n) k v (root m k n)
 
 -- ---- the words that stay: of mutators' entries all but the acknowledgements of this one; and the phase
 

@@ -6,7 +6,7 @@ use lib.ListN.{length, getD, length-set}
 use lib.Seq.{getD-set-same, getD-set-other}
 use Rattle.layout.specs.declared.Geometry.{Geometry}
 use Rattle.layout.specs.Geometry.{mutatorCount, mutatorWords, segmentRecordWords, stackCount, blocksIn}
-use Rattle.layout.specs.Mem.{Mem, mutatorWord, segmentWord, stackWord, setMutator, setSegment, setStack, Sizes}
+use Rattle.layout.specs.Mem.{Mem, mutatorWord, segmentRecordWord, stackWord, setMutator, setSegment, setStack, Sizes}
 use Rattle.layout.proofs.Sizes.{one-way, within}
 use Rattle.model.specs.declared.SegmentState.{SegmentState}
 use Rattle.model.specs.Fields.{tagAt, classAt, placeAt, ownerAt, tag, setTag, class, setClass, place, setPlace, owner}
@@ -36,18 +36,18 @@ pub record Recorded (m : Mem) (s t c p k : ℕ) : Type 0 where
 -- it is read from the segments' records only
 pub recorded-as : (m m′ : Mem) (q t c p k : ℕ) → m′ .segments ≡ m .segments → Recorded m q t c p k → Recorded m′ q t c p k
 recorded-as m m′ q t c p k e x =
-    let w : (i : ℕ) → segmentWord m′ i ≡ segmentWord m i = λ i. ap (λ l. getD l i 0) e in
+    let w : (i : ℕ) → segmentRecordWord m′ i ≡ segmentRecordWord m i = λ i. ap (λ l. getD l i 0) e in
     record { tag = w _ ∙ x .tag; class = w _ ∙ x .class; place = w _ ∙ x .place; owner = w _ ∙ x .owner }
 
 -- a record with the words of another's
 pub recorded-by : (m m′ : Mem) (x t c p k : ℕ) → Recorded m x t c p k → Recorded m′ x (tag m x) (class m x) (place m x) (owner m x) → Recorded m′ x t c p k
 recorded-by m m′ x t c p k r q = record { tag = q .tag ∙ r .tag; class = q .class ∙ r .class; place = q .place ∙ r .place; owner = q .owner ∙ r .owner }
 
-segment-word-there : (m : Mem) (i v : ℕ) → i < length (m .segments) → segmentWord (setSegment m i v) i ≡ v
+segment-word-there : (m : Mem) (i v : ℕ) → i < length (m .segments) → segmentRecordWord (setSegment m i v) i ≡ v
 unfolding setSegment
 segment-word-there m i v h = getD-set-same (m .segments) i v 0 h
 
-pub segment-word-other : (m : Mem) (i v j : ℕ) → (j ≡ i → ⊥) → segmentWord (setSegment m i v) j ≡ segmentWord m j
+pub segment-word-other : (m : Mem) (i v j : ℕ) → (j ≡ i → ⊥) → segmentRecordWord (setSegment m i v) j ≡ segmentRecordWord m j
 unfolding setSegment
 segment-word-other m i v j f = getD-set-other (m .segments) i j v 0 f
 
@@ -77,7 +77,7 @@ module _ (m : Mem) (s t c p k : ℕ) where
         owner = segment-word-there m₃ _ k (omega arith);
       }
 
-  word-far : (j : ℕ) → (j / segmentRecordWords ≡ s → ⊥) → segmentWord (setRecord m s t c p k) j ≡ segmentWord m j
+  word-far : (j : ℕ) → (j / segmentRecordWords ≡ s → ⊥) → segmentRecordWord (setRecord m s t c p k) j ≡ segmentRecordWord m j
   word-far j f = segment-word-other m₃ _ k j (λ e. f (omega arith)) ∙ segment-word-other m₂ _ p j (λ e. f (omega arith)) ∙ segment-word-other m₁ _ c j (λ e. f (omega arith)) ∙ segment-word-other m _ t j (λ e. f (omega arith))
 
   pub record-other : (r : ℕ) → (r ≡ s → ⊥) → Recorded (setRecord m s t c p k) r (tag m r) (class m r) (place m r) (owner m r)

@@ -38,6 +38,14 @@ module _ (g : Geometry) (l : List ℕ) where
   pub leaf-at : (k i w a : ℕ) (make : List ℕ → List ℕ) (ys : List ℕ) → ys ≡ make (midOf a (a + w - a) l) → length ys ≡ length (midOf a (a + w - a) l) → (a ≡ from g k + i) × (i + w ≤ len g k) × (k < regionCount) × (a + w ≤ length l) → memOf g (putMid a (a + w - a) l ys) ≡ setRun (memOf g l) k i (make (readRun (memOf g l) k i w))
   leaf-at k i w a make ys t s q = leaf-sets k i w a make ys t s q ∙ sym (run-sets (memOf g l) k i (make (readRun (memOf g l) k i w)))
 
+  -- the same part, by where it ends: `&mem[a..b]` read, and `&mut mem[a..b]`
+  pub read-at : (k i w a b : ℕ) → (a ≡ from g k + i) × (b ≡ a + w) × (i + w ≤ len g k) × (k < regionCount) → midOf a (b - a) l ≡ readRun (memOf g l) k i w
+  unfolding memOf
+  read-at k i w a b (e, f, h, q) = let z : b - a ≡ w = omega arith in rw (z, e) (lent (lens g) l k i w h q)
+
+  pub part-at : (k i w a b : ℕ) (make : List ℕ → List ℕ) (ys : List ℕ) → ys ≡ make (midOf a (b - a) l) → length ys ≡ length (midOf a (b - a) l) → (a ≡ from g k + i) × (b ≡ a + w) × (i + w ≤ len g k) × (k < regionCount) × (b ≤ length l) → memOf g (putMid a (b - a) l ys) ≡ setRun (memOf g l) k i (make (readRun (memOf g l) k i w))
+  part-at k i w a b make ys t s (e, f, h, q, u) = ap (λ z. memOf g (putMid a (z - a) l ys)) f ∙ leaf-at k i w a make ys (rw f at t) (rw f at s) (e, h, q, omega arith)
+
   pub length-region : (k : ℕ) → length l ≡ total g → from g k + len g k ≤ total g → length (region (memOf g l) k) ≡ len g k
   unfolding memOf
   length-region k e h = long-at (lens g) l k (omega arith)

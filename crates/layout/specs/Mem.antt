@@ -74,8 +74,8 @@ mutatorWord m i = getD (m .mutators) i 0
 abbrev pub heapWord : Mem → ℕ → ℕ
 heapWord m i = getD (m .heap) i 0
 
-abbrev pub segmentWord : Mem → ℕ → ℕ
-segmentWord m i = getD (m .segments) i 0
+abbrev pub segmentRecordWord : Mem → ℕ → ℕ
+segmentRecordWord m i = getD (m .segments) i 0
 
 abbrev pub stackWord : Mem → ℕ → ℕ
 stackWord m i = getD (m .stacks) i 0

@@ -1,10 +1,15 @@
 // The one lent slice and its regions: control, mutators, heap, segment records, stacks, bitmaps, marks, queued bits, trace stack.
-// Nothing above this crate mentions where a region begins: words are read and written through these functions, whose contracts speak of `Mem`.
+// Nothing above this crate mentions where a region begins: words are read and written through these functions, whose contracts speak of `Mem`, and the
+// place of a part that is lent to a leaf comes from here.
+use classes::ClassShape;
+use classes::SegmentShape;
 ghost use mathlib.Core.Path.{_≡_};
-ghost use Prim.Native.Nat.{_%_, _≤_, _<_};
+ghost use Prim.Native.Nat.{_+_, _*_, _%_, _≤_, _<_};
 ghost use lib.ListN.{length, replicate};
-ghost use Rattle.layout.specs.Geometry.{len, from, total, segmentWords, blocksIn, mostBlocks, maxSegments, segmentOf, bitIn, Sized, wrongSize};
-ghost use Rattle.layout.specs.Mem.{memOf, controlWord, mutatorWord, segmentWord, stackWord, bitmapWord, markWord, queuedWord, traceWord, heapWord, setControl, setMutator, setSegment, setStack, setMarkWord, setQueuedWord, setTrace, setHeap, clearRegion};
+ghost use Rattle.classes.specs.Class.{IsClass};
+ghost use Rattle.classes.specs.Shape.{shapeFor};
+ghost use Rattle.layout.specs.Geometry.{len, from, total, segmentWords, blocksIn, mostBlocks, markWords, bitmapWords, maxSegments, segmentOf, bitIn, Sized, wrongSize};
+ghost use Rattle.layout.specs.Mem.{memOf, controlWord, mutatorWord, segmentRecordWord, stackWord, bitmapWord, markWord, queuedWord, traceWord, heapWord, setControl, setMutator, setSegment, setStack, setMarkWord, setQueuedWord, setTrace, setHeap, clearRegion};
 ghost use Rattle.layout.specs.Region as Region;
 
 // The size of the heap: today its number of segments.
@@ -117,6 +122,41 @@ pub fn blocks_in(g: Geometry, class: u32) -> u32
     }
 }
 
+// The shape of a segment of a class.
+pub fn shape_in(g: Geometry, class: u32) -> SegmentShape
+    requires { ⌜ IsClass class ⌝ }
+    ensures { λ r. ⌜ r ≡ shapeFor (blocksIn g class) ⌝ }
+{
+    match classes::segment_shape(class) {
+        ClassShape::Of(shape) => shape,
+        ClassShape::NoClass => SegmentShape {
+            blocks: 0,
+            levels: 0,
+            words0: 0,
+            words1: 0,
+            words2: 0,
+        },
+    }
+}
+
+// Where the bitmap of segment s begins, and, for one more, ends.
+pub fn bitmap_from(g: Geometry, s: usize) -> usize
+    requires { ⌜ (g .segments ≤ maxSegments) × (s ≤ maxSegments) ⌝ }
+    ensures { λ r. ⌜ r ≡ from g Region.bitmaps + s * bitmapWords g ⌝ }
+{
+    let n = g.segments;
+    n * BITMAPS_PER + FIXED + s * BITMAP_WORDS
+}
+
+// Where its marks begin.
+pub fn marks_from(g: Geometry, s: usize) -> usize
+    requires { ⌜ (g .segments ≤ maxSegments) × (s ≤ maxSegments) ⌝ }
+    ensures { λ r. ⌜ r ≡ from g Region.marks + s * markWords g ⌝ }
+{
+    let n = g.segments;
+    n * MARKS_PER + FIXED + s * MARK_WORDS
+}
+
 // The segment of a word of the heap, and the word's place in it.
 pub fn segment_of(g: Geometry, at: usize) -> usize
     ensures { λ r. ⌜ r ≡ segmentOf g at ⌝ }
@@ -186,7 +226,7 @@ pub fn set_word(g: Geometry, mem: &mut [u32], i: usize, v: u32)
 // Word i of the segment records.
 pub fn segment(g: Geometry, mem: &[u32], i: usize) -> u32
     requires { ⌜ (Sized g (length (now mem))) × (i < len g Region.segments) ⌝ }
-    ensures { λ r. ⌜ r ≡ segmentWord (memOf g (now (mem .entry))) i ⌝ }
+    ensures { λ r. ⌜ r ≡ segmentRecordWord (memOf g (now (mem .entry))) i ⌝ }
 {
     let n = g.segments;
     mem[n * SEGMENT_WORDS + HEAP_FROM + i]

@@ -2,7 +2,7 @@
 use Prim.Native.Nat.{ℕ, _+_, _-_, _*_}
 use Rattle.classes.specs.Class.{firstClass}
 use Rattle.layout.specs.Geometry.{mutatorWords, rootCount, segmentRecordWords}
-use Rattle.layout.specs.Mem.{Mem, controlWord, mutatorWord, segmentWord, setControl, setMutator, setSegment}
+use Rattle.layout.specs.Mem.{Mem, controlWord, mutatorWord, segmentRecordWord, setControl, setMutator, setSegment}
 use Rattle.theory.specs.Phases.{Phase}
 use Rattle.model.specs.Rules.{phaseOf, phaseNumber}
 
@@ -80,26 +80,26 @@ abbrev pub ownerAt : ℕ
 ownerAt = placeAt + 1
 
 abbrev pub tag : Mem → ℕ → ℕ
-tag m s = segmentWord m (s * segmentRecordWords + tagAt)
+tag m s = segmentRecordWord m (s * segmentRecordWords + tagAt)
 
 abbrev pub setTag : Mem → ℕ → ℕ → Mem
 setTag m s t = setSegment m (s * segmentRecordWords + tagAt) t
 
 abbrev pub class : Mem → ℕ → ℕ
-class m s = segmentWord m (s * segmentRecordWords + classAt)
+class m s = segmentRecordWord m (s * segmentRecordWords + classAt)
 
 abbrev pub setClass : Mem → ℕ → ℕ → Mem
 setClass m s c = setSegment m (s * segmentRecordWords + classAt) c
 
 -- document 01: place; the allocation pointer
 abbrev pub place : Mem → ℕ → ℕ
-place m s = segmentWord m (s * segmentRecordWords + placeAt)
+place m s = segmentRecordWord m (s * segmentRecordWords + placeAt)
 
 abbrev pub setPlace : Mem → ℕ → ℕ → Mem
 setPlace m s p = setSegment m (s * segmentRecordWords + placeAt) p
 
 abbrev pub owner : Mem → ℕ → ℕ
-owner m s = segmentWord m (s * segmentRecordWords + ownerAt)
+owner m s = segmentRecordWord m (s * segmentRecordWords + ownerAt)
 
 abbrev pub setOwner : Mem → ℕ → ℕ → Mem
 setOwner m s k = setSegment m (s * segmentRecordWords + ownerAt) k

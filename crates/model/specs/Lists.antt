@@ -39,14 +39,14 @@ pub record Element : Type 0 where
   pub event : Event
   pub after : List ℕ
 
-abbrev pub called : Call → Geometry → (before : List ℕ) → Answer → (after : List ℕ) → Element
-called c g before r after = record { geometry = g; before = before; event = mutatorCall c r; after = after }
+abbrev pub callElement : Call → Geometry → (before : List ℕ) → Answer → (after : List ℕ) → Element
+callElement c g before r after = record { geometry = g; before = before; event = mutatorCall c r; after = after }
 
-abbrev pub started : Geometry → (before : List ℕ) → Answer → (after : List ℕ) → Element
-started g before r after = record { geometry = g; before = before; event = startCall r; after = after }
+abbrev pub startElement : Geometry → (before : List ℕ) → Answer → (after : List ℕ) → Element
+startElement g before r after = record { geometry = g; before = before; event = startCall r; after = after }
 
-abbrev pub stepped : Geometry → (before : List ℕ) → Step → (after : List ℕ) → Element
-stepped g before r after = record { geometry = g; before = before; event = stepCall r; after = after }
+abbrev pub stepElement : Geometry → (before : List ℕ) → Step → (after : List ℕ) → Element
+stepElement g before r after = record { geometry = g; before = before; event = stepCall r; after = after }
 
 -- "A look changes nothing but its lent output .. and its lent scratch"
 abbrev pub Promised : Event → Geometry → (before after : List ℕ) → Type 0
@@ -173,24 +173,24 @@ module _ (out : ℕ → Bool) where
   struck (some n) = out n
 
   -- a mutator's call that remains, and its answer
-  abbrev pub remains : Event → Option (Call × Answer)
-  remains (mutatorCall c r) = pick (struck (refusalOf r)) none (some (c, r))
-  remains (startCall r) = none
-  remains (stepCall r) = none
-  remains (openingCall r) = none
-  remains (lookCall l) = none
+  abbrev pub remainingCall : Event → Option (Call × Answer)
+  remainingCall (mutatorCall c r) = pick (struck (refusalOf r)) none (some (c, r))
+  remainingCall (startCall r) = none
+  remainingCall (stepCall r) = none
+  remainingCall (openingCall r) = none
+  remainingCall (lookCall l) = none
 
   abbrev pub remainingCalls : List Element → List Call
   remainingCalls [] = []
-  remainingCalls (e ∷ es) = keep (Option·map (λ x. x .0) (remains (e .event))) (remainingCalls es)
+  remainingCalls (e ∷ es) = keep (Option·map (λ x. x .0) (remainingCall (e .event))) (remainingCalls es)
 
   abbrev pub remainingAnswers : List Element → List theory.Answer
   remainingAnswers [] = []
-  remainingAnswers (e ∷ es) = keep (Option·map (λ x. answerOf (x .1)) (remains (e .event))) (remainingAnswers es)
+  remainingAnswers (e ∷ es) = keep (Option·map (λ x. answerOf (x .1)) (remainingCall (e .event))) (remainingAnswers es)
 
   -- the unbounded heap "is fed the arguments of the script calls that remain"
   abbrev pub ghostStep : Ghost → Element → Ghost
-  ghostStep w e = fed w (remains (e .event)) (e .geometry) (e .after)
+  ghostStep w e = fed w (remainingCall (e .event)) (e .geometry) (e .after)
 
   abbrev pub ghostAfter : Ghost → List Element → Ghost
   ghostAfter w [] = w

@@ -12,7 +12,7 @@ use Rattle.words.specs.Bits.{bitAt}
 use Rattle.classes.specs.Class.{firstClass}
 use Rattle.layout.specs.declared.Geometry.{Geometry}
 use Rattle.layout.specs.Geometry.{len, mutatorWords, segmentRecordWords, mostBlocks, segmentOf}
-use Rattle.layout.specs.Mem.{Mem, controlWord, mutatorWord, segmentWord, Sizes}
+use Rattle.layout.specs.Mem.{Mem, controlWord, mutatorWord, segmentRecordWord, Sizes}
 use Rattle.theory.specs.Phases.{idle}
 use Rattle.theory.specs.Unbounded.{empty}
 use Rattle.theory.proofs.Graph.{reach-empty}
@@ -44,7 +44,7 @@ module _ (g : Geometry) (m : Mem) where
   unfolding opened
   opened-mutator i = zeros-at (len g Region.mutators) i
 
-  pub opened-segment : (i : ℕ) → segmentWord (opened g m) i ≡ 0
+  pub opened-segment : (i : ℕ) → segmentRecordWord (opened g m) i ≡ 0
   unfolding opened
   opened-segment i = zeros-at (len g Region.segments) i
 

@@ -6,7 +6,7 @@ use native.Mathlib.Omega.{arith}
 use lib.ListN.{set}
 use lib.Seq.{set-getD}
 use Rattle.layout.specs.declared.Geometry.{Geometry}
-use Rattle.layout.specs.Mem.{Mem, segmentWord, setSegment, withRegion, Sizes}
+use Rattle.layout.specs.Mem.{Mem, segmentRecordWord, setSegment, withRegion, Sizes}
 use Rattle.model.specs.declared.SegmentState.{SegmentState}
 use Rattle.model.specs.Fields.{setClass, setPlace, setOwner}
 use Rattle.model.specs.Segments.{stateOf, segment, setSegmentState, setRecord}
@@ -57,7 +57,7 @@ state-read-back g m z s l x =
 
 -- ---- a word set to what it holds
 
-word-kept : (m : Mem) (i v : ℕ) → segmentWord m i ≡ v → setSegment m i v ≡ m
+word-kept : (m : Mem) (i v : ℕ) → segmentRecordWord m i ≡ v → setSegment m i v ≡ m
 unfolding setSegment
 word-kept m i v e = ap (λ z. withRegion m Region.segments (set (m .segments) i z)) (sym e) ∙ ap (withRegion m Region.segments) (set-getD (m .segments) i 0)
 

@@ -17,7 +17,7 @@ use Rattle.model.specs.Records.{recordBit}
 use Rattle.laws.proofs.Blocks.{block-most, bit-below}
 use Rattle.tracing.specs.declared.Bit.{Bit}
 use Rattle.tracing.specs.declared.Bit.the-variants.{At, Torn}
-use Rattle.tracing.specs.Pushing.{bitPlace}
+use Rattle.tracing.specs.Pushing.{recordBitAt}
 use Rattle.layout.specs.Region as Region
 
 -- d is the number of the heap's words, s the segment, c its class, o the word's place in it, w the words of a block
@@ -28,24 +28,24 @@ pub block-in : (g : Geometry) (at c o w : ℕ) → classTest c ≡ true → o �
 block-in g at c o w h eo ew = rw (eo, ew) (block-most g c (class-passed c h) (at % segmentWords g) (mod-lt at (words-some g)))
 
 module _ (g : Geometry) (m : Mem) (at d : ℕ) (z : d ≡ len g Region.heap) where
-  pub off-torn : d ≤ at → Torn ≡ bitPlace g m at
-  unfolding bitPlace
+  pub off-torn : d ≤ at → Torn ≡ recordBitAt g m at
+  unfolding recordBitAt
   off-torn l = rw (← z, le-ltb _ _ l)
 
   module _ (l : at < d) (s : ℕ) (es : s ≡ segmentOf g at) (c : ℕ) (e : c ≡ class m s) where
     class-is : c ≡ class m (segmentOf g at)
     class-is = e ∙ ap (class m) es
 
-    pub no-class-torn : classTest c ≡ false → Torn ≡ bitPlace g m at
-    unfolding bitPlace
+    pub no-class-torn : classTest c ≡ false → Torn ≡ recordBitAt g m at
+    unfolding recordBitAt
     no-class-torn h = rw (← z, lt-ltb _ _ l, ← class-is, h)
 
     module _ (h : classTest c ≡ true) (o : ℕ) (eo : o ≡ at % segmentWords g) (w : ℕ) (ew : w ≡ blockWords c) where
       place : bitIn g s (o / w) ≡ recordBit g m at
       place = rw (es, eo, ew, class-is)
 
-      pub bit-at : (k : ℕ) → k ≡ bitIn g s (o / w) → At k ≡ bitPlace g m at
-      unfolding bitPlace
+      pub bit-at : (k : ℕ) → k ≡ bitIn g s (o / w) → At k ≡ recordBitAt g m at
+      unfolding recordBitAt
       bit-at k u = ap At (u ∙ place) ∙ sym (rw (← z, lt-ltb _ _ l, ← class-is, h) refl)
 
 -- ---- a bit is one of the region's
@@ -59,8 +59,8 @@ isAt (At k) = true
 isAt Torn = false
 
 module _ (g : Geometry) (m : Mem) (at : ℕ) where
-  pub bit-within : (k : ℕ) → At k ≡ bitPlace g m at → (k ≡ recordBit g m at) × (k < g .segments * mostBlocks g)
-  unfolding bitPlace
+  pub bit-within : (k : ℕ) → At k ≡ recordBitAt g m at → (k ≡ recordBit g m at) × (k < g .segments * mostBlocks g)
+  unfolding recordBitAt
   bit-within k e = go (ltb at (len g Region.heap)) (classTest (class m (segmentOf g at))) refl refl e
     where
       go : (a b : Bool) → ltb at (len g Region.heap) ≡ a → classTest (class m (segmentOf g at)) ≡ b → At k ≡ pick a (pick b (At (recordBit g m at)) Torn) Torn

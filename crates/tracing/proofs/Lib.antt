@@ -1,5 +1,6 @@
 -- Laws of bits and pushes.
 pub mod Bits
+pub mod Masks
 pub mod Pushed
 pub mod Succeeds
 pub mod Roots

@@ -3,11 +3,12 @@ use mathlib.Core.Path.{_≡_, refl, sym, _∙_, ap, subst}
 use mathlib.Core.Bool.{Bool, true, false, true≢false}
 use mathlib.Core.Option.{some}
 use mathlib.Core.Logic.{inl, inr}
-use Prim.Native.Nat.{ℕ, suc, _+_, _-_, _/_, _%_, _≤_}
+use Prim.Native.Nat.{ℕ, suc, _+_, _-_, _/_, _%_, _≤_, _<_}
 use native.Mathlib.Omega.{arith}
 use native.Mathlib.Nat.{pos-of-ne-zero}
+use lib.Bits.{bitAnd, bitOr}
 use borrow.Author.Tests.{eq-eqb, ne-eqb}
-use Rattle.words.specs.Bits.{bitAt, withBit, setBit}
+use Rattle.words.specs.Bits.{bitAt, setBit}
 use Rattle.layout.specs.declared.Geometry.{Geometry}
 use Rattle.layout.specs.Geometry.{len}
 use Rattle.layout.specs.Mem.{Mem, markWord, queuedWord, setQueuedWord, setTrace, setControl}
@@ -17,49 +18,60 @@ use Rattle.model.specs.Tracing.{push}
 use Rattle.model.specs.declared.Duty.{Duty}
 use Rattle.tracing.specs.declared.Bit.the-variants.{At, Torn}
 use Rattle.tracing.proofs.Bits.{bit-within}
-use Rattle.tracing.specs.Pushing.{bitPlace, pushedBit, PushesBit, PushFails, Pushes, BarrierRuns}
+use Rattle.tracing.proofs.Masks.{mask, mask-set, mask-clear, mask-or}
+use Rattle.tracing.specs.Pushing.{recordBitAt, pushedBit, PushesBit, PushFails, Pushes, BarrierRuns}
 use Rattle.words.specs.Bits as bits
 use Rattle.model.specs.Records as records
 use Rattle.model.specs.declared.Duty.the-variants as duty
 use Rattle.layout.specs.Region as Region
 
+-- ---- x is the word of the marks and y that of the queued bits, each tested by the mask of bit k
+
 module _ (g : Geometry) (m : Mem) (w k : ℕ) where
-  pub push-marked : (x b : ℕ) → x ≡ markWord m (k / 32) → b ≡ bits.bitOf x (k % 32) → b ≡ 1 → PushesBit g m w k true m
+  low : k % 32 < 32
+  low = omega arith
+
+  pub push-marked : (x : ℕ) → x ≡ markWord m (k / 32) → (bitAnd x (mask (k % 32)) ≡ 0 → ⊥) → PushesBit g m w k true m
   unfolding pushedBit bitAt
-  push-marked x b e f h =
-      let q : bits.bitOf (markWord m (k / 32)) (k % 32) ≡ 1 = ap (λ z. bits.bitOf z (k % 32)) (sym e) ∙ sym f ∙ h in
+  push-marked x e h =
+      let q : bits.bitOf (markWord m (k / 32)) (k % 32) ≡ 1 = ap (λ z. bits.bitOf z (k % 32)) (sym e) ∙ mask-set x (k % 32) low h in
       record { done = λ _. rw q refl; full = λ t. absurd (true≢false t) }
 
-  module _ (x b : ℕ) (e : x ≡ markWord m (k / 32)) (f : b ≡ bits.bitOf x (k % 32)) (h : b ≡ 1 → ⊥) (y d : ℕ) (u : y ≡ queuedWord m (k / 32)) (v : d ≡ bits.bitOf y (k % 32)) where
+  module _ (x : ℕ) (e : x ≡ markWord m (k / 32)) (h : bitAnd x (mask (k % 32)) ≡ 0) (y : ℕ) (u : y ≡ queuedWord m (k / 32)) where
     unmarked : bitAt (m .marks) k ≡ 1 → ⊥
     unfolding bitAt
-    unmarked q = h (f ∙ ap (λ z. bits.bitOf z (k % 32)) e ∙ q)
+    unmarked q = mask-clear x (k % 32) low h (ap (λ z. bits.bitOf z (k % 32)) e ∙ q)
 
-    is-queued : d ≡ bitAt (m .queued) k
+    is-queued : bits.bitOf y (k % 32) ≡ bitAt (m .queued) k
     unfolding bitAt
-    is-queued = v ∙ ap (λ z. bits.bitOf z (k % 32)) u
+    is-queued = ap (λ z. bits.bitOf z (k % 32)) u
 
-    pub push-queued : d ≡ 1 → PushesBit g m w k true m
+    pub push-queued : (bitAnd y (mask (k % 32)) ≡ 0 → ⊥) → PushesBit g m w k true m
     unfolding pushedBit
     push-queued i = record {
-      done = λ _. rw (ne-eqb _ _ unmarked, eq-eqb _ _ (sym is-queued ∙ i)) refl;
+      done = λ _. rw (ne-eqb _ _ unmarked, eq-eqb _ _ (sym is-queued ∙ mask-set y (k % 32) low i)) refl;
       full = λ t. absurd (true≢false t);
     }
 
-    module _ (i : d ≡ 1 → ⊥) (n : ℕ) (j : n ≡ traceCount m) where
+    module _ (i : bitAnd y (mask (k % 32)) ≡ 0) (n : ℕ) (j : n ≡ traceCount m) where
+      unqueued : bitAt (m .queued) k ≡ 1 → ⊥
+      unqueued q = mask-clear y (k % 32) low i (is-queued ∙ q)
+
       pub push-full : (d : ℕ) → d ≡ len g Region.trace → d ≤ n → PushesBit g m w k false m
       push-full d t o = record {
         done = λ y. absurd (true≢false (sym y));
-        full = λ _. ((λ q. i (is-queued ∙ q)), subst (λ z. len g Region.trace ≤ z) j (subst (λ z. z ≤ n) t o));
+        full = λ _. (unqueued, subst (λ z. len g Region.trace ≤ z) j (subst (λ z. z ≤ n) t o));
       }
 
-      pub push-done : (z : ℕ) (m₁ m₂ m₃ : Mem) → z ≡ withBit y (k % 32) → m₁ ≡ setQueuedWord m (k / 32) z → m₂ ≡ setTrace m₁ n w → m₃ ≡ setControl m₂ 1 (n + 1)
+      pub push-done : (m₁ m₂ m₃ : Mem) → m₁ ≡ setQueuedWord m (k / 32) (bitOr y (mask (k % 32))) → m₂ ≡ setTrace m₁ n w → m₃ ≡ setControl m₂ 1 (n + 1)
           → PushesBit g m w k true m₃
       unfolding pushedBit setBit setQueuedWord
-      push-done z m₁ m₂ m₃ a e₁ e₂ e₃ = record {
-        done = λ _. e₃ ∙ rw (e₂, e₁, a, u, j, ne-eqb _ _ unmarked, ne-eqb _ _ (λ q. i (is-queued ∙ q))) refl;
-        full = λ t. absurd (true≢false t);
-      }
+      push-done m₁ m₂ m₃ e₁ e₂ e₃ =
+          let a = e₁ ∙ ap (setQueuedWord m (k / 32)) (mask-or y (k % 32) low) in
+          record {
+            done = λ _. e₃ ∙ rw (e₂, a, u, j, ne-eqb _ _ unmarked, ne-eqb _ _ unqueued) refl;
+            full = λ t. absurd (true≢false t);
+          }
 
 -- ---- a push of a word
 
@@ -75,10 +87,10 @@ module _ (g : Geometry) (m : Mem) (w : ℕ) where
   named : (w ≡ 0 → ⊥) → w ≡ suc (w - 1)
   named f = let l = pos-of-ne-zero f in omega arith
 
-  pub push-torn : (w ≡ 0 → ⊥) → Torn ≡ bitPlace g m (w - 1) → Pushes g m w false m
+  pub push-torn : (w ≡ 0 → ⊥) → Torn ≡ recordBitAt g m (w - 1) → Pushes g m w false m
   push-torn f e = record { done = λ t. absurd (true≢false (sym t)); fails = λ _. record { at = w - 1; names = named f; why = inl (sym e) } }
 
-  pub push-by : (k : ℕ) (r : Bool) (after : Mem) → (w ≡ 0 → ⊥) → At k ≡ bitPlace g m (w - 1) → PushesBit g m w k r after → Pushes g m w r after
+  pub push-by : (k : ℕ) (r : Bool) (after : Mem) → (w ≡ 0 → ⊥) → At k ≡ recordBitAt g m (w - 1) → PushesBit g m w k r after → Pushes g m w r after
   push-by k r after f e p =
       let z = bit-within g m (w - 1) k e .0 in
       record {

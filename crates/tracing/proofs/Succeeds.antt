@@ -23,7 +23,7 @@ use Rattle.laws.proofs.Blocks.{bit-below}
 use Rattle.laws.proofs.Apart.{class-of}
 use Rattle.laws.proofs.Pushes.{Counted, Ready, record-untouched, untouched-push, ready-push, fold-untouched, fold-ready}
 use Rattle.tracing.specs.declared.Bit.the-variants.{At, Torn}
-use Rattle.tracing.specs.Pushing.{bitPlace, PushFails}
+use Rattle.tracing.specs.Pushing.{recordBitAt, PushFails}
 use Rattle.tracing.proofs.Bits.{isAt}
 use Rattle.layout.specs.Region as Region
 
@@ -31,11 +31,11 @@ use Rattle.layout.specs.Region as Region
 
 module _ (g : Geometry) (m : Mem) (number : Counted g m) where
   module _ (at : ℕ) (r : RecordOk g m at) where
-    has-bit : bitPlace g m at ≡ Torn → ⊥
-    unfolding bitPlace
+    has-bit : recordBitAt g m at ≡ Torn → ⊥
+    unfolding recordBitAt
     has-bit e = let z : At (recordBit g m at) ≡ Torn = sym placed ∙ e in true≢false (ap isAt z)
       where
-        placed : bitPlace g m at ≡ At (recordBit g m at)
+        placed : recordBitAt g m at ≡ At (recordBit g m at)
         placed = rw (lt-ltb _ _ (r .inside), class-passes _ (class-of g m at r)) refl
 
     room : (queued g m at ≡ 1 → ⊥) → traceCount m < len g Region.trace
@@ -50,7 +50,7 @@ module _ (g : Geometry) (m : Mem) (number : Counted g m) where
       ok : RecordOk g m (h .at)
       ok = r (h .at) (h .names)
 
-      go : (bitPlace g m (h .at) ≡ Torn) ⊎ ((queued g m (h .at) ≡ 1 → ⊥) × (len g Region.trace ≤ traceCount m)) → ⊥
+      go : (recordBitAt g m (h .at) ≡ Torn) ⊎ ((queued g m (h .at) ≡ 1 → ⊥) × (len g Region.trace ≤ traceCount m)) → ⊥
       go (inl e) = has-bit (h .at) ok e
       go (inr p) = let l = room (h .at) ok (p .0) in let q = p .1 in omega arith
 

@@ -21,8 +21,8 @@ use Rattle.model.specs.declared.Duty.the-variants as duty
 use Rattle.layout.specs.Region as Region
 
 -- the bit of the record at a word; none off the heap, or in a segment of no class
-unfoldable pub bitPlace : Geometry → Mem → ℕ → Bit
-bitPlace g m at =
+unfoldable pub recordBitAt : Geometry → Mem → ℕ → Bit
+recordBitAt g m at =
     pick (ltb at (len g Region.heap)) (pick (classTest (class m (segmentOf g at))) (At (recordBit g m at)) Torn) Torn
 
 -- the word w on top of the stack, with bit k, unless the bit is marked or queued
@@ -41,7 +41,7 @@ pub record PushesBit (g : Geometry) (m : Mem) (w k : ℕ) (r : Bool) (after : Me
 pub record PushFails (g : Geometry) (m : Mem) (w : ℕ) : Type 0 where
   pub at : ℕ
   pub names : w ≡ suc at
-  pub why : (bitPlace g m at ≡ Torn) ⊎ ((queued g m at ≡ 1 → ⊥) × (len g Region.trace ≤ traceCount m))
+  pub why : (recordBitAt g m at ≡ Torn) ⊎ ((queued g m at ≡ 1 → ⊥) × (len g Region.trace ≤ traceCount m))
 
 pub record Pushes (g : Geometry) (m : Mem) (w : ℕ) (r : Bool) (after : Mem) : Type 0 where
   pub done : r ≡ true → after ≡ push g m (record? w)

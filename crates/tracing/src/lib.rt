@@ -7,7 +7,7 @@ ghost use Prim.Native.Nat.{_*_, _<_};
 ghost use lib.ListN.{length};
 ghost use Rattle.layout.specs.Geometry.{Sized, mostBlocks, mutatorCount};
 ghost use Rattle.layout.specs.Mem.{memOf};
-ghost use Rattle.tracing.specs.Pushing.{bitPlace, PushesBit, Pushes, BarrierRuns};
+ghost use Rattle.tracing.specs.Pushing.{recordBitAt, PushesBit, Pushes, BarrierRuns};
 ghost use Rattle.tracing.specs.Roots.{PushesRoots};
 
 // The number of a record's bit among the marks and the queued bits, or none.
@@ -19,7 +19,7 @@ pub enum Bit {
 // The bit of the record at a word.
 pub fn bit_of(g: Geometry, mem: &[u32], at: usize) -> Bit
     requires { ⌜ Sized g (length (now mem)) ⌝ }
-    ensures { λ r. ⌜ r ≡ bitPlace g (memOf g (now (mem .entry))) at ⌝ }
+    ensures { λ r. ⌜ r ≡ recordBitAt g (memOf g (now (mem .entry))) at ⌝ }
 {
     if layout::heap_words(g) <= at {
         return Bit::Torn;
@@ -39,19 +39,19 @@ fn push_bit(g: Geometry, mem: &mut [u32], w: u32, k: usize) -> bool
     ensures { λ r. ⌜ PushesBit g (memOf g (now (mem .entry))) w k r (memOf g (now (mem .exit))) ⌝ }
 {
     let q = k / 32;
-    let b = (k % 32) as u32;
-    if words::bit_of(layout::mark(g, mem, q), b) == 1 {
+    let one = 1u32 << (k % 32);
+    if layout::mark(g, mem, q) & one != 0 {
         return true;
     }
     let bits = layout::queued(g, mem, q);
-    if words::bit_of(bits, b) == 1 {
+    if bits & one != 0 {
         return true;
     }
     let count = layout::control(g, mem, 1);
     if layout::trace_words(g) <= count as usize {
         return false;
     }
-    layout::set_queued(g, mem, q, words::with_bit(bits, b));
+    layout::set_queued(g, mem, q, bits | one);
     layout::set_trace(g, mem, count as usize, w);
     layout::set_control(g, mem, 1, count + 1);
     true

@@ -1,6 +1,6 @@
 -- `handshake_calls::acknowledge` meets its contract. Assumes nothing.
 use borrow.Author.Needs.{needs}
-use Rattle.handshake_calls.proofs.Acknowledging.{none-owed, first-given, second-given, second-fails}
+use Rattle.handshake_calls.proofs.Acknowledging.{none-owed, first-given, second-given}
 use Rattle.handshake_calls.proofs.acknowledge.Tie as tie
 use Rattle.handshake_calls.proofs.acknowledge.Statement.{statement}
 
@@ -13,38 +13,32 @@ acks-requires c κs = search needs
 owes-requires : tie.Need-owes-requires
 owes-requires c κs = search needs
 
-push-roots-requires : tie.Need-push-roots-requires
-push-roots-requires c κs = search needs
-
 set-acks-requires : tie.Need-set-acks-requires
 set-acks-requires c κs = search needs
+
+push-roots-requires : tie.Need-push-roots-requires
+push-roots-requires c κs = search needs
 
 same-length : tie.Need-same-length
 same-length c = search needs
 
 returns : tie.Need-returns
-returns c = second-given _ _ _ _ _ _ (c .before .before .before .before .before .before .before .before .before .before .before .before .before .before .phase .ensures) (c .before .before .before .before .before .before .before .before .before .before .before .before .acks .ensures) (c .before .before .before .before .before .before .before .before .before .before .before .owes .ensures) (c .before .before .before .before .before .before .before .before .before .before .if1 .taken) (c .before .before .before .before .before .before .before .before .before .if2 .taken) _ _ (c .before .before .before .before .before .before .before .push-roots .ensures) (c .before .before .before .before .if3 .taken) _ (c .before .before .set-acks .ensures)
+returns c = second-given _ _ _ _ _ _ (c .before .before .before .before .before .before .before .before .before .before .before .before .before .phase .ensures) (c .before .before .before .before .before .before .before .before .before .before .before .acks .ensures) (c .before .before .before .before .before .before .before .before .before .before .owes .ensures) (c .before .before .before .before .before .before .before .before .before .if1 .taken) (c .before .before .before .before .before .before .before .before .if2 .taken) _ (c .before .before .before .before .before .before .set-acks .ensures) _ _ (c .before .before .push-roots .ensures)
+
+set-acks-requires-2 : tie.Need-set-acks-requires-2
+set-acks-requires-2 c κs = search needs
 
 same-length-2 : tie.Need-same-length-2
 same-length-2 c = search needs
 
 returns-2 : tie.Need-returns-2
-returns-2 c = second-fails _ _ _ _ _ _ (c .before .before .before .before .before .before .before .before .before .before .phase .ensures) (c .before .before .before .before .before .before .before .before .acks .ensures) (c .before .before .before .before .before .before .before .owes .ensures) (c .before .before .before .before .before .before .if1 .taken) (c .before .before .before .before .before .if2 .taken) _ _ (c .before .before .before .push-roots .ensures) (c .if3 .left)
-
-set-acks-requires-2 : tie.Need-set-acks-requires-2
-set-acks-requires-2 c κs = search needs
+returns-2 c = first-given _ _ _ _ _ _ (c .before .before .before .before .before .before .before .before .before .phase .ensures) (c .before .before .before .before .before .before .before .acks .ensures) (c .before .before .before .before .before .before .owes .ensures) (c .before .before .before .before .before .if1 .taken) (c .before .before .before .before .if2 .left) _ (c .before .before .set-acks2 .ensures)
 
 same-length-3 : tie.Need-same-length-3
 same-length-3 c = search needs
 
 returns-3 : tie.Need-returns-3
-returns-3 c = first-given _ _ _ _ _ _ (c .before .before .before .before .before .before .before .before .before .phase .ensures) (c .before .before .before .before .before .before .before .acks .ensures) (c .before .before .before .before .before .before .owes .ensures) (c .before .before .before .before .before .if1 .taken) (c .before .before .before .before .if2 .left) _ (c .before .before .set-acks2 .ensures)
-
-same-length-4 : tie.Need-same-length-4
-same-length-4 c = search needs
-
-returns-4 : tie.Need-returns-4
-returns-4 c = none-owed _ _ _ _ _ _ (c .before .before .before .before .phase .ensures) (c .before .before .acks .ensures) (c .before .owes .ensures) (c .if1 .left)
+returns-3 c = none-owed _ _ _ _ _ _ (c .before .before .before .before .phase .ensures) (c .before .before .acks .ensures) (c .before .owes .ensures) (c .if1 .left)
 
 pub acknowledge-spec : {M : Type 1} → statement M
 acknowledge-spec =
@@ -53,14 +47,12 @@ acknowledge-spec =
     phase-requires
     acks-requires
     owes-requires
-    push-roots-requires
     set-acks-requires
+    push-roots-requires
     same-length
     returns
+    set-acks-requires-2
     same-length-2
     returns-2
-    set-acks-requires-2
     same-length-3
-    returns-3
-    same-length-4
-    returns-4)
+    returns-3)

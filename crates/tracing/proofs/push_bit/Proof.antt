@@ -6,32 +6,29 @@ use Rattle.tracing.proofs.Pushed.{push-marked, push-queued, push-full, 
 use Rattle.tracing.proofs.push_bit.Tie as tie
 use Rattle.tracing.proofs.push_bit.Statement.{statement}
 
-cast-b : tie.Need-cast-b
-cast-b c = search needs
+cast-one : tie.Need-cast-one
+cast-one c = search needs
+
+shl-one : tie.Need-shl-one
+shl-one c = search needs
 
 mark-requires : tie.Need-mark-requires
 mark-requires c κs = (c .before .before .pre .0, mark-word _ _ (c .before .before .pre .1))
-
-bit-of-requires : tie.Need-bit-of-requires
-bit-of-requires c κs = search needs
 
 same-length : tie.Need-same-length
 same-length c = search needs
 
 returns : tie.Need-returns
-returns c = push-marked _ _ _ _ _ _ (c .before .before .mark .ensures) (c .before .bit-of .ensures) (c .if1 .taken)
+returns c = push-marked _ _ _ _ _ (c .before .mark .ensures) (c .if1 .taken)
 
 queued-requires : tie.Need-queued-requires
-queued-requires c κs = (c .before .before .before .before .before .before .pre .0, mark-word _ _ (c .before .before .before .before .before .before .pre .1))
-
-bit-of-requires-2 : tie.Need-bit-of-requires-2
-bit-of-requires-2 c κs = search needs
+queued-requires c κs = (c .before .before .before .before .before .pre .0, mark-word _ _ (c .before .before .before .before .before .pre .1))
 
 same-length-2 : tie.Need-same-length-2
 same-length-2 c = search needs
 
 returns-2 : tie.Need-returns-2
-returns-2 c = push-queued _ _ _ _ _ _ (c .before .before .before .before .before .before .mark .ensures) (c .before .before .before .before .before .bit-of .ensures) (c .before .before .before .before .if1 .left) _ _ (c .before .before .queued .ensures) (c .before .bit-of2 .ensures) (c .if2 .taken)
+returns-2 c = push-queued _ _ _ _ _ (c .before .before .before .before .mark .ensures) (c .before .before .before .if1 .left) _ (c .before .queued .ensures) (c .if2 .taken)
 
 control-requires : tie.Need-control-requires
 control-requires c κs = search needs
@@ -46,13 +43,10 @@ same-length-3 : tie.Need-same-length-3
 same-length-3 c = search needs
 
 returns-3 : tie.Need-returns-3
-returns-3 c = push-full _ _ _ _ _ _ (c .before .before .before .before .before .before .before .before .before .before .mark .ensures) (c .before .before .before .before .before .before .before .before .before .bit-of .ensures) (c .before .before .before .before .before .before .before .before .if1 .left) _ _ (c .before .before .before .before .before .before .queued .ensures) (c .before .before .before .before .before .bit-of2 .ensures) (c .before .before .before .before .if2 .left) _ (c .before .before .control .ensures) _ (c .before .trace-words .ensures) (c .if3 .taken)
-
-with-bit-requires : tie.Need-with-bit-requires
-with-bit-requires c κs = search needs
+returns-3 c = push-full _ _ _ _ _ (c .before .before .before .before .before .before .before .before .mark .ensures) (c .before .before .before .before .before .before .before .if1 .left) _ (c .before .before .before .before .before .queued .ensures) (c .before .before .before .before .if2 .left) _ (c .before .before .control .ensures) _ (c .before .trace-words .ensures) (c .if3 .taken)
 
 set-queued-requires : tie.Need-set-queued-requires
-set-queued-requires c κs = (c .before .before .before .before .before .before .before .before .before .before .before .before .before .before .before .pre .0, mark-word _ _ (c .before .before .before .before .before .before .before .before .before .before .before .before .before .before .before .pre .1))
+set-queued-requires c κs = (c .before .before .before .before .before .before .before .before .before .before .before .before .pre .0, mark-word _ _ (c .before .before .before .before .before .before .before .before .before .before .before .before .pre .1))
 
 cast-set-trace : tie.Need-cast-set-trace
 cast-set-trace c = search needs
@@ -61,11 +55,7 @@ set-trace-requires : tie.Need-set-trace-requires
 set-trace-requires c κs = search needs
 
 add-set-control : tie.Need-add-set-control
-add-set-control c =
-    let m = trace-most _ (c .before .before .before .before .before .before .before .before .before .before .before .before .before .before .before .before .before .before .before .before .before .before .before .pre .0 .few) in
-    let e = c .before .before .before .before .before .before .before .before .before .before .before .trace-words .ensures in
-    let l = c .before .before .before .before .before .before .before .before .before .before .if3 .left in
-    omega arith
+add-set-control c = let m = trace-most _ (c .before .before .before .before .before .before .before .before .before .before .before .before .before .before .before .before .before .before .before .before .pre .0 .few) in let e = c .before .before .before .before .before .before .before .before .before .before .trace-words .ensures in let l = c .before .before .before .before .before .before .before .before .before .if3 .left in omega arith
 
 set-control-requires : tie.Need-set-control-requires
 set-control-requires c κs = search needs
@@ -74,21 +64,18 @@ same-length-4 : tie.Need-same-length-4
 same-length-4 c = search needs
 
 returns-4 : tie.Need-returns-4
-returns-4 c =
-    push-done _ _ _ _ _ _ (c .before .before .before .before .before .before .before .before .before .before .before .before .before .before .before .before .before .before .before .before .before .before .before .mark .ensures) (c .before .before .before .before .before .before .before .before .before .before .before .before .before .before .before .before .before .before .before .before .before .before .bit-of .ensures) (c .before .before .before .before .before .before .before .before .before .before .before .before .before .before .before .before .before .before .before .before .before .if1 .left) _ _ (c .before .before .before .before .before .before .before .before .before .before .before .before .before .before .before .before .before .before .before .queued .ensures) (c .before .before .before .before .before .before .before .before .before .before .before .before .before .before .before .before .before .before .bit-of2 .ensures) (c .before .before .before .before .before .before .before .before .before .before .before .before .before .before .before .before .before .if2 .left) _ (c .before .before .before .before .before .before .before .before .before .before .before .before .before .before .before .control .ensures) _ _ _ _ (c .before .before .before .before .before .before .before .before .before .before .before .with-bit .ensures)
-    (c .before .before .before .before .before .before .before .before .before .before .set-queued .ensures) (c .before .before .before .before .before .before .set-trace .ensures) (c .before .before .set-control .ensures)
+returns-4 c = push-done _ _ _ _ _ (c .before .before .before .before .before .before .before .before .before .before .before .before .before .before .before .before .before .before .before .before .mark .ensures) (c .before .before .before .before .before .before .before .before .before .before .before .before .before .before .before .before .before .before .before .if1 .left) _ (c .before .before .before .before .before .before .before .before .before .before .before .before .before .before .before .before .before .queued .ensures) (c .before .before .before .before .before .before .before .before .before .before .before .before .before .before .before .before .if2 .left) _ (c .before .before .before .before .before .before .before .before .before .before .before .before .before .before .control .ensures) _ _ _ (c .before .before .before .before .before .before .before .before .before .before .set-queued .ensures) (c .before .before .before .before .before .before .set-trace .ensures) (c .before .before .set-control .ensures)
 
 pub push-bit-spec : {M : Type 1} → statement M
 push-bit-spec =
     tie.close
     (tie.spec
-    cast-b
+    cast-one
+    shl-one
     mark-requires
-    bit-of-requires
     same-length
     returns
     queued-requires
-    bit-of-requires-2
     same-length-2
     returns-2
     control-requires
@@ -96,7 +83,6 @@ push-bit-spec =
     cast-if3
     same-length-3
     returns-3
-    with-bit-requires
     set-queued-requires
     cast-set-trace
     set-trace-requires

@@ -1,0 +1,159 @@
+-- The part of the lent slice that is a segment's bitmap, that is its marks, and that spans from the one to the other. Assumes nothing.
+use mathlib.Core.Path.{_≡_, sym, ap, _∙_}
+use mathlib.Core.List.{List, [], _∷_, _++_, append-assoc}
+use Prim.Native.Nat.{ℕ, zero, suc, _+_, _-_, _*_, _≤_, _<_}
+use native.Mathlib.Nat.{suc-mul, mul-le-mul-right}
+use native.Mathlib.Numerals.{add-one}
+use native.Mathlib.Omega.{arith}
+use lib.ListN.{length, take, drop, length-drop, take-append-drop}
+use lib.Seq.{take-nil, take-take, drop-drop, drop-append-le, length-take-le}
+use borrow.Rule.Slice.PartMut.{midOf, putMid}
+use Rattle.words.specs.Levels.{wordsFor, treeWords}
+use Rattle.classes.specs.Class.{IsClass}
+use Rattle.layout.specs.declared.Geometry.{Geometry}
+use Rattle.layout.specs.Geometry.{from, markWords, bitmapWords, blocksIn, Sized}
+use Rattle.layout.specs.Mem.{memOf}
+use Rattle.layout.proofs.Regions.{read-at, part-at}
+use Rattle.layout.proofs.Sizes.{class-fits, whole}
+use Rattle.bitmap_write.specs.Ready.{adopted}
+use Rattle.bitmap_write.proofs.Copied.{length-adopted}
+use Rattle.bitmap_write.proofs.Local.{adopted-append}
+use Rattle.model.specs.Segments.{above, bitmap, setBitmap, marksOf}
+use Rattle.laws.proofs.Lengths.{sizes-of}
+use Rattle.laws.proofs.Bitmaps.{tree-room}
+use Rattle.layout.specs.Region as Region
+
+-- ---- lists
+
+-- a part put back with only its first w elements changed
+put-head : (a n w : ℕ) (l ys : List ℕ) → w ≤ length (midOf a n l) → putMid a n l (ys ++ drop w (midOf a n l)) ≡ putMid a w l ys
+put-head a n w l ys h =
+    ap (λ (x : List ℕ). take a l ++ x) (append-assoc ys (drop w (take n (drop a l))) (drop n (drop a l))
+    ∙ ap (λ (x : List ℕ). ys ++ x) (sym (drop-append-le w (take n (drop a l)) (drop n (drop a l)) h) ∙ ap (drop w) (take-append-drop n (drop a l))))
+
+drop-take : (k n : ℕ) (l : List ℕ) → drop k (take n l) ≡ take (n - k) (drop k l)
+drop-take zero n l = let e : n - 0 ≡ n = omega arith in rw e
+drop-take (suc k) zero l = let e : 0 - suc k ≡ 0 = omega arith in rw e
+drop-take (suc k) (suc n) [] = sym (take-nil (suc n - suc k))
+drop-take (suc k) (suc n) (x ∷ l) = let e : suc n - suc k ≡ n - k = omega arith in rw e (drop-take k n l)
+
+-- ---- a segment's parts
+
+-- the part from a to b is the bitmap of segment s, and a tree of class c fits in it
+pub record TreePart (g : Geometry) (l : List ℕ) (s c a b : ℕ) : Type 0 where
+  pub ends : b ≡ a + bitmapWords g
+  pub within : b ≤ length l
+  pub is : midOf a (b - a) l ≡ bitmap g (memOf g l) s
+  pub fits : treeWords (above g c) (blocksIn g c) ≤ length (midOf a (b - a) l)
+
+module _ (g : Geometry) (l : List ℕ) (z : Sized g (length l)) (s : ℕ) (h : s < g .segments) where
+  -- a row of w words for each segment
+  row : (w : ℕ) → s * w + w ≤ g .segments * w
+  row w = let e : suc s * w ≤ g .segments * w = mul-le-mul-right w h in let f = suc-mul s w in omega arith
+
+  next : (w : ℕ) → (s + 1) * w ≡ s * w + w
+  next w = ap (λ (x : ℕ). x * w) (add-one s) ∙ suc-mul s w
+
+  -- the bitmap
+  module _ (a b : ℕ) (at : a ≡ from g Region.bitmaps + s * bitmapWords g) (end : b ≡ from g Region.bitmaps + (s + 1) * bitmapWords g) where
+    tree-end : (b ≡ a + bitmapWords g) × (b ≤ length l)
+    tree-end =
+        let r = row (bitmapWords g) in
+        let q = next (bitmapWords g) in
+        let t = z .is in
+        (omega arith, omega arith)
+
+    tree-part : midOf a (b - a) l ≡ bitmap g (memOf g l) s
+    tree-part = read-at g l Region.bitmaps (s * bitmapWords g) (bitmapWords g) a b (at, tree-end .0, row (bitmapWords g), omega arith)
+
+    pub tree-at : (c : ℕ) → IsClass c → TreePart g l s c a b
+    tree-at c k = record { ends = tree-end .0; within = tree-end .1; is = tree-part; fits = rw tree-part (tree-room g (memOf g l) (sizes-of g l z) s h c k) }
+
+    pub tree-put : (make : List ℕ → List ℕ) (ys : List ℕ) → ys ≡ make (midOf a (b - a) l) → length ys ≡ length (midOf a (b - a) l) → memOf g (putMid a (b - a) l ys) ≡ setBitmap g (memOf g l) s (make (bitmap g (memOf g l) s))
+    tree-put make ys t u = part-at g l Region.bitmaps (s * bitmapWords g) (bitmapWords g) a b make ys t u (at, tree-end .0, row (bitmapWords g), omega arith, tree-end .1)
+
+  -- a class's blocks have their marks
+  marks-fit : (c : ℕ) → IsClass c → wordsFor (blocksIn g c) ≤ markWords g
+  marks-fit c k = let w = whole g c k .most in omega arith
+
+  -- the marks
+  module _ (a b : ℕ) (at : a ≡ from g Region.marks + s * markWords g) (end : b ≡ from g Region.marks + (s + 1) * markWords g) where
+    pub marks-end : (b ≡ a + markWords g) × (b ≤ length l)
+    marks-end =
+        let r = row (markWords g) in
+        let q = next (markWords g) in
+        let t = z .is in
+        (omega arith, omega arith)
+
+    pub marks-part : midOf a (b - a) l ≡ marksOf g (memOf g l) s
+    marks-part = read-at g l Region.marks (s * markWords g) (markWords g) a b (at, marks-end .0, row (markWords g), omega arith)
+
+    pub marks-room : (c : ℕ) → IsClass c → wordsFor (blocksIn g c) ≤ length (midOf a (b - a) l)
+    marks-room c k =
+        let e = marks-end .0 in
+        let q = marks-end .1 in
+        let f = marks-fit c k in
+        let u = length-take-le (b - a) (drop a l) (omega (arith, length-drop a l)) in
+        omega arith
+
+  -- from the bitmap to the end of the marks
+  module _ (a m b : ℕ) (tree : a ≡ from g Region.bitmaps + s * bitmapWords g) (at : m ≡ from g Region.marks + s * markWords g) (end : b ≡ from g Region.marks + (s + 1) * markWords g) where
+    pub span : (a + bitmapWords g ≤ m) × (b ≡ m + markWords g) × (b ≤ length l)
+    span =
+        let r = row (bitmapWords g) in
+        let e = marks-end m b at end .0 in
+        (omega arith, e, marks-end m b at end .1)
+
+    span-length : length (midOf a (b - a) l) ≡ b - a
+    span-length = let x = span .2 in length-take-le (b - a) (drop a l) (omega (arith, length-drop a l))
+
+    pub span-fits : (c : ℕ) → IsClass c → (treeWords (above g c) (blocksIn g c) ≤ m - a) × (m - a + wordsFor (blocksIn g c) ≤ length (midOf a (b - a) l))
+    span-fits c k =
+        let x = span .0 in
+        let y = span .1 in
+        let f = class-fits g c k in
+        let q = marks-fit c k in
+        (omega arith, omega (arith, span-length))
+
+    -- the marks stand behind the tree
+    behind : drop (m - a) (midOf a (b - a) l) ≡ marksOf g (memOf g l) s
+    behind =
+        let x = span .0 in
+        let e : b - a - (m - a) ≡ b - m = omega arith in
+        let f : a + (m - a) ≡ m = omega arith in
+        drop-take (m - a) (b - a) (drop a l) ∙ rw (drop-drop (m - a) a l, e, f) (marks-part m b at end)
+
+    -- and the tree at the head
+    head : take (bitmapWords g) (midOf a (b - a) l) ≡ bitmap g (memOf g l) s
+    head =
+        let x = span .0 in
+        let y = span .1 in
+        let e : a + bitmapWords g - a ≡ bitmapWords g = omega arith in
+        take-take (bitmapWords g) (b - a) (drop a l) (omega arith)
+        ∙ (rw e at (tree-part a (a + bitmapWords g) tree (let q = next (bitmapWords g) in omega arith)))
+
+    pub span-put : (c : ℕ) → IsClass c → (ys : List ℕ) → ys ≡ adopted (above g c) (blocksIn g c) (drop (m - a) (midOf a (b - a) l)) (midOf a (b - a) l)
+        → memOf g (putMid a (b - a) l ys) ≡ setBitmap g (memOf g l) s (adopted (above g c) (blocksIn g c) (marksOf g (memOf g l) s) (bitmap g (memOf g l) s))
+    span-put c k ys t =
+        let x = span .0 in
+        let y = span .1 in
+        let n = next (bitmapWords g) in
+        let end′ : a + bitmapWords g ≡ from g Region.bitmaps + (s + 1) * bitmapWords g = omega arith in
+        let part = tree-part a (a + bitmapWords g) tree end′ in
+        let long = length-adopted (above g c) (blocksIn g c) (marksOf g (memOf g l) s) (bitmap g (memOf g l) s) marks-long (tree-room g (memOf g l) (sizes-of g l z) s h c k) in
+        ap (λ (v : List ℕ). memOf g (putMid a (b - a) l v)) (t ∙ whole-tree)
+        ∙ ap (memOf g) (put-head a (b - a) (bitmapWords g) l (make (bitmap g (memOf g l) s)) (omega (arith, span-length)))
+        ∙ ap (λ (v : ℕ). memOf g (putMid a v l (make (bitmap g (memOf g l) s)))) {x = bitmapWords g} {y = a + bitmapWords g - a} (omega arith)
+        ∙ tree-put a (a + bitmapWords g) tree end′ make (make (bitmap g (memOf g l) s)) (ap make (sym part)) (long ∙ ap length (sym part))
+      where
+        make : List ℕ → List ℕ
+        make = adopted (above g c) (blocksIn g c) (marksOf g (memOf g l) s)
+
+        marks-long : wordsFor (blocksIn g c) ≤ length (marksOf g (memOf g l) s)
+        marks-long = rw (marks-part m b at end) at (marks-room m b at end c k)
+
+        whole-tree : adopted (above g c) (blocksIn g c) (drop (m - a) (midOf a (b - a) l)) (midOf a (b - a) l) ≡ make (bitmap g (memOf g l) s) ++ drop (bitmapWords g) (midOf a (b - a) l)
+        whole-tree =
+            ap (λ (v : List ℕ). adopted (above g c) (blocksIn g c) v (midOf a (b - a) l)) behind
+            ∙ ap make (sym (take-append-drop (bitmapWords g) (midOf a (b - a) l)) ∙ ap (λ (v : List ℕ). v ++ drop (bitmapWords g) (midOf a (b - a) l)) head)
+            ∙ adopted-append (drop (bitmapWords g) (midOf a (b - a) l)) (above g c) (blocksIn g c) (marksOf g (memOf g l) s) (bitmap g (memOf g l) s) marks-long (tree-room g (memOf g l) (sizes-of g l z) s h c k)

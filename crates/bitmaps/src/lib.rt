@@ -1,0 +1,90 @@
+// A segment's bitmap tree and its marks in the lent slice: a fresh tree, the next free block and whether another remains, the tree whose level 0
+// becomes the marks, and how many blocks are in use and how many are marked.
+use bitmap_search::Two;
+use layout::Geometry;
+ghost use mathlib.Core.Path.{_≡_};
+ghost use Prim.Native.Nat.{_≤_, _<_};
+ghost use lib.ListN.{length};
+ghost use Rattle.words.specs.Bits.{bitAt, onesAmong};
+ghost use Rattle.words.specs.Levels.{wordsFor};
+ghost use Rattle.classes.specs.Class.{IsClass};
+ghost use Rattle.bitmap_search.specs.Twice.{TwoPromise};
+ghost use Rattle.layout.specs.Geometry.{Sized, blocksIn};
+ghost use Rattle.layout.specs.Mem.{memOf};
+ghost use Rattle.model.specs.Making.{freshened};
+ghost use Rattle.model.specs.Segments.{above, bitmap, marksOf};
+ghost use Rattle.bitmaps.specs.Given.{adoptedAs, usedBits};
+
+// Segment s gets a tree of free blocks of a class.
+pub fn fresh(g: Geometry, mem: &mut [u32], s: usize, class: u32)
+    requires { ⌜ (Sized g (length (now mem))) × (s < g .segments) ⌝ }
+    requires { ⌜ IsClass class ⌝ }
+    ensures { λ _. ⌜ memOf g (now (mem .exit)) ≡ freshened g (memOf g (now (mem .entry))) s class ⌝ }
+{
+    let shape = layout::shape_in(g, class);
+    let a = layout::bitmap_from(g, s);
+    let b = layout::bitmap_from(g, s + 1);
+    bitmap_write::make_fresh(&mut mem[a..b], shape.blocks, shape.levels - 1);
+}
+
+// The next free block of segment s at or after a place, and whether another remains after it.
+pub fn next_two(g: Geometry, mem: &[u32], s: usize, class: u32, place: u32) -> Two
+    requires { ⌜ (Sized g (length (now mem))) × (s < g .segments) ⌝ }
+    requires { ⌜ IsClass class ⌝ }
+    ensures { λ r. ⌜ TwoPromise (above g class) (bitmap g (memOf g (now (mem .entry))) s) (blocksIn g class) place r ⌝ }
+{
+    let shape = layout::shape_in(g, class);
+    let a = layout::bitmap_from(g, s);
+    let b = layout::bitmap_from(g, s + 1);
+    bitmap_search::next_two(&mem[a..b], shape.blocks, shape.levels - 1, place)
+}
+
+// Level 0 of segment s becomes its marks, and the levels above it are rebuilt.
+pub fn adopt(g: Geometry, mem: &mut [u32], s: usize, class: u32)
+    requires { ⌜ (Sized g (length (now mem))) × (s < g .segments) ⌝ }
+    requires { ⌜ IsClass class ⌝ }
+    ensures { λ _. ⌜ memOf g (now (mem .exit)) ≡ adoptedAs g (memOf g (now (mem .entry))) s class ⌝ }
+{
+    let shape = layout::shape_in(g, class);
+    let a = layout::bitmap_from(g, s);
+    let marks = layout::marks_from(g, s);
+    let b = layout::marks_from(g, s + 1);
+    bitmap_write::adopt(&mut mem[a..b], marks - a, shape.blocks, shape.levels - 1);
+}
+
+// How many of the first n bits are 1, where those before a place count as 1.
+fn used_among(s: &[u32], n: u32, place: u32) -> u32
+    requires { ⌜ wordsFor n ≤ length (now s) ⌝ }
+    ensures { λ r. ⌜ r ≡ onesAmong (usedBits (bitAt (now (s .entry))) place) n ⌝ }
+{
+    if n <= place {
+        return n;
+    }
+    let all = words::ones_among(s, n);
+    let before = words::ones_among(s, place);
+    place + (all - before)
+}
+
+// How many blocks of segment s are in use: those before the place, and from there on those whose bit is 1.
+pub fn in_use(g: Geometry, mem: &[u32], s: usize, class: u32, place: u32) -> u32
+    requires { ⌜ (Sized g (length (now mem))) × (s < g .segments) ⌝ }
+    requires { ⌜ IsClass class ⌝ }
+    ensures { λ r. ⌜ r ≡ onesAmong (usedBits (bitAt (bitmap g (memOf g (now (mem .entry))) s)) place) (blocksIn g class) ⌝ }
+{
+    let shape = layout::shape_in(g, class);
+    let a = layout::bitmap_from(g, s);
+    let b = layout::bitmap_from(g, s + 1);
+    used_among(&mem[a..b], shape.blocks, place)
+}
+
+// How many blocks of segment s are marked.
+pub fn kept(g: Geometry, mem: &[u32], s: usize, class: u32) -> u32
+    requires { ⌜ (Sized g (length (now mem))) × (s < g .segments) ⌝ }
+    requires { ⌜ IsClass class ⌝ }
+    ensures { λ r. ⌜ r ≡ onesAmong (bitAt (marksOf g (memOf g (now (mem .entry))) s)) (blocksIn g class) ⌝ }
+{
+    let shape = layout::shape_in(g, class);
+    let a = layout::marks_from(g, s);
+    let b = layout::marks_from(g, s + 1);
+    words::ones_among(&mem[a..b], shape.blocks)
+}
