@@ -1,4 +1,4 @@
-// The heap for programs in C and Rust: the calls that stand as exported functions over the lent slice, which C passes as a pointer and a length. An
+// The heap for programs in C and Rust: the calls that stand, but for shape, as exported functions over the lent slice, which C passes as a pointer and a length. An
 // answer is packed in a number; `unpack` and its like in specs/ say which answer a number stands for.
 use layout::Geometry;
 use model::Answer;

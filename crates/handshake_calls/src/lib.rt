@@ -1,4 +1,4 @@
-// The mutators' calls of a handshake: check, leave and enter. No call has a `requires`; each keeps the model's promise of it. Over memory that
+// The mutators' calls of a handshake: check, leave and enter. None of the three calls has a `requires`; each keeps the model's promise of it. Over memory that
 // fails the examination a root may name no record with a bit, or the trace stack have no room: then the answer is 13.
 use layout::Geometry;
 use model::Answer;
