@@ -17,8 +17,8 @@ use Rattle.model.specs.Calls.{act}
 use Rattle.model.specs.Promise.{Promise}
 use Rattle.laws.proofs.Promised.{done}
 use Rattle.laws.proofs.Reaching.{Names, Reaches, by-test}
-use Rattle.roots.specs.Inside.{insideThen}
-use Rattle.roots.proofs.Inside.{refused-at, reaches-at, refused-with, reaches-with}
+use Rattle.mutators.specs.Inside.{insideThen}
+use Rattle.mutators.proofs.Inside.{refused-at, reaches-at, refused-with, reaches-with}
 use Rattle.records.specs.declared.FieldAt.the-variants.{Word}
 use Rattle.records.specs.FieldWords.{pointerAt, valueAt}
 use Rattle.records.proofs.Found.{pointer-found, value-found}

@@ -14,11 +14,11 @@ pub fn load(g: Geometry, mem: &mut [u32], k: u32, to: u32, i: u32, f: u32) -> An
     if layout::wrong_size(g, mem.len()) {
         return Answer::Refused(1);
     }
-    let refused = roots::roots_refusal(g, mem, k, to, i);
+    let refused = mutators::roots_refusal(g, mem, k, to, i);
     if refused != 0 {
         return Answer::Refused(refused);
     }
-    let slot = records::held_of(roots::root(g, mem, k, i));
+    let slot = records::held_of(mutators::root(g, mem, k, i));
     let Held::Record(at) = slot else {
         return Answer::Refused(7);
     };
@@ -26,7 +26,7 @@ pub fn load(g: Geometry, mem: &mut [u32], k: u32, to: u32, i: u32, f: u32) -> An
         FieldAt::Refused(n) => Answer::Refused(n),
         FieldAt::Word(word) => {
             let held = records::field(g, mem, word);
-            roots::set_root(g, mem, k, to, held);
+            mutators::set_root(g, mem, k, to, held);
             Answer::Ok
         }
     }
@@ -39,11 +39,11 @@ pub fn get(g: Geometry, mem: &[u32], k: u32, i: u32, f: u32) -> Answer
     if layout::wrong_size(g, mem.len()) {
         return Answer::Refused(1);
     }
-    let refused = roots::root_refusal(g, mem, k, i);
+    let refused = mutators::root_refusal(g, mem, k, i);
     if refused != 0 {
         return Answer::Refused(refused);
     }
-    let slot = records::held_of(roots::root(g, mem, k, i));
+    let slot = records::held_of(mutators::root(g, mem, k, i));
     let Held::Record(at) = slot else {
         return Answer::Refused(7);
     };
@@ -63,11 +63,11 @@ pub fn put(g: Geometry, mem: &mut [u32], k: u32, i: u32, f: u32, v: u32) -> Answ
     if layout::wrong_size(g, mem.len()) {
         return Answer::Refused(1);
     }
-    let refused = roots::root_refusal(g, mem, k, i);
+    let refused = mutators::root_refusal(g, mem, k, i);
     if refused != 0 {
         return Answer::Refused(refused);
     }
-    let slot = records::held_of(roots::root(g, mem, k, i));
+    let slot = records::held_of(mutators::root(g, mem, k, i));
     let Held::Record(at) = slot else {
         return Answer::Refused(7);
     };
@@ -87,11 +87,11 @@ pub fn shape(g: Geometry, mem: &[u32], k: u32, i: u32) -> Answer
     if layout::wrong_size(g, mem.len()) {
         return Answer::Refused(1);
     }
-    let refused = roots::root_refusal(g, mem, k, i);
+    let refused = mutators::root_refusal(g, mem, k, i);
     if refused != 0 {
         return Answer::Refused(refused);
     }
-    let slot = records::held_of(roots::root(g, mem, k, i));
+    let slot = records::held_of(mutators::root(g, mem, k, i));
     let Held::Record(at) = slot else {
         return Answer::Refused(7);
     };

@@ -23,7 +23,7 @@ use Rattle.laws.proofs.Bools.{not-eq}
 use Rattle.laws.proofs.Lengths.{sizes-of}
 use Rattle.laws.proofs.Acknowledgements.{root-acks, roots-acks, roots-ready}
 use Rattle.laws.proofs.Promised.{done, torn-13}
-use Rattle.roots.specs.Inside.{insideThen}
+use Rattle.mutators.specs.Inside.{insideThen}
 use Rattle.tracing.specs.Pushing.{recordBitAt, PushFails}
 use Rattle.tracing.specs.Roots.{RootFails, PushesRoots}
 use Rattle.tracing.proofs.Roots.{roots-succeed}

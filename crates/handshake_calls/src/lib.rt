@@ -17,14 +17,14 @@ pub fn acknowledge(g: Geometry, mem: &mut [u32], k: u32) -> bool
     requires { ⌜ (Sized g (length (now mem))) × (k < mutatorCount) ⌝ }
     ensures { λ r. ⌜ Acknowledges g (memOf g (now (mem .entry))) k r (memOf g (now (mem .exit))) ⌝ }
 {
-    let phase = roots::phase(g, mem);
+    let phase = mutators::phase(g, mem);
     let number = phase.number;
-    if phase.owes(roots::acks(g, mem, k)) {
+    if phase.owes(mutators::acks(g, mem, k)) {
         if number == Phase::SYNC2 {
-            roots::set_acks(g, mem, k, 2);
+            mutators::set_acks(g, mem, k, 2);
             return tracing::push_roots(g, mem, k);
         }
-        roots::set_acks(g, mem, k, 1);
+        mutators::set_acks(g, mem, k, 1);
     }
     true
 }
@@ -36,7 +36,7 @@ pub fn check(g: Geometry, mem: &mut [u32], k: u32) -> Answer
     if layout::wrong_size(g, mem.len()) {
         return Answer::Refused(1);
     }
-    let refused = roots::inside_refusal(g, mem, k);
+    let refused = mutators::inside_refusal(g, mem, k);
     if refused != 0 {
         return Answer::Refused(refused);
     }
@@ -53,13 +53,13 @@ pub fn leave(g: Geometry, mem: &mut [u32], k: u32) -> Answer
     if layout::wrong_size(g, mem.len()) {
         return Answer::Refused(1);
     }
-    let refused = roots::inside_refusal(g, mem, k);
+    let refused = mutators::inside_refusal(g, mem, k);
     if refused != 0 {
         return Answer::Refused(refused);
     }
     let given = acknowledge(g, mem, k);
     if given {
-        roots::set_state(g, mem, k, roots::OUTSIDE);
+        mutators::set_state(g, mem, k, mutators::OUTSIDE);
         return Answer::Ok;
     }
     Answer::Refused(13)
@@ -75,13 +75,13 @@ pub fn enter(g: Geometry, mem: &mut [u32], k: u32) -> Answer
     if layout::MUTATORS <= k {
         return Answer::Refused(2);
     }
-    let state = roots::state(g, mem, k);
-    if state == roots::ABSENT {
+    let state = mutators::state(g, mem, k);
+    if state == mutators::ABSENT {
         return Answer::Refused(4);
     }
-    if state == roots::INSIDE {
+    if state == mutators::INSIDE {
         return Answer::Refused(5);
     }
-    roots::set_state(g, mem, k, roots::INSIDE);
+    mutators::set_state(g, mem, k, mutators::INSIDE);
     Answer::Ok
 }

@@ -57,16 +57,17 @@ module _ (g : Geometry) (l : List ℕ) where
       let z : length r ≡ len g k = length-region k e h in
       run-sets (memOf g l) k 0 ys ∙ ap (withRegion (memOf g l) k) (sets-eq ys r 0 (omega arith) ∙ rw (drop-of-length-le r {i = 0 + length ys} (omega arith)) (append-nil ys))
 
-  -- a whole region lent to a leaf that clears what it is lent: `&mut mem[a..b]`
+  -- a part lent to a leaf that clears what it is lent, `&mut mem[a..b]`, and a whole region
+  pub cleared-part : (k i w a b : ℕ) (ys : List ℕ) → ys ≡ replicate (length (midOf a (b - a) l)) 0 → (a ≡ from g k + i) × (b ≡ a + w) × (i + w ≤ len g k) × (k < regionCount) × (b ≤ length l) → memOf g (putMid a (b - a) l ys) ≡ setRun (memOf g l) k i (replicate w 0)
+  cleared-part k i w a b ys t (e, f, h, q, u) =
+      let y : length (midOf a (b - a) l) ≡ b - a = length-take-le (b - a) (drop a l) (omega (arith, length-drop a l)) in
+      let z : length (midOf a (b - a) l) ≡ w = omega arith in
+      part-at k i w a b (λ _. replicate w 0) ys (t ∙ ap (λ (j : ℕ). replicate j 0) z) (ap length t ∙ length-replicate _ 0) (e, f, h, q, u)
+
   pub cleared-at : (k a b : ℕ) (ys : List ℕ) → ys ≡ replicate (length (midOf a (b - a) l)) 0 → (a ≡ from g k) × (b ≡ a + len g k) × (k < regionCount) → length l ≡ total g → from g k + len g k ≤ total g → memOf g (putMid a (b - a) l ys) ≡ clearRegion g (memOf g l) k
   unfolding clearRegion
   cleared-at k a b ys t (e, h, q) f o =
-      let w : length (take (len g k) (region (memOf g l) k)) ≡ len g k = length-take-le (len g k) (region (memOf g l) k) (omega (arith, length-region k f o)) in
-      let t′ : ys ≡ replicate (length (midOf a (a + len g k - a) l)) 0 = subst (λ z. ys ≡ replicate (length (midOf a (z - a) l)) 0) h t in
-      ap (λ z. memOf g (putMid a (z - a) l ys)) h
-      ∙ leaf-at k 0 (len g k) a (λ (x : List ℕ). replicate (length x) 0) ys t′ (ap length t′ ∙ length-replicate _ 0) (omega arith)
-      ∙ ap (setRun (memOf g l) k 0) (ap (λ (j : ℕ). replicate j 0) w)
-      ∙ run-all k (replicate (len g k) 0) f o (length-replicate (len g k) 0)
+      cleared-part k 0 (len g k) a b ys t (omega arith) ∙ run-all k (replicate (len g k) 0) f o (length-replicate (len g k) 0)
 
   pub flat-memOf : length l ≡ total g → flat (memOf g l) ≡ l
   unfolding memOf flat

@@ -8,8 +8,8 @@ ghost use Prim.Native.Nat.{_+_, _*_, _%_, _≤_, _<_};
 ghost use lib.ListN.{length, replicate};
 ghost use Rattle.classes.specs.Class.{IsClass};
 ghost use Rattle.classes.specs.Shape.{shapeFor};
-ghost use Rattle.layout.specs.Geometry.{len, from, total, segmentWords, blocksIn, mostBlocks, markWords, bitmapWords, maxSegments, segmentOf, bitIn, Sized, wrongSize};
-ghost use Rattle.layout.specs.Mem.{memOf, controlWord, mutatorWord, segmentRecordWord, stackWord, bitmapWord, markWord, queuedWord, traceWord, heapWord, setControl, setMutator, setSegment, setStack, setMarkWord, setQueuedWord, setTrace, setHeap, clearRegion};
+ghost use Rattle.layout.specs.Geometry.{len, from, total, segmentWords, blocksIn, mostBlocks, markWords, bitmapWords, maxSegments, segmentOf, bitIn, mutatorCount, mutatorWords, Sized, wrongSize};
+ghost use Rattle.layout.specs.Mem.{memOf, controlWord, mutatorWord, segmentRecordWord, stackWord, bitmapWord, markWord, queuedWord, traceWord, heapWord, setControl, setMutator, setSegment, setStack, setMarkWord, setQueuedWord, setTrace, setHeap, setRun, clearRegion};
 ghost use Rattle.layout.specs.Region as Region;
 
 // The size of the heap: today its number of segments.
@@ -370,5 +370,35 @@ pub fn clear_queued(g: Geometry, mem: &mut [u32])
     let n = g.segments;
     let a = n * QUEUED_PER + FIXED;
     let end = a + n * MARK_WORDS;
+    zero(&mut mem[a..end]);
+}
+
+pub fn clear_marks(g: Geometry, mem: &mut [u32])
+    requires { ⌜ Sized g (length (now mem)) ⌝ }
+    ensures { λ _. ⌜ memOf g (now (mem .exit)) ≡ clearRegion g (memOf g (now (mem .entry))) Region.marks ⌝ }
+{
+    let n = g.segments;
+    let a = n * MARKS_PER + FIXED;
+    let end = a + n * MARK_WORDS;
+    zero(&mut mem[a..end]);
+}
+
+// The entry of mutator k cleared.
+pub fn clear_entry(g: Geometry, mem: &mut [u32], k: usize)
+    requires { ⌜ (Sized g (length (now mem))) × (k < mutatorCount) ⌝ }
+    ensures { λ _. ⌜ memOf g (now (mem .exit)) ≡ setRun (memOf g (now (mem .entry))) Region.mutators (k * mutatorWords) (replicate mutatorWords 0) ⌝ }
+{
+    let a = CONTROL_WORDS + k * MUTATOR_WORDS;
+    let end = a + MUTATOR_WORDS;
+    zero(&mut mem[a..end]);
+}
+
+// n words of the heap cleared, from word i on.
+pub fn clear_heap(g: Geometry, mem: &mut [u32], i: usize, n: usize)
+    requires { ⌜ (Sized g (length (now mem))) × (i + n ≤ len g Region.heap) ⌝ }
+    ensures { λ _. ⌜ memOf g (now (mem .exit)) ≡ setRun (memOf g (now (mem .entry))) Region.heap i (replicate n 0) ⌝ }
+{
+    let a = HEAP_FROM + i;
+    let end = a + n;
     zero(&mut mem[a..end]);
 }

@@ -5,7 +5,7 @@ use Prim.Native.Nat.{ℕ, zero, suc, _≤_, _<_}
 use native.Mathlib.Omega.{arith}
 use lib.Dec.{eqb, leb, ltb}
 use borrow.Author.Tests.{le-leb, lt-ltb, le-ltb, ne-eqb}
-use Rattle.theory.specs.Phases.{duty, owes, black, twice, inHandshake}
+use Rattle.theory.specs.Phases.{duty, owes, black, twice, inHandshake, newcomer}
 use Rattle.model.specs.declared.Duty.the-variants.{Nothing, Both}
 use Rattle.model.specs.Rules.{phaseOf, dutyOf}
 
@@ -66,3 +66,10 @@ handshake-second (suc zero) f = absurd (f refl)
 handshake-second (suc (suc zero)) f = refl
 handshake-second (suc (suc (suc zero))) f = refl
 handshake-second (suc (suc (suc (suc p)))) f = ne-eqb (suc (suc (suc (suc p)))) 2 (λ e. omega arith)
+
+pub newcomer-other : (p : ℕ) → (p ≡ 3 → ⊥) → 0 ≡ newcomer (phaseOf p)
+newcomer-other zero f = refl
+newcomer-other (suc zero) f = refl
+newcomer-other (suc (suc zero)) f = refl
+newcomer-other (suc (suc (suc zero))) f = absurd (f refl)
+newcomer-other (suc (suc (suc (suc p)))) f = refl

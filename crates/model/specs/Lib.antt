@@ -14,6 +14,7 @@ pub mod Reaching
 pub mod Consistent
 pub mod Answers
 pub mod Promise
+pub mod StepParts
 pub mod Looks
 pub mod Lists
 pub mod Run

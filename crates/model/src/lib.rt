@@ -2,7 +2,7 @@
 // The definitions that every call is held to stand in specs/.
 use classes::RecordShape;
 ghost use mathlib.Core.Path.{_≡_};
-ghost use Rattle.theory.specs.Phases.{duty, owes, black, inHandshake};
+ghost use Rattle.theory.specs.Phases.{duty, owes, black, inHandshake, newcomer};
 ghost use Rattle.model.specs.Rules.{phaseOf, dutyOf};
 
 // What a root or a pointer field holds: nil, or a record by the index of its header word in the heap.
@@ -162,5 +162,16 @@ impl Phase {
             return true;
         }
         p == Self::SYNC2
+    }
+
+    // The acknowledgements that a mutator attached in it counts as having given.
+    pub fn newcomer(self) -> u32
+        ensures { λ r. ⌜ r ≡ newcomer (phaseOf (self .number)) ⌝ }
+    {
+        let p = self.number;
+        if p == Self::MARK {
+            return 2;
+        }
+        0
     }
 }

@@ -11,12 +11,12 @@ pub fn copy(g: Geometry, mem: &mut [u32], k: u32, to: u32, from: u32) -> Answer
     if layout::wrong_size(g, mem.len()) {
         return Answer::Refused(1);
     }
-    let refused = roots::roots_refusal(g, mem, k, to, from);
+    let refused = mutators::roots_refusal(g, mem, k, to, from);
     if refused != 0 {
         return Answer::Refused(refused);
     }
-    let held = roots::root(g, mem, k, from);
-    roots::set_root(g, mem, k, to, held);
+    let held = mutators::root(g, mem, k, from);
+    mutators::set_root(g, mem, k, to, held);
     Answer::Ok
 }
 
@@ -27,11 +27,11 @@ pub fn clear(g: Geometry, mem: &mut [u32], k: u32, to: u32) -> Answer
     if layout::wrong_size(g, mem.len()) {
         return Answer::Refused(1);
     }
-    let refused = roots::root_refusal(g, mem, k, to);
+    let refused = mutators::root_refusal(g, mem, k, to);
     if refused != 0 {
         return Answer::Refused(refused);
     }
-    roots::set_root(g, mem, k, to, 0);
+    mutators::set_root(g, mem, k, to, 0);
     Answer::Ok
 }
 
@@ -42,11 +42,11 @@ pub fn same(g: Geometry, mem: &[u32], k: u32, i: u32, j: u32) -> Answer
     if layout::wrong_size(g, mem.len()) {
         return Answer::Refused(1);
     }
-    let refused = roots::roots_refusal(g, mem, k, i, j);
+    let refused = mutators::roots_refusal(g, mem, k, i, j);
     if refused != 0 {
         return Answer::Refused(refused);
     }
-    let first = roots::root(g, mem, k, i);
-    let second = roots::root(g, mem, k, j);
+    let first = mutators::root(g, mem, k, i);
+    let second = mutators::root(g, mem, k, j);
     Answer::Same(first == second)
 }

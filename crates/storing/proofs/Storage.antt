@@ -26,8 +26,8 @@ use Rattle.model.specs.Promise.{Promise}
 use Rattle.laws.proofs.Promised.{done, torn-13}
 use Rattle.laws.proofs.Rooted.{rooted, live-root}
 use Rattle.laws.proofs.Reaching.{Names, Reaches}
-use Rattle.roots.specs.Inside.{insideThen}
-use Rattle.roots.proofs.Inside.{refused-with, reaches-with}
+use Rattle.mutators.specs.Inside.{insideThen}
+use Rattle.mutators.proofs.Inside.{refused-with, reaches-with}
 use Rattle.records.specs.declared.FieldAt.the-variants.{Word}
 use Rattle.records.specs.FieldWords.{pointerAt}
 use Rattle.records.proofs.Found.{FieldFound, pointer-found}

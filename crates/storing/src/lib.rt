@@ -43,18 +43,18 @@ pub fn store(g: Geometry, mem: &mut [u32], k: u32, i: u32, f: u32, j: u32) -> An
     if layout::wrong_size(g, mem.len()) {
         return Answer::Refused(1);
     }
-    let refused = roots::roots_refusal(g, mem, k, i, j);
+    let refused = mutators::roots_refusal(g, mem, k, i, j);
     if refused != 0 {
         return Answer::Refused(refused);
     }
-    let slot = records::held_of(roots::root(g, mem, k, i));
+    let slot = records::held_of(mutators::root(g, mem, k, i));
     let Held::Record(at) = slot else {
         return Answer::Refused(7);
     };
     match records::pointer_at(g, mem, at, f) {
         FieldAt::Refused(n) => Answer::Refused(n),
         FieldAt::Word(word) => {
-            let new = roots::root(g, mem, k, j);
+            let new = mutators::root(g, mem, k, j);
             store_at(g, mem, k, word, new)
         }
     }

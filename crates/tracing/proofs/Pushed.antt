@@ -11,7 +11,7 @@ use borrow.Author.Tests.{eq-eqb, ne-eqb}
 use Rattle.words.specs.Bits.{bitAt, setBit}
 use Rattle.layout.specs.declared.Geometry.{Geometry}
 use Rattle.layout.specs.Geometry.{len}
-use Rattle.layout.specs.Mem.{Mem, markWord, queuedWord, setQueuedWord, setTrace, setControl}
+use Rattle.layout.specs.Mem.{Mem, markWord, queuedWord, setMarkWord, setQueuedWord, setTrace, setControl}
 use Rattle.model.specs.Fields.{traceCount}
 use Rattle.model.specs.Records.{record?, recordBit}
 use Rattle.model.specs.Tracing.{push}
@@ -19,7 +19,7 @@ use Rattle.model.specs.declared.Duty.{Duty}
 use Rattle.tracing.specs.declared.Bit.the-variants.{At, Torn}
 use Rattle.tracing.proofs.Bits.{bit-within}
 use Rattle.tracing.proofs.Masks.{mask, mask-set, mask-clear, mask-or}
-use Rattle.tracing.specs.Pushing.{recordBitAt, pushedBit, PushesBit, PushFails, Pushes, BarrierRuns}
+use Rattle.tracing.specs.Pushing.{recordBitAt, withMark, pushedBit, PushesBit, PushFails, Pushes, BarrierRuns}
 use Rattle.words.specs.Bits as bits
 use Rattle.model.specs.Records as records
 use Rattle.model.specs.declared.Duty.the-variants as duty
@@ -72,6 +72,12 @@ module _ (g : Geometry) (m : Mem) (w k : ℕ) where
             done = λ _. e₃ ∙ rw (e₂, a, u, j, ne-eqb _ _ unmarked, ne-eqb _ _ unqueued) refl;
             full = λ t. absurd (true≢false t);
           }
+
+-- ---- x is the word of the marks that has bit k
+
+pub marked-bit : (m : Mem) (k x : ℕ) → x ≡ markWord m (k / 32) → (m′ : Mem) → m′ ≡ setMarkWord m (k / 32) (bitOr x (mask (k % 32))) → m′ ≡ withMark m k
+unfolding withMark setBit setMarkWord
+marked-bit m k x e m′ u = u ∙ ap (setMarkWord m (k / 32)) (mask-or x (k % 32) (let l : k % 32 < 32 = omega arith in l)) ∙ rw e refl
 
 -- ---- a push of a word
 

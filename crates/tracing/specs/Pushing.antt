@@ -25,6 +25,10 @@ unfoldable pub recordBitAt : Geometry → Mem → ℕ → Bit
 recordBitAt g m at =
     pick (ltb at (len g Region.heap)) (pick (classTest (class m (segmentOf g at))) (At (recordBit g m at)) Torn) Torn
 
+-- bit k marked
+unfoldable pub withMark : Mem → ℕ → Mem
+withMark m k = withRegion m Region.marks (setBit (m .marks) k)
+
 -- the word w on top of the stack, with bit k, unless the bit is marked or queued
 unfoldable pub pushedBit : Mem → ℕ → ℕ → Mem
 pushedBit m w k =

@@ -7,7 +7,7 @@ ghost use Prim.Native.Nat.{_*_, _<_};
 ghost use lib.ListN.{length};
 ghost use Rattle.layout.specs.Geometry.{Sized, mostBlocks, mutatorCount};
 ghost use Rattle.layout.specs.Mem.{memOf};
-ghost use Rattle.tracing.specs.Pushing.{recordBitAt, PushesBit, Pushes, BarrierRuns};
+ghost use Rattle.tracing.specs.Pushing.{recordBitAt, withMark, PushesBit, Pushes, BarrierRuns};
 ghost use Rattle.tracing.specs.Roots.{PushesRoots};
 
 // The number of a record's bit among the marks and the queued bits, or none.
@@ -71,6 +71,16 @@ pub fn push(g: Geometry, mem: &mut [u32], w: u32) -> bool
     }
 }
 
+// Marks bit k.
+pub fn mark_bit(g: Geometry, mem: &mut [u32], k: usize)
+    requires { ⌜ (Sized g (length (now mem))) × (k < g .segments * mostBlocks g) ⌝ }
+    ensures { λ _. ⌜ memOf g (now (mem .exit)) ≡ withMark (memOf g (now (mem .entry))) k ⌝ }
+{
+    let q = k / 32;
+    let bits = layout::mark(g, mem, q);
+    layout::set_mark(g, mem, q, bits | 1u32 << (k % 32));
+}
+
 // The write barrier of a store: the new value and then the old, the old, or nothing.
 pub fn barrier(g: Geometry, mem: &mut [u32], duty: Duty, new: u32, old: u32) -> bool
     requires { ⌜ Sized g (length (now mem)) ⌝ }
@@ -95,7 +105,7 @@ pub fn push_roots(g: Geometry, mem: &mut [u32], k: u32) -> bool
 {
     let mut i: u32 = 0;
     while i < layout::ROOTS {
-        let w = roots::root(g, mem, k, i);
+        let w = mutators::root(g, mem, k, i);
         if push(g, mem, w) {
             i += 1;
         } else {

@@ -4,7 +4,7 @@ use borrow.Author.Needs.{needs}
 use Rattle.layout.proofs.Regions.{sized}
 use Rattle.theory.specs.Calls.{c-put}
 use Rattle.laws.proofs.Promised.{size-1}
-use Rattle.roots.proofs.Inside.{in-range-at}
+use Rattle.mutators.proofs.Inside.{in-range-at}
 use Rattle.records.proofs.Found.{value-found}
 use Rattle.records.proofs.Reaching.{names, held-7, value-refused}
 use Rattle.field_calls.proofs.Answering.{put-refused, put-reaches, put-done}

@@ -5,7 +5,7 @@ use borrow.Author.Needs.{needs}
 use Rattle.layout.proofs.Regions.{sized}
 use Rattle.theory.specs.Calls.{c-shape}
 use Rattle.laws.proofs.Promised.{size-1}
-use Rattle.roots.proofs.Inside.{in-range-at}
+use Rattle.mutators.proofs.Inside.{in-range-at}
 use Rattle.laws.proofs.Reaching.{header-13}
 use Rattle.records.proofs.Reaching.{names, held-7}
 use Rattle.field_calls.proofs.Answering.{shape-refused, shape-reaches, shape-done}

@@ -4,7 +4,7 @@ use borrow.Author.Needs.{needs}
 use Rattle.layout.proofs.Regions.{sized}
 use Rattle.theory.specs.Calls.{c-check}
 use Rattle.laws.proofs.Promised.{size-1, refused}
-use Rattle.roots.specs.Inside.{insideThen}
+use Rattle.mutators.specs.Inside.{insideThen}
 use Rattle.handshake_calls.proofs.Acknowledging.{known, checked, hindered}
 use Rattle.handshake_calls.proofs.check.Tie as tie
 use Rattle.handshake_calls.proofs.check.Statement.{statement}

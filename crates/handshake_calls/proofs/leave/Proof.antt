@@ -5,7 +5,7 @@ use borrow.Author.Needs.{needs}
 use Rattle.layout.proofs.Regions.{sized, resized}
 use Rattle.theory.specs.Calls.{c-leave}
 use Rattle.laws.proofs.Promised.{size-1, refused}
-use Rattle.roots.specs.Inside.{insideThen}
+use Rattle.mutators.specs.Inside.{insideThen}
 use Rattle.handshake_calls.proofs.Acknowledging.{known, left, hindered}
 use Rattle.handshake_calls.proofs.leave.Tie as tie
 use Rattle.handshake_calls.proofs.leave.Statement.{statement}

@@ -6,8 +6,8 @@ use Rattle.theory.specs.Calls.{c-copy}
 use Rattle.laws.proofs.Promised.{size-1, refused, done}
 use Rattle.model.specs.Calls.{act}
 use Rattle.model.specs.Fields.{setRoot}
-use Rattle.roots.proofs.Inside.{in-range}
-use Rattle.roots.specs.Inside.{insideThen}
+use Rattle.mutators.proofs.Inside.{in-range}
+use Rattle.mutators.specs.Inside.{insideThen}
 use Rattle.root_calls.proofs.copy.Tie as tie
 use Rattle.root_calls.proofs.copy.Statement.{statement}
 

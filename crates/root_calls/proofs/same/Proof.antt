@@ -5,8 +5,8 @@ use Rattle.layout.proofs.Regions.{sized}
 use Rattle.theory.specs.Calls.{c-same, a-flag}
 use Rattle.model.specs.Calls.{act}
 use Rattle.laws.proofs.Promised.{size-1, refused, done}
-use Rattle.roots.specs.Inside.{insideThen}
-use Rattle.roots.proofs.Inside.{in-range}
+use Rattle.mutators.specs.Inside.{insideThen}
+use Rattle.mutators.proofs.Inside.{in-range}
 use Rattle.root_calls.proofs.References.{same-words}
 use Rattle.root_calls.proofs.same.Tie as tie
 use Rattle.root_calls.proofs.same.Statement.{statement}

@@ -4,7 +4,7 @@ use borrow.Author.Needs.{needs}
 use Rattle.layout.proofs.Regions.{sized}
 use Rattle.theory.specs.Calls.{c-store}
 use Rattle.laws.proofs.Promised.{size-1}
-use Rattle.roots.proofs.Inside.{in-range}
+use Rattle.mutators.proofs.Inside.{in-range}
 use Rattle.records.proofs.Found.{pointer-found}
 use Rattle.records.proofs.Reaching.{names, held-7, pointer-refused}
 use Rattle.storing.proofs.Storage.{store-refused, store-reaches, store-by}

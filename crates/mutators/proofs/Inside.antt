@@ -18,7 +18,7 @@ use Rattle.model.specs.Calls.{observe}
 use Rattle.model.specs.Promise.{Promise}
 use Rattle.laws.proofs.Promised.{refused}
 use Rattle.laws.proofs.Reaching.{Reaches}
-use Rattle.roots.specs.Inside.{insideThen}
+use Rattle.mutators.specs.Inside.{insideThen}
 use Rattle.theory.proofs.Refusals as refusals
 
 module _ (m : Mem) (k rest : ℕ) where

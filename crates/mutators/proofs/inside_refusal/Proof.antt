@@ -1,9 +1,9 @@
--- `roots::inside_refusal` meets its contract. Assumes nothing.
+-- `mutators::inside_refusal` meets its contract. Assumes nothing.
 use mathlib.Core.Path.{sym, _∙_}
 use borrow.Author.Needs.{needs}
-use Rattle.roots.proofs.Inside.{unknown-2, absent-4, outside-5, inside-rest}
-use Rattle.roots.proofs.inside_refusal.Tie as tie
-use Rattle.roots.proofs.inside_refusal.Statement.{statement}
+use Rattle.mutators.proofs.Inside.{unknown-2, absent-4, outside-5, inside-rest}
+use Rattle.mutators.proofs.inside_refusal.Tie as tie
+use Rattle.mutators.proofs.inside_refusal.Statement.{statement}
 
 returns : tie.Need-returns
 returns c = unknown-2 _ _ _ (c .if1 .taken)

@@ -1,10 +1,10 @@
--- `roots::roots_refusal` meets its contract. Assumes nothing.
+-- `mutators::roots_refusal` meets its contract. Assumes nothing.
 use mathlib.Core.Path.{_∙_}
 use borrow.Author.Needs.{needs}
 use Rattle.theory.proofs.Refusals.{root-rest}
-use Rattle.roots.proofs.Inside.{then-refused, then-rest, root-6}
-use Rattle.roots.proofs.roots_refusal.Tie as tie
-use Rattle.roots.proofs.roots_refusal.Statement.{statement}
+use Rattle.mutators.proofs.Inside.{then-refused, then-rest, root-6}
+use Rattle.mutators.proofs.roots_refusal.Tie as tie
+use Rattle.mutators.proofs.roots_refusal.Statement.{statement}
 
 inside-refusal-requires : tie.Need-inside-refusal-requires
 inside-refusal-requires c κs = search needs

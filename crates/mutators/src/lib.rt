@@ -5,11 +5,12 @@ use model::Phase;
 ghost use mathlib.Core.Path.{_≡_};
 ghost use Prim.Native.Nat.{_<_};
 ghost use lib.ListN.{length};
+ghost use Rattle.classes.specs.Class.{IsClass};
 ghost use Rattle.layout.specs.Geometry.{Sized, mutatorCount, rootCount};
-ghost use Rattle.layout.specs.Mem.{memOf, controlWord};
+ghost use Rattle.layout.specs.Mem.{memOf, controlWord, setControl};
 ghost use Rattle.theory.specs.Calls.{ifRoot};
-ghost use Rattle.model.specs.Fields.{root, setRoot, state, setMutatorState, acks, setAcks};
-ghost use Rattle.roots.specs.Inside.{insideThen};
+ghost use Rattle.model.specs.Fields.{root, setRoot, state, setMutatorState, acks, setAcks, holding, setHolding};
+ghost use Rattle.mutators.specs.Inside.{insideThen};
 
 // The states of a mutator, as its entry has them.
 pub const ABSENT: u32 = 0;
@@ -26,6 +27,13 @@ pub fn phase(g: Geometry, mem: &[u32]) -> Phase
     Phase {
         number: layout::control(g, mem, 0),
     }
+}
+
+pub fn set_phase(g: Geometry, mem: &mut [u32], number: u32)
+    requires { ⌜ Sized g (length (now mem)) ⌝ }
+    ensures { λ _. ⌜ memOf g (now (mem .exit)) ≡ setControl (memOf g (now (mem .entry))) 0 number ⌝ }
+{
+    layout::set_control(g, mem, 0, number);
 }
 
 // The state of mutator k.
@@ -68,6 +76,34 @@ pub fn set_acks(g: Geometry, mem: &mut [u32], k: u32, v: u32)
         g,
         mem,
         k as usize * layout::MUTATOR_WORDS + layout::ACKS_AT,
+        v,
+    );
+}
+
+// What mutator k holds of a class: 0, or 1 + the segment.
+pub fn holding(g: Geometry, mem: &[u32], k: u32, class: u32) -> u32
+    requires { ⌜ (Sized g (length (now mem))) × (k < mutatorCount) × IsClass class ⌝ }
+    ensures { λ r. ⌜ r ≡ holding (memOf g (now (mem .entry))) k class ⌝ }
+{
+    layout::mutator(
+        g,
+        mem,
+        k as usize * layout::MUTATOR_WORDS
+            + layout::HELD_FROM
+            + (class - classes::FIRST_CLASS) as usize,
+    )
+}
+
+pub fn set_holding(g: Geometry, mem: &mut [u32], k: u32, class: u32, v: u32)
+    requires { ⌜ (Sized g (length (now mem))) × (k < mutatorCount) × IsClass class ⌝ }
+    ensures { λ _. ⌜ memOf g (now (mem .exit)) ≡ setHolding (memOf g (now (mem .entry))) k class v ⌝ }
+{
+    layout::set_mutator(
+        g,
+        mem,
+        k as usize * layout::MUTATOR_WORDS
+            + layout::HELD_FROM
+            + (class - classes::FIRST_CLASS) as usize,
         v,
     );
 }
