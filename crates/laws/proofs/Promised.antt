@@ -1,7 +1,7 @@
 -- How a mutator's call keeps its promise: refused for a size, refused by one of the numbers 2 to 9, or done. Assumes nothing.
 use mathlib.Core.Path.{_≡_, refl, sym, _∙_, ap, subst}
 use mathlib.Core.Bool.{true, false, true≢false}
-use mathlib.Core.Option.{none, Option·none-ne-some, Option·some-injective}
+use mathlib.Core.Option.{none, some, Option·none-ne-some, Option·some-injective}
 use mathlib.Core.List.{List}
 use Prim.Native.Nat.{ℕ, zero, suc, _≤_}
 use native.Mathlib.Omega.{arith}
@@ -70,6 +70,18 @@ module _ (c : Call) (g : Geometry) (xs : List ℕ) where
     where
       does : exec g (memOf g xs) c ≡ act g (memOf g xs) c
       does = exec-by g (memOf g xs) c z
+
+  -- not refused so, answer and memory are the definition's where the memory passes the examination; always, the result is of its kind, or a number that the call may give
+  pub acted : {r : Answer} {ys : List ℕ} → wrongSize g (length xs) ≡ false → 0 ≡ refusal (observe (memOf g xs)) c
+      → (Consistent g (memOf g xs) → (answerOf r ≡ act g (memOf g xs) c .0) × (memOf g ys ≡ act g (memOf g xs) c .1)) → (refusalOf r ≡ none → ResultOf c (answerOf r))
+      → ((n : ℕ) → refusalOf r ≡ some n → (among n (mayGive c) ≡ true) × (2 ≤ n)) → Promise c g xs r ys
+  acted {r} {ys} e z f k n = record {
+    sizes = λ h. absurd (true≢false (sym h ∙ e));
+    exact = λ _ x. let d = exec-by g (memOf g xs) c z in (f x .0 ∙ sym (ap (λ w. w .0) d), f x .1 ∙ sym (ap (λ w. w .1) d));
+    kind = k;
+    allowed = λ i q. n i q .0;
+    onlySize = λ q. absurd (let l = n 1 q .1 in omega arith);
+  }
 
   -- "13, torn": only where the memory fails the examination
   pub torn-13 : {ys : List ℕ} → wrongSize g (length xs) ≡ false → (Consistent g (memOf g xs) → ⊥) → Promise c g xs (Refused 13) ys

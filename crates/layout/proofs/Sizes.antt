@@ -63,5 +63,12 @@ mark-word g k l = let e = marks-are g (g .segments) in omega arith
 pub trace-most : (g : Geometry) → g .segments ≤ maxSegments → len g Region.trace ≤ 2 ^ 20
 trace-most g h = let z = bytes-are g in let e = z .1 in let l = z .3 in let m : g .segments * mostBlocks g ≤ maxSegments * mostBlocks g = mul-le-mul-right (mostBlocks g) h in omega arith
 
+-- a word of the heap can be named in a word, and a block
+pub heap-most : (g : Geometry) → g .segments ≤ maxSegments → len g Region.heap ≤ 2 ^ 21
+heap-most g h = let z = bytes-are g in let e = z .1 in let l = z .3 in let m : g .segments * segmentWords g ≤ maxSegments * segmentWords g = mul-le-mul-right (segmentWords g) h in omega arith
+
+pub most-small : (g : Geometry) → mostBlocks g ≤ 2 ^ 12
+most-small g = let z = bytes-are g in let e = z .1 in let l = z .3 in omega arith
+
 pub segment-below : (g : Geometry) (at : ℕ) → at < g .segments * segmentWords g → segmentOf g at < g .segments
 segment-below g at l = div-lt-iff-lt-mul (words-some g) .1 l

@@ -170,6 +170,14 @@ pub fn offset_of(g: Geometry, at: usize) -> usize
     at % SEGMENT_WORDS
 }
 
+// The word of the heap at a place in segment s.
+pub fn word_in(g: Geometry, s: usize, offset: usize) -> usize
+    requires { ⌜ (s < maxSegments) × (offset < segmentWords g) ⌝ }
+    ensures { λ r. ⌜ r ≡ s * segmentWords g + offset ⌝ }
+{
+    s * SEGMENT_WORDS + offset
+}
+
 // The number of the bit of block b of segment s.
 pub fn bit_in(g: Geometry, s: usize, b: usize) -> usize
     requires { ⌜ (s < maxSegments) × (b < mostBlocks g) ⌝ }

@@ -2,3 +2,4 @@
 pub mod FieldTests
 pub mod Found
 pub mod Reaching
+pub mod Cleared

@@ -4,10 +4,12 @@ use classes::RecordShape;
 use layout::Geometry;
 use model::Held;
 ghost use mathlib.Core.Path.{_≡_};
-ghost use Prim.Native.Nat.{_<_};
-ghost use lib.ListN.{length};
+ghost use Prim.Native.Nat.{_+_, _<_, _≤_};
+ghost use lib.ListN.{length, replicate};
+ghost use Rattle.classes.specs.Record.{fieldCountOf};
 ghost use Rattle.layout.specs.Geometry.{Sized, len};
-ghost use Rattle.layout.specs.Mem.{memOf, heapWord, setHeap};
+ghost use Rattle.layout.specs.Mem.{memOf, heapWord, setHeap, setRun};
+ghost use Rattle.model.specs.Records.{InHalves, written};
 ghost use Rattle.records.specs.FieldWords.{heldOf, ShapeRead, pointerAt, valueAt};
 ghost use Rattle.layout.specs.Region as Region;
 
@@ -94,4 +96,36 @@ pub fn set_field(g: Geometry, mem: &mut [u32], word: usize, v: u32)
     ensures { λ _. ⌜ memOf g (now (mem .exit)) ≡ setHeap (memOf g (now (mem .entry))) word v ⌝ }
 {
     layout::set_word(g, mem, word, v);
+}
+
+// n words of fields cleared, from word i on: few of them by single stores.
+fn clear_fields(g: Geometry, mem: &mut [u32], i: usize, n: usize)
+    requires { ⌜ (Sized g (length (now mem))) × (i + n ≤ len g Region.heap) ⌝ }
+    ensures { λ _. ⌜ memOf g (now (mem .exit)) ≡ setRun (memOf g (now (mem .entry))) Region.heap i (replicate n 0) ⌝ }
+{
+    match n {
+        0 => {}
+        1 => layout::set_word(g, mem, i, 0),
+        2 => {
+            layout::set_word(g, mem, i, 0);
+            layout::set_word(g, mem, i + 1, 0);
+        }
+        3 => {
+            layout::set_word(g, mem, i, 0);
+            layout::set_word(g, mem, i + 1, 0);
+            layout::set_word(g, mem, i + 2, 0);
+        }
+        _ => layout::clear_heap(g, mem, i, n),
+    }
+}
+
+// A record of a shape at a word: its header, and every field nil or 0.
+pub fn write(g: Geometry, mem: &mut [u32], at: usize, shape: RecordShape)
+    requires { ⌜ (Sized g (length (now mem))) × (InHalves shape) × (at + 1 + fieldCountOf shape ≤ len g Region.heap) ⌝ }
+    ensures { λ _. ⌜ memOf g (now (mem .exit)) ≡ written (memOf g (now (mem .entry))) at shape ⌝ }
+{
+    let p = shape.pointer_count;
+    let n = shape.value_count;
+    layout::set_word(g, mem, at, p * HALF_WORD + n);
+    clear_fields(g, mem, at + 1, (p + n) as usize);
 }

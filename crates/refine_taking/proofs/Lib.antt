@@ -2,7 +2,6 @@
 pub mod Standing
 pub mod Taken
 pub mod Taking
-pub mod Takes
 pub mod TakePart
 pub mod TakeFree
 pub mod Rooms

@@ -4,18 +4,11 @@ use mathlib.Core.Bool.{true}
 use mathlib.Core.List.{List}
 use Prim.Native.Nat.{ℕ, _+_, _-_, _*_, _≤_, _<_}
 use native.Mathlib.Omega.{arith}
-use lib.ListN.{length}
-use borrow.Author.Tests.{eqb-true}
-use Rattle.words.specs.Bits.{bitAt}
-use Rattle.words.specs.Levels.{treeWords}
-use Rattle.words.specs.Tree.{Tree}
 use Rattle.layout.specs.declared.Geometry.{Geometry}
-use Rattle.layout.specs.Geometry.{mutatorCount, blocksIn, bitmapWords}
+use Rattle.layout.specs.Geometry.{mutatorCount, bitmapWords}
 use Rattle.layout.specs.Mem.{Mem, setStack, setSegment, setMutator, setRun, Sizes, spliced}
-use Rattle.bitmap_write.specs.Ready.{fresh}
-use Rattle.bitmap_write.proofs.Copied.{fresh-tree, fresh-bit, length-fresh}
 use Rattle.model.specs.Fields.{holding, tag, class, place, owner}
-use Rattle.model.specs.Segments.{setSegmentState, freeStack, partStack, count, top, pop, above, bitmap}
+use Rattle.model.specs.Segments.{setSegmentState, freeStack, partStack, count, top, pop}
 use Rattle.model.specs.Making.{takes, freshened}
 use Rattle.model.specs.Calls.{isAttached}
 use Rattle.classes.specs.Class.{IsClass}
@@ -23,15 +16,13 @@ use Rattle.model.specs.Consistent.{StackOk, isFree, isPart}
 use Rattle.refine_view.specs.Kept.{Ordered}
 use Rattle.laws.proofs.Words.{Recorded, recorded-as}
 use Rattle.laws.proofs.Segments.{not-free, free-other, part-left}
-use Rattle.laws.proofs.Windows.{window-there, window-other}
-use Rattle.layout.proofs.Sizes.{class-height}
-use Rattle.laws.proofs.Bitmaps.{bitmap-ends, length-bitmap, tree-room}
-use Rattle.laws.proofs.Blocks.{blocks-some}
+use Rattle.laws.proofs.Windows.{window-other}
 use Rattle.laws.proofs.Lengths.{sizes-bitmap}
+use Rattle.laws.proofs.Topmost.{top-free, free-tag, clean, long-clean, clean-tree, clean-free}
 use Rattle.laws.proofs.Stacks.{stack-same, pop-ok}
 use Rattle.laws.proofs.OtherStacks.{stack-apart}
 use Rattle.refine_taking.proofs.Standing.{over}
-use Rattle.refine_taking.proofs.Takes.{popped, after, takes-sizes, takes-there, takes-other, takes-holds, takes-entries}
+use Rattle.laws.proofs.Takes.{popped, after, takes-sizes, takes-there, takes-other, takes-holds, takes-entries}
 use Rattle.refine_taking.proofs.Taken.{Taken}
 use Rattle.refine_taking.proofs.Taking.{Took, taken-by}
 use Rattle.model.specs.Tag as Tag
@@ -40,11 +31,11 @@ module _ (g : Geometry) (m : Mem) (s : Sizes g m) (c : Ordered g m) (k cl : ℕ)
   abbrev r : ℕ
   r = top g m freeStack
 
-  top-free : (r < g .segments) × (isFree m r ≡ true)
-  top-free = c .freeSegments .members (count g m freeStack - 1) (omega arith)
+  below : r < g .segments
+  below = top-free g m (c .freeSegments) some .0
 
   top-tag : tag m r ≡ Tag.free
-  top-tag = eqb-true (tag m r) 0 (top-free .1)
+  top-tag = free-tag g m (c .freeSegments) some
 
   abbrev n : ℕ
   n = freeStack * (1 + g .segments)
@@ -55,31 +46,20 @@ module _ (g : Geometry) (m : Mem) (s : Sizes g m) (c : Ordered g m) (k cl : ℕ)
   abbrev taken : Mem
   taken = after g m s n v k cl r 0
 
-  abbrev clean : List ℕ
-  clean = fresh (above g cl) (blocksIn g cl) (bitmap g m r)
+  abbrev tree : List ℕ
+  tree = clean g m s r below cl ic
 
   abbrev m₁ : Mem
-  m₁ = over m (taken .mutators) (taken .segments) (popped g m s n v k cl r 0 .stacks) (spliced (m .bitmaps) (r * bitmapWords g) clean)
+  m₁ = over m (taken .mutators) (taken .segments) (popped g m s n v k cl r 0 .stacks) (spliced (m .bitmaps) (r * bitmapWords g) tree)
 
   same : freshened g taken r cl ≡ m₁
   unfolding setStack setSegmentState setSegment setMutator setRun
   same = refl
 
-  -- ---- the bitmap
-
-  room : treeWords (above g cl) (blocksIn g cl) ≤ length (bitmap g m r)
-  room = tree-room g m s r (top-free .0) cl ic
-
-  long-clean : length clean ≡ bitmapWords g
-  long-clean = length-fresh (above g cl) (blocksIn g cl) (bitmap g m r) room ∙ length-bitmap g m s r (top-free .0)
-
-  reads : bitmap g m₁ r ≡ clean
-  reads = window-there clean (m .bitmaps) (r * bitmapWords g) (bitmapWords g) long-clean (bitmap-ends g m s r (top-free .0))
-
   -- ---- the records
 
   there : Recorded m₁ r 2 cl 0 k
-  there = recorded-as taken m₁ r 2 cl 0 k refl (takes-there g m s n v k cl r 0 (top-free .0))
+  there = recorded-as taken m₁ r 2 cl 0 k refl (takes-there g m s n v k cl r 0 below)
 
   other : (q : ℕ) → (q ≡ r → ⊥) → Recorded m₁ q (tag m q) (class m q) (place m q) (owner m q)
   other q f = recorded-as taken m₁ q (tag m q) (class m q) (place m q) (owner m q) refl (takes-other g m s n v k cl r 0 q f)
@@ -87,12 +67,12 @@ module _ (g : Geometry) (m : Mem) (s : Sizes g m) (c : Ordered g m) (k cl : ℕ)
   took : Took g m m₁ k cl r 0
   took = record {
     sizes = subst (Sizes g) same (sizes-bitmap g taken (takes-sizes g m s n v k cl r 0) _ _);
-    below = top-free .0;
+    below = below;
     there = there;
     other = other;
-    bitmaps = λ q f. window-other (bitmapWords g) r q clean (m .bitmaps) long-clean f;
-    tree = subst (Tree (above g cl) (blocksIn g cl)) (sym reads) (fresh-tree (above g cl) (blocksIn g cl) (bitmap g m r) room (class-height g cl));
-    remains = (0, omega arith, blocks-some g cl ic, ap (λ z. bitAt z 0) reads ∙ fresh-bit (above g cl) (blocksIn g cl) (bitmap g m r) room 0 (blocks-some g cl ic));
+    bitmaps = λ q f. window-other (bitmapWords g) r q tree (m .bitmaps) (long-clean g m s r below cl ic) f;
+    tree = clean-tree g m s r below cl ic m₁ refl;
+    remains = clean-free g m s r below cl ic m₁ refl;
     holds = takes-holds g m s n v k cl r 0 few ic;
     entries = takes-entries g m s n v k cl r 0 few ic;
     before = let z = top-tag in omega arith;
@@ -109,7 +89,7 @@ module _ (g : Geometry) (m : Mem) (s : Sizes g m) (c : Ordered g m) (k cl : ℕ)
   part-stacks d i = stack-apart g m s m₁ freeStack v (omega arith) refl (partStack d) (λ e. omega arith) (isPart m d) (isPart m₁ d) (c .partSegments d i) (λ q l. part-left m m₁ r other d (λ e z. let y = top-tag in omega arith) (λ e z. let y = there .tag in omega arith) q)
 
   taken-over : Taken g m m₁ k cl r
-  taken-over = taken-by g m s c (taken .mutators) (taken .segments) (popped g m s n v k cl r 0 .stacks) (spliced (m .bitmaps) (r * bitmapWords g) clean) k cl r 0 few here ic none took free-stack part-stacks
+  taken-over = taken-by g m s c (taken .mutators) (taken .segments) (popped g m s n v k cl r 0 .stacks) (spliced (m .bitmaps) (r * bitmapWords g) tree) k cl r 0 few here ic none took free-stack part-stacks
 
   pub taken-free : Taken g m (freshened g (takes g (pop g m freeStack) k cl r 0) r cl) k cl r
   taken-free = subst (λ z. Taken g m z k cl r) (sym same) taken-over

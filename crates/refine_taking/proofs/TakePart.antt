@@ -4,27 +4,24 @@ use mathlib.Core.Logic.{_⊎_, inl, inr}
 use mathlib.Core.Bool.{true}
 use Prim.Native.Nat.{ℕ, suc, _+_, _-_, _*_, _≤_, _<_}
 use native.Mathlib.Omega.{arith}
-use lib.Dec.{eqb}
-use borrow.Author.Tests.{eqb-true}
 use Rattle.rules.proofs.Order.{same-or-not}
-use Rattle.words.specs.Tree.{Tree}
 use Rattle.layout.specs.declared.Geometry.{Geometry}
-use Rattle.layout.specs.Geometry.{mutatorCount, blocksIn}
-use Rattle.layout.specs.Mem.{Mem, Sizes}
+use Rattle.layout.specs.Geometry.{mutatorCount}
+use Rattle.layout.specs.Mem.{Mem, setStack, setSegment, setMutator, Sizes}
 use Rattle.model.specs.Fields.{holding, tag, class, place, owner}
-use Rattle.model.specs.Segments.{freeStack, partStack, count, top, pop, above, bitmap}
+use Rattle.model.specs.Segments.{setSegmentState, freeStack, partStack, count, top, pop}
 use Rattle.model.specs.Making.{takes}
 use Rattle.model.specs.Calls.{isAttached}
 use Rattle.classes.specs.Class.{IsClass}
-use Rattle.model.specs.Consistent.{SegmentOk, StackOk, isFree, isPart}
+use Rattle.model.specs.Consistent.{StackOk, isFree, isPart}
 use Rattle.refine_view.specs.Kept.{Ordered}
-use Rattle.laws.proofs.Bools.{and-left, and-right}
 use Rattle.laws.proofs.Words.{Recorded}
 use Rattle.laws.proofs.Segments.{not-part, part-other, free-left, part-left}
+use Rattle.laws.proofs.Topmost.{top-part, part-tag, part-class, part-tree, part-remains}
 use Rattle.laws.proofs.Stacks.{stack-same, pop-ok}
 use Rattle.laws.proofs.OtherStacks.{part-few, part-apart, stack-apart}
 use Rattle.refine_taking.proofs.Standing.{over}
-use Rattle.refine_taking.proofs.Takes.{popped, after, takes-over, takes-sizes, takes-there, takes-other, takes-holds, takes-entries}
+use Rattle.laws.proofs.Takes.{popped, after, takes-sizes, takes-there, takes-other, takes-holds, takes-entries}
 use Rattle.refine_taking.proofs.Taken.{Taken}
 use Rattle.refine_taking.proofs.Taking.{Took, taken-by}
 use Rattle.model.specs.Tag as Tag
@@ -33,14 +30,17 @@ module _ (g : Geometry) (m : Mem) (s : Sizes g m) (c : Ordered g m) (k cl : ℕ)
   abbrev r : ℕ
   r = top g m (partStack cl)
 
-  top-part : (r < g .segments) × (isPart m cl r ≡ true)
-  top-part = c .partSegments cl ic .members (count g m (partStack cl) - 1) (omega arith)
+  abbrev stack : StackOk g m (partStack cl) (isPart m cl)
+  stack = c .partSegments cl ic
+
+  below : r < g .segments
+  below = top-part g m cl stack some .0
 
   top-tag : tag m r ≡ Tag.part
-  top-tag = eqb-true (tag m r) 1 (and-left (eqb (tag m r) Tag.part) (eqb (class m r) cl) (top-part .1))
+  top-tag = part-tag g m cl stack some
 
   top-class : class m r ≡ cl
-  top-class = eqb-true (class m r) cl (and-right (eqb (tag m r) Tag.part) (eqb (class m r) cl) (top-part .1))
+  top-class = part-class g m cl stack some
 
   abbrev n : ℕ
   n = partStack cl * (1 + g .segments)
@@ -55,26 +55,24 @@ module _ (g : Geometry) (m : Mem) (s : Sizes g m) (c : Ordered g m) (k cl : ℕ)
   m₁ = over m (taken .mutators) (taken .segments) (popped g m s n v k cl r (place m r) .stacks) (m .bitmaps)
 
   same : taken ≡ m₁
-  same = takes-over g m s n v k cl r (place m r)
+  unfolding setStack setSegmentState setSegment setMutator
+  same = refl
 
   there : Recorded m₁ r 2 cl (place m r) k
-  there = subst (λ z. Recorded z r 2 cl (place m r) k) same (takes-there g m s n v k cl r (place m r) (top-part .0))
+  there = subst (λ z. Recorded z r 2 cl (place m r) k) same (takes-there g m s n v k cl r (place m r) below)
 
   other : (q : ℕ) → (q ≡ r → ⊥) → Recorded m₁ q (tag m q) (class m q) (place m q) (owner m q)
   other q f = subst (λ z. Recorded z q (tag m q) (class m q) (place m q) (owner m q)) same (takes-other g m s n v k cl r (place m r) q f)
 
-  segment-r : SegmentOk g m r
-  segment-r = c .segments r (top-part .0)
-
   took : Took g m m₁ k cl r (place m r)
   took = record {
     sizes = subst (Sizes g) same (takes-sizes g m s n v k cl r (place m r));
-    below = top-part .0;
+    below = below;
     there = there;
     other = other;
     bitmaps = λ q f. refl;
-    tree = subst (λ z. Tree (above g z) (blocksIn g z) (bitmap g m r)) top-class (c .trees r (top-part .0) (λ e. let z = top-tag in omega arith));
-    remains = let z = top-tag in let y = segment-r .remains (omega arith) (omega arith) in (y .0, y .1, subst (λ w. y .0 < blocksIn g w) top-class (y .2), y .3);
+    tree = part-tree g m cl stack some (c .trees r below);
+    remains = part-remains g m cl stack some (c .segments r below);
     holds = subst (λ z. holding z k cl ≡ suc r) same (takes-holds g m s n v k cl r (place m r) few ic);
     entries = takes-entries g m s n v k cl r (place m r) few ic;
     before = let z = top-tag in omega arith;

@@ -12,10 +12,9 @@ use Rattle.model.specs.declared.SegmentState.the-variants.{Held}
 use Rattle.model.specs.Fields.{holding, heldFrom, tag, class, place, owner}
 use Rattle.model.specs.Segments.{setSegmentState}
 use Rattle.model.specs.Making.{takes}
 use Rattle.laws.proofs.Words.{Recorded, recorded-as, state-there, state-other}
 use Rattle.laws.proofs.Entries.{table-there, table-other}
 use Rattle.laws.proofs.Lengths.{sizes-stack, sizes-state, sizes-mutator}
-use Rattle.refine_taking.proofs.Standing.{over}
 
 module _ (g : Geometry) (m : Mem) (s : Sizes g m) (n v k cl r p : ℕ) where
   abbrev pub popped : Mem
@@ -26,10 +25,6 @@ module _ (g : Geometry) (m : Mem) (s : Sizes g m) (n v k cl r p : ℕ) where
 
   abbrev pub after : Mem
   after = takes g popped k cl r p
-
-  pub takes-over : after ≡ over m (after .mutators) (after .segments) (popped .stacks) (m .bitmaps)
-  unfolding setStack setSegmentState setSegment setMutator
-  takes-over = refl
 
   noted-sizes : Sizes g noted
   noted-sizes = sizes-state g popped (sizes-stack g m s n v) r (Held cl p k)
