@@ -22,4 +22,5 @@ pub mod Rooted
 pub mod Pushes
 pub mod Acknowledgements
 pub mod Promised
+pub mod Declined
 pub mod Reaching
