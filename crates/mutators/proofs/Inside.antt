@@ -49,6 +49,10 @@ module _ (m : Mem) (k n rest : ℕ) where
   unfolding insideThen
   then-rest e z = let p = by-ok (observe m) k 0 (sym e ∙ z) in refusals.inside-rest (observe m) k rest (p .0) (p .1) (p .2)
 
+  pub then-known : n ≡ insideThen m k rest → n ≡ 0 → k < mutatorCount
+  unfolding insideThen
+  then-known e z = by-ok (observe m) k rest (sym e ∙ z) .0
+
   pub then-refused : n ≡ insideThen m k 0 → (n ≡ 0 → ⊥) → n ≡ insideThen m k rest
   unfolding insideThen
   then-refused e f = inside-on n 0 rest (λ z. absurd (f z)) (observe m) k e

@@ -10,7 +10,9 @@ ghost use Rattle.layout.specs.Geometry.{Sized, mutatorCount, rootCount};
 ghost use Rattle.layout.specs.Mem.{memOf, controlWord, setControl};
 ghost use Rattle.theory.specs.Calls.{ifRoot};
 ghost use Rattle.model.specs.Fields.{root, setRoot, state, setMutatorState, acks, setAcks, holding, setHolding};
+ghost use Rattle.model.specs.Mutators.{setEntry};
 ghost use Rattle.mutators.specs.Inside.{insideThen};
+ghost use Rattle.mutators.specs.Entry.{entryOf};
 
 // The states of a mutator, as its entry has them.
 pub const ABSENT: u32 = 0;
@@ -172,4 +174,15 @@ pub fn set_root(g: Geometry, mem: &mut [u32], k: u32, i: u32, v: u32)
     ensures { λ _. ⌜ memOf g (now (mem .exit)) ≡ setRoot (memOf g (now (mem .entry))) k i v ⌝ }
 {
     layout::set_mutator(g, mem, k as usize * layout::MUTATOR_WORDS + i as usize, v);
+}
+
+// The entry of mutator k written whole: root 0, its state and its acknowledgements; its other roots are nil, and it holds nothing.
+pub fn write_entry(g: Geometry, mem: &mut [u32], k: u32, root: u32, state: u32, acks: u32)
+    requires { ⌜ (Sized g (length (now mem))) × (k < mutatorCount) ⌝ }
+    ensures { λ _. ⌜ memOf g (now (mem .exit)) ≡ setEntry (memOf g (now (mem .entry))) k (entryOf root state acks) ⌝ }
+{
+    layout::clear_entry(g, mem, k as usize);
+    set_root(g, mem, k, 0, root);
+    set_state(g, mem, k, state);
+    set_acks(g, mem, k, acks);
 }

@@ -1,0 +1,3 @@
+-- Laws of the calls of coming and going.
+pub mod Coming
+pub mod Going

@@ -1,0 +1,49 @@
+-- `attaching::attach` meets its contract. Assumes nothing.
+use mathlib.Core.Path.{sym, _∙_}
+use borrow.Author.Needs.{needs}
+use Rattle.layout.proofs.Regions.{sized}
+use Rattle.laws.proofs.Promised.{size-1}
+use Rattle.attaching.proofs.Coming.{attach-2, attach-3, attaches}
+use Rattle.attaching.proofs.attach.Tie as tie
+use Rattle.attaching.proofs.attach.Statement.{statement}
+
+wrong-size-requires : tie.Need-wrong-size-requires
+wrong-size-requires c κs = search needs
+
+returns : tie.Need-returns
+returns c = size-1 _ _ _ (sym (c .before .wrong-size .ensures) ∙ c .if1 .taken)
+
+returns-2 : tie.Need-returns-2
+returns-2 c = attach-2 _ _ _ (sym (c .before .before .wrong-size .ensures) ∙ c .before .if1 .left) (c .if2 .taken)
+
+state-requires : tie.Need-state-requires
+state-requires c κs = (sized _ _ (sym (c .before .before .before .wrong-size .ensures) ∙ c .before .before .if1 .left), c .before .if2 .left)
+
+same-length : tie.Need-same-length
+same-length c = search needs
+
+returns-3 : tie.Need-returns-3
+returns-3 c = attach-3 _ _ _ (sym (c .before .before .before .before .before .wrong-size .ensures) ∙ c .before .before .before .before .if1 .left) (c .before .before .before .if2 .left) _ (c .before .state .ensures) (c .if3 .taken)
+
+admit-requires : tie.Need-admit-requires
+admit-requires c κs = (sized _ _ (sym (c .before .before .before .before .before .before .wrong-size .ensures) ∙ c .before .before .before .before .before .if1 .left), c .before .before .before .before .if2 .left)
+
+same-length-2 : tie.Need-same-length-2
+same-length-2 c = search needs
+
+returns-4 : tie.Need-returns-4
+returns-4 c = attaches _ _ _ (sym (c .before .before .before .before .before .before .before .before .before .wrong-size .ensures) ∙ c .before .before .before .before .before .before .before .before .if1 .left) (c .before .before .before .before .before .before .before .if2 .left) _ (c .before .before .before .before .before .state .ensures) (c .before .before .before .before .if3 .left) _ _ (c .before .before .admit .ensures)
+
+pub attach-spec : {M : Type 1} → statement M
+attach-spec =
+    tie.close
+    (tie.spec
+    wrong-size-requires
+    returns
+    returns-2
+    state-requires
+    same-length
+    returns-3
+    admit-requires
+    same-length-2
+    returns-4)

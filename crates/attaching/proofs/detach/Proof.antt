@@ -1,0 +1,76 @@
+-- `attaching::detach` meets its contract. Assumes nothing.
+use mathlib.Core.Path.{sym, _∙_}
+use borrow.Author.Needs.{needs}
+use Rattle.layout.proofs.Regions.{sized, resized}
+use Rattle.theory.specs.Calls.{c-detach}
+use Rattle.laws.proofs.Promised.{size-1, refused}
+use Rattle.mutators.specs.Inside.{insideThen}
+use Rattle.attaching.proofs.Going.{known, detach-11, detaches, detach-13}
+use Rattle.attaching.proofs.detach.Tie as tie
+use Rattle.attaching.proofs.detach.Statement.{statement}
+
+wrong-size-requires : tie.Need-wrong-size-requires
+wrong-size-requires c κs = search needs
+
+returns : tie.Need-returns
+returns c = size-1 _ _ _ (sym (c .before .wrong-size .ensures) ∙ c .if1 .taken)
+
+inside-refusal-requires : tie.Need-inside-refusal-requires
+inside-refusal-requires c κs = sized _ _ (sym (c .before .before .wrong-size .ensures) ∙ c .before .if1 .left)
+
+same-length : tie.Need-same-length
+same-length c = search needs
+
+returns-2 : tie.Need-returns-2
+unfolding insideThen
+returns-2 c = refused (c-detach _) _ _ (sym (c .before .before .before .before .wrong-size .ensures) ∙ c .before .before .before .if1 .left) (c .before .inside-refusal .ensures) (c .if2 .taken)
+
+phase-requires : tie.Need-phase-requires
+phase-requires c κs = sized _ _ (sym (c .before .before .before .before .before .wrong-size .ensures) ∙ c .before .before .before .before .if1 .left)
+
+in-handshake-requires : tie.Need-in-handshake-requires
+in-handshake-requires c κs = search needs
+
+same-length-2 : tie.Need-same-length-2
+same-length-2 c = search needs
+
+returns-3 : tie.Need-returns-3
+returns-3 c = detach-11 _ _ _ _ (c .before .before .before .before .before .inside-refusal .ensures) (c .before .before .before .before .if2 .left) (sym (c .before .before .before .before .before .before .before .before .wrong-size .ensures) ∙ c .before .before .before .before .before .before .before .if1 .left) _ _ (c .before .before .phase .ensures) (c .before .in-handshake .ensures) (c .if3 .taken)
+
+release-requires : tie.Need-release-requires
+release-requires c κs = (sized _ _ (sym (c .before .before .before .before .before .before .before .before .before .wrong-size .ensures) ∙ c .before .before .before .before .before .before .before .before .if1 .left), known _ _ _ _ (c .before .before .before .before .before .before .inside-refusal .ensures) (c .before .before .before .before .before .if2 .left))
+
+write-entry-requires : tie.Need-write-entry-requires
+write-entry-requires c κs = (resized _ _ _ (sized _ _ (sym (c .before .before .before .before .before .before .before .before .before .before .before .before .before .before .wrong-size .ensures) ∙ c .before .before .before .before .before .before .before .before .before .before .before .before .before .if1 .left)) (c .before .before .before .before .release .kept .1 .0), known _ _ _ _ (c .before .before .before .before .before .before .before .before .before .before .before .inside-refusal .ensures) (c .before .before .before .before .before .before .before .before .before .before .if2 .left))
+
+same-length-3 : tie.Need-same-length-3
+same-length-3 c = search needs
+
+returns-4 : tie.Need-returns-4
+returns-4 c = detaches _ _ _ _ (c .before .before .before .before .before .before .before .before .before .before .before .before .before .before .inside-refusal .ensures) (c .before .before .before .before .before .before .before .before .before .before .before .before .before .if2 .left) (sym (c .before .before .before .before .before .before .before .before .before .before .before .before .before .before .before .before .before .wrong-size .ensures) ∙ c .before .before .before .before .before .before .before .before .before .before .before .before .before .before .before .before .if1 .left) _ _ (c .before .before .before .before .before .before .before .before .before .before .before .phase .ensures) (c .before .before .before .before .before .before .before .before .before .before .in-handshake .ensures) (c .before .before .before .before .before .before .before .before .before .if3 .left) _ _ (c .before .before .before .before .before .before .before .release .ensures) (c .before .before .before .before .if4 .taken) _ (c .before .before .write-entry .ensures)
+
+same-length-4 : tie.Need-same-length-4
+same-length-4 c = search needs
+
+returns-5 : tie.Need-returns-5
+returns-5 c = detach-13 _ _ _ _ (c .before .before .before .before .before .before .before .before .before .before .inside-refusal .ensures) (c .before .before .before .before .before .before .before .before .before .if2 .left) (sym (c .before .before .before .before .before .before .before .before .before .before .before .before .before .wrong-size .ensures) ∙ c .before .before .before .before .before .before .before .before .before .before .before .before .if1 .left) _ _ (c .before .before .before .before .before .before .before .phase .ensures) (c .before .before .before .before .before .before .in-handshake .ensures) (c .before .before .before .before .before .if3 .left) _ _ (c .before .before .before .release .ensures) (c .if4 .left) _
+
+pub detach-spec : {M : Type 1} → statement M
+detach-spec =
+    tie.close
+    (tie.spec
+    wrong-size-requires
+    returns
+    inside-refusal-requires
+    same-length
+    returns-2
+    phase-requires
+    in-handshake-requires
+    same-length-2
+    returns-3
+    release-requires
+    write-entry-requires
+    same-length-3
+    returns-4
+    same-length-4
+    returns-5)

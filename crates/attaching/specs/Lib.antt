@@ -1,0 +1,3 @@
+-- Mutators that come and go, over memory of any content.
+pub mod Coming
+pub mod Going
