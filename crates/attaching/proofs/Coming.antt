@@ -22,8 +22,7 @@ use Rattle.model.specs.Fields.{phase, absent, inside, state, root}
 use Rattle.model.specs.Mutators.{setEntry, attached}
 use Rattle.model.specs.Calls.{isAttached, isInside, observe, act}
 use Rattle.model.specs.Promise.{Promise}
-use Rattle.laws.proofs.Promised.{refused, done}
-use Rattle.laws.proofs.Declined.{declined}
+use Rattle.laws.proofs.Promised.{refused, done, declined}
 use Rattle.mutators.specs.Inside.{insideThen}
 use Rattle.mutators.specs.Entry.{entryOf}
 use Rattle.attaching.specs.Coming.{Admits, spawnRefusal}
@@ -55,7 +54,7 @@ module _ (c : Call) (g : Geometry) (xs : List ℕ) (k v : ℕ) (acts : act g (me
           subst (λ r. Promise c g xs r ys) (sym q) (done c g xs e z result refl (sym (ap (λ x. x .0) w)) (y ∙ sym (ap (λ x. x .1) w)))
       go (inr (q, b, y)) =
           subst (λ r. Promise c g xs r ys) (sym q)
-          (declined c g xs z (acts ∙ ap (λ x. unless x 11 (memOf g xs) (attached (memOf g xs) k v)) b) e y can (λ y. omega arith))
+          (declined c g xs e z (acts ∙ ap (λ x. unless x 11 (memOf g xs) (attached (memOf g xs) k v)) b) y can (omega arith))
 
 -- ---- attach: v is the state word
 

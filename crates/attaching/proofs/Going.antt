@@ -29,8 +29,7 @@ use Rattle.model.specs.Consistent.{Consistent}
 use Rattle.model.specs.Promise.{Promise}
 use Rattle.laws.proofs.Lengths.{sizes-of}
 use Rattle.laws.proofs.Released.{release-inside, release-room, releasable}
-use Rattle.laws.proofs.Promised.{done, torn-13}
-use Rattle.laws.proofs.Declined.{declined}
+use Rattle.laws.proofs.Promised.{done, torn-13, declined}
 use Rattle.mutators.specs.Inside.{insideThen}
 use Rattle.mutators.specs.Entry.{entryOf}
 use Rattle.mutators.proofs.Inside.{then-known}
@@ -129,7 +128,7 @@ module _ (g : Geometry) (xs : List ℕ) (k n : ℕ) (s : n ≡ insideThen (memOf
     -- "11, not now: .. detach in a roll call"
     pub detach-11 : h ≡ true → Promise (c-detach k) g xs (Refused 11) xs
     unfolding insideThen
-    detach-11 t = declined (c-detach k) g xs (sym z ∙ s) (acts true t) e refl refl (λ y. omega arith)
+    detach-11 t = declined (c-detach k) g xs e (sym z ∙ s) (acts true t) refl refl (omega arith)
 
     module _ (f : h ≡ false) (r : Bool) (m₁ : Mem) (q : Releases g (memOf g xs) k r m₁) where
       pub detaches : r ≡ true → (ys : List ℕ) → memOf g ys ≡ setEntry m₁ k (entryOf 0 absent 0) → Promise (c-detach k) g xs Ok ys

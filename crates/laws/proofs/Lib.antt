@@ -22,7 +22,6 @@ pub mod Rooted
 pub mod Pushes
 pub mod Acknowledgements
 pub mod Promised
-pub mod Declined
 pub mod Reaching
 pub mod Takes
 pub mod Topmost

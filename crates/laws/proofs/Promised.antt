@@ -57,20 +57,6 @@ module _ (c : Call) (g : Geometry) (xs : List ℕ) where
       big : n ≡ 1 → ⊥
       big q = let l = can .1 in omega arith
 
-  -- not refused so, answer and memory are the definition's
-  pub done : {r : Answer} {ys : List ℕ} → wrongSize g (length xs) ≡ false → 0 ≡ refusal (observe (memOf g xs)) c → ResultOf c (answerOf r) → refusalOf r ≡ none
-      → answerOf r ≡ act g (memOf g xs) c .0 → memOf g ys ≡ act g (memOf g xs) c .1 → Promise c g xs r ys
-  done {r} {ys} e z k v a m = record {
-    sizes = λ h. absurd (true≢false (sym h ∙ e));
-    exact = λ _ _. (a ∙ sym (ap (λ w. w .0) does), m ∙ sym (ap (λ w. w .1) does));
-    kind = λ _. k;
-    allowed = λ k q. absurd (Option·none-ne-some k (sym v ∙ q));
-    onlySize = λ q. absurd (Option·none-ne-some 1 (sym v ∙ q));
-  }
-    where
-      does : exec g (memOf g xs) c ≡ act g (memOf g xs) c
-      does = exec-by g (memOf g xs) c z
-
   -- not refused so, answer and memory are the definition's where the memory passes the examination; always, the result is of its kind, or a number that the call may give
   pub acted : {r : Answer} {ys : List ℕ} → wrongSize g (length xs) ≡ false → 0 ≡ refusal (observe (memOf g xs)) c
       → (Consistent g (memOf g xs) → (answerOf r ≡ act g (memOf g xs) c .0) × (memOf g ys ≡ act g (memOf g xs) c .1)) → (refusalOf r ≡ none → ResultOf c (answerOf r))
@@ -82,6 +68,17 @@ module _ (c : Call) (g : Geometry) (xs : List ℕ) where
     allowed = λ i q. n i q .0;
     onlySize = λ q. absurd (let l = n 1 q .1 in omega arith);
   }
+
+  -- a result over memory of any content, or a number that what the call does gives: 10 or 11
+  pub done : {r : Answer} {ys : List ℕ} → wrongSize g (length xs) ≡ false → 0 ≡ refusal (observe (memOf g xs)) c → ResultOf c (answerOf r) → refusalOf r ≡ none
+      → answerOf r ≡ act g (memOf g xs) c .0 → memOf g ys ≡ act g (memOf g xs) c .1 → Promise c g xs r ys
+  done e z k v a m = acted e z (λ _. (a, m)) (λ _. k) (λ n q. absurd (Option·none-ne-some n (sym v ∙ q)))
+
+  pub declined : {n : ℕ} {ys : List ℕ} → wrongSize g (length xs) ≡ false → 0 ≡ refusal (observe (memOf g xs)) c → act g (memOf g xs) c ≡ (a-no n, memOf g xs) → memOf g ys ≡ memOf g xs
+      → among n (mayGive c) ≡ true → 2 ≤ n → Promise c g xs (Refused n) ys
+  declined {n} e z a m can big =
+      acted e z (λ _. (sym (ap (λ w. w .0) a), m ∙ sym (ap (λ w. w .1) a))) (λ q. absurd (Option·none-ne-some n (sym q)))
+      (λ i q. subst (λ v. (among v (mayGive c) ≡ true) × (2 ≤ v)) (Option·some-injective n i q) (can, big))
 
   -- "13, torn": only where the memory fails the examination
   pub torn-13 : {ys : List ℕ} → wrongSize g (length xs) ≡ false → (Consistent g (memOf g xs) → ⊥) → Promise c g xs (Refused 13) ys

@@ -1,0 +1,2 @@
+-- Laws of the dispatcher.
+pub mod Performed

@@ -1,0 +1,2 @@
+-- Which call a request stands for.
+pub mod Requests
