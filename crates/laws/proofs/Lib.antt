@@ -23,3 +23,5 @@ pub mod Pushes
 pub mod Acknowledgements
 pub mod Promised
 pub mod Reaching
+pub mod PromisedSteps
+pub mod Turns
