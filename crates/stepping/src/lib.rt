@@ -1,5 +1,6 @@
-// The collector's step, as far as it stands: a step in a handshake. Over memory that fails the examination the acknowledgement of a mutator outside may be
-// hindered: then the answer is 13.
+// The collector's step: a step in a handshake stands here, the steps in mark and sweep in `marking` and `sweeping`. The call has no `requires`; it keeps the
+// model's promise of it. Over memory that fails the examination the acknowledgement of a mutator outside may be hindered, or the phase be none: then
+// the answer is 13.
 use layout::Geometry;
 use model::Phase;
 use model::Step;
@@ -11,6 +12,7 @@ ghost use Rattle.layout.specs.Mem.{memOf};
 ghost use Rattle.theory.specs.Phases.{sweep};
 ghost use Rattle.model.specs.Rules.{phaseOf, phaseNumber};
 ghost use Rattle.model.specs.Collector.{waiting};
+ghost use Rattle.model.specs.Promise.{StepPromise};
 ghost use Rattle.model.specs.StepParts.{StepsAs};
 ghost use Rattle.stepping.specs.Handshaking.{NextOutside, AnswersOutside, waits, handshakes};
 
@@ -87,4 +89,23 @@ fn handshake(g: Geometry, mem: &mut [u32], next: u32) -> Step
         return Step::Moved;
     }
     Step::Refused(13)
+}
+
+// A step by the phase. A word that is no phase's number is torn.
+pub fn step(g: Geometry, mem: &mut [u32]) -> Step
+    ensures { λ r. ⌜ StepPromise g (now (mem .entry)) r (now (mem .exit)) ⌝ }
+{
+    if layout::wrong_size(g, mem.len()) {
+        return Step::Refused(1);
+    }
+    let phase = mutators::phase(g, mem);
+    let number = phase.number;
+    match number {
+        Phase::IDLE => Step::Idle,
+        Phase::SYNC1 => handshake(g, mem, Phase::SYNC2),
+        Phase::SYNC2 => handshake(g, mem, Phase::MARK),
+        Phase::MARK => marking::trace(g, mem),
+        Phase::SWEEP => sweeping::sweep(g, mem),
+        _ => Step::Refused(13),
+    }
 }
