@@ -25,3 +25,5 @@ pub mod Promised
 pub mod Reaching
 pub mod Takes
 pub mod Topmost
+pub mod PromisedSteps
+pub mod Turns

@@ -1,0 +1,3 @@
+-- Laws of a start, one segment and one refusal at a time.
+pub mod Beginning
+pub mod Refusing

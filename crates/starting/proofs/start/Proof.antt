@@ -1,0 +1,56 @@
+-- `starting::start` meets its contract. Assumes nothing.
+use mathlib.Core.Path.{sym, _∙_}
+use borrow.Author.Needs.{needs}
+use Rattle.layout.proofs.Regions.{sized}
+use Rattle.starting.proofs.Refusing.{start-1, start-11, start-12, start-ok}
+use Rattle.starting.proofs.start.Statement.{statement}
+use Rattle.starting.proofs.start.Tie as tie
+
+wrong-size-requires : tie.Need-wrong-size-requires
+wrong-size-requires c κs = search needs
+
+returns : tie.Need-returns
+returns c = start-1 _ _ (sym (c .before .wrong-size .ensures) ∙ c .if1 .taken)
+
+phase-requires : tie.Need-phase-requires
+phase-requires c κs = sized _ _ (sym (c .before .before .wrong-size .ensures) ∙ c .before .if1 .left)
+
+same-length : tie.Need-same-length
+same-length c = search needs
+
+returns-2 : tie.Need-returns-2
+returns-2 c = start-11 _ _ (sym (c .before .before .before .before .before .wrong-size .ensures) ∙ c .before .before .before .before .if1 .left) _ (c .before .before .phase .ensures) (c .if2 .taken)
+
+any-full-requires : tie.Need-any-full-requires
+any-full-requires c κs = sized _ _ (sym (c .before .before .before .before .before .before .wrong-size .ensures) ∙ c .before .before .before .before .before .if1 .left)
+
+begin-requires : tie.Need-begin-requires
+begin-requires c κs = sized _ _ (sym (c .before .before .before .before .before .before .before .before .before .wrong-size .ensures) ∙ c .before .before .before .before .before .before .before .before .if1 .left)
+
+same-length-2 : tie.Need-same-length-2
+same-length-2 c = search needs
+
+returns-3 : tie.Need-returns-3
+returns-3 c = start-ok _ _ (sym (c .before .before .before .before .before .before .before .before .before .before .before .before .wrong-size .ensures) ∙ c .before .before .before .before .before .before .before .before .before .before .before .if1 .left) _ (c .before .before .before .before .before .before .before .before .before .phase .ensures) (c .before .before .before .before .before .before .before .if2 .left) _ (c .before .before .before .before .before .any-full .ensures) (c .before .before .before .before .if3 .taken) _ (c .before .before .begin .ensures)
+
+same-length-3 : tie.Need-same-length-3
+same-length-3 c = search needs
+
+returns-4 : tie.Need-returns-4
+returns-4 c = start-12 _ _ (sym (c .before .before .before .before .before .before .before .before .wrong-size .ensures) ∙ c .before .before .before .before .before .before .before .if1 .left) _ (c .before .before .before .before .before .phase .ensures) (c .before .before .before .if2 .left) _ (c .before .any-full .ensures) (c .if3 .left)
+
+pub start-spec : {M : Type 1} → statement M
+start-spec =
+    tie.close
+    (tie.spec
+    wrong-size-requires
+    returns
+    phase-requires
+    same-length
+    returns-2
+    any-full-requires
+    begin-requires
+    same-length-2
+    returns-3
+    same-length-3
+    returns-4)

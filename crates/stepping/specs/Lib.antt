@@ -1,0 +1,2 @@
+-- A step in a handshake, over memory of any content.
+pub mod Handshaking
