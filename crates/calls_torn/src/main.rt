@@ -1,0 +1,349 @@
+// Some thousand calls over memory that fails the examination: random words, small words, an opened heap in use with words and bits of it changed, and slices
+// and segment counts of other sizes. Each answer is printed, and it is of its call's kind and with a number that the call may give, or BAD is printed with it.
+// The expected output is the program's own; that no BAD stands in it is what it shows.
+use classes::RecordShape;
+use layout::Geometry;
+use model::Answer;
+use model::Step;
+use perform::Request;
+
+// Numbers by a linear congruence.
+struct Dice {
+    x: u32,
+}
+
+impl Dice {
+    fn next(self) -> Dice {
+        Dice {
+            x: ((self.x as u64 * 1664525 + 1013904223) % 4294967296) as u32,
+        }
+    }
+
+    // A number below n, which is not 0, from the upper bits.
+    fn below(self, n: u32) -> u32 {
+        if n == 0 {
+            return 0;
+        }
+        self.x / 256 % n
+    }
+
+    // An argument: mostly a small one, at times the largest there is.
+    fn argument(self, most: u32) -> u32 {
+        if self.x / 65536 % 16 == 0 {
+            return 4294967295 - self.x / 256 % 4;
+        }
+        self.below(most)
+    }
+}
+
+fn word(text: &[u8]) {
+    io::write_all(1, text);
+}
+
+fn number(n: u32) {
+    io::print_decimal(1, n as u64);
+}
+
+// Whether a number is one of a call's, as a bit of its set: document 01's table.
+fn given(set: u32, n: u32) -> bool {
+    if 13 < n {
+        return false;
+    }
+    set >> n & 1 == 1
+}
+
+// The sets of numbers, bit n for number n.
+const SIZE: u32 = 2;
+
+const SCRIPT: u32 = 4;
+
+const TAKEN: u32 = 8;
+
+const SIDE: u32 = 16 + 32;
+
+const SLOT: u32 = 64;
+
+const DARK: u32 = 128;
+
+const FIELD: u32 = 256;
+
+const BIG: u32 = 512;
+
+const ROOM: u32 = 1024;
+
+const NOT_NOW: u32 = 2048;
+
+const NONE_FULL: u32 = 4096;
+
+const TORN: u32 = 8192;
+
+fn number_set(kind: u32) -> u32 {
+    match kind {
+        0 => SIZE + SCRIPT + TAKEN + NOT_NOW + TORN,
+        1 => SIZE + SCRIPT + TAKEN + SIDE + SLOT + NOT_NOW + TORN,
+        2 => SIZE + SCRIPT + SIDE + NOT_NOW + TORN,
+        3 | 4 | 5 => SIZE + SCRIPT + SIDE + TORN,
+        6 => SIZE + SCRIPT + SIDE + SLOT + BIG + ROOM + TORN,
+        7 | 8 | 11 | 12 => SIZE + SCRIPT + SIDE + SLOT + DARK + FIELD + TORN,
+        9 | 10 | 13 => SIZE + SCRIPT + SIDE + SLOT + TORN,
+        14 => SIZE + SCRIPT + SIDE + SLOT + DARK + TORN,
+        15 => SIZE + NOT_NOW + NONE_FULL + TORN,
+        16 => SIZE,
+        _ => SIZE + TORN,
+    }
+}
+
+// A request of a kind, with arguments from the dice.
+fn request_of(kind: u32, d: Dice) -> Request {
+    let d1 = d.next();
+    let d2 = d1.next();
+    let d3 = d2.next();
+    let mutator = d.argument(5);
+    let a = d1.argument(18);
+    let b = d2.argument(18);
+    let c = d3.argument(700);
+    match kind {
+        0 => Request::Attach { mutator },
+        1 => Request::Spawn {
+            new: mutator,
+            parent: d1.argument(5),
+            root: b,
+        },
+        2 => Request::Detach { mutator },
+        3 => Request::Check { mutator },
+        4 => Request::Leave { mutator },
+        5 => Request::Enter { mutator },
+        6 => Request::Make {
+            mutator,
+            root: a,
+            pointers: b,
+            values: c,
+        },
+        7 => Request::Load {
+            mutator,
+            to: a,
+            root: b,
+            field: d3.argument(4),
+        },
+        8 => Request::Store {
+            mutator,
+            root: a,
+            field: d3.argument(4),
+            from: b,
+        },
+        9 => Request::Copy {
+            mutator,
+            to: a,
+            from: b,
+        },
+        10 => Request::Clear { mutator, root: a },
+        11 => Request::Put {
+            mutator,
+            root: a,
+            field: b,
+            value: c,
+        },
+        12 => Request::Get {
+            mutator,
+            root: a,
+            field: b,
+        },
+        13 => Request::Same {
+            mutator,
+            root: a,
+            other: b,
+        },
+        _ => Request::Shape { mutator, root: a },
+    }
+}
+
+// A refusal, or BAD where the call may not give it.
+fn say_refused(kind: u32, n: u32) {
+    word(b" no");
+    number(n);
+    if given(number_set(kind), n) {
+        return;
+    }
+    word(b"BAD");
+}
+
+// A result of a kind: 0 ok, 1 a number, 2 whether equal, 3 a shape.
+fn result_of(kind: u32) -> u32 {
+    match kind {
+        12 => 1,
+        13 => 2,
+        14 => 3,
+        _ => 0,
+    }
+}
+
+fn say_result(kind: u32, result: u32) {
+    if result_of(kind) == result {
+        return;
+    }
+    word(b"BAD");
+}
+
+fn say_shape(s: RecordShape) {
+    word(b" shape");
+    number(s.pointer_count);
+    word(b".");
+    number(s.value_count);
+}
+
+fn say(kind: u32, a: Answer) {
+    match a {
+        Answer::Ok => {
+            word(b" ok");
+            say_result(kind, 0);
+        }
+        Answer::Number(v) => {
+            word(b" =");
+            number(v);
+            say_result(kind, 1);
+        }
+        Answer::Same(b) => {
+            if b {
+                word(b" same");
+            } else {
+                word(b" other");
+            }
+            say_result(kind, 2);
+        }
+        Answer::Shape(s) => {
+            say_shape(s);
+            say_result(kind, 3);
+        }
+        Answer::Refused(n) => say_refused(kind, n),
+    }
+}
+
+fn say_step(segments: u32, a: Step) {
+    match a {
+        Step::Waiting(n) => {
+            word(b" waiting");
+            number(n);
+            if 32 < n {
+                word(b"BAD");
+            }
+        }
+        Step::Moved => word(b" moved"),
+        Step::Traced => word(b" traced"),
+        Step::Swept(s, freed) => {
+            word(b" swept");
+            number(s);
+            word(b".");
+            number(freed);
+            if segments <= s {
+                word(b"BAD");
+            }
+        }
+        Step::Done => word(b" done"),
+        Step::Idle => word(b" idle"),
+        Step::Refused(n) => say_refused(17, n),
+    }
+}
+
+// One call over a slice, with a segment count.
+fn call(mem: &mut [u32], segments: u32, kind: u32, d: Dice) {
+    let g = Geometry {
+        segments: segments as usize,
+    };
+    if kind < 15 {
+        say(kind, perform::perform(g, mem, request_of(kind, d)));
+        return;
+    }
+    if kind == 15 {
+        say(kind, starting::start(g, mem));
+        return;
+    }
+    if kind == 16 {
+        say(kind, opening::open(g, mem));
+        return;
+    }
+    say_step(segments, stepping::step(g, mem));
+}
+
+// A word of the slice set, or a bit of it changed.
+fn change(mem: &mut [u32], d: Dice) {
+    let n = mem.len();
+    if n == 0 {
+        return;
+    }
+    let e = d.next();
+    let i = (d.x / 16) as usize % n;
+    if e.x / 256 % 4 == 0 {
+        mem[i] = e.next().below(7);
+        return;
+    }
+    mem[i] = mem[i] ^ 1u32 << (e.x / 65536 % 32);
+}
+
+// A slice and a count of their sizes, or now and then of others.
+fn round(mem: &mut [u32], d: Dice, kind: u32) {
+    let e = d.next();
+    if e.x / 4096 % 23 == 0 {
+        call(mem, e.below(300), kind, e);
+        return;
+    }
+    if e.x / 4096 % 23 == 1 {
+        let n = mem.len();
+        let cut = (e.x / 128) as usize % 8192;
+        if cut < n {
+            call(&mut mem[0..cut], 1, kind, e);
+        }
+        return;
+    }
+    call(mem, 1, kind, e);
+}
+
+// Every word from the dice: any word, or one below 7.
+fn fill(mem: &mut [u32], d: Dice, small: bool) {
+    let mut e = d;
+    let mut i = 0;
+    while i < mem.len() {
+        e = e.next();
+        if small {
+            mem[i] = e.below(7);
+        } else {
+            mem[i] = e.x;
+        }
+        i += 1;
+    }
+}
+
+// So many calls, each after a change of a word where `torn` says so.
+fn play(mem: &mut [u32], d: Dice, rounds: u32, torn: bool) {
+    let mut e = d;
+    let mut i: u32 = 0;
+    while i < rounds {
+        e = e.next();
+        if torn {
+            change(mem, e.next());
+        }
+        let kind = e.below(19);
+        if kind != 16 {
+            round(mem, e, kind);
+        }
+        i += 1;
+    }
+    word(b"\n");
+}
+
+fn main() {
+    let mut mem = [0u32; 7391];
+    let mut d = Dice { x: 2463534242 };
+    let mut i: u32 = 0;
+    while i < 20 {
+        d = d.next();
+        fill(&mut mem, d, false);
+        play(&mut mem, d, 40, false);
+        fill(&mut mem, d, true);
+        play(&mut mem, d, 40, true);
+        fill(&mut mem, d, true);
+        call(&mut mem, 1, 16, d);
+        play(&mut mem, d, 60, false);
+        play(&mut mem, d, 60, true);
+        i += 1;
+    }
+}
