@@ -23,3 +23,7 @@ pub mod Pushes
 pub mod Acknowledgements
 pub mod Promised
 pub mod Reaching
+pub mod Rebuilding
+pub mod Swept
+pub mod Popped
+pub mod StepParts
