@@ -30,11 +30,12 @@ fn lowest_condemned(g: Geometry, mem: &[u32]) -> Lowest
 {
     let n = g.segments;
     let mut found = n;
-    let mut i = n;
-    while 0 < i {
-        i -= 1;
-        if segments::tag(g, mem, i) == Segment::TAG_CONDEMNED {
-            found = i;
+    let mut i = 0;
+    while i < n {
+        i += 1;
+        let s = n - i;
+        if segments::tag(g, mem, s) == Segment::TAG_CONDEMNED {
+            found = s;
         }
     }
     if found < n {

@@ -1,4 +1,5 @@
--- `sweeping::lowest_condemned` meets its contract. The loop's invariant: the segments from `i` on are passed, and `found` is the lowest condemned one of them. Assumes nothing.
+-- `sweeping::lowest_condemned` meets its contract. The loop's invariant: the last `i` segments are passed, and `found` is the lowest condemned one of them. Assumes nothing.
+use Prim.Native.Nat.{_-_}
 use native.Mathlib.Omega.{arith}
 use Rattle.layout.specs.Mem.{memOf}
 use Rattle.sweeping.proofs.Scanned.{Scanned, none-scanned, one-condemned, one-other, scanned-some, scanned-none}
@@ -9,28 +10,31 @@ abbrev Inv-loop : tie.InvT-loop
 Inv-loop g mem n found₀ i₀ found i = Scanned (memOf g mem) n i found
 
 abbrev μ-loop : tie.MeasureT-loop
-μ-loop g mem n found₀ i₀ found i = i
+μ-loop g mem n found₀ i₀ found i = n - i
 
 loop-holds : tie.Need-loop-holds Inv-loop μ-loop
 loop-holds c = none-scanned _ _
 
-sub-i : tie.Need-sub-i Inv-loop μ-loop
-sub-i c = omega arith
+add-i : tie.Need-add-i Inv-loop μ-loop
+add-i c = omega arith
+
+sub-s : tie.Need-sub-s Inv-loop μ-loop
+sub-s c = omega arith
 
 tag-requires : tie.Need-tag-requires Inv-loop μ-loop
-tag-requires c κs = let l = c .before .loop .inv .few in (c .before .before .before .pre, omega arith)
+tag-requires c κs = (c .before .before .before .pre, omega arith)
 
 loop-less : tie.Need-loop-less Inv-loop μ-loop
 loop-less c = omega arith
 
 loop-again : tie.Need-loop-again Inv-loop μ-loop
-loop-again c = one-condemned _ _ _ _ (c .before .before .before .loop .inv) (c .before .before .loop-test .taken) _ (c .before .tag .ensures) (c .if1 .taken)
+loop-again c = one-condemned _ _ _ _ (c .before .before .before .loop .inv) (c .before .before .loop-test .taken) _ (omega arith) _ (c .before .tag .ensures) (c .if1 .taken)
 
 loop-less-2 : tie.Need-loop-less-2 Inv-loop μ-loop
 loop-less-2 c = omega arith
 
 loop-again-2 : tie.Need-loop-again-2 Inv-loop μ-loop
-loop-again-2 c = one-other _ _ _ _ (c .before .before .before .loop .inv) (c .before .before .loop-test .taken) _ (c .before .tag .ensures) (c .if1 .left)
+loop-again-2 c = one-other _ _ _ _ (c .before .before .before .loop .inv) (c .before .before .loop-test .taken) _ (omega arith) _ (c .before .tag .ensures) (c .if1 .left)
 
 returns : tie.Need-returns Inv-loop μ-loop
 returns c = scanned-some _ _ _ _ (c .before .before .loop .inv) (c .before .loop-test .left) (c .if2 .taken)
@@ -45,7 +49,8 @@ lowest-condemned-spec =
     Inv-loop
     μ-loop
     loop-holds
-    sub-i
+    add-i
+    sub-s
     tag-requires
     loop-less
     loop-again
