@@ -30,10 +30,10 @@ fn lowest_condemned(g: Geometry, mem: &[u32]) -> Lowest
 {
     let n = g.segments;
     let mut found = n;
-    let mut i = 0;
-    while i < n {
-        i += 1;
-        let s = n - i;
+    let mut i = n;
+    while 0 < i {
+        let s = i - 1;
+        i -= 1;
         if segments::tag(g, mem, s) == Segment::TAG_CONDEMNED {
             found = s;
         }

@@ -1,5 +1,4 @@
--- `sweeping::lowest_condemned` meets its contract. The loop's invariant: the last `i` segments are passed, and `found` is the lowest condemned one of them. Assumes nothing.
-use Prim.Native.Nat.{_-_}
+-- `sweeping::lowest_condemned` meets its contract. The loop's invariant: the segments from `i` on are passed, and `found` is the lowest condemned one of them. Assumes nothing.
 use native.Mathlib.Omega.{arith}
 use Rattle.layout.specs.Mem.{memOf}
 use Rattle.sweeping.proofs.Scanned.{Scanned, none-scanned, one-condemned, one-other, scanned-some, scanned-none}
@@ -10,19 +9,19 @@ abbrev Inv-loop : tie.InvT-loop
 Inv-loop g mem n found₀ i₀ found i = Scanned (memOf g mem) n i found
 
 abbrev μ-loop : tie.MeasureT-loop
-μ-loop g mem n found₀ i₀ found i = n - i
+μ-loop g mem n found₀ i₀ found i = i
 
 loop-holds : tie.Need-loop-holds Inv-loop μ-loop
 loop-holds c = none-scanned _ _
 
-add-i : tie.Need-add-i Inv-loop μ-loop
-add-i c = omega arith
-
 sub-s : tie.Need-sub-s Inv-loop μ-loop
-sub-s c = omega arith
+sub-s c = let l = c .before .loop .inv .few in omega arith
+
+sub-i : tie.Need-sub-i Inv-loop μ-loop
+sub-i c = omega arith
 
 tag-requires : tie.Need-tag-requires Inv-loop μ-loop
-tag-requires c κs = (c .before .before .before .pre, omega arith)
+tag-requires c κs = let l = c .before .loop .inv .few in (c .before .before .before .pre, omega arith)
 
 loop-less : tie.Need-loop-less Inv-loop μ-loop
 loop-less c = omega arith
@@ -49,8 +48,8 @@ lowest-condemned-spec =
     Inv-loop
     μ-loop
     loop-holds
-    add-i
     sub-s
+    sub-i
     tag-requires
     loop-less
     loop-again
