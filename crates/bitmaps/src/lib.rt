@@ -71,10 +71,10 @@ pub fn in_use(g: Geometry, mem: &[u32], s: usize, class: u32, place: u32) -> u32
     requires { ⌜ IsClass class ⌝ }
     ensures { λ r. ⌜ r ≡ onesAmong (usedBits (bitAt (bitmap g (memOf g (now (mem .entry))) s)) place) (blocksIn g class) ⌝ }
 {
-    let shape = layout::shape_in(g, class);
+    let blocks = layout::blocks_in(g, class);
     let a = layout::bitmap_from(g, s);
     let b = layout::bitmap_from(g, s + 1);
-    used_among(&mem[a..b], shape.blocks, place)
+    used_among(&mem[a..b], blocks, place)
 }
 
 // How many blocks of segment s are marked.
@@ -83,8 +83,8 @@ pub fn kept(g: Geometry, mem: &[u32], s: usize, class: u32) -> u32
     requires { ⌜ IsClass class ⌝ }
     ensures { λ r. ⌜ r ≡ onesAmong (bitAt (marksOf g (memOf g (now (mem .entry))) s)) (blocksIn g class) ⌝ }
 {
-    let shape = layout::shape_in(g, class);
+    let blocks = layout::blocks_in(g, class);
     let a = layout::marks_from(g, s);
     let b = layout::marks_from(g, s + 1);
-    words::ones_among(&mem[a..b], shape.blocks)
+    words::ones_among(&mem[a..b], blocks)
 }

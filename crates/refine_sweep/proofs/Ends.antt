@@ -20,7 +20,7 @@ use Rattle.laws.proofs.Words.{tagOf, classIn, placeIn, ownerIn}
 use Rattle.laws.proofs.Parted.{Stacks}
 use Rattle.laws.proofs.Blocks.{blocks-most}
 use Rattle.words.proofs.Counts.{none-one, all-one, one-missing, one-there}
-use Rattle.refine_sweep.proofs.Rebuilding.{mark-bit}
+use Rattle.laws.proofs.Rebuilding.{mark-bit}
 use Rattle.refine_sweep.proofs.Settled.{Settled}
 use Rattle.refine_sweep.proofs.Outcome.{Outcome}
 use Rattle.model.specs.declared.SegmentState.the-variants as segment

@@ -1,6 +1,5 @@
 -- The step in sweep: one segment swept, or the cycle done.
 pub mod Lowest
-pub mod Rebuilding
 pub mod Outcome
 pub mod Frames
 pub mod Survivors

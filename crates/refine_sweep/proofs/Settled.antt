@@ -17,7 +17,7 @@ use Rattle.laws.proofs.Words.{Recorded, recorded-as, tagOf, classIn, placeIn, o
 use Rattle.laws.proofs.Bitmaps.{bitmap-by}
 use Rattle.laws.proofs.Lengths.{sizes-bitmap, sizes-state}
 use Rattle.refine_sweep.proofs.Outcome.{Left}
-use Rattle.refine_sweep.proofs.Rebuilding.{rebuilt-other, rebuilt-bit, rebuilt-tree}
+use Rattle.laws.proofs.Rebuilding.{rebuilt-other, rebuilt-bit, rebuilt-tree}
 
 pub record Settled (g : Geometry) (m m′ : Mem) (r : ℕ) (x : SegmentState) : Type 0 where
   pub left : Left g m m′ r

@@ -6,7 +6,7 @@ use native.Mathlib.Omega.{arith}
 use lib.ListN.{length, getD, set, length-set}
 use lib.Seq.{getD-set-same, getD-set-other}
 use Rattle.words.specs.Bits.{bitAt, clearBit, onesAmong}
-use Rattle.words.proofs.Lists.{clear-there, clear-elsewhere, length-clearBit}
+use Rattle.words.proofs.Lists.{clear-elsewhere, length-clearBit}
 use Rattle.layout.specs.declared.Geometry.{Geometry}
 use Rattle.layout.specs.Geometry.{mostBlocks}
 use Rattle.layout.specs.Mem.{Mem, setControl}
@@ -15,8 +15,8 @@ use Rattle.model.specs.Tracing.{popped}
 use Rattle.model.specs.Fields.{traceCount}
 use Rattle.layout.proofs.Sizes.{marks-are}
 use Rattle.laws.proofs.Blocks.{bit-below, same-bit}
-use Rattle.words.proofs.Counts.{among-change}
 use Rattle.laws.proofs.Apart.{class-of}
+use Rattle.laws.proofs.Popped.{clear-count}
 use Rattle.refine_trace.proofs.Over.{over, Segments}
 use Rattle.refine_trace.proofs.Entered.{Entered}
 
@@ -54,9 +54,7 @@ module _ (g : Geometry) (m : Mem) (f : Segments g m) (c q t : List ℕ) (e : Ent
 
   less : onesAmong (bitAt q′) (g .segments * mostBlocks g) ≡ n
   less =
-      let z = among-change (bitAt q) (bitAt q′) (g .segments * mostBlocks g) (recordBit g m at) below (λ i l d. clear-elsewhere q (recordBit g m at) in-words i d) in
-      let a = e .bits n last in
-      let b = clear-there q (recordBit g m at) in-words in
+      let z = clear-count q (recordBit g m at) (g .segments * mostBlocks g) in-words below (e .bits n last) in
       let k = e .number in
       omega arith
 

@@ -70,3 +70,12 @@ module _ (g : Geometry) (m : Mem) (at : ℕ) where
           (z, subst (λ y. y < g .segments * mostBlocks g) (sym z) (bit-below g m at (class-passed _ r) (ltb-true _ _ q)))
       go true false q r e = absurd (true≢false (ap isAt e))
       go false b q r e = absurd (true≢false (ap isAt e))
+
+  -- and its word lies in the heap
+  pub bit-inside : (k : ℕ) → At k ≡ recordBitAt g m at → at < len g Region.heap
+  unfolding recordBitAt
+  bit-inside k e = go (ltb at (len g Region.heap)) refl e
+    where
+      go : (a : Bool) → ltb at (len g Region.heap) ≡ a → At k ≡ pick a (pick (classTest (class m (segmentOf g at))) (At (recordBit g m at)) Torn) Torn → at < len g Region.heap
+      go true q e = ltb-true _ _ q
+      go false q e = absurd (true≢false (ap isAt e))

@@ -1,11 +1,11 @@
--- A word's bit by a mask of it: what the code's test and its union with the mask are. Assumes nothing.
+-- A word's bit by a mask of it: what the code's test, its union and its difference with the mask are. Assumes nothing.
 use mathlib.Core.Path.{_≡_, _∙_, ap}
-use Prim.Native.Nat.{ℕ, _*_, _%_, _^_, _<_}
+use Prim.Native.Nat.{ℕ, _-_, _*_, _%_, _^_, _<_}
 use native.Mathlib.Omega.{arith}
 use lib.Bits.{bitAnd, bitOr}
 use lib.Pow.{pow-pos}
-use Rattle.words.specs.Bits.{bitOf, withBit}
-use Rattle.words.proofs.Word.{bit-lt, one-of-not-zero, one-shl, and-bit, or-with}
+use Rattle.words.specs.Bits.{bitOf, withBit, withoutBit}
+use Rattle.words.proofs.Word.{bit-lt, one-of-not-zero, one-shl, and-bit, or-with, sub-without}
 
 -- 1 << i
 abbrev pub mask : ℕ → ℕ
@@ -23,3 +23,6 @@ module _ (x i : ℕ) (l : i < 32) where
 
   pub mask-or : bitOr x (mask i) ≡ withBit x i
   mask-or = ap (bitOr x) (one-shl i l) ∙ or-with x i
+
+  pub mask-less : x - bitAnd x (mask i) ≡ withoutBit x i
+  mask-less = ap (λ z. x - bitAnd x z) (one-shl i l) ∙ sub-without x i

@@ -8,7 +8,7 @@ use native.Mathlib.Omega.{arith}
 use native.Mathlib.Nat.{pos-of-ne-zero}
 use lib.Bits.{bitAnd, bitOr}
 use borrow.Author.Tests.{eq-eqb, ne-eqb}
-use Rattle.words.specs.Bits.{bitAt, setBit}
+use Rattle.words.specs.Bits.{bitAt, setBit, clearBit}
 use Rattle.layout.specs.declared.Geometry.{Geometry}
 use Rattle.layout.specs.Geometry.{len}
 use Rattle.layout.specs.Mem.{Mem, markWord, queuedWord, setMarkWord, setQueuedWord, setTrace, setControl}
@@ -18,8 +18,8 @@ use Rattle.model.specs.Tracing.{push}
 use Rattle.model.specs.declared.Duty.{Duty}
 use Rattle.tracing.specs.declared.Bit.the-variants.{At, Torn}
 use Rattle.tracing.proofs.Bits.{bit-within}
-use Rattle.tracing.proofs.Masks.{mask, mask-set, mask-clear, mask-or}
-use Rattle.tracing.specs.Pushing.{recordBitAt, withMark, pushedBit, PushesBit, PushFails, Pushes, BarrierRuns}
+use Rattle.tracing.proofs.Masks.{mask, mask-set, mask-clear, mask-or, mask-less}
+use Rattle.tracing.specs.Pushing.{recordBitAt, withMark, withoutQueued, pushedBit, PushesBit, PushFails, Pushes, BarrierRuns}
 use Rattle.words.specs.Bits as bits
 use Rattle.model.specs.Records as records
 use Rattle.model.specs.declared.Duty.the-variants as duty
@@ -78,6 +78,11 @@ module _ (g : Geometry) (m : Mem) (w k : ℕ) where
 pub marked-bit : (m : Mem) (k x : ℕ) → x ≡ markWord m (k / 32) → (m′ : Mem) → m′ ≡ setMarkWord m (k / 32) (bitOr x (mask (k % 32))) → m′ ≡ withMark m k
 unfolding withMark setBit setMarkWord
 marked-bit m k x e m′ u = u ∙ ap (setMarkWord m (k / 32)) (mask-or x (k % 32) (let l : k % 32 < 32 = omega arith in l)) ∙ rw e refl
+
+-- y is the word of the queued bits that has bit k
+pub unqueued-bit : (m : Mem) (k y : ℕ) → y ≡ queuedWord m (k / 32) → (m′ : Mem) → m′ ≡ setQueuedWord m (k / 32) (y - bitAnd y (mask (k % 32))) → m′ ≡ withoutQueued m k
+unfolding withoutQueued clearBit setQueuedWord
+unqueued-bit m k y e m′ u = u ∙ ap (setQueuedWord m (k / 32)) (mask-less y (k % 32) (let l : k % 32 < 32 = omega arith in l)) ∙ rw e refl
 
 -- ---- a push of a word
 

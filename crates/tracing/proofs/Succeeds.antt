@@ -31,7 +31,7 @@ use Rattle.layout.specs.Region as Region
 
 module _ (g : Geometry) (m : Mem) (number : Counted g m) where
   module _ (at : ℕ) (r : RecordOk g m at) where
-    has-bit : recordBitAt g m at ≡ Torn → ⊥
+    pub has-bit : recordBitAt g m at ≡ Torn → ⊥
     unfolding recordBitAt
     has-bit e = let z : At (recordBit g m at) ≡ Torn = sym placed ∙ e in true≢false (ap isAt z)
       where

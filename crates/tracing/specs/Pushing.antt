@@ -5,7 +5,7 @@ use mathlib.Core.Logic.{_⊎_}
 use Prim.Native.Nat.{ℕ, suc, _+_, _≤_}
 use lib.Dec.{eqb, ltb}
 use Rattle.rules.specs.Pick.{pick}
-use Rattle.words.specs.Bits.{bitAt, setBit}
+use Rattle.words.specs.Bits.{bitAt, setBit, clearBit}
 use Rattle.classes.specs.Class.{classTest}
 use Rattle.layout.specs.declared.Geometry.{Geometry}
 use Rattle.layout.specs.Geometry.{len, segmentOf}
@@ -28,6 +28,10 @@ recordBitAt g m at =
 -- bit k marked
 unfoldable pub withMark : Mem → ℕ → Mem
 withMark m k = withRegion m Region.marks (setBit (m .marks) k)
+
+-- bit k queued no more
+unfoldable pub withoutQueued : Mem → ℕ → Mem
+withoutQueued m k = withRegion m Region.queued (clearBit (m .queued) k)
 
 -- the word w on top of the stack, with bit k, unless the bit is marked or queued
 unfoldable pub pushedBit : Mem → ℕ → ℕ → Mem

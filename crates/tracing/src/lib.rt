@@ -7,7 +7,7 @@ ghost use Prim.Native.Nat.{_*_, _<_};
 ghost use lib.ListN.{length};
 ghost use Rattle.layout.specs.Geometry.{Sized, mostBlocks, mutatorCount};
 ghost use Rattle.layout.specs.Mem.{memOf};
-ghost use Rattle.tracing.specs.Pushing.{recordBitAt, withMark, PushesBit, Pushes, BarrierRuns};
+ghost use Rattle.tracing.specs.Pushing.{recordBitAt, withMark, withoutQueued, PushesBit, Pushes, BarrierRuns};
 ghost use Rattle.tracing.specs.Roots.{PushesRoots};
 
 // The number of a record's bit among the marks and the queued bits, or none.
@@ -79,6 +79,16 @@ pub fn mark_bit(g: Geometry, mem: &mut [u32], k: usize)
     let q = k / 32;
     let bits = layout::mark(g, mem, q);
     layout::set_mark(g, mem, q, bits | 1u32 << (k % 32));
+}
+
+// Bit k is queued no more.
+pub fn unqueue_bit(g: Geometry, mem: &mut [u32], k: usize)
+    requires { ⌜ (Sized g (length (now mem))) × (k < g .segments * mostBlocks g) ⌝ }
+    ensures { λ _. ⌜ memOf g (now (mem .exit)) ≡ withoutQueued (memOf g (now (mem .entry))) k ⌝ }
+{
+    let q = k / 32;
+    let bits = layout::queued(g, mem, q);
+    layout::set_queued(g, mem, q, bits - (bits & 1u32 << (k % 32)));
 }
 
 // The write barrier of a store: the new value and then the old, the old, or nothing.

@@ -15,8 +15,8 @@ tree c =
     let x = c .before .before .before .before in
     tree-at (x .args .g) (x .args .mem .now) (x .pre .0 .0) (x .args .s) (x .pre .0 .1) (c .before .bitmap-from .result) (c .bitmap-from2 .result) (c .before .bitmap-from .ensures) (c .bitmap-from2 .ensures) (x .args .class) (x .pre .1)
 
-shape-in-requires : tie.Need-shape-in-requires
-shape-in-requires c κs = search needs
+blocks-in-requires : tie.Need-blocks-in-requires
+blocks-in-requires c κs = search needs
 
 bitmap-from-requires : tie.Need-bitmap-from-requires
 bitmap-from-requires c κs = search needs
@@ -42,16 +42,16 @@ part-used-among-end c = tree c .within
 used-among-requires : tie.Need-used-among-requires
 used-among-requires c κs =
     let x = c .before .before .before .before .before .args in
-    rw (c .before .before .before .shape-in .ensures) (omega (arith, tree (c .before) .fits, words-in (above (x .g) (x .class)) (blocksIn (x .g) (x .class))))
+    rw (c .before .before .before .blocks-in .ensures) (omega (arith, tree (c .before) .fits, words-in (above (x .g) (x .class)) (blocksIn (x .g) (x .class))))
 
 returns : tie.Need-returns
-returns c = rw (c .before .before .before .before .shape-in .ensures, tree (c .before .before) .is) at (c .used-among .ensures)
+returns c = rw (c .before .before .before .before .blocks-in .ensures, tree (c .before .before) .is) at (c .used-among .ensures)
 
 pub in-use-spec : {M : Type 1} → statement M
 in-use-spec =
     tie.close
     (tie.spec
-    shape-in-requires
+    blocks-in-requires
     bitmap-from-requires
     add-bitmap-from
     bitmap-from-requires-2

@@ -15,8 +15,8 @@ module _ (c : tie.After-marks-from2) where
       let x = c .before .before .before .before in
       marks-end (x .args .g) (x .args .mem .now) (x .pre .0 .0) (x .args .s) (x .pre .0 .1) (c .before .marks-from .result) (c .marks-from2 .result) (c .before .marks-from .ensures) (c .marks-from2 .ensures)
 
-shape-in-requires : tie.Need-shape-in-requires
-shape-in-requires c κs = search needs
+blocks-in-requires : tie.Need-blocks-in-requires
+blocks-in-requires c κs = search needs
 
 marks-from-requires : tie.Need-marks-from-requires
 marks-from-requires c κs = search needs
@@ -42,18 +42,18 @@ part-ones-among-end c = ends c .1
 ones-among-requires : tie.Need-ones-among-requires
 ones-among-requires c κs =
     let x = c .before .before .before .before .before in
-    rw (c .before .before .before .shape-in .ensures) (marks-room (x .args .g) (x .args .mem .now) (x .pre .0 .0) (x .args .s) (x .pre .0 .1) (c .before .before .marks-from .result) (c .before .marks-from2 .result) (c .before .before .marks-from .ensures) (c .before .marks-from2 .ensures) (x .args .class) (x .pre .1))
+    rw (c .before .before .before .blocks-in .ensures) (marks-room (x .args .g) (x .args .mem .now) (x .pre .0 .0) (x .args .s) (x .pre .0 .1) (c .before .before .marks-from .result) (c .before .marks-from2 .result) (c .before .before .marks-from .ensures) (c .before .marks-from2 .ensures) (x .args .class) (x .pre .1))
 
 returns : tie.Need-returns
 returns c =
     let x = c .before .before .before .before .before .before in
-    rw (c .before .before .before .before .shape-in .ensures, marks-part (x .args .g) (x .args .mem .now) (x .pre .0 .0) (x .args .s) (x .pre .0 .1) (c .before .before .before .marks-from .result) (c .before .before .marks-from2 .result) (c .before .before .before .marks-from .ensures) (c .before .before .marks-from2 .ensures)) at (c .ones-among .ensures)
+    rw (c .before .before .before .before .blocks-in .ensures, marks-part (x .args .g) (x .args .mem .now) (x .pre .0 .0) (x .args .s) (x .pre .0 .1) (c .before .before .before .marks-from .result) (c .before .before .marks-from2 .result) (c .before .before .before .marks-from .ensures) (c .before .before .marks-from2 .ensures)) at (c .ones-among .ensures)
 
 pub kept-spec : {M : Type 1} → statement M
 kept-spec =
     tie.close
     (tie.spec
-    shape-in-requires
+    blocks-in-requires
     marks-from-requires
     add-marks-from
     marks-from-requires-2

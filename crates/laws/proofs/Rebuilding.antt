@@ -52,12 +52,13 @@ module _ (g : Geometry) (m : Mem) (s : Sizes g m) (r : ℕ) (l : r < g .segments
       let w = marks-are g r in let u = marks-are g 1 in let e : r * markWords g * 32 + b ≡ bitIn g r b = omega arith in
       window-bit (m .marks) (r * markWords g) (markWords g) b (omega arith) ∙ ap (bitAt (m .marks)) e
 
-  pub rebuilt-bit : (b : ℕ) → b < blocksIn g (class m r) → bitAt (bitmap g (rebuiltBy g m r) r) b ≡ bitAt (m .marks) (bitIn g r b)
-  rebuilt-bit b h =
-      let q = blocks-most g (class m r) k in
+  pub rebuilt-mark : (b : ℕ) → b < blocksIn g (class m r) → bitAt (bitmap g (rebuiltBy g m r) r) b ≡ bitAt (marksOf g m r) b
+  rebuilt-mark b h =
       ap (λ (z : List ℕ). bitAt z b) there
       ∙ adopted-bit (above g (class m r)) (blocksIn g (class m r)) (marksOf g m r) (bitmap g m r) marks-room room b h
-      ∙ mark-bit b (omega arith)
+
+  pub rebuilt-bit : (b : ℕ) → b < blocksIn g (class m r) → bitAt (bitmap g (rebuiltBy g m r) r) b ≡ bitAt (m .marks) (bitIn g r b)
+  rebuilt-bit b h = let q = blocks-most g (class m r) k in rebuilt-mark b h ∙ mark-bit b (omega arith)
 
   pub rebuilt-tree : Tree (above g (class m r)) (blocksIn g (class m r)) (bitmap g (rebuiltBy g m r) r)
   rebuilt-tree = subst (λ (z : List ℕ). Tree (above g (class m r)) (blocksIn g (class m r)) z) (sym there)

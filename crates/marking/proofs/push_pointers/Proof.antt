@@ -1,0 +1,63 @@
+-- `marking::push_pointers` meets its contract. The loop's invariant: the pointers before `i` are pushed. Assumes nothing.
+use mathlib.Core.Path.{_≡_, refl, _∙_}
+use Prim.Native.Nat.{_-_}
+use native.Mathlib.Omega.{arith}
+use lib.ListN.{length}
+use Rattle.layout.specs.Mem.{memOf}
+use Rattle.layout.proofs.Regions.{resized}
+use Rattle.marking.proofs.Pointers.{PointersPushed, none-pushed, one-more, one-fails, all-pushed}
+use Rattle.marking.proofs.push_pointers.Tie as tie
+use Rattle.marking.proofs.push_pointers.Statement.{statement}
+
+abbrev Inv-loop : tie.InvT-loop
+Inv-loop g mem₀ at n i₀ mem i = (length mem ≡ length mem₀) × PointersPushed g (memOf g mem₀) at n i (memOf g mem)
+
+abbrev μ-loop : tie.MeasureT-loop
+μ-loop g mem₀ at n i₀ mem i = n - i
+
+loop-holds : tie.Need-loop-holds Inv-loop μ-loop
+loop-holds c = (refl, none-pushed _ _ _ _)
+
+pointer-requires : tie.Need-pointer-requires Inv-loop μ-loop
+pointer-requires c κs = let l = c .before .before .before .before .pre .1 in let h = c .before .loop-test .taken in (resized _ _ _ (c .before .before .before .before .pre .0) (c .before .before .loop .inv .0), omega arith)
+
+push-requires : tie.Need-push-requires Inv-loop μ-loop
+push-requires c κs = resized _ _ _ (c .before .before .before .before .before .before .pre .0) (c .before .before .before .before .loop .inv .0)
+
+add-i : tie.Need-add-i Inv-loop μ-loop
+add-i c = omega arith
+
+loop-less : tie.Need-loop-less Inv-loop μ-loop
+loop-less c = omega arith
+
+loop-again : tie.Need-loop-again Inv-loop μ-loop
+loop-again c = (c .before .before .before .push .kept .1 .0 ∙ c .before .before .before .before .before .before .before .before .loop .inv .0, one-more _ _ _ _ _ _ (c .before .before .before .before .before .before .before .before .loop .inv .1) (c .before .before .before .before .before .before .before .loop-test .taken) _ (c .before .before .before .before .before .pointer .ensures) _ _ (c .before .before .before .push .ensures) (c .if1 .taken))
+
+same-length : tie.Need-same-length Inv-loop μ-loop
+same-length c = c .before .before .before .push .kept .1 .0 ∙ c .before .before .before .before .before .before .before .before .loop .inv .0
+
+returns : tie.Need-returns Inv-loop μ-loop
+returns c = one-fails _ _ _ _ _ _ (c .before .before .before .before .before .before .before .before .loop .inv .1) (c .before .before .before .before .before .before .before .loop-test .taken) _ (c .before .before .before .before .before .pointer .ensures) _ _ (c .before .before .before .push .ensures) (c .if1 .left)
+
+same-length-2 : tie.Need-same-length-2 Inv-loop μ-loop
+same-length-2 c = c .before .loop .inv .0
+
+returns-2 : tie.Need-returns-2 Inv-loop μ-loop
+returns-2 c = all-pushed _ _ _ _ _ _ (c .before .loop .inv .1) (c .loop-test .left)
+
+pub push-pointers-spec : {M : Type 1} → statement M
+push-pointers-spec =
+    tie.close
+    (tie.spec
+    Inv-loop
+    μ-loop
+    loop-holds
+    pointer-requires
+    push-requires
+    add-i
+    loop-less
+    loop-again
+    same-length
+    returns
+    same-length-2
+    returns-2)

@@ -1,0 +1,2 @@
+-- The visit of a record.
+pub mod Visiting

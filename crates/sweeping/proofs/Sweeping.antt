@@ -1,0 +1,140 @@
+-- The sweep of a segment, and a step in sweep: in consistent memory nothing hinders it. Assumes nothing.
+use mathlib.Core.Path.{_≡_, refl, sym, _∙_, ap, subst}
+use mathlib.Core.Bool.{Bool, true, false, true≢false}
+use mathlib.Core.Logic.{_⊎_, inl, inr}
+use mathlib.Core.Option.{Option, none, some}
+use Prim.Native.Nat.{ℕ, _-_, _<_}
+use native.Mathlib.Omega.{arith}
+use lib.Dec.{eqb}
+use borrow.Author.Tests.{ne-eqb, eqb-true}
+use Rattle.rules.specs.Pick.{pick}
+use Rattle.words.specs.Bits.{bitAt, onesAmong}
+use Rattle.classes.specs.Class.{IsClass, classTest}
+use Rattle.classes.proofs.Every.{class-passed, class-passes}
+use Rattle.layout.specs.declared.Geometry.{Geometry}
+use Rattle.layout.specs.Geometry.{blocksIn}
+use Rattle.layout.specs.Mem.{Mem, Sizes, setControl, setRun}
+use Rattle.theory.specs.Phases.{idle}
+use Rattle.model.specs.Rules.{phaseNumber}
+use Rattle.model.specs.declared.Step.{Step}
+use Rattle.model.specs.declared.Step.the-variants.{Swept, Done, Refused}
+use Rattle.model.specs.Answers.{isSwept, isDone}
+use Rattle.model.specs.Fields.{tag, class, place}
+use Rattle.model.specs.Segments.{freeStack, partStack, count, bitmap, marksOf, inUse}
+use Rattle.model.specs.Collector.{lowest, keptBy, rebuiltBy, swept, sweeps}
+use Rattle.model.specs.Consistent.{Consistent, isFree, isPart}
+use Rattle.model.specs.StepParts.{StepsAs}
+use Rattle.laws.proofs.Blocks.{blocks-most, blocks-some}
+use Rattle.laws.proofs.Segments.{in-use-le, not-free, not-part}
+use Rattle.laws.proofs.Stacks.{stack-room}
+use Rattle.laws.proofs.Lowest.{found-condemned}
+use Rattle.laws.proofs.Swept.{swept-use}
+use Rattle.laws.proofs.StepParts.{steps-done, steps-13}
+use Rattle.bitmaps.specs.Given.{adoptedAs, usedBits}
+use Rattle.sweeping.specs.declared.Lowest.the-variants.{Segment, Nothing}
+use Rattle.sweeping.specs.Sweeping.{lowestOf, stateAfter, stackAfter, settled, Settles, SweepFails, Sweeps}
+use Rattle.theory.specs.Calls as theory
+use Rattle.model.specs.Tag as Tag
+
+abbrev inSweep : Geometry → Mem → theory.Answer × Mem
+inSweep g m = sweeps g (lowest m (g .segments)) m
+
+-- ---- what the code writes is what the model does
+
+module _ (g : Geometry) (m : Mem) (s : ℕ) (k : IsClass (class m s)) where
+  settled-is : settled g (rebuiltBy g m s) s (class m s) (keptBy g m s) ≡ swept g m s
+  unfolding settled stateAfter stackAfter swept
+  settled-is = go (eqb (keptBy g m s) 0) (eqb (keptBy g m s) (blocksIn g (class m s))) refl refl
+    where
+      go : (a b : Bool) → eqb (keptBy g m s) 0 ≡ a → eqb (keptBy g m s) (blocksIn g (class m s)) ≡ b → settled g (rebuiltBy g m s) s (class m s) (keptBy g m s) ≡ swept g m s
+      go true true x y = absurd (let p = blocks-some g (class m s) k in let q : keptBy g m s ≡ 0 = eqb-true _ _ x in let r : keptBy g m s ≡ blocksIn g (class m s) = eqb-true _ _ y in omega arith)
+      go true false x y = rw (x, y) refl
+      go false true x y = rw (x, y) refl
+      go false false x y = rw (x, y) refl
+
+-- ---- c is the class, p the place, u the blocks in use and n those marked
+
+module _ (g : Geometry) (m : Mem) (s : ℕ) (z : Sizes g m) (l : s < g .segments) (t : tag m s ≡ Tag.condemned) (c : ℕ) (ec : c ≡ class m s) where
+  pub swept-no-class : classTest c ≡ false → (m′ : Mem) → Sweeps g m s (Refused 13) m′
+  swept-no-class f m′ = record { either = inr (refl, inl (λ k. true≢false (sym (class-passes _ (subst IsClass (sym ec) k)) ∙ f))) }
+
+  module _ (k : classTest c ≡ true) (p u n : ℕ) (ep : p ≡ place m s) (eu : u ≡ onesAmong (usedBits (bitAt (bitmap g m s)) p) (blocksIn g c)) (en : n ≡ onesAmong (bitAt (marksOf g m s)) (blocksIn g c))
+      (m₁ : Mem) (e : m₁ ≡ adoptedAs g m s c) (r : Bool) (m₂ : Mem) (q : Settles g m₁ s c n r m₂) where
+    is-class : IsClass (class m s)
+    is-class = subst IsClass ec (class-passed c k)
+
+    used-is : u ≡ inUse g m s
+    used-is = eu ∙ ap (λ x. onesAmong (usedBits (bitAt (bitmap g m s)) x) (blocksIn g c)) ep ∙ ap (λ x. onesAmong (usedBits (bitAt (bitmap g m s)) (place m s)) (blocksIn g x)) ec
+        ∙ sym (ap (λ b. pick b 0 (onesAmong (usedBits (bitAt (bitmap g m s)) (place m s)) (blocksIn g (class m s)))) (ne-eqb (tag m s) Tag.free (λ x. omega arith)))
+
+    kept-is : n ≡ keptBy g m s
+    kept-is = en ∙ ap (λ x. onesAmong (bitAt (marksOf g m s)) (blocksIn g x)) ec
+
+    settles : Settles g (rebuiltBy g m s) s (class m s) (keptBy g m s) r m₂
+    settles = subst (λ x. Settles g (rebuiltBy g m s) s x (keptBy g m s) r m₂) ec
+        (subst (λ x. Settles g (rebuiltBy g m s) s c x r m₂) kept-is
+        (subst (λ x. Settles g x s c n r m₂) (e ∙ ap (adoptedAs g m s) ec) q))
+
+    pub swept-done : r ≡ true → (f : ℕ) → f ≡ u - n → Sweeps g m s (Swept s f) m₂
+    swept-done y f ef =
+        let x : f ≡ inUse g m s - inUse g (swept g m s) s = ef ∙ ap (λ w. w - n) used-is ∙ ap (λ w. inUse g m s - w) (kept-is ∙ sym (swept-use g m z s l is-class)) in
+        record { either = inl (ap (Swept s) x, settles .done y ∙ settled-is g m s is-class, is-class) }
+
+    pub swept-full : r ≡ false → Sweeps g m s (Refused 13) m₂
+    unfolding setRun
+    swept-full y = record { either = inr (refl, inr (settles .full y)) }
+
+-- ---- nothing hinders a sweep in consistent memory
+
+module _ (g : Geometry) (m : Mem) (c : Consistent g m) (s : ℕ) (l : s < g .segments) (t : tag m s ≡ Tag.condemned) where
+  is-classed : IsClass (class m s)
+  is-classed = c .sound .segments s l .classes (λ z. omega arith)
+
+  room : count g m (stackAfter (class m s) (keptBy g m s)) < g .segments
+  unfolding stackAfter
+  room = go (eqb (keptBy g m s) 0)
+    where
+      go : (b : Bool) → count g m (pick b freeStack (partStack (class m s))) < g .segments
+      go true = stack-room g m freeStack (isFree m) (c .summed .freeSegments) s l (not-free m s (λ e. omega arith))
+      go false = stack-room g m (partStack (class m s)) (isPart m (class m s)) (c .summed .partSegments (class m s) is-classed) s l (not-part m (class m s) s (λ e f. omega arith))
+
+  sweep-succeeds : SweepFails g m s → ⊥
+  sweep-succeeds (inl f) = f is-classed
+  sweep-succeeds (inr f) = let h = room in omega arith
+
+-- ---- the step
+
+module _ (g : Geometry) (m : Mem) where
+  some-is : (s : ℕ) → Segment s ≡ lowestOf (lowest m (g .segments)) → lowest m (g .segments) ≡ some s
+  some-is s e = go (lowest m (g .segments)) e
+    where
+      go : (o : Option ℕ) → Segment s ≡ lowestOf o → o ≡ some s
+      go none e = cc
+      go (some x) e = cc
+
+  none-is : Nothing ≡ lowestOf (lowest m (g .segments)) → lowest m (g .segments) ≡ none
+  none-is e = go (lowest m (g .segments)) e
+    where
+      go : (o : Option ℕ) → Nothing ≡ lowestOf o → o ≡ none
+      go none e = refl
+      go (some x) e = cc
+
+  pub sweep-done : Nothing ≡ lowestOf (lowest m (g .segments)) → (m′ : Mem) → m′ ≡ setControl m 0 (phaseNumber idle) → StepsAs inSweep g m Done m′
+  sweep-done e m′ u = steps-done inSweep g m refl isDone (λ _. rw (none-is e) (refl, u))
+
+  module _ (s : ℕ) (e : Segment s ≡ lowestOf (lowest m (g .segments))) where
+    pub lowest-condemned : (s < g .segments) × (tag m s ≡ Tag.condemned)
+    lowest-condemned = found-condemned m (g .segments) s (some-is s e)
+
+    pub sweep-sweeps : (r : Step) (m′ : Mem) → Sweeps g m s r m′ → StepsAs inSweep g m r m′
+    sweep-sweeps r m′ x = go (x .either)
+      where
+        go : ((r ≡ Swept s (inUse g m s - inUse g (swept g m s) s)) × (m′ ≡ swept g m s) × IsClass (class m s)) ⊎ ((r ≡ Refused 13) × SweepFails g m s) → StepsAs inSweep g m r m′
+        go (inl (u, y, k)) =
+            let b = in-use-le g m s in
+            let a = blocks-most g (class m s) k in
+            subst (λ w. StepsAs inSweep g m w m′) (sym u)
+            (steps-done inSweep g m refl (isSwept s _ (lowest-condemned .0) (omega arith)) (λ _. rw (some-is s e) (refl, y)))
+        go (inr (u, y)) =
+            let h = lowest-condemned in
+            subst (λ w. StepsAs inSweep g m w m′) (sym u) (steps-13 inSweep g m (λ c. sweep-succeeds g m c s (h .0) (h .1) y))

@@ -1,0 +1,47 @@
+-- `sweeping::sweep` meets its contract. Assumes nothing.
+use mathlib.Core.Path.{sym, _∙_}
+use borrow.Author.Needs.{needs}
+use Rattle.sweeping.proofs.Sweeping.{lowest-condemned, sweep-sweeps, sweep-done}
+use Rattle.sweeping.proofs.sweep.Tie as tie
+use Rattle.sweeping.proofs.sweep.Statement.{statement}
+
+lowest-condemned-requires : tie.Need-lowest-condemned-requires
+lowest-condemned-requires c κs = search needs
+
+enum-known-s : tie.Need-enum-known-s
+enum-known-s c = search needs
+
+sweep-segment-requires : tie.Need-sweep-segment-requires
+sweep-segment-requires c κs = let h = lowest-condemned _ _ _ (sym (c .before .before .s .given .1) ∙ c .before .before .before .before .lowest-condemned .ensures) in ((c .before .before .before .before .before .before .before .pre, h .0), h .1)
+
+enum-told : tie.Need-enum-told
+enum-told c = search needs
+
+set-phase-requires : tie.Need-set-phase-requires
+set-phase-requires c κs = search needs
+
+same-length : tie.Need-same-length
+same-length c = search needs
+
+returns : tie.Need-returns
+returns c = sweep-sweeps _ _ _ (sym (c .before .before .before .before .before .s .given .1) ∙ c .before .before .before .before .before .before .before .lowest-condemned .ensures) _ _ (c .before .before .sweep-segment .ensures)
+
+same-length-2 : tie.Need-same-length-2
+same-length-2 c = search needs
+
+returns-2 : tie.Need-returns-2
+returns-2 c = sweep-done _ _ (sym (c .before .before .before .before .enum-told .given .1) ∙ c .before .before .before .before .before .before .lowest-condemned .ensures) _ (c .before .before .set-phase .ensures)
+
+pub sweep-spec : {M : Type 1} → statement M
+sweep-spec =
+    tie.close
+    (tie.spec
+    lowest-condemned-requires
+    enum-known-s
+    sweep-segment-requires
+    enum-told
+    set-phase-requires
+    same-length
+    returns
+    same-length-2
+    returns-2)

@@ -1,0 +1,2 @@
+-- The sweep of a segment.
+pub mod Sweeping

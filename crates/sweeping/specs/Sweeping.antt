@@ -1,0 +1,54 @@
+-- The lowest condemned segment as the code has it, what becomes of a swept segment by the number of its marks, and what can hinder a sweep, over
+-- memory of any content.
+use mathlib.Core.Path.{_≡_}
+use mathlib.Core.Bool.{Bool, true, false}
+use mathlib.Core.Logic.{_⊎_}
+use mathlib.Core.Option.{Option, none, some}
+use Prim.Native.Nat.{ℕ, _-_, _≤_}
+use lib.Dec.{eqb}
+use Rattle.rules.specs.Pick.{pick}
+use Rattle.classes.specs.Class.{IsClass}
+use Rattle.layout.specs.declared.Geometry.{Geometry}
+use Rattle.layout.specs.Geometry.{blocksIn}
+use Rattle.layout.specs.Mem.{Mem}
+use Rattle.model.specs.declared.SegmentState.{SegmentState}
+use Rattle.model.specs.declared.Step.{Step}
+use Rattle.model.specs.declared.Step.the-variants.{Swept, Refused}
+use Rattle.model.specs.Fields.{class}
+use Rattle.model.specs.Segments.{setSegmentState, freeStack, partStack, count, stacked, inUse}
+use Rattle.model.specs.Collector.{keptBy, swept}
+use Rattle.sweeping.specs.declared.Lowest.{Lowest}
+use Rattle.sweeping.specs.declared.Lowest.the-variants.{Segment, Nothing}
+use Rattle.model.specs.declared.SegmentState.the-variants as state
+
+abbrev pub lowestOf : Option ℕ → Lowest
+lowestOf none = Nothing
+lowestOf (some s) = Segment s
+
+-- "place 0 unless it becomes full. No mark: free. All blocks marked: full. Else part.": n blocks of a segment of class c are marked
+unfoldable pub stateAfter : Geometry → ℕ → ℕ → SegmentState
+stateAfter g c n = pick (eqb n 0) state.Free (pick (eqb n (blocksIn g c)) (state.Full c) (state.Part c 0))
+
+-- the stack of such a segment, unless it is full
+unfoldable pub stackAfter : ℕ → ℕ → ℕ
+stackAfter c n = pick (eqb n 0) freeStack (partStack c)
+
+-- its state is set, and it is put on its stack
+unfoldable pub settled : Geometry → Mem → ℕ → ℕ → ℕ → Mem
+settled g m s c n =
+    pick (eqb n (blocksIn g c)) (setSegmentState g m s (stateAfter g c n))
+    (stacked g (setSegmentState g m s (stateAfter g c n)) (stackAfter c n) s)
+
+-- true and the memory with it, or false where its stack has no room
+pub record Settles (g : Geometry) (m : Mem) (s c n : ℕ) (r : Bool) (after : Mem) : Type 0 where
+  pub done : r ≡ true → after ≡ settled g m s c n
+  pub full : r ≡ false → g .segments ≤ count g m (stackAfter c n)
+
+-- what hinders a sweep: the segment has no class, or its stack no room
+abbrev pub SweepFails : Geometry → Mem → ℕ → Type 0
+SweepFails g m s = (IsClass (class m s) → ⊥) ⊎ (g .segments ≤ count g m (stackAfter (class m s) (keptBy g m s)))
+
+-- Swept, the segment and how many blocks in use became free, and the memory swept; or 13 where something hinders it
+pub record Sweeps (g : Geometry) (m : Mem) (s : ℕ) (r : Step) (after : Mem) : Type 0 where
+  pub either : ((r ≡ Swept s (inUse g m s - inUse g (swept g m s) s)) × (after ≡ swept g m s) × IsClass (class m s))
+      ⊎ ((r ≡ Refused 13) × SweepFails g m s)

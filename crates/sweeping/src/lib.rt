@@ -1,0 +1,126 @@
+// step in sweep: the lowest condemned segment is swept, or, with none left, the cycle is done. Over memory that fails the examination a segment
+// may have no class, or a stack no room: then the answer is 13.
+use layout::Geometry;
+use model::Phase;
+use model::Segment;
+use model::SegmentState;
+use model::Step;
+ghost use mathlib.Core.Path.{_≡_};
+ghost use Prim.Native.Nat.{_<_, _-_};
+ghost use lib.ListN.{length};
+ghost use Rattle.classes.specs.Class.{IsClass};
+ghost use Rattle.layout.specs.Geometry.{Sized};
+ghost use Rattle.layout.specs.Mem.{memOf};
+ghost use Rattle.model.specs.Fields.{tag};
+ghost use Rattle.model.specs.Collector.{lowest, sweeps};
+ghost use Rattle.model.specs.StepParts.{StepsAs};
+ghost use Rattle.model.specs.Tag as Tag;
+ghost use Rattle.sweeping.specs.Sweeping.{lowestOf, stateAfter, stackAfter, Settles, Sweeps};
+
+// The lowest condemned segment, or none.
+pub enum Lowest {
+    Segment(usize),
+    Nothing,
+}
+
+// Found from the last segment down: the last one seen is the lowest.
+fn lowest_condemned(g: Geometry, mem: &[u32]) -> Lowest
+    requires { ⌜ Sized g (length (now mem)) ⌝ }
+    ensures { λ r. ⌜ r ≡ lowestOf (lowest (memOf g (now (mem .entry))) (g .segments)) ⌝ }
+{
+    let n = g.segments;
+    let mut found = n;
+    let mut i = n;
+    while 0 < i {
+        let s = i - 1;
+        i -= 1;
+        if segments::tag(g, mem, s) == Segment::TAG_CONDEMNED {
+            found = s;
+        }
+    }
+    if found < n {
+        return Lowest::Segment(found);
+    }
+    Lowest::Nothing
+}
+
+// The state that a segment of a class gets with so many blocks marked.
+fn state_after(g: Geometry, class: u32, kept: u32) -> SegmentState
+    ensures { λ r. ⌜ r ≡ stateAfter g class kept ⌝ }
+{
+    if kept == 0 {
+        return SegmentState::Free;
+    }
+    if kept == layout::blocks_in(g, class) {
+        return SegmentState::Full { class };
+    }
+    SegmentState::Part { class, place: 0 }
+}
+
+// The stack that it is put on, unless it is full.
+fn stack_after(class: u32, kept: u32) -> usize
+    requires { ⌜ IsClass class ⌝ }
+    ensures { λ r. ⌜ r ≡ stackAfter class kept ⌝ }
+{
+    if kept == 0 {
+        return stacks::free_stack();
+    }
+    stacks::part_stack(class)
+}
+
+// Segment s, of which so many blocks are marked, gets its state and goes on its stack; false where the stack has no room.
+fn settle(g: Geometry, mem: &mut [u32], s: usize, class: u32, kept: u32) -> bool
+    requires { ⌜ (Sized g (length (now mem))) × (s < g .segments) ⌝ }
+    requires { ⌜ IsClass class ⌝ }
+    ensures { λ r. ⌜ Settles g (memOf g (now (mem .entry))) s class kept r (memOf g (now (mem .exit))) ⌝ }
+{
+    let state = state_after(g, class, kept);
+    segments::write(g, mem, s, Segment { state });
+    if kept == layout::blocks_in(g, class) {
+        return true;
+    }
+    stacks::push(g, mem, stack_after(class, kept), s)
+}
+
+// One number less another, and 0 where the other is larger.
+fn less(a: u32, b: u32) -> u32
+    ensures { λ r. ⌜ r ≡ a - b ⌝ }
+{
+    if a < b {
+        return 0;
+    }
+    a - b
+}
+
+// Segment s is swept: its level 0 becomes the marks, and it is free, full or part by their number.
+fn sweep_segment(g: Geometry, mem: &mut [u32], s: usize) -> Step
+    requires { ⌜ (Sized g (length (now mem))) × (s < g .segments) ⌝ }
+    requires { ⌜ tag (memOf g (now mem)) s ≡ Tag.condemned ⌝ }
+    ensures { λ r. ⌜ Sweeps g (memOf g (now (mem .entry))) s r (memOf g (now (mem .exit))) ⌝ }
+{
+    let class = segments::class(g, mem, s);
+    if classes::is_class(class) {
+        let place = segments::place(g, mem, s);
+        let used = bitmaps::in_use(g, mem, s, class, place);
+        let kept = bitmaps::kept(g, mem, s, class);
+        bitmaps::adopt(g, mem, s, class);
+        if settle(g, mem, s, class, kept) {
+            return Step::Swept(s as u32, less(used, kept));
+        }
+    }
+    Step::Refused(13)
+}
+
+// A step in sweep.
+pub fn sweep(g: Geometry, mem: &mut [u32]) -> Step
+    requires { ⌜ Sized g (length (now mem)) ⌝ }
+    ensures { λ r. ⌜ StepsAs (λ g m. sweeps g (lowest m (g .segments)) m) g (memOf g (now (mem .entry))) r (memOf g (now (mem .exit))) ⌝ }
+{
+    match lowest_condemned(g, mem) {
+        Lowest::Segment(s) => sweep_segment(g, mem, s),
+        Lowest::Nothing => {
+            mutators::set_phase(g, mem, Phase::IDLE);
+            Step::Done
+        }
+    }
+}
