@@ -1289,22 +1289,23 @@ pub fn class_of_record(shape: RecordShape) -> SizeClass
     class_of(fields as u32)
 }
 
-// The shape of a segment of a class: the table's entry at the class less 3, by a literal index in each arm, for the same reason
-// as the classes' names. Any number may be asked for.
+// The shape of a segment of a class: the table's entry at the class less 3, a literal in each arm, so that it folds too. Any number
+// may be asked for.
 pub fn segment_shape(class: u32) -> ClassShape
     ensures { λ r. ⌜ r ≡ segmentShape segmentSize class ⌝ }
 {
+    let shapes = SHAPES;
     match class {
-        3 => ClassShape::Of(SHAPES[0]),
-        4 => ClassShape::Of(SHAPES[1]),
-        5 => ClassShape::Of(SHAPES[2]),
-        6 => ClassShape::Of(SHAPES[3]),
-        7 => ClassShape::Of(SHAPES[4]),
-        8 => ClassShape::Of(SHAPES[5]),
-        9 => ClassShape::Of(SHAPES[6]),
-        10 => ClassShape::Of(SHAPES[7]),
-        11 => ClassShape::Of(SHAPES[8]),
-        12 => ClassShape::Of(SHAPES[9]),
+        3 => ClassShape::Of(shapes[0]),
+        4 => ClassShape::Of(shapes[1]),
+        5 => ClassShape::Of(shapes[2]),
+        6 => ClassShape::Of(shapes[3]),
+        7 => ClassShape::Of(shapes[4]),
+        8 => ClassShape::Of(shapes[5]),
+        9 => ClassShape::Of(shapes[6]),
+        10 => ClassShape::Of(shapes[7]),
+        11 => ClassShape::Of(shapes[8]),
+        12 => ClassShape::Of(shapes[9]),
         _ => ClassShape::NoClass,
     }
 }
