@@ -9,6 +9,7 @@ class-of-spec =
     tie.close
     (tie.spec
     (λ c κs. search needs)
+    (λ c. search needs)
     (λ c. entry (c .match .keys1) tt)
     (λ c. entry (c .match .keys2) tt)
     (λ c. entry (c .match .keys3) tt)
@@ -40,5 +41,4 @@ class-of-spec =
     (λ c. entry (c .match .keys29) tt)
     (λ c. entry (c .match .keys30) tt)
     (λ c. entry (c .match .keys31) tt)
-    (λ c. entry (c .match .keys32) tt)
-    (λ c. search needs))
+    (λ c. entry (c .match .keys32) tt))
