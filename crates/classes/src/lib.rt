@@ -1067,6 +1067,71 @@ const CLASSES: [u32; 1024] = [
     12,
 ];
 
+// The table's first entries by name. A read at an index that is no literal copies the whole table to the stack; these fold.
+const CLASS_0: u32 = CLASSES[0];
+
+const CLASS_1: u32 = CLASSES[1];
+
+const CLASS_2: u32 = CLASSES[2];
+
+const CLASS_3: u32 = CLASSES[3];
+
+const CLASS_4: u32 = CLASSES[4];
+
+const CLASS_5: u32 = CLASSES[5];
+
+const CLASS_6: u32 = CLASSES[6];
+
+const CLASS_7: u32 = CLASSES[7];
+
+const CLASS_8: u32 = CLASSES[8];
+
+const CLASS_9: u32 = CLASSES[9];
+
+const CLASS_10: u32 = CLASSES[10];
+
+const CLASS_11: u32 = CLASSES[11];
+
+const CLASS_12: u32 = CLASSES[12];
+
+const CLASS_13: u32 = CLASSES[13];
+
+const CLASS_14: u32 = CLASSES[14];
+
+const CLASS_15: u32 = CLASSES[15];
+
+const CLASS_16: u32 = CLASSES[16];
+
+const CLASS_17: u32 = CLASSES[17];
+
+const CLASS_18: u32 = CLASSES[18];
+
+const CLASS_19: u32 = CLASSES[19];
+
+const CLASS_20: u32 = CLASSES[20];
+
+const CLASS_21: u32 = CLASSES[21];
+
+const CLASS_22: u32 = CLASSES[22];
+
+const CLASS_23: u32 = CLASSES[23];
+
+const CLASS_24: u32 = CLASSES[24];
+
+const CLASS_25: u32 = CLASSES[25];
+
+const CLASS_26: u32 = CLASSES[26];
+
+const CLASS_27: u32 = CLASSES[27];
+
+const CLASS_28: u32 = CLASSES[28];
+
+const CLASS_29: u32 = CLASSES[29];
+
+const CLASS_30: u32 = CLASSES[30];
+
+const CLASS_31: u32 = CLASSES[31];
+
 // The shape of a class, indexed by the class less 3.
 const SHAPES: [SegmentShape; 10] = [
     SegmentShape {
@@ -1159,8 +1224,8 @@ pub fn block_words(class: u32) -> usize
     1 << (class - 2)
 }
 
-// The class of a record of so many pointer and data fields (document 01: links and numbers) together.
-pub fn class_of(fields: u32) -> SizeClass
+// The class of a record of so many fields, few or many, by the table.
+fn class_of_many(fields: u32) -> SizeClass
     ensures { λ r. ⌜ r ≡ classOf fields ⌝ }
 {
     if fields < 1024 {
@@ -1170,6 +1235,48 @@ pub fn class_of(fields: u32) -> SizeClass
     } else {
         SizeClass::TooBig
     }
+}
+
+// The class of a record of so many pointer and data fields (document 01: links and numbers) together: the table's entry.
+pub fn class_of(fields: u32) -> SizeClass
+    ensures { λ r. ⌜ r ≡ classOf fields ⌝ }
+{
+    let class = match fields {
+        0 => CLASS_0,
+        1 => CLASS_1,
+        2 => CLASS_2,
+        3 => CLASS_3,
+        4 => CLASS_4,
+        5 => CLASS_5,
+        6 => CLASS_6,
+        7 => CLASS_7,
+        8 => CLASS_8,
+        9 => CLASS_9,
+        10 => CLASS_10,
+        11 => CLASS_11,
+        12 => CLASS_12,
+        13 => CLASS_13,
+        14 => CLASS_14,
+        15 => CLASS_15,
+        16 => CLASS_16,
+        17 => CLASS_17,
+        18 => CLASS_18,
+        19 => CLASS_19,
+        20 => CLASS_20,
+        21 => CLASS_21,
+        22 => CLASS_22,
+        23 => CLASS_23,
+        24 => CLASS_24,
+        25 => CLASS_25,
+        26 => CLASS_26,
+        27 => CLASS_27,
+        28 => CLASS_28,
+        29 => CLASS_29,
+        30 => CLASS_30,
+        31 => CLASS_31,
+        _ => return class_of_many(fields),
+    };
+    SizeClass::Class(class)
 }
 
 // The class of a record of a shape; its counts may be any numbers.
@@ -1183,14 +1290,23 @@ pub fn class_of_record(shape: RecordShape) -> SizeClass
     class_of(fields as u32)
 }
 
-// The shape of a segment of a class; any number may be asked for.
+// The shape of a segment of a class: the table's entry at the class less 3, a literal in each arm, so that it folds too. Any number
+// may be asked for.
 pub fn segment_shape(class: u32) -> ClassShape
     ensures { λ r. ⌜ r ≡ segmentShape segmentSize class ⌝ }
 {
-    if is_class(class) {
-        let i = (class - FIRST_CLASS) as usize;
-        let shape = SHAPES[i];
-        return ClassShape::Of(shape);
+    let shapes = SHAPES;
+    match class {
+        3 => ClassShape::Of(shapes[0]),
+        4 => ClassShape::Of(shapes[1]),
+        5 => ClassShape::Of(shapes[2]),
+        6 => ClassShape::Of(shapes[3]),
+        7 => ClassShape::Of(shapes[4]),
+        8 => ClassShape::Of(shapes[5]),
+        9 => ClassShape::Of(shapes[6]),
+        10 => ClassShape::Of(shapes[7]),
+        11 => ClassShape::Of(shapes[8]),
+        12 => ClassShape::Of(shapes[9]),
+        _ => ClassShape::NoClass,
     }
-    ClassShape::NoClass
 }

@@ -1,17 +1,17 @@
 -- `classes::segment_shape` meets its contract: the shape of each class is one test at each of the table's entries, which is computed.
 -- Assumes nothing.
-use mathlib.Core.Path.{_≡_, sym, ap, _∙_}
+use mathlib.Core.Path.{_≡_, refl, sym, ap, _∙_}
 use mathlib.Core.List.{List, [], _∷_}
-use mathlib.Core.Bool.{Bool, _&&_}
-use Prim.Native.Nat.{ℕ, _+_, _-_}
+use mathlib.Core.Bool.{Bool, true, false, _&&_}
+use Prim.Native.Nat.{ℕ, zero, suc, _+_, _<_, _≤_}
 use native.Mathlib.Omega.{arith}
-use lib.Dec.{T, eqb, eqb→eq}
+use lib.Dec.{T, eqb, ltb, eqb→eq, ltb→lt}
 use lib.ListN.{getD}
 use borrow.Author.Needs.{needs}
 use Rattle.rules.proofs.Table.{and-left, and-right, every-at}
 use Rattle.classes.specs.declared.SegmentShape.{SegmentShape}
-use Rattle.classes.specs.declared.ClassShape.the-variants.{Of}
-use Rattle.classes.specs.Class.{firstClass, IsClass}
+use Rattle.classes.specs.declared.ClassShape.the-variants.{Of, NoClass}
+use Rattle.classes.specs.Class.{firstClass, classCount, IsClass, classTest}
 use Rattle.classes.specs.Shape.{segmentSize, blocksOf, shapeFor, segmentShape}
 use Rattle.classes.proofs.Every.{class-passes, class-passed}
 use Rattle.classes.proofs.segment_shape.Tie as tie
@@ -55,36 +55,55 @@ right : ℕ → SegmentShape → Bool
 unfolding same
 right k x = same x (shapeFor (blocksOf segmentSize (firstClass + k)))
 
-in-table : (class : ℕ) → IsClass class → Of (getD table (class - firstClass) past) ≡ segmentShape segmentSize class
+in-table : (k : ℕ) → k < classCount → Of (getD table k past) ≡ segmentShape segmentSize (firstClass + k)
 unfolding table past right
-in-table class k =
-    let e : firstClass + (class - firstClass) ≡ class = omega arith in
-    ap Of (same-eq (getD table (class - firstClass) past) (shapeFor (blocksOf segmentSize (firstClass + (class - firstClass)))) (every-at right past table tt (class - firstClass) (omega arith))
-    ∙ ap (λ (n : ℕ). shapeFor (blocksOf segmentSize n)) e)
-    ∙ sym (rw (class-passes class k))
+in-table k l =
+    ap Of (same-eq (getD table k past) (shapeFor (blocksOf segmentSize (firstClass + k))) (every-at right past table tt k l))
+    ∙ sym (rw (class-passes (firstClass + k) (omega arith, omega arith)))
 
-is-class-requires : tie.Need-is-class-requires
-is-class-requires c κs = search needs
+-- the same at an entry that is read by its number
+entry : {class : ℕ} (k : ℕ) → class ≡ firstClass + k → T (ltb k classCount) → Of (getD table k past) ≡ segmentShape segmentSize class
+entry k e l = in-table k (ltb→lt k classCount l) ∙ ap (segmentShape segmentSize) (sym e)
 
-sub-i : tie.Need-sub-i
-sub-i c = let k = class-passed _ (sym (c .before .is-class .ensures) ∙ c .if1 .taken) in omega arith
+-- a number is none of the n from a on, as a `match` says it
+abbrev NoneOf : ℕ → ℕ → ℕ → Type 0
+NoneOf a zero x = Unit {0}
+NoneOf a (suc n) x = NoneOf a n x × (x ≡ a + n → ⊥)
 
-cast-i : tie.Need-cast-i
-cast-i c = search needs
+past-all : (a n x : ℕ) → NoneOf a n x → a ≤ x → a + n ≤ x
+past-all a zero x t l = omega arith
+past-all a (suc n) x t l = let h = past-all a n x (t .0) l in let differs = t .1 in omega arith
 
-mul-shape : tie.Need-mul-shape
-mul-shape c = search needs
-
-array-copy-out-shape : tie.Need-array-copy-out-shape
-array-copy-out-shape c = let k = class-passed _ (sym (c .before .is-class .ensures) ∙ c .if1 .taken) in omega arith
-
-returns : tie.Need-returns
-unfolding table past
-returns c = in-table _ (class-passed _ (sym (c .before .before .is-class .ensures) ∙ c .before .if1 .taken))
-
-returns-2 : tie.Need-returns-2
-returns-2 c = rw (sym (c .before .is-class .ensures) ∙ c .if1 .left)
+no-entry : (class : ℕ) → NoneOf firstClass classCount class → NoClass ≡ segmentShape segmentSize class
+no-entry class none = go (classTest class) refl
+  where
+    go : (t : Bool) → classTest class ≡ t → NoClass ≡ segmentShape segmentSize class
+    go true q = let k = class-passed class q in let h = past-all firstClass classCount class none (k .0) in absurd (omega arith)
+    go false q = rw q
 
 pub segment-shape-spec : {M : Type 1} → statement M
+unfolding table past shape
 segment-shape-spec =
-    tie.close (tie.spec is-class-requires sub-i cast-i mul-shape array-copy-out-shape returns returns-2)
+    tie.close
+    (tie.spec
+    (λ c. search needs)
+    (λ c. search needs)
+    (λ c. search needs)
+    (λ c. search needs)
+    (λ c. search needs)
+    (λ c. search needs)
+    (λ c. search needs)
+    (λ c. search needs)
+    (λ c. search needs)
+    (λ c. search needs)
+    (λ c. entry 0 (c .before .match .keys1) tt)
+    (λ c. entry 1 (c .before .match .keys2) tt)
+    (λ c. entry 2 (c .before .match .keys3) tt)
+    (λ c. entry 3 (c .before .match .keys4) tt)
+    (λ c. entry 4 (c .before .match .keys5) tt)
+    (λ c. entry 5 (c .before .match .keys6) tt)
+    (λ c. entry 6 (c .before .match .keys7) tt)
+    (λ c. entry 7 (c .before .match .keys8) tt)
+    (λ c. entry 8 (c .before .match .keys9) tt)
+    (λ c. entry 9 (c .before .match .keys10) tt)
+    (λ c. no-entry _ (c .match .rest)))
