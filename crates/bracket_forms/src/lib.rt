@@ -85,6 +85,7 @@ pub enum Reply {
 // The text of a form or of a reply: its words and places, with `#` for a number, and spaces up to 20 bytes.
 type Text = [u8; 20];
 
+// Forms.
 const RACK: Text = *b"(rack #)            ";
 
 const ATTACH: Text = *b"(attach #)          ";
@@ -121,6 +122,7 @@ const START: Text = *b"(start)             ";
 
 const STEP: Text = *b"(step)              ";
 
+// Replies.
 const OK: Text = *b"(ok)                ";
 
 const OK_ONE: Text = *b"(ok #)              ";
