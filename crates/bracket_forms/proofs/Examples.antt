@@ -8,17 +8,18 @@ use lib.Dec.{T, lit<}
 use lib.ListN.{getD}
 use Rattle.bracket_text.specs.Text.{bytes, digitsOf, decimal, fill, text}
 use Rattle.bracket_text.specs.Scan.{digitsOn, numberOf, piece, matched}
-use Rattle.rules.proofs.Table.{Each, every, every-at}
+use Rattle.rules.proofs.Table.{Each, every-at}
 use Rattle.bracket_text.proofs.Laws.{_also_}
 use Rattle.bracket_forms.specs.Forms.{textOf, FormRead}
-use Rattle.bracket_forms.specs.Kinds.{templates, templateAt, zeros, readings, readingOf}
+use Rattle.bracket_forms.specs.Kinds.{zeros, forms, formAt, templateAt}
 use Rattle.bracket_forms.specs.Replies.{replyText}
 use Rattle.bracket_forms.specs.declared.Form.{Form}
 use Rattle.bracket_forms.specs.declared.Form.the-variants.{Rack, Attach, Make, Load, Store, Clear, Put, Get, Check, Start, Step}
 use Rattle.bracket_forms.specs.declared.Reading.the-variants.{Bad}
 use Rattle.bracket_forms.specs.declared.Reply.{Reply}
 use Rattle.bracket_forms.specs.declared.Reply.the-variants.{Ok, OkOne, Waiting, Moved, Traced, Swept, Done}
-use Rattle.bracket_forms.proofs.Reader.{form-kind, found, missed}
+use Rattle.bracket_forms.proofs.Table.{everyText, text-passes}
+use Rattle.bracket_forms.proofs.Reader.{found, missed}
 
 -- a form, and its line
 abbrev pub lines : List (Form × List ℕ)
@@ -67,13 +68,12 @@ none-is none h = refl
 none-is (some ns) h = absurd h
 
 unmatched : List ℕ → Bool
-unmatched l = every (λ k t. is-none (matched t 0 zeros l)) 0 templates
+unmatched l = everyText (λ k t. is-none (matched t 0 zeros l))
 
 unmatched-bad : (l : List ℕ) → T (unmatched l) → FormRead l Bad
-unfolding unmatched templateAt
+unfolding unmatched
 unmatched-bad l t =
-    missed l
-    (λ k h. none-is (matched (templateAt k) 0 zeros l) (every-at (λ j u. is-none (matched u 0 zeros l)) [] templates t k (form-kind h)))
+    missed l (λ k h. none-is (matched (templateAt k) 0 zeros l) (text-passes (λ j u. is-none (matched u 0 zeros l)) t k h))
 
 -- an empty line, spaces too many or too few, a number with a leading zero, with a sign, too large, a word in capitals, a carriage
 -- return (13), a tab (9), a NUL (0), a look
@@ -95,10 +95,10 @@ bad-lines =
     ∷ []
 
 pub all-bad : (i : ℕ) → i < 13 → FormRead (getD bad-lines i []) Bad
-unfolding unmatched matched piece numberOf digitsOn
+unfolding unmatched forms matched piece numberOf digitsOn
 all-bad i h = unmatched-bad (getD bad-lines i []) (every-at (λ j l. unmatched l) [] bad-lines tt i h)
 
 -- "A load whose two script numbers differ is (bad)"
 pub load-bad : FormRead (bytes "(load (0 1) (1 0 0))") Bad
-unfolding templateAt matched piece numberOf digitsOn readingOf readings
+unfolding templateAt formAt forms matched piece numberOf digitsOn
 load-bad = found (bytes "(load (0 1) (1 0 0))") 5 (lit< tt) (0 ∷ 1 ∷ 1 ∷ 0 ∷ 0 ∷ []) refl

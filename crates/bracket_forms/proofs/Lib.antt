@@ -1,6 +1,5 @@
--- The laws behind the proofs: of a `match` on numbers, of the table of texts, of the reader and the writers, and examples.
+-- The laws behind the proofs: of the templates of the forms, of the reader and the writers, and examples.
 -- Reader ends with what follows from the reader's contract.
-pub mod Arms
 pub mod Table
 pub mod Reader
 pub mod Writer

@@ -1,5 +1,5 @@
--- What the contracts of this crate cite. Forms and Replies are the grammar, to compare with document 01; Kinds is the table
--- by which the functions go.
+-- What the contracts of this crate cite. Forms and Replies are the grammar, to compare with document 01; Kinds is what the
+-- functions go by.
 pub mod Forms
 pub mod Replies
 pub mod Kinds

@@ -1,12 +1,13 @@
 // The forms of the bracket program: the reader from a line, without its line feed, to a form, and the writers of replies and
-// forms. A form's words and places are fixed byte strings, with `#` for a number.
+// forms. The words and places of a form and of a reply are a fixed byte string with a name, by which it is read and written.
 ghost use mathlib.Core.Path.{_≡_};
-ghost use Prim.Native.Nat.{_≤_, _<_};
+ghost use Prim.Native.Nat.{_≤_};
 ghost use lib.ListN.{length};
 ghost use Rattle.bracket_text.specs.Text.{fill, Written};
+ghost use Rattle.bracket_text.specs.Fixed.{trimmed};
 ghost use Rattle.bracket_text.specs.Scan.{matched};
 ghost use Rattle.bracket_forms.specs.Forms.{FormRead, textOf};
-ghost use Rattle.bracket_forms.specs.Kinds.{templateAt, zeros, readingOf, loadOf, triedAs, formParts, replyParts};
+ghost use Rattle.bracket_forms.specs.Kinds.{templateAt, zeros, formAt, readingOf, triedAs, formParts, replyParts};
 ghost use Rattle.bracket_forms.specs.Replies.{replyText};
 
 // A form with its numbers, in the order of its text. A load names its mutator twice, and holds it once.
@@ -81,130 +82,156 @@ pub enum Reply {
     Idle,
 }
 
-// The texts of the 18 kinds of forms, and then those of the 11 kinds of replies.
-const TEXTS: [u8; 298] = *b"\
-(rack #)\
-(attach #)\
-(spawn # (# #))\
-(detach #)\
-(make (# #) (# #))\
-(load (# #) (# # #))\
-(store (# # #) #)\
-(copy (# #) #)\
-(clear (# #))\
-(put (# # #) #)\
-(get (# # #))\
-(same (# #) #)\
-(shape (# #))\
-(check #)\
-(leave #)\
-(enter #)\
-(start)\
-(step)\
-(ok)\
-(ok #)\
-(ok # #)\
-(no #)\
-(bad)\
-(waiting #)\
-(moved)\
-(traced)\
-(swept # #)\
-(done)\
-(idle)";
+// The text of a form or of a reply: its words and places, with `#` for a number, and spaces up to 20 bytes.
+type Text = [u8; 20];
 
-// Where the text of each kind begins, and where the last ends.
-const STARTS: [usize; 30] = [
-    0,
-    8,
-    18,
-    33,
-    43,
-    61,
-    81,
-    98,
-    112,
-    125,
-    140,
-    153,
-    167,
-    180,
-    189,
-    198,
-    207,
-    214,
-    220,
-    224,
-    230,
-    238,
-    244,
-    249,
-    260,
-    267,
-    275,
-    286,
-    292,
-    298,
-];
+// Forms.
+const RACK: Text = *b"(rack #)            ";
 
-// What a line is by the text of one kind of form: that form, or a load of two mutators; or no such text.
+const ATTACH: Text = *b"(attach #)          ";
+
+const SPAWN: Text = *b"(spawn # (# #))     ";
+
+const DETACH: Text = *b"(detach #)          ";
+
+const MAKE: Text = *b"(make (# #) (# #))  ";
+
+const LOAD: Text = *b"(load (# #) (# # #))";
+
+const STORE: Text = *b"(store (# # #) #)   ";
+
+const COPY: Text = *b"(copy (# #) #)      ";
+
+const CLEAR: Text = *b"(clear (# #))       ";
+
+const PUT: Text = *b"(put (# # #) #)     ";
+
+const GET: Text = *b"(get (# # #))       ";
+
+const SAME: Text = *b"(same (# #) #)      ";
+
+const SHAPE: Text = *b"(shape (# #))       ";
+
+const CHECK: Text = *b"(check #)           ";
+
+const LEAVE: Text = *b"(leave #)           ";
+
+const ENTER: Text = *b"(enter #)           ";
+
+const START: Text = *b"(start)             ";
+
+const STEP: Text = *b"(step)              ";
+
+// Replies.
+const OK: Text = *b"(ok)                ";
+
+const OK_ONE: Text = *b"(ok #)              ";
+
+const OK_TWO: Text = *b"(ok # #)            ";
+
+const NO: Text = *b"(no #)              ";
+
+const BAD: Text = *b"(bad)               ";
+
+const WAITING: Text = *b"(waiting #)         ";
+
+const MOVED: Text = *b"(moved)             ";
+
+const TRACED: Text = *b"(traced)            ";
+
+const SWEPT: Text = *b"(swept # #)         ";
+
+const DONE: Text = *b"(done)              ";
+
+const IDLE: Text = *b"(idle)              ";
+
+// How many forms there are.
+const FORMS: usize = 18;
+
+// What a line is by the text of one form: that form, or a load of two mutators; or no such text.
 enum Tried {
     Known(Reading),
     Other,
 }
 
-// What a writer goes by: the kind of the text, and its numbers with zeros up to five.
-struct Parts(usize, [u32; 5]);
+// What a writer goes by: the text, and its numbers with zeros up to five.
+struct Parts(Text, [u32; 5]);
 
-// The two mutators of a load must be the same.
-fn load_of(mutator: u32, to: u32, again: u32, slot: u32, field: u32) -> Reading
-    ensures { λ r. ⌜ r ≡ loadOf mutator to again slot field ⌝ }
+fn form_parts(form: Form) -> Parts
+    ensures { λ r. ⌜ r ≡ formParts form ⌝ }
 {
-    if mutator == again {
-        Reading::Is(Form::Load(mutator, to, slot, field))
+    match form {
+        Form::Rack(a) => Parts(RACK, [a, 0, 0, 0, 0]),
+        Form::Attach(a) => Parts(ATTACH, [a, 0, 0, 0, 0]),
+        Form::Spawn(a, b, c) => Parts(SPAWN, [a, b, c, 0, 0]),
+        Form::Detach(a) => Parts(DETACH, [a, 0, 0, 0, 0]),
+        Form::Make(a, b, c, d) => Parts(MAKE, [a, b, c, d, 0]),
+        Form::Load(a, b, c, d) => Parts(LOAD, [a, b, a, c, d]),
+        Form::Store(a, b, c, d) => Parts(STORE, [a, b, c, d, 0]),
+        Form::Copy(a, b, c) => Parts(COPY, [a, b, c, 0, 0]),
+        Form::Clear(a, b) => Parts(CLEAR, [a, b, 0, 0, 0]),
+        Form::Put(a, b, c, d) => Parts(PUT, [a, b, c, d, 0]),
+        Form::Get(a, b, c) => Parts(GET, [a, b, c, 0, 0]),
+        Form::Same(a, b, c) => Parts(SAME, [a, b, c, 0, 0]),
+        Form::Shape(a, b) => Parts(SHAPE, [a, b, 0, 0, 0]),
+        Form::Check(a) => Parts(CHECK, [a, 0, 0, 0, 0]),
+        Form::Leave(a) => Parts(LEAVE, [a, 0, 0, 0, 0]),
+        Form::Enter(a) => Parts(ENTER, [a, 0, 0, 0, 0]),
+        Form::Start => Parts(START, [0, 0, 0, 0, 0]),
+        Form::Step => Parts(STEP, [0, 0, 0, 0, 0]),
+    }
+}
+
+// The forms in the order in which the reader tries them: form number `kind`, with the numbers of its text. The third of a load's
+// is its mutator again.
+fn form_at(kind: usize, a: u32, b: u32, c: u32, d: u32, e: u32) -> Form
+    ensures { λ r. ⌜ r ≡ formAt kind a b c d e ⌝ }
+{
+    match kind {
+        0 => Form::Rack(a),
+        1 => Form::Attach(a),
+        2 => Form::Spawn(a, b, c),
+        3 => Form::Detach(a),
+        4 => Form::Make(a, b, c, d),
+        5 => Form::Load(a, b, d, e),
+        6 => Form::Store(a, b, c, d),
+        7 => Form::Copy(a, b, c),
+        8 => Form::Clear(a, b),
+        9 => Form::Put(a, b, c, d),
+        10 => Form::Get(a, b, c),
+        11 => Form::Same(a, b, c),
+        12 => Form::Shape(a, b),
+        13 => Form::Check(a),
+        14 => Form::Leave(a),
+        15 => Form::Enter(a),
+        16 => Form::Start,
+        _ => Form::Step,
+    }
+}
+
+// A form whose text had this third number: it must be the form's own, so that the two mutators of a load are the same.
+fn reading_of(form: Form, third: u32) -> Reading
+    ensures { λ r. ⌜ r ≡ readingOf form third ⌝ }
+{
+    let parts = form_parts(form);
+    let own = parts.1;
+    if own[2] == third {
+        Reading::Is(form)
     } else {
         Reading::Bad
     }
 }
 
-// The form of a kind with these numbers, of which it takes as many as its text has.
-fn reading_of(kind: usize, a: u32, b: u32, c: u32, d: u32, e: u32) -> Reading
-    ensures { λ r. ⌜ r ≡ readingOf kind a b c d e ⌝ }
-{
-    match kind {
-        0 => Reading::Is(Form::Rack(a)),
-        1 => Reading::Is(Form::Attach(a)),
-        2 => Reading::Is(Form::Spawn(a, b, c)),
-        3 => Reading::Is(Form::Detach(a)),
-        4 => Reading::Is(Form::Make(a, b, c, d)),
-        5 => load_of(a, b, c, d, e),
-        6 => Reading::Is(Form::Store(a, b, c, d)),
-        7 => Reading::Is(Form::Copy(a, b, c)),
-        8 => Reading::Is(Form::Clear(a, b)),
-        9 => Reading::Is(Form::Put(a, b, c, d)),
-        10 => Reading::Is(Form::Get(a, b, c)),
-        11 => Reading::Is(Form::Same(a, b, c)),
-        12 => Reading::Is(Form::Shape(a, b)),
-        13 => Reading::Is(Form::Check(a)),
-        14 => Reading::Is(Form::Leave(a)),
-        15 => Reading::Is(Form::Enter(a)),
-        16 => Reading::Is(Form::Start),
-        17 => Reading::Is(Form::Step),
-        _ => Reading::Bad,
-    }
-}
-
-// Tries the text of one kind.
+// Tries the text of one form.
 fn read_kind(line: &[u8], kind: usize) -> Tried
-    requires { ⌜ kind < 18 ⌝ }
     ensures { λ r. ⌜ r ≡ triedAs kind (matched (templateAt kind) 0 zeros (now (line .entry))) ⌝ }
 {
-    let texts: &[u8] = &TEXTS;
-    let from = STARTS[kind];
-    let to = STARTS[kind + 1];
+    let parts = form_parts(form_at(kind, 0, 0, 0, 0, 0));
+    let text = parts.0;
     let mut n = [0u32; 5];
-    if bracket_text::match_template(line, &texts[from..to], &mut n) {
-        Tried::Known(reading_of(kind, n[0], n[1], n[2], n[3], n[4]))
+    if bracket_text::match_text(line, &text, &mut n) {
+        let form = form_at(kind, n[0], n[1], n[2], n[3], n[4]);
+        Tried::Known(reading_of(form, n[2]))
     } else {
         Tried::Other
     }
@@ -215,7 +242,7 @@ pub fn read_form(line: &[u8]) -> Reading
     ensures { λ r. ⌜ FormRead (now (line .entry)) r ⌝ }
 {
     let mut kind = 0;
-    while kind < 18 {
+    while kind < FORMS {
         match read_kind(line, kind) {
             Tried::Known(reading) => {
                 return reading;
@@ -227,42 +254,14 @@ pub fn read_form(line: &[u8]) -> Reading
     Reading::Bad
 }
 
-// Writes the text of a kind with these numbers at the front of a buffer that is long enough, and says its length.
+// Writes a text with these numbers at the front of a buffer that is long enough, and says its length.
 fn write_parts(parts: Parts, buf: &mut [u8]) -> usize
-    requires { ⌜ (parts .0 < 29) × (length (fill (templateAt (parts .0)) (parts .1)) ≤ length (now buf)) ⌝ }
-    ensures { λ r. ⌜ Written (fill (templateAt (parts .0)) (parts .1)) (now (buf .entry)) r (now (buf .exit)) ⌝ }
+    requires { ⌜ length (fill (trimmed (parts .0)) (parts .1)) ≤ length (now buf) ⌝ }
+    ensures { λ r. ⌜ Written (fill (trimmed (parts .0)) (parts .1)) (now (buf .entry)) r (now (buf .exit)) ⌝ }
 {
-    let kind = parts.0;
+    let text = parts.0;
     let numbers = parts.1;
-    let texts: &[u8] = &TEXTS;
-    let from = STARTS[kind];
-    let to = STARTS[kind + 1];
-    bracket_text::write_template(&texts[from..to], &numbers, buf)
-}
-
-fn form_parts(form: Form) -> Parts
-    ensures { λ r. ⌜ r ≡ formParts form ⌝ }
-{
-    match form {
-        Form::Rack(a) => Parts(0, [a, 0, 0, 0, 0]),
-        Form::Attach(a) => Parts(1, [a, 0, 0, 0, 0]),
-        Form::Spawn(a, b, c) => Parts(2, [a, b, c, 0, 0]),
-        Form::Detach(a) => Parts(3, [a, 0, 0, 0, 0]),
-        Form::Make(a, b, c, d) => Parts(4, [a, b, c, d, 0]),
-        Form::Load(a, b, c, d) => Parts(5, [a, b, a, c, d]),
-        Form::Store(a, b, c, d) => Parts(6, [a, b, c, d, 0]),
-        Form::Copy(a, b, c) => Parts(7, [a, b, c, 0, 0]),
-        Form::Clear(a, b) => Parts(8, [a, b, 0, 0, 0]),
-        Form::Put(a, b, c, d) => Parts(9, [a, b, c, d, 0]),
-        Form::Get(a, b, c) => Parts(10, [a, b, c, 0, 0]),
-        Form::Same(a, b, c) => Parts(11, [a, b, c, 0, 0]),
-        Form::Shape(a, b) => Parts(12, [a, b, 0, 0, 0]),
-        Form::Check(a) => Parts(13, [a, 0, 0, 0, 0]),
-        Form::Leave(a) => Parts(14, [a, 0, 0, 0, 0]),
-        Form::Enter(a) => Parts(15, [a, 0, 0, 0, 0]),
-        Form::Start => Parts(16, [0, 0, 0, 0, 0]),
-        Form::Step => Parts(17, [0, 0, 0, 0, 0]),
-    }
+    bracket_text::write_text(&text, &numbers, buf)
 }
 
 // Writes a form's text at the front of a buffer, and says its length. No form's text is longer than a line may be.
@@ -276,17 +275,17 @@ fn reply_parts(reply: Reply) -> Parts
     ensures { λ r. ⌜ r ≡ replyParts reply ⌝ }
 {
     match reply {
-        Reply::Ok => Parts(18, [0, 0, 0, 0, 0]),
-        Reply::OkOne(a) => Parts(19, [a, 0, 0, 0, 0]),
-        Reply::OkTwo(a, b) => Parts(20, [a, b, 0, 0, 0]),
-        Reply::No(a) => Parts(21, [a, 0, 0, 0, 0]),
-        Reply::Bad => Parts(22, [0, 0, 0, 0, 0]),
-        Reply::Waiting(a) => Parts(23, [a, 0, 0, 0, 0]),
-        Reply::Moved => Parts(24, [0, 0, 0, 0, 0]),
-        Reply::Traced => Parts(25, [0, 0, 0, 0, 0]),
-        Reply::Swept(a, b) => Parts(26, [a, b, 0, 0, 0]),
-        Reply::Done => Parts(27, [0, 0, 0, 0, 0]),
-        Reply::Idle => Parts(28, [0, 0, 0, 0, 0]),
+        Reply::Ok => Parts(OK, [0, 0, 0, 0, 0]),
+        Reply::OkOne(a) => Parts(OK_ONE, [a, 0, 0, 0, 0]),
+        Reply::OkTwo(a, b) => Parts(OK_TWO, [a, b, 0, 0, 0]),
+        Reply::No(a) => Parts(NO, [a, 0, 0, 0, 0]),
+        Reply::Bad => Parts(BAD, [0, 0, 0, 0, 0]),
+        Reply::Waiting(a) => Parts(WAITING, [a, 0, 0, 0, 0]),
+        Reply::Moved => Parts(MOVED, [0, 0, 0, 0, 0]),
+        Reply::Traced => Parts(TRACED, [0, 0, 0, 0, 0]),
+        Reply::Swept(a, b) => Parts(SWEPT, [a, b, 0, 0, 0]),
+        Reply::Done => Parts(DONE, [0, 0, 0, 0, 0]),
+        Reply::Idle => Parts(IDLE, [0, 0, 0, 0, 0]),
     }
 }
 

@@ -5,5 +5,6 @@ pub mod Steps
 pub mod Decimal
 pub mod Numbers
 pub mod Templates
+pub mod Fixed
 pub mod Writing
 pub mod Meaning

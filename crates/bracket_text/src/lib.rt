@@ -1,9 +1,11 @@
 // Numbers and templates in a line of bytes. A template is the text of a form with `#` for each number: reading compares
-// a line with it, and writing copies it, with the numbers' decimals in their places.
+// a line with it, and writing copies it, with the numbers' decimals in their places. It lies in a fixed byte string, which may
+// have spaces after it.
 ghost use mathlib.Core.Path.{_≡_};
 ghost use Prim.Native.Nat.{_+_, _^_, _≤_, _<_};
 ghost use lib.ListN.{length, getD, drop};
 ghost use Rattle.bracket_text.specs.Text.{decimal, isHole, pieceText, taken, fill, placed, Written};
+ghost use Rattle.bracket_text.specs.Fixed.{lengthFrom, trimmed};
 ghost use Rattle.bracket_text.specs.Pen.{Put};
 ghost use Rattle.bracket_text.specs.Scan.{digitOf, digitsOn, numberOf, piece, matched, Reads, Moves, Matches};
 
@@ -21,6 +23,21 @@ enum Number {
 enum Place {
     At(usize, usize),
     Astray,
+}
+
+// The length of a template without the spaces after it.
+fn template_length(text: &[u8]) -> usize
+    ensures { λ r. ⌜ r ≡ lengthFrom (now (text .entry)) (length (now (text .entry))) ⌝ }
+{
+    let mut n = text.len();
+    while 0 < n {
+        let last = n - 1;
+        if text[last] != b' ' {
+            return n;
+        }
+        n = last;
+    }
+    0
 }
 
 // The value of a digit, and 10 for any other byte.
@@ -105,7 +122,7 @@ fn piece_at(line: &[u8], at: usize, byte: u8, count: usize, numbers: &mut [u32; 
 }
 
 // Whether a line is the text of a template. Then the numbers that stand for its `#`s are in `numbers`, in order.
-pub fn match_template(line: &[u8], template: &[u8], numbers: &mut [u32; 5]) -> bool
+fn match_template(line: &[u8], template: &[u8], numbers: &mut [u32; 5]) -> bool
     ensures { λ r. ⌜ Matches (matched (now (template .entry)) 0 (now (numbers .entry)) (now (line .entry))) r (now (numbers .exit)) ⌝ }
 {
     let mut at = 0;
@@ -124,6 +141,14 @@ pub fn match_template(line: &[u8], template: &[u8], numbers: &mut [u32; 5]) -> b
         i += 1;
     }
     at == line.len()
+}
+
+// The same of a template in a fixed byte string.
+pub fn match_text(line: &[u8], text: &[u8], numbers: &mut [u32; 5]) -> bool
+    ensures { λ r. ⌜ Matches (matched (trimmed (now (text .entry))) 0 (now (numbers .entry)) (now (line .entry))) r (now (numbers .exit)) ⌝ }
+{
+    let n = template_length(text);
+    match_template(line, &text[..n], numbers)
 }
 
 // Where the writing of a template goes on: the place in the buffer and the count of numbers written.
@@ -173,7 +198,7 @@ fn put_piece(buf: &mut [u8], pen: Pen, byte: u8, numbers: &[u32]) -> Pen
 }
 
 // Writes the text of a template with these numbers at the front of a buffer, and says its length.
-pub fn write_template(template: &[u8], numbers: &[u32], buf: &mut [u8]) -> usize
+fn write_template(template: &[u8], numbers: &[u32], buf: &mut [u8]) -> usize
     requires { ⌜ length (fill (now template) (now numbers)) ≤ length (now buf) ⌝ }
     ensures { λ r. ⌜ Written (fill (now (template .entry)) (now (numbers .entry))) (now (buf .entry)) r (now (buf .exit)) ⌝ }
 {
@@ -184,4 +209,13 @@ pub fn write_template(template: &[u8], numbers: &[u32], buf: &mut [u8]) -> usize
         i += 1;
     }
     pen.at
+}
+
+// The same of a template in a fixed byte string.
+pub fn write_text(text: &[u8], numbers: &[u32], buf: &mut [u8]) -> usize
+    requires { ⌜ length (fill (trimmed (now text)) (now numbers)) ≤ length (now buf) ⌝ }
+    ensures { λ r. ⌜ Written (fill (trimmed (now (text .entry))) (now (numbers .entry))) (now (buf .entry)) r (now (buf .exit)) ⌝ }
+{
+    let n = template_length(text);
+    write_template(&text[..n], numbers, buf)
 }

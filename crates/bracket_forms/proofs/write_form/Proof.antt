@@ -12,7 +12,7 @@ form-parts-requires c κs = search needs
 write-parts-requires : tie.Need-write-parts-requires
 write-parts-requires c κs =
     let s = form-stands (c .before .before .args .form) (c .before .form-parts .result) (c .before .form-parts .ensures) in
-    (s .below, omega (arith, s .short))
+    omega (arith, s .short)
 
 returns : tie.Need-returns
 returns c =

@@ -12,7 +12,7 @@ reply-parts-requires c κs = search needs
 write-parts-requires : tie.Need-write-parts-requires
 write-parts-requires c κs =
     let s = reply-stands (c .before .before .args .reply) (c .before .reply-parts .result) (c .before .reply-parts .ensures) in
-    (s .below, omega (arith, s .short))
+    omega (arith, s .short)
 
 returns : tie.Need-returns
 returns c =

@@ -3,11 +3,12 @@
 use mathlib.Core.Path.{_≡_, refl, sym, ap, _∙_}
 use mathlib.Core.List.{List, [], _∷_}
 use mathlib.Core.Bool.{Bool, true, false, _&&_}
-use Prim.Native.Nat.{ℕ, zero, suc, _+_, _<_, _≤_}
+use Prim.Native.Nat.{ℕ, _+_, _<_}
 use native.Mathlib.Omega.{arith}
 use lib.Dec.{T, eqb, ltb, eqb→eq, ltb→lt}
 use lib.ListN.{getD}
 use borrow.Author.Needs.{needs}
+use Rattle.rules.proofs.Arms.{NoneOf, past-all}
 use Rattle.rules.proofs.Table.{and-left, and-right, every-at}
 use Rattle.classes.specs.declared.SegmentShape.{SegmentShape}
 use Rattle.classes.specs.declared.ClassShape.the-variants.{Of, NoClass}
@@ -64,15 +65,6 @@ in-table k l =
 -- the same at an entry that is read by its number
 entry : {class : ℕ} (k : ℕ) → class ≡ firstClass + k → T (ltb k classCount) → Of (getD table k past) ≡ segmentShape segmentSize class
 entry k e l = in-table k (ltb→lt k classCount l) ∙ ap (segmentShape segmentSize) (sym e)
-
--- a number is none of the n from a on, as a `match` says it
-abbrev NoneOf : ℕ → ℕ → ℕ → Type 0
-NoneOf a zero x = Unit {0}
-NoneOf a (suc n) x = NoneOf a n x × (x ≡ a + n → ⊥)
-
-past-all : (a n x : ℕ) → NoneOf a n x → a ≤ x → a + n ≤ x
-past-all a zero x t l = omega arith
-past-all a (suc n) x t l = let h = past-all a n x (t .0) l in let differs = t .1 in omega arith
 
 no-entry : (class : ℕ) → NoneOf firstClass classCount class → NoClass ≡ segmentShape segmentSize class
 no-entry class none = go (classTest class) refl
