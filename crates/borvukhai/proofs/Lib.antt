@@ -1,3 +1,4 @@
 -- Laws of packed answers.
 pub mod Unpacked
 pub mod Lengths
+pub mod UnpackedStep

@@ -3,20 +3,24 @@ use mathlib.Core.Path.{_≡_, refl, sym, _∙_, ap, subst}
 use mathlib.Core.Bool.{Bool, true, false}
 use mathlib.Core.Option.{none, some, Option·some-injective}
 use mathlib.Core.List.{List}
-use Prim.Native.Nat.{ℕ, zero, suc, _*_, _/_, _%_}
+use Prim.Native.Nat.{ℕ, zero, suc, _+_, _*_, _/_, _%_, _<_}
 use native.Mathlib.Omega.{arith}
 use lib.ListN.{length}
+use Rattle.classes.specs.Record.{pointerCountOf, valueCountOf}
 use Rattle.layout.specs.declared.Geometry.{Geometry}
 use Rattle.layout.specs.Geometry.{wrongSize}
+use Rattle.layout.specs.Mem.{Mem}
 use Rattle.theory.specs.Calls.{Call}
 use Rattle.theory.proofs.Invariant.{none-some}
 use Rattle.model.specs.declared.Answer.{Answer}
 use Rattle.model.specs.declared.Answer.the-variants.{Ok, Number, Same, Shape, Refused}
-use Rattle.model.specs.Answers.{answerOf, refusalIn, refusalOf, IsOk, IsNumber, IsFlag, ResultOf}
-use Rattle.model.specs.Promise.{Promise, OpenPromise}
-use Rattle.model.proofs.Numbers.{OfTable, may-table}
+use Rattle.model.specs.Records.{halfWord, headerWord}
+use Rattle.model.specs.Answers.{answerOf, refusalIn, refusalOf, IsOk, IsNumber, IsFlag, IsRecordShape, ResultOf, among, startMayGive}
+use Rattle.model.specs.Promise.{Keeps, Promise, OpenPromise, StartPromise}
+use Rattle.model.proofs.Numbers.{OfTable, among-table, may-table}
+use Rattle.laws.proofs.Headers.{shape-halves}
 use Rattle.theory.specs.Calls as theory
-use Rattle.borvukhai.specs.Packed.{upper, pack, packValue, unpack, unpackNumber, unpackSame}
+use Rattle.borvukhai.specs.Packed.{upper, pack, packValue, unpack, unpackNumber, unpackSame, unpackShape}
 
 -- an answer of a kind, or refused with a number of the table
 pub record Kind (Result : theory.Answer → Type 0) (a : Answer) : Type 0 where
@@ -51,23 +55,49 @@ unpacked-same (Shape s) k = let e = k .kind refl .1 in cc
 unpacked-same (Refused zero) k = absurd (let z = k .number 0 refl .0 in omega arith)
 unpacked-same (Refused (suc n)) k = let l = k .number (suc n) refl .1 in let e : suc n / upper ≡ 0 = omega arith in let f : suc n % upper ≡ suc n = omega arith in rw (e, f) refl
 
+pub unpacked-shape : (a : Answer) → Kind IsRecordShape a → unpackShape (packValue a) ≡ a
+unpacked-shape Ok k = let e = k .kind refl .1 in cc
+unpacked-shape (Number v) k = let e = k .kind refl .1 in cc
+unpacked-shape (Same b) k = let e = k .kind refl .1 in cc
+unpacked-shape (Shape s) k =
+    let q = k .kind refl in
+    let z : s ≡ q .0 = cc in
+    let p : pointerCountOf s < halfWord = rw z (q .2 .0) in
+    let n : valueCountOf s < halfWord = rw z (q .2 .1) in
+    let e : (pointerCountOf s % halfWord * halfWord + valueCountOf s % halfWord) * upper / upper ≡ headerWord s = omega arith in
+    let f : (pointerCountOf s % halfWord * halfWord + valueCountOf s % halfWord) * upper % upper ≡ 0 = omega arith in
+    rw (e, f) (ap Shape (shape-halves s (p, n)))
+unpacked-shape (Refused zero) k = absurd (let z = k .number 0 refl .0 in omega arith)
+unpacked-shape (Refused (suc n)) k = let l = k .number (suc n) refl .1 in let e : suc n / upper ≡ 0 = omega arith in let f : suc n % upper ≡ suc n = omega arith in rw (e, f) refl
+
 -- ---- the promise of what is unpacked
 
+module _ {Result : Geometry → theory.Answer → Type 0} {may : List ℕ} {does : Geometry → Mem → theory.Answer × Mem} (g′ g : Geometry) (xs ys : List ℕ) (a : Answer) (same : g′ ≡ g)
+    (p : Keeps answerOf Result may does g′ xs a ys) (table : (n : ℕ) → among n may ≡ true → OfTable n) where
+  kind-of : (Sort : theory.Answer → Type 0) → (Result g′ (answerOf a) → Sort (answerOf a)) → Kind Sort a
+  kind-of Sort f = record { kind = λ n. f (p .kind n); number = λ n i. table n (p .allowed n i) }
+
+  carried : (r : Answer) → r ≡ a → Keeps answerOf Result may does g xs r ys
+  carried r e = subst (λ z. Keeps answerOf Result may does z xs r ys) same (subst (λ z. Keeps answerOf Result may does g′ xs z ys) (sym e) p)
+
+  exports-by : (Sort : theory.Answer → Type 0) (unpacks : ℕ → Answer) (packs : Answer → ℕ) → (Kind Sort a → unpacks (packs a) ≡ a) → (Result g′ (answerOf a) → Sort (answerOf a)) → (n : ℕ) → n ≡ packs a → Keeps answerOf Result may does g xs (unpacks n) ys
+  exports-by Sort unpacks packs back k n e = carried (unpacks n) (ap unpacks e ∙ back (kind-of Sort k))
+
 module _ (c : Call) (g′ g : Geometry) (xs ys : List ℕ) (a : Answer) (same : g′ ≡ g) (p : Promise c g′ xs a ys) where
-  kind-of : (Result : theory.Answer → Type 0) → (ResultOf c (answerOf a) → Result (answerOf a)) → Kind Result a
-  kind-of Result f = record { kind = λ n. f (p .kind n); number = λ n i. may-table n c (p .allowed n i) }
-
-  carried : (r : Answer) → r ≡ a → Promise c g xs r ys
-  carried r e = subst (λ z. Promise c z xs r ys) same (subst (λ z. Promise c g′ xs z ys) (sym e) p)
-
   pub exports : (n : ℕ) → n ≡ pack a → (ResultOf c (answerOf a) → IsOk (answerOf a)) → Promise c g xs (unpack n) ys
-  exports n e k = carried (unpack n) (ap unpack e ∙ unpacked a (kind-of IsOk k))
+  exports n e k = exports-by g′ g xs ys a same p (λ i. may-table i c) IsOk unpack pack (unpacked a) k n e
 
   pub exports-number : (n : ℕ) → n ≡ packValue a → (ResultOf c (answerOf a) → IsNumber (answerOf a)) → Promise c g xs (unpackNumber n) ys
-  exports-number n e k = carried (unpackNumber n) (ap unpackNumber e ∙ unpacked-number a (kind-of IsNumber k))
+  exports-number n e k = exports-by g′ g xs ys a same p (λ i. may-table i c) IsNumber unpackNumber packValue (unpacked-number a) k n e
 
   pub exports-same : (n : ℕ) → n ≡ packValue a → (ResultOf c (answerOf a) → IsFlag (answerOf a)) → Promise c g xs (unpackSame n) ys
-  exports-same n e k = carried (unpackSame n) (ap unpackSame e ∙ unpacked-same a (kind-of IsFlag k))
+  exports-same n e k = exports-by g′ g xs ys a same p (λ i. may-table i c) IsFlag unpackSame packValue (unpacked-same a) k n e
+
+  pub exports-shape : (n : ℕ) → n ≡ packValue a → (ResultOf c (answerOf a) → IsRecordShape (answerOf a)) → Promise c g xs (unpackShape n) ys
+  exports-shape n e k = exports-by g′ g xs ys a same p (λ i. may-table i c) IsRecordShape unpackShape packValue (unpacked-shape a) k n e
+
+pub exports-start : (g′ g : Geometry) (xs ys : List ℕ) (a : Answer) → g′ ≡ g → StartPromise g′ xs a ys → (n : ℕ) → n ≡ pack a → StartPromise g xs (unpack n) ys
+exports-start g′ g xs ys a same p n e = exports-by g′ g xs ys a same p (λ i. among-table i startMayGive tt) IsOk unpack pack (unpacked a) (λ k. k) n e
 
 -- an opening answers ok, or 1
 pub exports-open : (g′ g : Geometry) (xs ys : List ℕ) (a : Answer) → g′ ≡ g → OpenPromise g′ xs a ys → (n : ℕ) → n ≡ pack a → OpenPromise g xs (unpack n) ys

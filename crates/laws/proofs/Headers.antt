@@ -12,15 +12,18 @@ use Rattle.model.specs.Records.{halfWord, InHalves, headerWord, headerShape, sh
 pub shape-by : (m m′ : Mem) (x : ℕ) → heapWord m′ x ≡ heapWord m x → shapeOf m′ x ≡ shapeOf m x
 shape-by m m′ x e = ap headerShape e
 
--- a shape that has a class, and so few fields
-pub shape-written : (s : RecordShape) (c : ℕ) → classOfRecord s ≡ Class c → headerShape (headerWord s) ≡ s
+-- a record that has a class, and so few fields, fits a header
+pub class-halves : (s : RecordShape) (c : ℕ) → classOfRecord s ≡ Class c → InHalves s
+class-halves s c e = let l = class-most (fieldCountOf s) c e in (omega arith, omega arith)
+
+pub shape-halves : (s : RecordShape) → InHalves s → headerShape (headerWord s) ≡ s
 unfolding headerShape
-shape-written s c e =
-    let l = class-most (fieldCountOf s) c e in
+shape-halves s h =
+    let a = h .0 in
+    let b = h .1 in
     let p : headerWord s / halfWord ≡ pointerCountOf s = omega arith in
     let n : headerWord s % halfWord ≡ valueCountOf s = omega arith in
     λ i. ofCounts (p i) (n i)
 
--- a record that has a class fits a header
-pub class-halves : (s : RecordShape) (c : ℕ) → classOfRecord s ≡ Class c → InHalves s
-class-halves s c e = let l = class-most (fieldCountOf s) c e in (omega arith, omega arith)
+pub shape-written : (s : RecordShape) (c : ℕ) → classOfRecord s ≡ Class c → headerShape (headerWord s) ≡ s
+shape-written s c e = shape-halves s (class-halves s c e)

@@ -14,7 +14,7 @@ ghost use Rattle.records.specs.FieldWords.{heldOf, ShapeRead, pointerAt,
 ghost use Rattle.layout.specs.Region as Region;
 
 // A header word has the pointers' count in its upper half, and the values' in its lower.
-const HALF_WORD: u32 = 65536;
+pub const HALF_WORD: u32 = 65536;
 
 // The word of a field in the heap, or a refusal's number.
 pub enum FieldAt {
