@@ -42,18 +42,22 @@ unpacked-step : (a : Step) → Small a → unpackStep (packStep a) ≡ a
 unpacked-step step.Idle k = refl
 unpacked-step (step.Waiting n) k =
     let z : n % 256 ≡ n = omega arith in
-    let x : (1 + n % 256 * 256) % 256 ≡ 1 = omega arith in
-    let y : (1 + n % 256 * 256) / 256 % 256 ≡ n = omega arith in
-    by-parts (step.Waiting n) (1 + n % 256 * 256) refl (rw (x, y) refl)
+    let x : (1 + n * 256) % 256 ≡ 1 = omega arith in
+    let d : (1 + n * 256) / 256 ≡ n = omega arith in
+    by-parts (step.Waiting n) (1 + n * 256) (ap (λ v. (1 + v * 256) * upper) z) (rw (x, d, z) refl)
 unpacked-step step.Moved k = refl
 unpacked-step step.Traced k = refl
 unpacked-step (step.Swept s f) k =
     let l = k .0 in
     let h = k .1 in
-    let x : (4 + s % 256 * 256 + f % 65536 * 65536) % 256 ≡ 4 = omega arith in
-    let y : (4 + s % 256 * 256 + f % 65536 * 65536) / 256 % 256 ≡ s = omega arith in
-    let w : (4 + s % 256 * 256 + f % 65536 * 65536) / 65536 ≡ f = omega arith in
-    by-parts (step.Swept s f) (4 + s % 256 * 256 + f % 65536 * 65536) refl (rw (x, y, w) refl)
+    let u : s % 256 ≡ s = omega arith in
+    let v : f % 65536 ≡ f = omega arith in
+    let e : 4 + s % 256 * 256 + f % 65536 * 65536 ≡ 4 + s * 256 + f * 65536 = rw (u, v) refl in
+    let x : (4 + s * 256 + f * 65536) % 256 ≡ 4 = omega arith in
+    let d : (4 + s * 256 + f * 65536) / 256 ≡ s + f * 256 = omega arith in
+    let y : (4 + s * 256 + f * 65536) / 256 % 256 ≡ s = rw d (omega arith) in
+    let w : (4 + s * 256 + f * 65536) / 65536 ≡ f = omega arith in
+    by-parts (step.Swept s f) (4 + s * 256 + f * 65536) (ap (λ z. z * upper) e) (rw (x, y, w) refl)
 unpacked-step step.Done k = refl
 unpacked-step (step.Refused zero) k = absurd (let l = k .0 in omega arith)
 unpacked-step (step.Refused (suc n)) k =

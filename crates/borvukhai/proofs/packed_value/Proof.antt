@@ -1,7 +1,7 @@
 -- `borvukhai::packed_value` meets its contract. Assumes nothing.
 use mathlib.Core.Path.{sym, ap}
-use borrow.Author.Needs.{needs}
 use Rattle.borvukhai.specs.Packed.{packValue}
+use borrow.Author.Needs.{needs}
 use Rattle.borvukhai.proofs.packed_value.Statement.{statement}
 use Rattle.borvukhai.proofs.packed_value.Tie as tie
 
@@ -23,11 +23,23 @@ enum-known-a-2 c = search needs
 enum-known-a-3 : tie.Need-enum-known-a-3
 enum-known-a-3 c = search needs
 
-enum-known-a-4 : tie.Need-enum-known-a-4
-enum-known-a-4 c = search needs
+mul-result-2 : tie.Need-mul-result-2
+mul-result-2 c = search needs
+
+add-result : tie.Need-add-result
+add-result c = search needs
 
 cast-result-2 : tie.Need-cast-result-2
 cast-result-2 c = search needs
+
+mul-result-3 : tie.Need-mul-result-3
+mul-result-3 c = search needs
+
+enum-known-a-4 : tie.Need-enum-known-a-4
+enum-known-a-4 c = search needs
+
+cast-result-3 : tie.Need-cast-result-3
+cast-result-3 c = search needs
 
 returns : tie.Need-returns
 returns c = search needs
@@ -42,7 +54,7 @@ returns-4 : tie.Need-returns-4
 returns-4 c = search needs
 
 returns-5 : tie.Need-returns-5
-returns-5 c = search needs
+returns-5 c = sym (ap packValue (c .before .before .before .a3 .given .1))
 
 returns-6 : tie.Need-returns-6
 returns-6 c = search needs
@@ -57,8 +69,12 @@ packed-value-spec =
     mul-result
     enum-known-a-2
     enum-known-a-3
-    enum-known-a-4
+    mul-result-2
+    add-result
     cast-result-2
+    mul-result-3
+    enum-known-a-4
+    cast-result-3
     returns
     returns-2
     returns-3
