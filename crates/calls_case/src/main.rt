@@ -128,14 +128,18 @@ fn fill(mem: &mut [u32]) {
     clear(mem, 2);
 }
 
-// A cycle from its start to its end.
-fn collect(mem: &mut [u32]) {
+// A cycle begins: both handshakes.
+fn begin(mem: &mut [u32]) {
     say(starting::start(heap(), mem));
     step(mem);
     check(mem);
     step(mem);
     check(mem);
     step(mem);
+}
+
+// It marks and sweeps, to its end.
+fn collect(mem: &mut [u32]) {
     step(mem);
     step(mem);
     step(mem);
@@ -168,6 +172,7 @@ fn look_back(mem: &mut [u32]) {
 fn main() {
     let mut mem = [3735928559u32; 13745];
     fill(&mut mem);
+    begin(&mut mem);
     collect(&mut mem);
     look_back(&mut mem);
 }

@@ -98,15 +98,15 @@ fn request_of(kind: u32, d: Dice) -> Request {
     let d1 = d.next();
     let d2 = d1.next();
     let d3 = d2.next();
-    let mutator = d.argument(5);
-    let a = d1.argument(18);
-    let b = d2.argument(18);
-    let c = d3.argument(700);
+    let mutator = d.argument(2);
+    let a = d1.argument(5);
+    let b = d2.argument(5);
+    let c = d3.argument(100);
     match kind {
         0 => Request::Attach { mutator },
         1 => Request::Spawn {
             new: mutator,
-            parent: d1.argument(5),
+            parent: d1.argument(2),
             root: b,
         },
         2 => Request::Detach { mutator },
@@ -116,7 +116,7 @@ fn request_of(kind: u32, d: Dice) -> Request {
         6 => Request::Make {
             mutator,
             root: a,
-            pointers: b,
+            pointers: 500 + b % 8,
             values: c,
         },
         7 => Request::Load {
@@ -264,22 +264,27 @@ fn call(mem: &mut [u32], segments: u32, kind: u32, d: Dice) {
     say_step(segments, stepping::step(g, mem));
 }
 
-// A word of the slice set, or a bit of it changed.
-fn change(mem: &mut [u32], d: Dice) {
-    let n = mem.len();
-    if n == 0 {
-        return;
+// A word below 7, or the word with one bit changed.
+fn changed(w: u32, d: Dice) -> u32 {
+    if d.x / 256 % 4 == 0 {
+        return d.next().below(7);
     }
-    let e = d.next();
-    let i = (d.x / 16) as usize % n;
-    if e.x / 256 % 4 == 0 {
-        mem[i] = e.next().below(7);
-        return;
-    }
-    mem[i] = mem[i] ^ 1u32 << (e.x / 65536 % 32);
+    w ^ 1u32 << (d.x / 65536 % 32)
 }
 
-// A slice and a count of their sizes, or now and then of others.
+// A word of the slice changed, where `torn` says so.
+fn change(mem: &mut [u32], d: Dice, torn: bool) {
+    if !torn {
+        return;
+    }
+    let i = (d.x / 16) as usize % 7391;
+    if i < mem.len() {
+        let w = mem[i];
+        mem[i] = changed(w, d.next());
+    }
+}
+
+// A call over a slice and a count of their sizes, or now and then of others.
 fn round(mem: &mut [u32], d: Dice, kind: u32) {
     let e = d.next();
     if e.x / 4096 % 23 == 0 {
@@ -297,53 +302,80 @@ fn round(mem: &mut [u32], d: Dice, kind: u32) {
     call(mem, 1, kind, e);
 }
 
-// Every word from the dice: any word, or one below 7.
+// A word from the dice: any, or one below 7.
+fn filling(d: Dice, small: bool) -> u32 {
+    if small {
+        return d.below(7);
+    }
+    d.x
+}
+
 fn fill(mem: &mut [u32], d: Dice, small: bool) {
     let mut e = d;
     let mut i = 0;
     while i < mem.len() {
         e = e.next();
-        if small {
-            mem[i] = e.below(7);
-        } else {
-            mem[i] = e.x;
-        }
+        mem[i] = filling(e, small);
         i += 1;
     }
 }
 
-// So many calls, each after a change of a word where `torn` says so.
+// The kind of a call: enters, makes, starts, checks and steps more often than others, and no opening.
+fn kind_of(n: u32) -> u32 {
+    match n {
+        16 => 0,
+        4 | 18 | 19 => 5,
+        20..=23 => 6,
+        24 => 7,
+        25 => 8,
+        26 | 27 => 15,
+        28..=31 => 3,
+        32 => 4,
+        33..=39 => 17,
+        _ => n,
+    }
+}
+
+// A call, after a change of a word where `torn` says so.
+fn turn(mem: &mut [u32], d: Dice, torn: bool) {
+    change(mem, d.next(), torn);
+    round(mem, d, kind_of(d.below(40)));
+}
+
+// So many calls, on a line.
 fn play(mem: &mut [u32], d: Dice, rounds: u32, torn: bool) {
     let mut e = d;
     let mut i: u32 = 0;
     while i < rounds {
         e = e.next();
-        if torn {
-            change(mem, e.next());
-        }
-        let kind = e.below(19);
-        if kind != 16 {
-            round(mem, e, kind);
-        }
+        turn(mem, e, torn);
         i += 1;
     }
     word(b"\n");
 }
 
-fn main() {
-    let mut mem = [0u32; 7391];
+// Random words; small words, changed further; an opened heap in use, and then changed.
+fn game(mem: &mut [u32], d: Dice) {
+    fill(mem, d, false);
+    play(mem, d, 40, false);
+    fill(mem, d, true);
+    play(mem, d, 40, true);
+    call(mem, 1, 16, d);
+    play(mem, d, 160, false);
+    play(mem, d, 80, true);
+}
+
+fn games(mem: &mut [u32]) {
     let mut d = Dice { x: 2463534242 };
     let mut i: u32 = 0;
     while i < 20 {
         d = d.next();
-        fill(&mut mem, d, false);
-        play(&mut mem, d, 40, false);
-        fill(&mut mem, d, true);
-        play(&mut mem, d, 40, true);
-        fill(&mut mem, d, true);
-        call(&mut mem, 1, 16, d);
-        play(&mut mem, d, 60, false);
-        play(&mut mem, d, 60, true);
+        game(mem, d);
         i += 1;
     }
+}
+
+fn main() {
+    let mut mem = [0u32; 7391];
+    games(&mut mem);
 }
