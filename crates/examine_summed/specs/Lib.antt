@@ -1,0 +1,2 @@
+-- The stacks as the examination goes through them.
+pub mod Stacked

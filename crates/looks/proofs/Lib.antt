@@ -1,0 +1,3 @@
+-- Laws of the two looks, one return at a time.
+pub mod Looking
+pub mod Copying

@@ -1,0 +1,2 @@
+-- What the look at the states asks of a record.
+pub mod Plausible
