@@ -1,0 +1,5 @@
+-- The laws of the search over the heap. Assumes nothing.
+pub mod Testing
+pub mod Steps
+pub mod Rooting
+pub mod Finding

@@ -1,0 +1,29 @@
+-- `searching::follow_mutator` meets its contract. Assumes nothing.
+use mathlib.Core.Path.{refl, subst}
+use Rattle.layout.specs.Mem.{memOf}
+use Rattle.searching.specs.declared.Met.{Met}
+use Rattle.searching.specs.Scratch.{Ready}
+use borrow.Author.Needs.{needs}
+use Rattle.searching.proofs.follow_mutator.Tie as tie
+use Rattle.searching.proofs.follow_mutator.Statement.{statement}
+
+enum-told : tie.Need-enum-told
+enum-told c = search needs
+
+enum-known-met : tie.Need-enum-known-met
+enum-known-met c = search needs
+
+mutator-at-requires : tie.Need-mutator-at-requires
+mutator-at-requires c κs = let a = c .before .before .before .before .before .before in (a .pre .0, subst (λ (x : Met). Ready (a .args .g) (memOf (a .args .g) (a .args .mem .now)) (a .args .scratch .now) x) (c .before .before .met .given .1) (a .pre .1), a .pre .2)
+
+returns : tie.Need-returns
+returns c = rw (c .enum-told .given .1) refl
+
+same-length : tie.Need-same-length
+same-length c = search needs
+
+returns-2 : tie.Need-returns-2
+returns-2 c = rw (c .before .before .before .before .before .met .given .1) (c .before .before .mutator-at .ensures)
+
+pub follow-mutator-spec : {M : Type 1} → statement M
+follow-mutator-spec = tie.close (tie.spec enum-told enum-known-met mutator-at-requires returns same-length returns-2)

@@ -1,0 +1,50 @@
+-- `searching::is_used` meets its contract. Assumes nothing.
+use Rattle.layout.specs.Mem.{memOf}
+use Rattle.layout.proofs.Sizes.{most-small}
+use Rattle.searching.proofs.Testing.{used-before, used-by, lent, lent-room}
+use native.Mathlib.Omega.{arith}
+use borrow.Author.Needs.{needs}
+use Rattle.searching.proofs.is_used.Tie as tie
+use Rattle.searching.proofs.is_used.Statement.{statement}
+
+place-requires : tie.Need-place-requires
+place-requires c κs = search needs
+
+cast-if1 : tie.Need-cast-if1
+cast-if1 c = search needs
+
+returns : tie.Need-returns
+returns c = let a = c .before .before .before in used-before (a .args .g) (memOf (a .args .g) (a .args .mem .now)) (a .args .s) (a .args .b) _ (c .before .place .ensures) (c .if1 .taken)
+
+bitmap-from-requires : tie.Need-bitmap-from-requires
+bitmap-from-requires c κs = search needs
+
+add-bitmap-from : tie.Need-add-bitmap-from
+add-bitmap-from c = search needs
+
+bitmap-from-requires-2 : tie.Need-bitmap-from-requires-2
+bitmap-from-requires-2 c κs = search needs
+
+mul-bit-at : tie.Need-mul-bit-at
+mul-bit-at c = let a = c .before .before .before .before .before in let t = lent (a .args .g) (a .args .mem .now) (a .pre .0) (a .args .s) (a .pre .1) (c .before .bitmap-from .result) (c .bitmap-from2 .result) (c .before .bitmap-from .ensures) (c .bitmap-from2 .ensures) in omega (arith, t .ends, t .within, a .good .0 .1)
+
+sub-bit-at : tie.Need-sub-bit-at
+sub-bit-at c = search needs
+
+part-bit-at-start : tie.Need-part-bit-at-start
+part-bit-at-start c = search needs
+
+part-bit-at-end : tie.Need-part-bit-at-end
+part-bit-at-end c = let a = c .before .before .before .before .before in lent (a .args .g) (a .args .mem .now) (a .pre .0) (a .args .s) (a .pre .1) (c .before .bitmap-from .result) (c .bitmap-from2 .result) (c .before .bitmap-from .ensures) (c .bitmap-from2 .ensures) .within
+
+cast-bit-at : tie.Need-cast-bit-at
+cast-bit-at c = omega (arith, most-small (c .before .before .before .before .before .before .args .g), c .before .before .before .before .before .before .pre .2)
+
+bit-at-requires : tie.Need-bit-at-requires
+bit-at-requires c κs = let a = c .before .before .before .before .before .before in lent-room (a .args .g) (a .args .mem .now) (a .pre .0) (a .args .s) (a .pre .1) (c .before .before .bitmap-from .result) (c .before .bitmap-from2 .result) (c .before .before .bitmap-from .ensures) (c .before .bitmap-from2 .ensures) (a .args .b) (a .pre .2)
+
+returns-2 : tie.Need-returns-2
+returns-2 c = let a = c .before .before .before .before .before .before .before in used-by (a .args .g) (memOf (a .args .g) (a .args .mem .now)) (a .args .s) (a .args .b) _ (c .before .before .before .before .before .place .ensures) (c .before .before .before .before .if1 .left) _ (rw (lent (a .args .g) (a .args .mem .now) (a .pre .0) (a .args .s) (a .pre .1) (c .before .before .before .bitmap-from .result) (c .before .before .bitmap-from2 .result) (c .before .before .before .bitmap-from .ensures) (c .before .before .bitmap-from2 .ensures) .is) at (c .bit-at .ensures))
+
+pub is-used-spec : {M : Type 1} → statement M
+is-used-spec = tie.close (tie.spec place-requires cast-if1 returns bitmap-from-requires add-bitmap-from bitmap-from-requires-2 mul-bit-at sub-bit-at part-bit-at-start part-bit-at-end cast-bit-at bit-at-requires returns-2)

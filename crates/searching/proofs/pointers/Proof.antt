@@ -1,0 +1,33 @@
+-- `searching::pointers` meets its contract. Assumes nothing.
+use mathlib.Core.Path.{_∙_, ap, refl, sym}
+use Rattle.classes.specs.Record.{pointerCountOf}
+use borrow.Author.Needs.{needs}
+use Rattle.searching.proofs.pointers.Tie as tie
+use Rattle.searching.proofs.pointers.Statement.{statement}
+
+shape-requires : tie.Need-shape-requires
+shape-requires c κs = (c .before .pre .0, c .before .pre .1 .inside)
+
+cast-n : tie.Need-cast-n
+cast-n c = search needs
+
+enum-told : tie.Need-enum-told
+enum-told c = search needs
+
+enum-told-2 : tie.Need-enum-told-2
+enum-told-2 c = search needs
+
+is-marked-requires : tie.Need-is-marked-requires
+is-marked-requires c κs = search needs
+
+returns : tie.Need-returns
+returns c = rw (c .before .before .enum-told2 .given .1, sym (c .before .is-marked .ensures) ∙ c .if1 .taken) refl
+
+returns-2 : tie.Need-returns-2
+returns-2 c = rw (c .enum-told .given .1) (ap pointerCountOf (c .before .before .before .shape .ensures .shape))
+
+returns-3 : tie.Need-returns-3
+returns-3 c = rw (c .before .before .enum-told2 .given .1, sym (c .before .is-marked .ensures) ∙ c .if1 .left) (ap pointerCountOf (c .before .before .before .before .before .shape .ensures .shape))
+
+pub pointers-spec : {M : Type 1} → statement M
+pointers-spec = tie.close (tie.spec shape-requires cast-n enum-told enum-told-2 is-marked-requires returns returns-2 returns-3)

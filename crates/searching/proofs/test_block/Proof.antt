@@ -1,0 +1,45 @@
+-- `searching::test_block` meets its contract. Assumes nothing.
+use Rattle.layout.specs.Mem.{memOf}
+use Rattle.classes.proofs.Filling.{two-words}
+use Rattle.rules.proofs.Deciding.{refuted}
+use Rattle.searching.proofs.Testing.{head-block, head-segment, not-head, not-used, not-sized, passes}
+use native.Mathlib.Omega.{arith}
+use borrow.Author.Needs.{needs}
+use Rattle.searching.proofs.test_block.Tie as tie
+use Rattle.searching.proofs.test_block.Statement.{statement}
+
+offset-of-requires : tie.Need-offset-of-requires
+offset-of-requires c κs = search needs
+
+block-words-requires : tie.Need-block-words-requires
+block-words-requires c κs = c .before .before .pre .3 .class
+
+rem-if1 : tie.Need-rem-if1
+rem-if1 c = let l = two-words _ (c .before .before .before .pre .3 .class) in let e = c .block-words .ensures in omega arith
+
+returns : tie.Need-returns
+returns c = not-head _ _ _ _ _ (c .before .before .before .before .pre .2) (c .before .before .before .before .pre .3) _ _ (c .before .before .offset-of .ensures) (c .before .block-words .ensures) (c .if1 .taken)
+
+div-b : tie.Need-div-b
+div-b c = let l = two-words _ (c .before .before .before .before .pre .3 .class) in let e = c .before .block-words .ensures in omega arith
+
+is-used-requires : tie.Need-is-used-requires
+is-used-requires c κs = let a = c .before .before .before .before in (a .pre .0, head-segment _ (memOf (a .args .g) (a .args .mem .now)) _ _ _ (a .pre .2) (a .pre .3) _ _ (c .before .before .offset-of .ensures) (c .before .block-words .ensures) (a .pre .1), head-block _ (memOf (a .args .g) (a .args .mem .now)) _ _ _ (a .pre .2) (a .pre .3) _ _ (c .before .before .offset-of .ensures) (c .before .block-words .ensures))
+
+is-of-class-requires : tie.Need-is-of-class-requires
+is-of-class-requires c κs = (c .before .before .before .before .before .before .pre .0, c .before .before .before .before .before .before .pre .1)
+
+bit-in-requires : tie.Need-bit-in-requires
+bit-in-requires c κs = let a = c .before .before .before .before .before .before .before .before in let l = head-segment _ (memOf (a .args .g) (a .args .mem .now)) _ _ _ (a .pre .2) (a .pre .3) _ _ (c .before .before .before .before .before .before .offset-of .ensures) (c .before .before .before .before .before .block-words .ensures) (a .pre .1) in (omega (arith, a .pre .0 .few), head-block _ (memOf (a .args .g) (a .args .mem .now)) _ _ _ (a .pre .2) (a .pre .3) _ _ (c .before .before .before .before .before .before .offset-of .ensures) (c .before .before .before .before .before .block-words .ensures))
+
+returns-2 : tie.Need-returns-2
+returns-2 c = let a = c .before .before .before .before .before .before .before .before .before in passes _ _ _ _ _ (a .pre .2) (a .pre .3) _ _ (c .before .before .before .before .before .before .before .offset-of .ensures) (c .before .before .before .before .before .before .block-words .ensures) (a .pre .1) (c .before .before .before .before .before .if1 .left) (c .before .before .before .before .is-used .ensures .sound (c .before .before .before .if2 .taken)) (c .before .before .is-of-class .ensures .sound (c .before .if3 .taken)) _ (c .bit-in .ensures)
+
+returns-3 : tie.Need-returns-3
+returns-3 c = let a = c .before .before .before .before .before .before .before .before in not-sized _ _ _ _ _ (a .pre .2) (a .pre .3) _ _ (c .before .before .before .before .before .before .offset-of .ensures) (c .before .before .before .before .before .block-words .ensures) (refuted (c .before .is-of-class .ensures) (c .if3 .left))
+
+returns-4 : tie.Need-returns-4
+returns-4 c = let a = c .before .before .before .before .before .before in not-used _ _ _ _ _ (a .pre .2) (a .pre .3) _ _ (c .before .before .before .before .offset-of .ensures) (c .before .before .before .block-words .ensures) (refuted (c .before .is-used .ensures) (c .if2 .left))
+
+pub test-block-spec : {M : Type 1} → statement M
+test-block-spec = tie.close (tie.spec offset-of-requires block-words-requires rem-if1 returns div-b is-used-requires is-of-class-requires bit-in-requires returns-2 returns-3 returns-4)

@@ -1,0 +1,87 @@
+-- The heap as a graph: its nodes are the records that pass the test, each placed at its bit; its edges are pointers, all of them or those of unmarked
+-- records only; and the runs of words that name records.
+use mathlib.Core.Path.{_≡_}
+use mathlib.Core.List.{List}
+use mathlib.Core.Logic.{_⊎_}
+use Prim.Native.Nat.{ℕ, suc, _+_, _*_, _≤_, _<_}
+use lib.ListN.{getD}
+use Rattle.rules.specs.Pick.{pick}
+use Rattle.classes.specs.Class.{IsClass}
+use Rattle.layout.specs.declared.Geometry.{Geometry}
+use Rattle.layout.specs.Geometry.{mostBlocks, len, mutatorWords, rootCount}
+use Rattle.layout.specs.Mem.{Mem}
+use Rattle.model.specs.Fields.{traceCount, absent, state, tag, class}
+use Rattle.model.specs.Records.{pointerCount, recordBit}
+use Rattle.model.specs.Reaching.{isMarked}
+use Rattle.model.specs.Consistent.{RecordOk}
+use Rattle.tracing.specs.declared.Bit.{Bit}
+use Rattle.tracing.specs.declared.Bit.the-variants.{At, Torn}
+use Rattle.walk.specs.Walk.{State, Nodes, Seen, Graph}
+use Rattle.searching.specs.declared.Edges.{Edges}
+use Rattle.searching.specs.declared.Edges.the-variants.{All, Unmarked}
+use Rattle.searching.specs.declared.Source.{Source}
+use Rattle.searching.specs.declared.Source.the-variants.{Roots, Pointers, Entries}
+use Rattle.layout.specs.Region as Region
+use Rattle.model.specs.Tag as Tag
+
+abbrev pub recordsOf : Geometry → Mem → Nodes
+recordsOf g m = record { size = g .segments * mostBlocks g; Ok = RecordOk g m; place = recordBit g m }
+
+-- segment s is in use and of class c
+pub record Classed (m : Mem) (s c : ℕ) : Type 0 where
+  pub is : c ≡ class m s
+  pub class : IsClass c
+  pub used : tag m s ≡ Tag.free → ⊥
+
+-- what the test of a word answers: the bit of a record that passes, or that there is none
+abbrev pub Tested : Geometry → Mem → ℕ → Bit → Type 0
+Tested g m at (At k) = RecordOk g m at × (k ≡ recordBit g m at)
+Tested g m at Torn = RecordOk g m at → ⊥
+
+-- how many pointers of a record are followed: all of them, or, of a marked record, none
+abbrev pub followed : Edges → Geometry → Mem → ℕ → ℕ
+followed All g m at = pointerCount m at
+followed Unmarked g m at = pick (isMarked g m at) 0 (pointerCount m at)
+
+-- where words that name records are read, and how many there are
+abbrev pub wordsOf : Source → Mem → List ℕ
+wordsOf Roots m = m .mutators
+wordsOf Pointers m = m .heap
+wordsOf Entries m = m .trace
+
+abbrev pub lengthOf : Source → Geometry → ℕ
+lengthOf Roots g = len g Region.mutators
+lengthOf Pointers g = len g Region.heap
+lengthOf Entries g = len g Region.trace
+
+-- among count words from a word on one names the record at x
+pub record InRun (ws : List ℕ) (from count x : ℕ) : Type 0 where
+  pub index : ℕ
+  pub within : index < count
+  pub names : getD ws (from + index) 0 ≡ suc x
+
+abbrev pub Follows : Edges → Geometry → Mem → ℕ → ℕ → Type 0
+Follows e g m x = InRun (m .heap) (x + 1) (followed e g m x)
+
+-- a root of mutator k, which is attached
+abbrev pub RootOf : Mem → ℕ → ℕ → Type 0
+RootOf m k x = (state m k ≡ absent → ⊥) × InRun (m .mutators) (k * mutatorWords) rootCount x
+
+-- a root of one of the first n mutators
+pub record RootBelow (m : Mem) (n x : ℕ) : Type 0 where
+  pub mutator : ℕ
+  pub few : mutator < n
+  pub names : RootOf m mutator x
+
+-- as many entries as the trace stack's count says, of those that have words
+pub record EntryCount (g : Geometry) (m : Mem) (n : ℕ) : Type 0 where
+  pub room : n ≤ len g Region.trace
+  pub few : n ≤ traceCount m
+  pub all : (i : ℕ) → i < traceCount m → (i < n) ⊎ (len g Region.trace ≤ i)
+
+-- the graph from some roots, and from what a state has seen
+abbrev pub graphOf : Edges → Geometry → Mem → (ℕ → Type 0) → Graph
+graphOf e g m Root = record { nodes = recordsOf g m; Root = Root; Edge = Follows e g m }
+
+abbrev pub graphFrom : Edges → Geometry → Mem → State → Graph
+graphFrom e g m s = graphOf e g m (Seen (recordsOf g m) s)

@@ -1,0 +1,4 @@
+-- The laws of the search, and the search run on small graphs. Assumes nothing.
+pub mod Walking
+pub mod Searching
+pub mod Case
