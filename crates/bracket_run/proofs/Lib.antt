@@ -1,0 +1,2 @@
+-- Laws of the bracket program's loop.
+pub mod Printing

@@ -1,0 +1,2 @@
+-- What the parts of the bracket program's loop owe.
+pub mod Printed

@@ -1,0 +1,38 @@
+-- `bracket_steps::answer_line` meets its contract. Assumes nothing.
+use borrow.Author.Needs.{needs}
+use Rattle.bracket_steps.proofs.Carrying.{of-form, of-none}
+use Rattle.bracket_steps.proofs.answer_line.Statement.{statement}
+use Rattle.bracket_steps.proofs.answer_line.Tie as tie
+
+read-form-requires : tie.Need-read-form-requires
+read-form-requires c κs = search needs
+
+enum-known-form : tie.Need-enum-known-form
+enum-known-form c = search needs
+
+task-of-requires : tie.Need-task-of-requires
+task-of-requires c κs = search needs
+
+carry-out-requires : tie.Need-carry-out-requires
+carry-out-requires c κs = search needs
+
+enum-told : tie.Need-enum-told
+enum-told c = search needs
+
+returns : tie.Need-returns
+returns c = of-form _ _ (c .before .before .before .before .before .before .read-form .ensures) (c .before .before .before .before .form .given .1) (c .before .task-of .ensures) (c .carry-out .ensures)
+
+returns-2 : tie.Need-returns-2
+returns-2 c = of-none _ _ (c .before .before .read-form .ensures) (c .enum-told .given .1)
+
+pub answer-line-spec : {M : Type 1} → statement M
+answer-line-spec =
+    tie.close
+    (tie.spec
+    read-form-requires
+    enum-known-form
+    task-of-requires
+    carry-out-requires
+    enum-told
+    returns
+    returns-2)

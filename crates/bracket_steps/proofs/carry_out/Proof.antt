@@ -1,0 +1,58 @@
+-- `bracket_steps::carry_out` meets its contract. Assumes nothing.
+use borrow.Author.Needs.{needs}
+use mathlib.Core.Path.{_≡_, sym, _∙_}
+use native.Mathlib.Omega.{arith}
+use Rattle.layout.specs.Geometry.{total}
+use Rattle.bracket_steps.specs.Said.{heap}
+use Rattle.bracket_steps.proofs.Carrying.{small, fits, carries, refused}
+use Rattle.bracket_steps.proofs.carry_out.Statement.{statement}
+use Rattle.bracket_steps.proofs.carry_out.Tie as tie
+
+segments-for-requires : tie.Need-segments-for-requires
+segments-for-requires c κs = search needs
+
+one-or-two-requires : tie.Need-one-or-two-requires
+one-or-two-requires c κs = search needs
+
+total-words-requires : tie.Need-total-words-requires
+total-words-requires c κs = small _ (sym (c .before .one-or-two .ensures) ∙ c .if1 .taken)
+
+sub-run : tie.Need-sub-run
+sub-run c = search needs
+
+part-run-start : tie.Need-part-run-start
+part-run-start c = search needs
+
+part-run-end : tie.Need-part-run-end
+part-run-end c =
+    let k = fits (c .before .before .before .segments-for .result) (sym (c .before .before .one-or-two .ensures) ∙ c .before .if1 .taken) in
+    let e : c .total-words .result ≡ total (heap (c .before .before .before .segments-for .result)) = c .total-words .ensures in
+    let r = c .before .before .before .before .before .pre in
+    omega arith
+
+run-requires : tie.Need-run-requires
+run-requires c κs = search needs
+
+same-length : tie.Need-same-length
+same-length c = search needs
+
+returns : tie.Need-returns
+returns c = carries _ _ _ (c .before .before .before .before .before .before .before .segments-for .ensures) (sym (c .before .before .before .before .before .before .one-or-two .ensures) ∙ c .before .before .before .before .before .if1 .taken) (c .before .before .before .before .before .before .before .before .before .pre) _ _ _ (c .before .before .before .before .total-words .ensures) (c .before .before .run .kept .1 .0) (c .before .before .run .ensures)
+
+returns-2 : tie.Need-returns-2
+returns-2 c = refused _ _ _ (c .before .before .segments-for .ensures) (sym (c .before .one-or-two .ensures) ∙ c .if1 .left)
+
+pub carry-out-spec : {M : Type 1} → statement M
+carry-out-spec =
+    tie.close
+    (tie.spec
+    segments-for-requires
+    one-or-two-requires
+    total-words-requires
+    sub-run
+    part-run-start
+    part-run-end
+    run-requires
+    same-length
+    returns
+    returns-2)
