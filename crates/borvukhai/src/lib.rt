@@ -1,4 +1,4 @@
-// The heap for programs in C and Rust: every call as an exported function over the lent slice, which C passes as a pointer and a length. An answer is
+// The heap for programs in C and Rust: every call but the looks as an exported function over the lent slice, which C passes as a pointer and a length. An answer is
 // packed in a number; `unpack` and its like in specs/ say which answer a number stands for.
 use layout::Geometry;
 use model::Answer;

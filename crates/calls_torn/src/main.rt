@@ -1,6 +1,6 @@
-// Some thousand calls over memory that fails the examination: random words, small words, an opened heap in use with words and bits of it changed, and slices
-// and segment counts of other sizes. Each answer is printed, and it is of its call's kind and with a number that the call may give, or BAD is printed with it.
-// The expected output is the program's own; that no BAD stands in it is what it shows.
+// Some thousand calls over random words, over small words, over an opened heap in use, which never answers 13, and over that heap with words and bits of it
+// changed; and over slices and segment counts of other sizes. Each answer is printed, and BAD with it where it is not of its call's kind and range, or a number that the call may
+// not give. The expected output is the program's own; that no BAD stands in it is what it shows.
 use classes::RecordShape;
 use layout::Geometry;
 use model::Answer;
@@ -19,18 +19,18 @@ impl Dice {
         }
     }
 
-    // A number below n, which is not 0, from the upper bits.
+    // A number below n, if n is not 0, from the upper bits.
     fn below(self, n: u32) -> u32 {
         if n == 0 {
             return 0;
         }
-        self.x / 256 % n
+        self.x / 65536 % n
     }
 
     // An argument: mostly a small one, at times the largest there is.
     fn argument(self, most: u32) -> u32 {
-        if self.x / 65536 % 16 == 0 {
-            return 4294967295 - self.x / 256 % 4;
+        if self.x / 16777216 % 32 == 0 {
+            return 4294967295 - self.x / 65536 % 4;
         }
         self.below(most)
     }
@@ -59,6 +59,7 @@ const SCRIPT: u32 = 4;
 
 const TAKEN: u32 = 8;
 
+// absent, and side
 const SIDE: u32 = 16 + 32;
 
 const SLOT: u32 = 64;
@@ -157,14 +158,26 @@ fn request_of(kind: u32, d: Dice) -> Request {
     }
 }
 
-// A refusal, or BAD where the call may not give it.
-fn say_refused(kind: u32, n: u32) {
+// A refusal, or BAD where the call may not give it; torn says that 13 may come.
+fn say_refused(kind: u32, torn: bool, n: u32) {
     word(b" no");
     number(n);
     if given(number_set(kind), n) {
-        return;
+        if torn {
+            return;
+        }
+        if n != 13 {
+            return;
+        }
     }
     word(b"BAD");
+}
+
+// BAD where a number is over the most that it may be.
+fn at_most(most: u32, n: u32) {
+    if most < n {
+        word(b"BAD");
+    }
 }
 
 // A result of a kind: 0 ok, 1 a number, 2 whether equal, 3 a shape.
@@ -189,9 +202,11 @@ fn say_shape(s: RecordShape) {
     number(s.pointer_count);
     word(b".");
     number(s.value_count);
+    at_most(65535, s.pointer_count);
+    at_most(65535, s.value_count);
 }
 
-fn say(kind: u32, a: Answer) {
+fn say(kind: u32, torn: bool, a: Answer) {
     match a {
         Answer::Ok => {
             word(b" ok");
@@ -214,16 +229,17 @@ fn say(kind: u32, a: Answer) {
             say_shape(s);
             say_result(kind, 3);
         }
-        Answer::Refused(n) => say_refused(kind, n),
+        Answer::Refused(n) => say_refused(kind, torn, n),
     }
 }
 
-fn say_step(segments: u32, a: Step) {
+fn say_step(torn: bool, a: Step) {
     match a {
         Step::Waiting(n) => {
             word(b" waiting");
             number(n);
-            if 32 < n {
+            at_most(32, n);
+            if n == 0 {
                 word(b"BAD");
             }
         }
@@ -234,39 +250,38 @@ fn say_step(segments: u32, a: Step) {
             number(s);
             word(b".");
             number(freed);
-            if segments <= s {
-                word(b"BAD");
-            }
+            at_most(0, s);
+            at_most(2048, freed);
         }
         Step::Done => word(b" done"),
         Step::Idle => word(b" idle"),
-        Step::Refused(n) => say_refused(17, n),
+        Step::Refused(n) => say_refused(17, torn, n),
     }
 }
 
 // One call over a slice, with a segment count.
-fn call(mem: &mut [u32], segments: u32, kind: u32, d: Dice) {
+fn call(mem: &mut [u32], segments: u32, kind: u32, torn: bool, d: Dice) {
     let g = Geometry {
         segments: segments as usize,
     };
     if kind < 15 {
-        say(kind, perform::perform(g, mem, request_of(kind, d)));
+        say(kind, torn, perform::perform(g, mem, request_of(kind, d)));
         return;
     }
     if kind == 15 {
-        say(kind, starting::start(g, mem));
+        say(kind, torn, starting::start(g, mem));
         return;
     }
     if kind == 16 {
-        say(kind, opening::open(g, mem));
+        say(kind, torn, opening::open(g, mem));
         return;
     }
-    say_step(segments, stepping::step(g, mem));
+    say_step(torn, stepping::step(g, mem));
 }
 
 // A word below 7, or the word with one bit changed.
 fn changed(w: u32, d: Dice) -> u32 {
-    if d.x / 256 % 4 == 0 {
+    if d.x / 65536 % 4 == 0 {
         return d.next().below(7);
     }
     w ^ 1u32 << (d.x / 65536 % 32)
@@ -285,21 +300,21 @@ fn change(mem: &mut [u32], d: Dice, torn: bool) {
 }
 
 // A call over a slice and a count of their sizes, or now and then of others.
-fn round(mem: &mut [u32], d: Dice, kind: u32) {
+fn round(mem: &mut [u32], d: Dice, torn: bool, kind: u32) {
     let e = d.next();
-    if e.x / 4096 % 23 == 0 {
-        call(mem, e.below(300), kind, e);
+    if e.x / 1048576 % 23 == 0 {
+        call(mem, e.below(300), kind, torn, e);
         return;
     }
-    if e.x / 4096 % 23 == 1 {
+    if e.x / 1048576 % 23 == 1 {
         let n = mem.len();
-        let cut = (e.x / 128) as usize % 8192;
+        let cut = (e.x / 65536) as usize % 8192;
         if cut < n {
-            call(&mut mem[0..cut], 1, kind, e);
+            call(&mut mem[0..cut], 1, kind, torn, e);
         }
         return;
     }
-    call(mem, 1, kind, e);
+    call(mem, 1, kind, torn, e);
 }
 
 // A word from the dice: any, or one below 7.
@@ -336,41 +351,67 @@ fn kind_of(n: u32) -> u32 {
     }
 }
 
-// A call, after a change of a word where `torn` says so.
-fn turn(mem: &mut [u32], d: Dice, torn: bool) {
-    change(mem, d.next(), torn);
-    round(mem, d, kind_of(d.below(40)));
+// A call, after a change of a word where `changes` says so; `torn` says that 13 may come.
+fn turn(mem: &mut [u32], d: Dice, changes: bool, torn: bool) {
+    change(mem, d.next().next(), changes);
+    round(mem, d.next(), torn, kind_of(d.below(40)));
 }
 
 // So many calls, on a line.
-fn play(mem: &mut [u32], d: Dice, rounds: u32, torn: bool) {
+fn play(mem: &mut [u32], d: Dice, rounds: u32, changes: bool, torn: bool) {
     let mut e = d;
     let mut i: u32 = 0;
     while i < rounds {
-        e = e.next();
-        turn(mem, e, torn);
+        e = e.next().next().next();
+        turn(mem, e, changes, torn);
         i += 1;
     }
     word(b"\n");
 }
 
+// Two mutators come.
+fn settle(mem: &mut [u32], d: Dice) {
+    call(mem, 1, 16, false, d);
+    say(
+        0,
+        false,
+        perform::perform(
+            Geometry { segments: 1 },
+            mem,
+            Request::Attach { mutator: 0 },
+        ),
+    );
+    say(
+        0,
+        false,
+        perform::perform(
+            Geometry { segments: 1 },
+            mem,
+            Request::Attach { mutator: 1 },
+        ),
+    );
+    play(mem, d, 12, false, false);
+}
+
 // Random words; small words, changed further; an opened heap in use, and then changed.
 fn game(mem: &mut [u32], d: Dice) {
     fill(mem, d, false);
-    play(mem, d, 40, false);
+    play(mem, d, 40, false, true);
     fill(mem, d, true);
-    play(mem, d, 40, true);
-    call(mem, 1, 16, d);
-    play(mem, d, 160, false);
-    play(mem, d, 80, true);
+    play(mem, d, 60, true, true);
+    settle(mem, d);
+    play(mem, d.next(), 160, false, false);
+    play(mem, d, 80, true, true);
 }
 
+// Each game from numbers of its own.
 fn games(mem: &mut [u32]) {
-    let mut d = Dice { x: 2463534242 };
     let mut i: u32 = 0;
     while i < 20 {
-        d = d.next();
-        game(mem, d);
+        let d = Dice {
+            x: ((i as u64 * 2654435761 + 97) % 4294967296) as u32,
+        };
+        game(mem, d.next().next());
         i += 1;
     }
 }

@@ -25,7 +25,7 @@ use Rattle.making.specs.declared.Handed.{Handed}
 use Rattle.making.specs.declared.Handed.the-variants as handed
 use Rattle.model.specs.Tag as Tag
 
--- segment s is held by mutator k as its one of class c, its bitmap is a tree, and a free block remains at or after the place
+-- segment s is held by mutator k and of class c, its bitmap is a tree, and a free block remains at or after the place
 pub record Ready (g : Geometry) (m : Mem) (k c s : ℕ) : Type 0 where
   pub tag : tag m s ≡ Tag.held
   pub class : class m s ≡ c

@@ -1,5 +1,6 @@
 // One dispatcher for the mutators' calls: a request is a call with its arguments, and what it is answered is what that call answers. It has no
-// `requires` and keeps the promise of the call that the request stands for. The opening, start and step stay outside.
+// `requires` and keeps the promise of the call that the request stands for. The opening, start, step and the looks
+// stay outside.
 use layout::Geometry;
 use model::Answer;
 ghost use Rattle.model.specs.Promise.{Promise};

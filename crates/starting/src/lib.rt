@@ -1,5 +1,5 @@
 // The collector's start. The call has no `requires`; it keeps the model's promise of it. No word of the memory leads it astray: over memory that
-// fails the examination, too, the answer and the memory are the definition's.
+// fails the examination, too, the answer and the memory are the definition's, though that is not promised.
 use layout::Geometry;
 use model::Answer;
 use model::Phase;
@@ -49,7 +49,7 @@ fn condemn_one(g: Geometry, mem: &mut [u32], s: usize)
     }
 }
 
-// Each segment is, that a start condemns.
+// Every segment that a start condemns becomes condemned.
 fn condemn(g: Geometry, mem: &mut [u32])
     requires { ⌜ Sized g (length (now mem)) ⌝ }
     ensures { λ _. ⌜ memOf g (now (mem .exit)) ≡ condemned (memOf g (now (mem .entry))) (g .segments) ⌝ }

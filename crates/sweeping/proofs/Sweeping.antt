@@ -19,11 +19,13 @@ use Rattle.model.specs.Rules.{phaseNumber}
 use Rattle.model.specs.declared.Step.{Step}
 use Rattle.model.specs.declared.Step.the-variants.{Swept, Done, Refused}
 use Rattle.model.specs.Answers.{isSwept, isDone}
-use Rattle.model.specs.Fields.{tag, class, place}
-use Rattle.model.specs.Segments.{freeStack, partStack, count, bitmap, marksOf, inUse}
+use Rattle.model.specs.declared.SegmentState.{SegmentState}
+use Rattle.model.specs.Fields.{tag, class, place, owner}
+use Rattle.model.specs.Segments.{stateOf, segment, freeStack, partStack, count, bitmap, marksOf, inUse}
 use Rattle.model.specs.Collector.{lowest, keptBy, rebuiltBy, swept, sweeps}
 use Rattle.model.specs.Consistent.{Consistent, isFree, isPart}
 use Rattle.model.specs.StepParts.{StepsAs}
+use Rattle.laws.proofs.Words.{classIn}
 use Rattle.laws.proofs.Blocks.{blocks-most, blocks-some}
 use Rattle.laws.proofs.Segments.{in-use-le, not-free, not-part}
 use Rattle.laws.proofs.Stacks.{stack-room}
@@ -138,3 +140,8 @@ module _ (g : Geometry) (m : Mem) where
         go (inr (u, y)) =
             let h = lowest-condemned in
             subst (λ w. StepsAs inSweep g m w m′) (sym u) (steps-13 inSweep g m (λ c. sweep-succeeds g m c s (h .0) (h .1) y))
+
+-- ---- the class of a condemned segment, by its state: x is the state read, and it is y
+
+pub class-read : (m : Mem) (s : ℕ) (x : SegmentState) → x ≡ segment m s → tag m s ≡ Tag.condemned → (y : SegmentState) → x ≡ y → classIn y ≡ class m s
+class-read m s x e t y f = ap classIn (sym f ∙ e ∙ ap (λ z. stateOf z (class m s) (place m s) (owner m s)) t)

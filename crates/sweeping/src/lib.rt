@@ -11,7 +11,7 @@ ghost use lib.ListN.{length};
 ghost use Rattle.classes.specs.Class.{IsClass};
 ghost use Rattle.layout.specs.Geometry.{Sized};
 ghost use Rattle.layout.specs.Mem.{memOf};
-ghost use Rattle.model.specs.Fields.{tag};
+ghost use Rattle.model.specs.Fields.{tag, class};
 ghost use Rattle.model.specs.Collector.{lowest, sweeps};
 ghost use Rattle.model.specs.StepParts.{StepsAs};
 ghost use Rattle.model.specs.Tag as Tag;
@@ -92,13 +92,34 @@ fn less(a: u32, b: u32) -> u32
     a - b
 }
 
+// The class of segment s, which is condemned, by its state.
+fn condemned_class(g: Geometry, mem: &[u32], s: usize) -> u32
+    requires { ⌜ (Sized g (length (now mem))) × (s < g .segments) ⌝ }
+    requires { ⌜ tag (memOf g (now mem)) s ≡ Tag.condemned ⌝ }
+    ensures { λ r. ⌜ r ≡ class (memOf g (now (mem .entry))) s ⌝ }
+{
+    let segment = segments::read(g, mem, s);
+    let state = segment.state;
+    match state {
+        SegmentState::Condemned { class } => class,
+        SegmentState::Full { class } => class,
+        SegmentState::Held {
+            class,
+            place,
+            mutator,
+        } => class,
+        SegmentState::Part { class, place } => class,
+        SegmentState::Free => 0,
+    }
+}
+
 // Segment s is swept: its level 0 becomes the marks, and it is free, full or part by their number.
 fn sweep_segment(g: Geometry, mem: &mut [u32], s: usize) -> Step
     requires { ⌜ (Sized g (length (now mem))) × (s < g .segments) ⌝ }
     requires { ⌜ tag (memOf g (now mem)) s ≡ Tag.condemned ⌝ }
     ensures { λ r. ⌜ Sweeps g (memOf g (now (mem .entry))) s r (memOf g (now (mem .exit))) ⌝ }
 {
-    let class = segments::class(g, mem, s);
+    let class = condemned_class(g, mem, s);
     if classes::is_class(class) {
         let place = segments::place(g, mem, s);
         let used = bitmaps::in_use(g, mem, s, class, place);

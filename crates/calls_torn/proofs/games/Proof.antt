@@ -7,16 +7,31 @@ use Rattle.calls_torn.proofs.games.Statement.{statement}
 use Rattle.calls_torn.proofs.games.Tie as tie
 
 abbrev Inv-loop : tie.InvT-loop
-Inv-loop mem₀ d₀ i₀ mem d i = (i ≤ 20) × (length mem ≡ length mem₀)
+Inv-loop mem₀ i₀ mem i = (i ≤ 20) × (length mem ≡ length mem₀)
 
 abbrev μ-loop : tie.MeasureT-loop
-μ-loop mem₀ d₀ i₀ mem d i = 20 - i
+μ-loop mem₀ i₀ mem i = 20 - i
 
 loop-holds : tie.Need-loop-holds Inv-loop μ-loop
 loop-holds c = search needs
 
+cast-t5 : tie.Need-cast-t5 Inv-loop μ-loop
+cast-t5 c = search needs
+
+mul-t6 : tie.Need-mul-t6 Inv-loop μ-loop
+mul-t6 c = search needs
+
+add-t7 : tie.Need-add-t7 Inv-loop μ-loop
+add-t7 c = search needs
+
+cast-t9 : tie.Need-cast-t9 Inv-loop μ-loop
+cast-t9 c = search needs
+
 next-requires : tie.Need-next-requires Inv-loop μ-loop
 next-requires c κs = search needs
+
+next-requires-2 : tie.Need-next-requires-2 Inv-loop μ-loop
+next-requires-2 c κs = search needs
 
 game-requires : tie.Need-game-requires Inv-loop μ-loop
 game-requires c κs = search needs
@@ -43,7 +58,12 @@ games-spec =
     Inv-loop
     μ-loop
     loop-holds
+    cast-t5
+    mul-t6
+    add-t7
+    cast-t9
     next-requires
+    next-requires-2
     game-requires
     add-i
     loop-less

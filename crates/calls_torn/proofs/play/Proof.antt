@@ -7,16 +7,22 @@ use Rattle.calls_torn.proofs.play.Statement.{statement}
 use Rattle.calls_torn.proofs.play.Tie as tie
 
 abbrev Inv-loop : tie.InvT-loop
-Inv-loop mem₀ rounds torn e₀ i₀ t7 mem e i = (i ≤ rounds) × (length mem ≡ length mem₀)
+Inv-loop mem₀ rounds changes torn e₀ i₀ t8 mem e i = (i ≤ rounds) × (length mem ≡ length mem₀)
 
 abbrev μ-loop : tie.MeasureT-loop
-μ-loop mem₀ rounds torn e₀ i₀ t7 mem e i = rounds - i
+μ-loop mem₀ rounds changes torn e₀ i₀ t8 mem e i = rounds - i
 
 loop-holds : tie.Need-loop-holds Inv-loop μ-loop
 loop-holds c = search needs
 
 next-requires : tie.Need-next-requires Inv-loop μ-loop
 next-requires c κs = search needs
+
+next-requires-2 : tie.Need-next-requires-2 Inv-loop μ-loop
+next-requires-2 c κs = search needs
+
+next-requires-3 : tie.Need-next-requires-3 Inv-loop μ-loop
+next-requires-3 c κs = search needs
 
 turn-requires : tie.Need-turn-requires Inv-loop μ-loop
 turn-requires c κs = search needs
@@ -50,6 +56,8 @@ play-spec =
     μ-loop
     loop-holds
     next-requires
+    next-requires-2
+    next-requires-3
     turn-requires
     add-i
     loop-less
