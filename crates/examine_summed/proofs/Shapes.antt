@@ -2,7 +2,7 @@
 use mathlib.Core.Path.{_≡_, refl, sym, _∙_, ap, subst}
 use mathlib.Core.Bool.{Bool, true, false}
 use mathlib.Core.List.{List}
-use Prim.Native.Nat.{ℕ, zero, suc, _+_, _-_, _*_, _^_, _≤_, _<_}
+use Prim.Native.Nat.{ℕ, zero, suc, _-_, _*_, _^_, _≤_, _<_}
 use native.Mathlib.Nat.{div-lt-iff-lt-mul, pow-le-pow-right}
 use native.Mathlib.Omega.{arith}
 use lib.ListN.{length}
@@ -16,7 +16,7 @@ use Rattle.words.proofs.Trees.{tree-level}
 use Rattle.classes.specs.Shape.{blocksOf, longestOf}
 use Rattle.layout.specs.declared.Geometry.{Geometry}
 use Rattle.layout.specs.Geometry.{Sized, bitmapWords, blocksIn, segmentBytes}
-use Rattle.layout.specs.Mem.{Mem, memOf, Sizes}
+use Rattle.layout.specs.Mem.{Mem, memOf}
 use Rattle.layout.proofs.Sizes.{bytes-are}
 use Rattle.model.specs.Fields.{tag, class}
 use Rattle.model.specs.Segments.{above, bitmap}

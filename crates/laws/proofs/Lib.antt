@@ -27,6 +27,7 @@ pub mod Takes
 pub mod Topmost
 pub mod PromisedSteps
 pub mod Turns
+pub mod Passing
 pub mod Rebuilding
 pub mod Swept
 pub mod Popped

@@ -1,41 +1,39 @@
 -- `examine_summed::stacks` meets its contract. The loop's invariant: each stack passed is in order. Assumes nothing.
-use Prim.Native.Nat.{ℕ, _-_, _≤_, _<_}
+use Prim.Native.Nat.{_-_}
 use native.Mathlib.Omega.{arith}
-use borrow.Author.Count.{below-more, below-none}
-use borrow.Author.Tests.{not-true, not-false}
-use Rattle.rules.proofs.Deciding.{holds, fails, refuted}
 use Rattle.layout.specs.Geometry.{stackCount}
 use Rattle.layout.specs.Mem.{memOf}
+use Rattle.laws.proofs.Passing.{Passed, none-passed, one-passed, one-failed, all-passed}
 use Rattle.examine_summed.specs.Stacked.{OrderedStack}
 use Rattle.examine_summed.proofs.stacks.Statement.{statement}
 use Rattle.examine_summed.proofs.stacks.Tie as tie
 
 abbrev Inv-loop : tie.InvT-loop
-Inv-loop g mem t₀ t = (t ≤ stackCount) × ((k : ℕ) → k < t → OrderedStack g (memOf g mem) k)
+Inv-loop g mem t₀ t = Passed (OrderedStack g (memOf g mem)) stackCount t
 
 abbrev μ-loop : tie.MeasureT-loop
 μ-loop g mem t₀ t = stackCount - t
 
 loop-holds : tie.Need-loop-holds Inv-loop μ-loop
-loop-holds c = (omega arith, below-none _)
+loop-holds c = none-passed _ _
 
 stack-ok-requires : tie.Need-stack-ok-requires Inv-loop μ-loop
 stack-ok-requires c κs = (c .before .before .before .pre, c .loop-test .taken)
 
 returns : tie.Need-returns Inv-loop μ-loop
-returns c = fails (λ q. refuted (c .before .stack-ok .ensures) (not-true _ (c .if1 .taken)) (q _ (c .before .before .loop-test .taken)))
+returns c = one-failed _ _ _ (c .before .before .before .loop .inv) (c .before .before .loop-test .taken) _ (c .before .stack-ok .ensures) (c .if1 .taken)
 
 add-t : tie.Need-add-t Inv-loop μ-loop
-add-t c = omega (arith, c .before .before .loop-test .taken)
+add-t c = omega (arith, c .before .before .loop-test .taken, c .before .before .before .before .before .pre .few)
 
 loop-less : tie.Need-loop-less Inv-loop μ-loop
 loop-less c = omega (arith, c .before .before .loop-test .taken)
 
 loop-again : tie.Need-loop-again Inv-loop μ-loop
-loop-again c = (omega (arith, c .before .before .loop-test .taken), below-more _ _ (c .before .before .before .loop .inv .1) (c .before .stack-ok .ensures .sound (not-false _ (c .if1 .left))))
+loop-again c = one-passed _ _ _ (c .before .before .before .loop .inv) (c .before .before .loop-test .taken) _ (c .before .stack-ok .ensures) (c .if1 .left)
 
 returns-2 : tie.Need-returns-2 Inv-loop μ-loop
-returns-2 c = holds (λ k h. c .before .loop .inv .1 k (omega (arith, c .loop-test .left)))
+returns-2 c = all-passed _ _ _ (c .before .loop .inv) (c .loop-test .left)
 
 pub stacks-spec : {M : Type 1} → statement M
 stacks-spec =
