@@ -3,7 +3,7 @@ use mathlib.Core.Path.{_≡_, refl, sym, ap, _∙_, subst}
 use mathlib.Core.Logic.{_⊎_, inl, inr, ⊎-elim}
 use mathlib.Core.List.{List}
 use mathlib.Core.Bool.{Bool, true, false}
-use Prim.Native.Nat.{ℕ, zero, suc, _+_, _-_, _*_, _/_, _%_, _≤_, _<_}
+use Prim.Native.Nat.{ℕ, suc, _+_, _-_, _/_, _%_, _≤_, _<_}
 use native.Mathlib.Numerals.{add-one}
 use native.Mathlib.Omega.{arith}
 use lib.ListN.{length, getD, set, replicate}
@@ -17,7 +17,7 @@ use Rattle.words.proofs.Lists.{at-lt, bits-same, set-there, set-elsewhere, leng
 use Rattle.words.proofs.Counts.{lt-of}
 use Rattle.words.proofs.Zeros.{zeros-bit}
 use Rattle.layout.specs.declared.Geometry.{Geometry}
-use Rattle.layout.specs.Geometry.{len, mostBlocks, markWords}
+use Rattle.layout.specs.Geometry.{len}
 use Rattle.layout.specs.Mem.{Mem}
 use Rattle.layout.proofs.Sizes.{mark-word}
 use Rattle.theory.specs.Reach.{root}
@@ -26,7 +26,7 @@ use Rattle.model.specs.Reaching.{isMarked}
 use Rattle.model.specs.Consistent.{RecordOk}
 use Rattle.laws.proofs.Blocks.{bit-below, same-bit}
 use Rattle.laws.proofs.Apart.{class-of, field-inside}
-use Rattle.walk.specs.Walk.{State, Placed, Seen, Valid, Run, Fails, Graph, popped, Reached, Underway, left, Exact}
+use Rattle.walk.specs.Walk.{State, Placed, Seen, Valid, Run}
 use Rattle.walk.proofs.Walking.{room-le, run-still, run-more, run-same, Pushed, push-room, run-push, valid-empty, valid-popped, run-first, underway-from, exact-roots, fails-roots, underway-turn, left-turn, turn-fails, underway-exact}
 use Rattle.searching.specs.declared.Edges.{Edges}
 use Rattle.searching.specs.declared.Edges.the-variants.{All, Unmarked}

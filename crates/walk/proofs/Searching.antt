@@ -3,17 +3,17 @@ use mathlib.Core.Path.{_≡_, refl, sym, ap, _∙_, subst}
 use mathlib.Core.Logic.{_⊎_, inl, inr, ⊎-elim}
 use mathlib.Core.Bool.{Bool, true, false}
 use mathlib.Core.Option.{Option, none, some, Option·some-injective}
-use Prim.Native.Nat.{ℕ, zero, suc, _+_, _-_, _≤_, _<_}
+use Prim.Native.Nat.{ℕ, zero, suc, _+_, _-_, _≤_}
 use native.Mathlib.Omega.{arith}
 use lib.Dec.{eqb}
-use borrow.Author.Tests.{eq-eqb, ne-eqb, eqb-true, eqb-false}
+use borrow.Author.Tests.{eqb-true, eqb-false}
 use Rattle.rules.specs.Pick.{pick}
 use Rattle.rules.proofs.Order.{same-or-not}
 use Rattle.words.specs.Bits.{onesAmong}
 use Rattle.words.proofs.Counts.{lt-of, no-ones}
 use Rattle.words.proofs.Word.{zero-of-not-one}
 use Rattle.theory.specs.Reach.{root}
-use Rattle.walk.specs.Walk.{State, Nodes, Placed, Seen, OnStack, At, Valid, Run, Fails, Graph, popped, Reached, Underway, left, Exact}
+use Rattle.walk.specs.Walk.{State, Nodes, Placed, Seen, Valid, Run, Fails, Graph, popped, Reached, Underway, left}
 use Rattle.walk.specs.Search.{put, atMostOne, Names, empty, nodesOf, pushed, enter, follow, followAll, turnAt, turn, search, busy, turns, graphOf, started, searched, Law}
 use Rattle.walk.proofs.Walking.{put-here, put-other, run-still, run-more, Pushed, run-push, valid-empty, valid-popped, run-first, underway-from, underway-turn, left-turn, turn-fails, underway-exact, ones-le, room-le}
 

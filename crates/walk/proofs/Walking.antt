@@ -1,17 +1,15 @@
 -- The laws of a search under way: a push, two runs one after the other, a turn, and the end. Assumes nothing.
 use mathlib.Core.Path.{_≡_, refl, sym, ap, _∙_, subst}
 use mathlib.Core.Logic.{_⊎_, inl, inr, ⊎-elim}
-use Prim.Native.Nat.{ℕ, zero, suc, _+_, _-_, _≤_, _<_}
+use Prim.Native.Nat.{ℕ, suc, _-_, _≤_, _<_}
 use native.Mathlib.Omega.{arith}
-use lib.Dec.{eqb}
 use borrow.Author.Tests.{eq-eqb, ne-eqb}
-use Rattle.rules.specs.Pick.{pick}
-use Rattle.rules.proofs.Order.{le-or-lt, same-or-not}
+use Rattle.rules.proofs.Order.{same-or-not}
 use Rattle.words.specs.Bits.{onesAmong}
 use Rattle.words.proofs.Ones.{among-le}
-use Rattle.words.proofs.Counts.{among-change, lt-of, no-ones}
+use Rattle.words.proofs.Counts.{among-change, lt-of}
 use Rattle.theory.specs.Reach.{Reach, root, next}
-use Rattle.walk.specs.Walk.{State, Nodes, Placed, Seen, OnStack, At, Valid, Run, Fails, Graph, popped, Reached, Underway, left, Exact}
+use Rattle.walk.specs.Walk.{State, Nodes, Placed, Seen, OnStack, Valid, Run, Fails, Graph, popped, Reached, Underway, left, Exact}
 use Rattle.walk.specs.Search.{put}
 use Rattle.theory.proofs.Graph.{reach-append, reach-closed}
 
