@@ -5,7 +5,7 @@ use tracing::Bit;
 ghost use mathlib.Core.Path.{_≡_};
 ghost use mathlib.Core.Bool.{true};
 ghost use Prim.Native.Nat.{suc, _+_, _-_, _*_, _≤_, _<_};
-ghost use lib.ListN.{length, getD, replicate};
+ghost use lib.ListN.{length, getD};
 ghost use Rattle.words.specs.Bits.{bitAt};
 ghost use Rattle.layout.specs.Geometry.{Sized, len, maxSegments, mutatorCount};
 ghost use Rattle.layout.specs.Mem.{memOf};
@@ -13,7 +13,7 @@ ghost use Rattle.model.specs.Reaching.{IsRoot, IsEntry, Live, Reached};
 ghost use Rattle.model.specs.Consistent.{RecordOk};
 ghost use Rattle.walk.specs.Walk.{Valid};
 ghost use Rattle.searching.specs.Graph.{recordsOf, followed, wordsOf, lengthOf, InRun, Follows, RootOf, EntryCount};
-ghost use Rattle.searching.specs.Scratch.{searchWords, stateOf, Lent, Enters, Came, Then, Turns, Ready, isWaiting, isGood, Started, Finished};
+ghost use Rattle.searching.specs.Scratch.{searchWords, Blank, stateOf, Lent, Enters, Came, Then, Turns, Ready, isWaiting, isGood, Started, Finished};
 ghost use Rattle.searching.specs.Found.{Finds, ByEntries};
 ghost use Rattle.layout.specs.Region as Region;
 
@@ -215,9 +215,9 @@ fn follow_mutator(g: Geometry, mem: &[u32], k: u32, scratch: &mut [u32], met: Me
     }
 }
 
-// All roots of attached mutators, in a scratch of zeros.
+// All roots of attached mutators, where no bit is 1.
 fn follow_roots(g: Geometry, mem: &[u32], scratch: &mut [u32]) -> Met
-    requires { ⌜ Lent g (now mem) (now scratch) × (now scratch ≡ replicate (searchWords g) 0) ⌝ }
+    requires { ⌜ Lent g (now mem) (now scratch) × Blank g (now scratch) ⌝ }
     ensures { λ r. ⌜ Came g (memOf g (now (mem .entry))) (IsRoot (memOf g (now (mem .entry)))) (stateOf g (now (scratch .entry)) 0) r (now (scratch .exit)) ⌝ }
 {
     let mut met = Met::Top(0);
@@ -261,12 +261,14 @@ fn follow_entries(g: Geometry, mem: &[u32], scratch: &mut [u32], met: Met) -> Me
     }
 }
 
-// Every word of the scratch becomes 0.
-pub fn clear(scratch: &mut [u32])
-    ensures { λ _. ⌜ now (scratch .exit) ≡ replicate (length (now (scratch .entry))) 0 ⌝ }
+// Every bit of the scratch becomes 0.
+fn clear(g: Geometry, scratch: &mut [u32])
+    requires { ⌜ (g .segments ≤ maxSegments) × (length (now scratch) ≡ searchWords g) ⌝ }
+    ensures { λ _. ⌜ Blank g (now (scratch .exit)) ⌝ }
 {
+    let n = scratch.len() - layout::trace_words(g);
     let mut i: usize = 0;
-    while i < scratch.len() {
+    while i < n {
         scratch[i] = 0;
         i += 1;
     }
@@ -277,7 +279,7 @@ pub fn live(g: Geometry, mem: &[u32], scratch: &mut [u32]) -> bool
     requires { ⌜ Lent g (now mem) (now scratch) ⌝ }
     ensures { λ r. ⌜ Finds g (memOf g (now (mem .entry))) (Live (memOf g (now (mem .entry)))) r (now (scratch .exit)) ⌝ }
 {
-    clear(scratch);
+    clear(g, scratch);
     let roots = follow_roots(g, mem, scratch);
     let met = follow_entries(g, mem, scratch, roots);
     finish(g, mem, Edges::All, scratch, met)
@@ -288,7 +290,7 @@ pub fn reached(g: Geometry, mem: &[u32], scratch: &mut [u32]) -> bool
     requires { ⌜ Lent g (now mem) (now scratch) ⌝ }
     ensures { λ r. ⌜ Finds g (memOf g (now (mem .entry))) (Reached (memOf g (now (mem .entry)))) r (now (scratch .exit)) ⌝ }
 {
-    clear(scratch);
+    clear(g, scratch);
     let met = follow_roots(g, mem, scratch);
     finish(g, mem, Edges::All, scratch, met)
 }
@@ -298,7 +300,7 @@ pub fn by_entries(g: Geometry, mem: &[u32], scratch: &mut [u32]) -> bool
     requires { ⌜ Lent g (now mem) (now scratch) ⌝ }
     ensures { λ r. ⌜ Finds g (memOf g (now (mem .entry))) (ByEntries g (memOf g (now (mem .entry)))) r (now (scratch .exit)) ⌝ }
 {
-    clear(scratch);
+    clear(g, scratch);
     let met = entries_at(g, mem, scratch, 0);
     finish(g, mem, Edges::Unmarked, scratch, met)
 }

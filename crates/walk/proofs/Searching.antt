@@ -106,13 +106,13 @@ module _ (size : ℕ) (ok : ℕ → Bool) (place : ℕ → ℕ) (placed : Placed
     way-start (some s) c =
         let z : onesAmong (λ k. 0) size ≡ 0 = no-ones (λ k. 0) size (λ i l. refl) in
         let l = ones-le (c .valid) in
-        (underway-from (c .valid) (λ x q. run-first (λ k. refl) c x q .1) (c .all) (λ x q. run-first (λ k. refl) c x q .0), inr (omega (arith, c .once)), omega (arith, c .once))
+        (underway-from (c .valid) (λ x q. run-first placed (λ k l. refl) c x q .1) (c .all) (λ x q. run-first placed (λ k l. refl) c x q .0), inr (omega (arith, c .once)), omega (arith, c .once))
 
     abbrev turned : ℕ
     turned = turns size ok place degree edge size (started size ok place degree edge rootCount rootAt)
 
     whole : Way 0 turned (searched size ok place degree edge rootCount rootAt)
-    whole = subst (λ (z : ℕ). Way 0 z (searched size ok place degree edge rootCount rootAt)) (omega arith) (way-search size 0 (started size ok place degree edge rootCount rootAt) (way-start (started size ok place degree edge rootCount rootAt) (all-came rootAt rootCount empty (valid-empty (λ k. refl) refl))))
+    whole = subst (λ (z : ℕ). Way 0 z (searched size ok place degree edge rootCount rootAt)) (omega arith) (way-search size 0 (started size ok place degree edge rootCount rootAt) (way-start (started size ok place degree edge rootCount rootAt) (all-came rootAt rootCount empty (valid-empty (λ k. omega arith) (λ k l. refl) refl))))
 
     ends : (s : State) → Way 0 turned (some s) → s .top ≡ 0
     ends s w = ⊎-elim (λ z. z) (λ z. omega arith) (w .1)
@@ -139,7 +139,7 @@ module _ (size : ℕ) (ok : ℕ → Bool) (place : ℕ → ℕ) (placed : Placed
     roomy (some u) g s e = subst (λ (v : State). v .top ≤ size) (Option·some-injective u s e) (room-le (g .valid))
 
     start-way : Way size 0 (started size ok place degree edge rootCount rootAt)
-    start-way = way-start (started size ok place degree edge rootCount rootAt) (all-came rootAt rootCount empty (valid-empty (λ k. refl) refl))
+    start-way = way-start (started size ok place degree edge rootCount rootAt) (all-came rootAt rootCount empty (valid-empty (λ k. omega arith) (λ k l. refl) refl))
 
     pub search-law : Law size ok place degree edge rootCount rootAt
     search-law = record {

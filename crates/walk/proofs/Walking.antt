@@ -113,11 +113,11 @@ module _ {T : Nodes} (placed : Placed T) {s : State} (f : Valid T s) (x : ℕ) (
 
 -- ---- the search
 
--- the state before: no bit is 1, and the stack is empty
-pub valid-empty : {T : Nodes} {s : State} → ((k : ℕ) → s .seen k ≡ 0) → s .top ≡ 0 → Valid T s
-valid-empty {T} {s} z e = record {
-  bits = λ k. omega (arith, z k);
-  nodes = λ k l q. absurd (omega (arith, z k));
+-- the state before: no bit of a node is 1, and the stack is empty
+pub valid-empty : {T : Nodes} {s : State} → ((k : ℕ) → s .seen k < 2) → ((k : ℕ) → k < T .size → s .seen k ≡ 0) → s .top ≡ 0 → Valid T s
+valid-empty {T} {s} b z e = record {
+  bits = b;
+  nodes = λ k l q. absurd (omega (arith, z k l));
   stack = λ i l. absurd (omega arith);
   room = omega arith;
 }
@@ -131,8 +131,8 @@ valid-popped {T} {s} t f l = record {
 }
 
 -- after a run from no bit at all, what is seen is what was named, and all of it is on the stack
-pub run-first : {T : Nodes} {Named : ℕ → Type 0} {s u : State} → ((k : ℕ) → s .seen k ≡ 0) → Run T Named s u → (x : ℕ) → Seen T u x → Named x × OnStack u x
-run-first {T} {Named} {s} {u} z r x q = ⊎-elim (λ o. absurd (omega (arith, o .1, z (T .place x)))) (λ o. o) (r .fresh x q)
+pub run-first : {T : Nodes} {Named : ℕ → Type 0} {s u : State} → Placed T → ((k : ℕ) → k < T .size → s .seen k ≡ 0) → Run T Named s u → (x : ℕ) → Seen T u x → Named x × OnStack u x
+run-first {T} {Named} {s} {u} p z r x q = ⊎-elim (λ o. absurd (omega (arith, o .1, z (T .place x) (p .small x (o .0))))) (λ o. o) (r .fresh x q)
 
 -- the same graph with its roots said otherwise
 module _ {T : Nodes} {R S : ℕ → Type 0} {E : ℕ → ℕ → Type 0} (to : (x : ℕ) → R x → S x) where
