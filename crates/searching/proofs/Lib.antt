@@ -1,5 +1,4 @@
 -- The laws of the search over the heap. Assumes nothing.
-pub mod Testing
 pub mod Steps
 pub mod Rooting
 pub mod Finding

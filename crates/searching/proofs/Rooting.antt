@@ -1,9 +1,9 @@
 -- The root sets of the searches: roots of attached mutators, one mutator more at a time, and entries of the trace stack; and the lengths of what is
 -- read. Assumes nothing.
-use mathlib.Core.Path.{_≡_, refl, sym, ap, _∙_, subst}
+use mathlib.Core.Path.{_≡_, sym, ap, _∙_, subst}
 use mathlib.Core.Logic.{_⊎_, inl, inr, ⊎-elim}
 use mathlib.Core.List.{List}
-use Prim.Native.Nat.{ℕ, suc, _+_, _*_, _^_, _≤_, _<_}
+use Prim.Native.Nat.{ℕ, _+_, _^_, _≤_, _<_}
 use native.Mathlib.Numerals.{add-one}
 use native.Mathlib.Omega.{arith}
 use lib.ListN.{length, getD, List·getD-eq-default}
@@ -22,7 +22,7 @@ use Rattle.searching.specs.declared.Source.{Source}
 use Rattle.searching.specs.declared.Source.the-variants.{Roots, Pointers, Entries}
 use Rattle.searching.specs.declared.Met.{Met}
 use Rattle.searching.specs.Graph.{recordsOf, lengthOf, InRun, RootOf, RootBelow, EntryCount}
-use Rattle.searching.specs.Scratch.{stateOf, Came, Then}
+use Rattle.searching.specs.Scratch.{Came, Then}
 use Rattle.searching.proofs.Steps.{came-then, came-same}
 use Rattle.layout.specs.Region as Region
 

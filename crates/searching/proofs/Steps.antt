@@ -3,21 +3,20 @@ use mathlib.Core.Path.{_≡_, refl, sym, ap, _∙_, subst}
 use mathlib.Core.Logic.{_⊎_, inl, inr, ⊎-elim}
 use mathlib.Core.List.{List}
 use mathlib.Core.Bool.{Bool, true, false}
-use Prim.Native.Nat.{ℕ, zero, suc, _+_, _-_, _*_, _/_, _%_, _≤_, _<_}
+use Prim.Native.Nat.{ℕ, suc, _+_, _-_, _/_, _%_, _≤_, _<_}
 use native.Mathlib.Numerals.{add-one}
 use native.Mathlib.Omega.{arith}
-use lib.ListN.{length, getD, set, replicate}
+use lib.ListN.{length, getD, set}
 use lib.Seq.{getD-set-same, getD-set-other}
 use borrow.Author.Tests.{ltb-true, ltb-false}
 use Rattle.rules.specs.Pick.{pick}
 use Rattle.rules.proofs.Order.{same-or-not}
-use Rattle.words.specs.Bits.{bitAt, setBit, withBit}
-use Rattle.words.proofs.Word.{zero-of-not-one}
-use Rattle.words.proofs.Lists.{at-lt, bits-same, set-there, set-elsewhere, length-setBit}
+use Rattle.words.specs.Bits.{bitOf, bitAt, setBit, withBit}
+use Rattle.words.proofs.Word.{zero-of-not-one, bit-zero}
+use Rattle.words.proofs.Lists.{at-lt, bit-split, bits-same, set-there, set-elsewhere, length-setBit}
 use Rattle.words.proofs.Counts.{lt-of}
-use Rattle.words.proofs.Zeros.{zeros-bit}
 use Rattle.layout.specs.declared.Geometry.{Geometry}
-use Rattle.layout.specs.Geometry.{len, mostBlocks, markWords}
+use Rattle.layout.specs.Geometry.{len}
 use Rattle.layout.specs.Mem.{Mem}
 use Rattle.layout.proofs.Sizes.{mark-word}
 use Rattle.theory.specs.Reach.{root}
@@ -26,14 +25,14 @@ use Rattle.model.specs.Reaching.{isMarked}
 use Rattle.model.specs.Consistent.{RecordOk}
 use Rattle.laws.proofs.Blocks.{bit-below, same-bit}
 use Rattle.laws.proofs.Apart.{class-of, field-inside}
-use Rattle.walk.specs.Walk.{State, Placed, Seen, Valid, Run, Fails, Graph, popped, Reached, Underway, left, Exact}
+use Rattle.walk.specs.Walk.{State, Placed, Seen, Valid, Run}
 use Rattle.walk.proofs.Walking.{room-le, run-still, run-more, run-same, Pushed, push-room, run-push, valid-empty, valid-popped, run-first, underway-from, exact-roots, fails-roots, underway-turn, left-turn, turn-fails, underway-exact}
 use Rattle.searching.specs.declared.Edges.{Edges}
 use Rattle.searching.specs.declared.Edges.the-variants.{All, Unmarked}
 use Rattle.searching.specs.declared.Met.{Met}
 use Rattle.searching.specs.declared.Met.the-variants.{Top, Bad}
 use Rattle.searching.specs.Graph.{recordsOf, followed, InRun, Follows, graphOf, graphFrom}
-use Rattle.searching.specs.Scratch.{searchWords, stateOf, Enters, Came, Then, Turns, Ready, isWaiting, isGood, SoFar, leftOf, Searched, Started, Finished}
+use Rattle.searching.specs.Scratch.{searchWords, Blank, stateOf, Enters, Came, Then, Turns, Ready, isWaiting, isGood, SoFar, leftOf, Searched, Started, Finished}
 use Rattle.layout.specs.Region as Region
 
 pub placed : (g : Geometry) (m : Mem) → Placed (recordsOf g m)
@@ -173,22 +172,27 @@ module _ (g : Geometry) (m : Mem) (s : List ℕ) (top : ℕ) (f : Valid (records
 
 -- ---- the search
 
-module _ (g : Geometry) (m : Mem) (Named : ℕ → Type 0) (s : List ℕ) (zeros : s ≡ replicate (searchWords g) 0) where
-  none : (k : ℕ) → bitAt s k ≡ 0
-  none k = ap (λ (l : List ℕ). bitAt l k) zeros ∙ zeros-bit (searchWords g) k
+-- clearing, one word more, and what it comes to
+pub cleared-more : (s : List ℕ) (i : ℕ) → i < length s → ((j : ℕ) → j < i → getD s j 0 ≡ 0) → (j : ℕ) → j < i + 1 → getD (set s i 0) j 0 ≡ 0
+cleared-more s i h z j l =
+    ⊎-elim (λ e. subst (λ (x : ℕ). getD (set s i 0) x 0 ≡ 0) (sym e) (getD-set-same s i 0 0 h)) (λ d. getD-set-other s i j 0 0 d ∙ z j (lt-of (subst (λ (x : ℕ). j < x) (add-one i) l) d)) (same-or-not j i)
 
+pub cleared-bits : (g : Geometry) (s : List ℕ) → ((j : ℕ) → j < len g Region.queued → getD s j 0 ≡ 0) → Blank g s
+cleared-bits g s z k l = bit-split s k ∙ ap (λ (w : ℕ). bitOf w (k % 32)) (z (k / 32) (bit-word g k l)) ∙ bit-zero (k % 32)
+
+module _ (g : Geometry) (m : Mem) (Named : ℕ → Type 0) (s : List ℕ) (blank : Blank g s) where
   pub start-valid : Valid (recordsOf g m) (stateOf g s 0)
-  start-valid = valid-empty none refl
+  start-valid = valid-empty (at-lt s) blank refl
 
   -- after the roots
   pub start-waits : (met : Met) (after : List ℕ) → Came g m Named (stateOf g s 0) met after → Started g m met after
-  start-waits (Top t) after c = record { valid = c .valid; waits = λ x q. run-first none c x q .1 }
+  start-waits (Top t) after c = record { valid = c .valid; waits = λ x q. run-first (placed g m) blank c x q .1 }
   start-waits Bad after c = tt
 
   -- what was named is what is seen
   pub finish-named : (e : Edges) (met : Met) (r : Bool) (before after : List ℕ) → Came g m Named (stateOf g s 0) met before → Finished g m e before met r after → Searched (graphOf e g m Named) r after
-  finish-named e (Top t) true before after c f = exact-roots (λ x q. run-first none c x q .0) (c .all) f
-  finish-named e (Top t) false before after c f = fails-roots (λ x q. run-first none c x q .0) f
+  finish-named e (Top t) true before after c f = exact-roots (λ x q. run-first (placed g m) blank c x q .0) (c .all) f
+  finish-named e (Top t) false before after c f = fails-roots (λ x q. run-first (placed g m) blank c x q .0) f
   finish-named e Bad true before after c f = absurd (let z : _≡_ {A = ℕ} 0 1 = cc in omega arith)
   finish-named e Bad false before after c f = record { node = c .node; named = root (c .named); fails = c .fails }
 

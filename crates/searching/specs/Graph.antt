@@ -6,37 +6,22 @@ use mathlib.Core.Logic.{_⊎_}
 use Prim.Native.Nat.{ℕ, suc, _+_, _*_, _≤_, _<_}
 use lib.ListN.{getD}
 use Rattle.rules.specs.Pick.{pick}
-use Rattle.classes.specs.Class.{IsClass}
 use Rattle.layout.specs.declared.Geometry.{Geometry}
 use Rattle.layout.specs.Geometry.{mostBlocks, len, mutatorWords, rootCount}
 use Rattle.layout.specs.Mem.{Mem}
-use Rattle.model.specs.Fields.{traceCount, absent, state, tag, class}
+use Rattle.model.specs.Fields.{traceCount, absent, state}
 use Rattle.model.specs.Records.{pointerCount, recordBit}
 use Rattle.model.specs.Reaching.{isMarked}
 use Rattle.model.specs.Consistent.{RecordOk}
-use Rattle.tracing.specs.declared.Bit.{Bit}
-use Rattle.tracing.specs.declared.Bit.the-variants.{At, Torn}
 use Rattle.walk.specs.Walk.{State, Nodes, Seen, Graph}
 use Rattle.searching.specs.declared.Edges.{Edges}
 use Rattle.searching.specs.declared.Edges.the-variants.{All, Unmarked}
 use Rattle.searching.specs.declared.Source.{Source}
 use Rattle.searching.specs.declared.Source.the-variants.{Roots, Pointers, Entries}
 use Rattle.layout.specs.Region as Region
-use Rattle.model.specs.Tag as Tag
 
 abbrev pub recordsOf : Geometry → Mem → Nodes
 recordsOf g m = record { size = g .segments * mostBlocks g; Ok = RecordOk g m; place = recordBit g m }
-
--- segment s is in use and of class c
-pub record Classed (m : Mem) (s c : ℕ) : Type 0 where
-  pub is : c ≡ class m s
-  pub class : IsClass c
-  pub used : tag m s ≡ Tag.free → ⊥
-
--- what the test of a word answers: the bit of a record that passes, or that there is none
-abbrev pub Tested : Geometry → Mem → ℕ → Bit → Type 0
-Tested g m at (At k) = RecordOk g m at × (k ≡ recordBit g m at)
-Tested g m at Torn = RecordOk g m at → ⊥
 
 -- how many pointers of a record are followed: all of them, or, of a marked record, none
 abbrev pub followed : Edges → Geometry → Mem → ℕ → ℕ

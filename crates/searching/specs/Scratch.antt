@@ -2,7 +2,7 @@
 use mathlib.Core.Path.{_≡_}
 use mathlib.Core.Bool.{Bool, true, false}
 use mathlib.Core.List.{List}
-use Prim.Native.Nat.{ℕ, suc, _+_, _-_, _<_}
+use Prim.Native.Nat.{ℕ, _+_, _-_, _<_}
 use lib.Dec.{ltb}
 use lib.ListN.{length, getD, set}
 use Rattle.words.specs.Bits.{bitAt, setBit}
@@ -21,6 +21,10 @@ searchWords g = len g Region.queued + len g Region.trace
 
 abbrev pub stateOf : Geometry → List ℕ → ℕ → State
 stateOf g scratch t = record { seen = bitAt scratch; entry = λ i. getD scratch (len g Region.queued + i) 0; top = t }
+
+-- no bit is 1
+abbrev pub Blank : Geometry → List ℕ → Type 0
+Blank g scratch = (k : ℕ) → k < len g Region.trace → bitAt scratch k ≡ 0
 
 -- memory and scratch have their lengths
 pub record Lent (g : Geometry) (memory scratch : List ℕ) : Type 0 where

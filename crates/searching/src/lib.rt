@@ -1,25 +1,19 @@
 // The search of the heap for the examination: one search over the lent memory, with visited bits and a stack in a lent scratch. Every word may have
 // any content: a record is tested before its pointers are followed, and each is visited once.
-use classes::SizeClass;
 use layout::Geometry;
 use tracing::Bit;
 ghost use mathlib.Core.Path.{_≡_};
 ghost use mathlib.Core.Bool.{true};
-ghost use Prim.Native.Nat.{ℕ, suc, _+_, _-_, _*_, _≤_, _<_};
-ghost use lib.ListN.{length, getD, replicate};
-ghost use Rattle.rules.specs.Decides.{Decides};
+ghost use Prim.Native.Nat.{suc, _+_, _-_, _*_, _≤_, _<_};
+ghost use lib.ListN.{length, getD};
 ghost use Rattle.words.specs.Bits.{bitAt};
-ghost use Rattle.classes.specs.Record.{classOfRecord};
-ghost use Rattle.classes.specs.declared.SizeClass.the-variants.{Class};
-ghost use Rattle.layout.specs.Geometry.{Sized, len, segmentOf, mostBlocks, maxSegments, mutatorCount};
+ghost use Rattle.layout.specs.Geometry.{Sized, len, maxSegments, mutatorCount};
 ghost use Rattle.layout.specs.Mem.{memOf};
-ghost use Rattle.model.specs.Segments.{usedBit};
-ghost use Rattle.model.specs.Records.{shapeOf};
-ghost use Rattle.model.specs.Reaching.{IsRoot, IsEntry, Live, Reached, isMarked};
+ghost use Rattle.model.specs.Reaching.{IsRoot, IsEntry, Live, Reached};
 ghost use Rattle.model.specs.Consistent.{RecordOk};
 ghost use Rattle.walk.specs.Walk.{Valid};
-ghost use Rattle.searching.specs.Graph.{recordsOf, Classed, Tested, followed, wordsOf, lengthOf, InRun, Follows, RootOf, EntryCount};
-ghost use Rattle.searching.specs.Scratch.{searchWords, stateOf, Lent, Enters, Came, Then, Turns, Ready, isWaiting, isGood, Started, Finished};
+ghost use Rattle.searching.specs.Graph.{recordsOf, followed, wordsOf, lengthOf, InRun, Follows, RootOf, EntryCount};
+ghost use Rattle.searching.specs.Scratch.{searchWords, Blank, stateOf, Lent, Enters, Came, Then, Turns, Ready, isWaiting, isGood, Started, Finished};
 ghost use Rattle.searching.specs.Found.{Finds, ByEntries};
 ghost use Rattle.layout.specs.Region as Region;
 
@@ -42,83 +36,6 @@ pub enum Met {
     Bad,
 }
 
-// Whether the shape at a word is of a class.
-fn is_of_class(g: Geometry, mem: &[u32], at: usize, class: u32) -> bool
-    requires { ⌜ (Sized g (length (now mem))) × (at < len g Region.heap) ⌝ }
-    ensures { λ r. ⌜ Decides r (classOfRecord (shapeOf (memOf g (now (mem .entry))) at) ≡ Class class) ⌝ }
-{
-    let shape = records::shape(g, mem, at);
-    match classes::class_of_record(shape) {
-        SizeClass::TooBig => false,
-        SizeClass::Class(c) => c == class,
-    }
-}
-
-// Whether block b of segment s is in use.
-fn is_used(g: Geometry, mem: &[u32], s: usize, b: usize) -> bool
-    requires { ⌜ (Sized g (length (now mem))) × (s < g .segments) × (b < mostBlocks g) ⌝ }
-    ensures { λ r. ⌜ Decides r (usedBit g (memOf g (now (mem .entry))) s b ≡ 1) ⌝ }
-{
-    if b < segments::place(g, mem, s) as usize {
-        return true;
-    }
-    let a = layout::bitmap_from(g, s);
-    let end = layout::bitmap_from(g, s + 1);
-    words::bit_at(&mem[a..end], b as u32) == 1
-}
-
-// The test of a word in a segment of a class.
-fn test_block(g: Geometry, mem: &[u32], at: usize, s: usize, class: u32) -> Bit
-    requires { ⌜ (Sized g (length (now mem))) × (at < len g Region.heap) × (s ≡ segmentOf g at) × Classed (memOf g (now mem)) s class ⌝ }
-    ensures { λ r. ⌜ Tested g (memOf g (now (mem .entry))) at r ⌝ }
-{
-    let offset = layout::offset_of(g, at);
-    let words = classes::block_words(class);
-    if offset % words != 0 {
-        return Bit::Torn;
-    }
-    let b = offset / words;
-    if is_used(g, mem, s, b) {
-        if is_of_class(g, mem, at, class) {
-            return Bit::At(layout::bit_in(g, s, b));
-        }
-    }
-    Bit::Torn
-}
-
-// The test of a word: the bit of the record there, or that there is none.
-pub fn test(g: Geometry, mem: &[u32], at: usize) -> Bit
-    requires { ⌜ Sized g (length (now mem)) ⌝ }
-    ensures { λ r. ⌜ Tested g (memOf g (now (mem .entry))) at r ⌝ }
-{
-    if layout::heap_words(g) <= at {
-        return Bit::Torn;
-    }
-    let s = layout::segment_of(g, at);
-    if segments::tag(g, mem, s) == 0 {
-        return Bit::Torn;
-    }
-    let class = segments::class(g, mem, s);
-    if classes::is_class(class) {
-        return test_block(g, mem, at, s, class);
-    }
-    Bit::Torn
-}
-
-// Whether a record is marked.
-fn is_marked(g: Geometry, mem: &[u32], at: usize) -> bool
-    requires { ⌜ (Sized g (length (now mem))) × RecordOk g (memOf g (now mem)) at ⌝ }
-    ensures { λ r. ⌜ r ≡ isMarked g (memOf g (now (mem .entry))) at ⌝ }
-{
-    match tracing::bit_of(g, mem, at) {
-        Bit::Torn => false,
-        Bit::At(k) => {
-            let w = layout::mark(g, mem, k / 32);
-            words::bit_of(w, (k % 32) as u32) == 1
-        }
-    }
-}
-
 // How many pointers of a record are followed.
 fn pointers(g: Geometry, mem: &[u32], edges: Edges, at: usize) -> usize
     requires { ⌜ (Sized g (length (now mem))) × RecordOk g (memOf g (now mem)) at ⌝ }
@@ -129,7 +46,7 @@ fn pointers(g: Geometry, mem: &[u32], edges: Edges, at: usize) -> usize
     match edges {
         Edges::All => n,
         Edges::Unmarked => {
-            if is_marked(g, mem, at) {
+            if record_test::is_marked(g, mem, at) {
                 return 0;
             }
             n
@@ -162,7 +79,7 @@ fn follow_at(g: Geometry, mem: &[u32], w: u32, scratch: &mut [u32], top: usize) 
         return Met::Top(top);
     }
     let at = w - 1;
-    match test(g, mem, at as usize) {
+    match record_test::test(g, mem, at as usize) {
         Bit::Torn => Met::Bad,
         Bit::At(k) => Met::Top(enter(g, scratch, at, k, top)),
     }
@@ -298,9 +215,9 @@ fn follow_mutator(g: Geometry, mem: &[u32], k: u32, scratch: &mut [u32], met: Me
     }
 }
 
-// All roots of attached mutators, in a scratch of zeros.
+// All roots of attached mutators, where no bit is 1.
 fn follow_roots(g: Geometry, mem: &[u32], scratch: &mut [u32]) -> Met
-    requires { ⌜ Lent g (now mem) (now scratch) × (now scratch ≡ replicate (searchWords g) 0) ⌝ }
+    requires { ⌜ Lent g (now mem) (now scratch) × Blank g (now scratch) ⌝ }
     ensures { λ r. ⌜ Came g (memOf g (now (mem .entry))) (IsRoot (memOf g (now (mem .entry)))) (stateOf g (now (scratch .entry)) 0) r (now (scratch .exit)) ⌝ }
 {
     let mut met = Met::Top(0);
@@ -344,12 +261,14 @@ fn follow_entries(g: Geometry, mem: &[u32], scratch: &mut [u32], met: Met) -> Me
     }
 }
 
-// Every word of the scratch becomes 0.
-pub fn clear(scratch: &mut [u32])
-    ensures { λ _. ⌜ now (scratch .exit) ≡ replicate (length (now (scratch .entry))) 0 ⌝ }
+// Every bit of the scratch becomes 0.
+fn clear(g: Geometry, scratch: &mut [u32])
+    requires { ⌜ (g .segments ≤ maxSegments) × (length (now scratch) ≡ searchWords g) ⌝ }
+    ensures { λ _. ⌜ Blank g (now (scratch .exit)) ⌝ }
 {
+    let n = scratch.len() - layout::trace_words(g);
     let mut i: usize = 0;
-    while i < scratch.len() {
+    while i < n {
         scratch[i] = 0;
         i += 1;
     }
@@ -360,7 +279,7 @@ pub fn live(g: Geometry, mem: &[u32], scratch: &mut [u32]) -> bool
     requires { ⌜ Lent g (now mem) (now scratch) ⌝ }
     ensures { λ r. ⌜ Finds g (memOf g (now (mem .entry))) (Live (memOf g (now (mem .entry)))) r (now (scratch .exit)) ⌝ }
 {
-    clear(scratch);
+    clear(g, scratch);
     let roots = follow_roots(g, mem, scratch);
     let met = follow_entries(g, mem, scratch, roots);
     finish(g, mem, Edges::All, scratch, met)
@@ -371,7 +290,7 @@ pub fn reached(g: Geometry, mem: &[u32], scratch: &mut [u32]) -> bool
     requires { ⌜ Lent g (now mem) (now scratch) ⌝ }
     ensures { λ r. ⌜ Finds g (memOf g (now (mem .entry))) (Reached (memOf g (now (mem .entry)))) r (now (scratch .exit)) ⌝ }
 {
-    clear(scratch);
+    clear(g, scratch);
     let met = follow_roots(g, mem, scratch);
     finish(g, mem, Edges::All, scratch, met)
 }
@@ -381,7 +300,7 @@ pub fn by_entries(g: Geometry, mem: &[u32], scratch: &mut [u32]) -> bool
     requires { ⌜ Lent g (now mem) (now scratch) ⌝ }
     ensures { λ r. ⌜ Finds g (memOf g (now (mem .entry))) (ByEntries g (memOf g (now (mem .entry)))) r (now (scratch .exit)) ⌝ }
 {
-    clear(scratch);
+    clear(g, scratch);
     let met = entries_at(g, mem, scratch, 0);
     finish(g, mem, Edges::Unmarked, scratch, met)
 }

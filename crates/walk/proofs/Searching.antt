@@ -3,17 +3,17 @@ use mathlib.Core.Path.{_≡_, refl, sym, ap, _∙_, subst}
 use mathlib.Core.Logic.{_⊎_, inl, inr, ⊎-elim}
 use mathlib.Core.Bool.{Bool, true, false}
 use mathlib.Core.Option.{Option, none, some, Option·some-injective}
-use Prim.Native.Nat.{ℕ, zero, suc, _+_, _-_, _≤_, _<_}
+use Prim.Native.Nat.{ℕ, zero, suc, _+_, _-_, _≤_}
 use native.Mathlib.Omega.{arith}
 use lib.Dec.{eqb}
-use borrow.Author.Tests.{eq-eqb, ne-eqb, eqb-true, eqb-false}
+use borrow.Author.Tests.{eqb-true, eqb-false}
 use Rattle.rules.specs.Pick.{pick}
 use Rattle.rules.proofs.Order.{same-or-not}
 use Rattle.words.specs.Bits.{onesAmong}
 use Rattle.words.proofs.Counts.{lt-of, no-ones}
 use Rattle.words.proofs.Word.{zero-of-not-one}
 use Rattle.theory.specs.Reach.{root}
-use Rattle.walk.specs.Walk.{State, Nodes, Placed, Seen, OnStack, At, Valid, Run, Fails, Graph, popped, Reached, Underway, left, Exact}
+use Rattle.walk.specs.Walk.{State, Nodes, Placed, Seen, Valid, Run, Fails, Graph, popped, Reached, Underway, left}
 use Rattle.walk.specs.Search.{put, atMostOne, Names, empty, nodesOf, pushed, enter, follow, followAll, turnAt, turn, search, busy, turns, graphOf, started, searched, Law}
 use Rattle.walk.proofs.Walking.{put-here, put-other, run-still, run-more, Pushed, run-push, valid-empty, valid-popped, run-first, underway-from, underway-turn, left-turn, turn-fails, underway-exact, ones-le, room-le}
 
@@ -106,13 +106,13 @@ module _ (size : ℕ) (ok : ℕ → Bool) (place : ℕ → ℕ) (placed : Placed
     way-start (some s) c =
         let z : onesAmong (λ k. 0) size ≡ 0 = no-ones (λ k. 0) size (λ i l. refl) in
         let l = ones-le (c .valid) in
-        (underway-from (c .valid) (λ x q. run-first (λ k. refl) c x q .1) (c .all) (λ x q. run-first (λ k. refl) c x q .0), inr (omega (arith, c .once)), omega (arith, c .once))
+        (underway-from (c .valid) (λ x q. run-first placed (λ k l. refl) c x q .1) (c .all) (λ x q. run-first placed (λ k l. refl) c x q .0), inr (omega (arith, c .once)), omega (arith, c .once))
 
     abbrev turned : ℕ
     turned = turns size ok place degree edge size (started size ok place degree edge rootCount rootAt)
 
     whole : Way 0 turned (searched size ok place degree edge rootCount rootAt)
-    whole = subst (λ (z : ℕ). Way 0 z (searched size ok place degree edge rootCount rootAt)) (omega arith) (way-search size 0 (started size ok place degree edge rootCount rootAt) (way-start (started size ok place degree edge rootCount rootAt) (all-came rootAt rootCount empty (valid-empty (λ k. refl) refl))))
+    whole = subst (λ (z : ℕ). Way 0 z (searched size ok place degree edge rootCount rootAt)) (omega arith) (way-search size 0 (started size ok place degree edge rootCount rootAt) (way-start (started size ok place degree edge rootCount rootAt) (all-came rootAt rootCount empty (valid-empty (λ k. omega arith) (λ k l. refl) refl))))
 
     ends : (s : State) → Way 0 turned (some s) → s .top ≡ 0
     ends s w = ⊎-elim (λ z. z) (λ z. omega arith) (w .1)
@@ -139,7 +139,7 @@ module _ (size : ℕ) (ok : ℕ → Bool) (place : ℕ → ℕ) (placed : Placed
     roomy (some u) g s e = subst (λ (v : State). v .top ≤ size) (Option·some-injective u s e) (room-le (g .valid))
 
     start-way : Way size 0 (started size ok place degree edge rootCount rootAt)
-    start-way = way-start (started size ok place degree edge rootCount rootAt) (all-came rootAt rootCount empty (valid-empty (λ k. refl) refl))
+    start-way = way-start (started size ok place degree edge rootCount rootAt) (all-came rootAt rootCount empty (valid-empty (λ k. omega arith) (λ k l. refl) refl))
 
     pub search-law : Law size ok place degree edge rootCount rootAt
     search-law = record {

@@ -1,17 +1,15 @@
 -- The laws of a search under way: a push, two runs one after the other, a turn, and the end. Assumes nothing.
 use mathlib.Core.Path.{_≡_, refl, sym, ap, _∙_, subst}
 use mathlib.Core.Logic.{_⊎_, inl, inr, ⊎-elim}
-use Prim.Native.Nat.{ℕ, zero, suc, _+_, _-_, _≤_, _<_}
+use Prim.Native.Nat.{ℕ, suc, _-_, _≤_, _<_}
 use native.Mathlib.Omega.{arith}
-use lib.Dec.{eqb}
 use borrow.Author.Tests.{eq-eqb, ne-eqb}
-use Rattle.rules.specs.Pick.{pick}
-use Rattle.rules.proofs.Order.{le-or-lt, same-or-not}
+use Rattle.rules.proofs.Order.{same-or-not}
 use Rattle.words.specs.Bits.{onesAmong}
 use Rattle.words.proofs.Ones.{among-le}
-use Rattle.words.proofs.Counts.{among-change, lt-of, no-ones}
+use Rattle.words.proofs.Counts.{among-change, lt-of}
 use Rattle.theory.specs.Reach.{Reach, root, next}
-use Rattle.walk.specs.Walk.{State, Nodes, Placed, Seen, OnStack, At, Valid, Run, Fails, Graph, popped, Reached, Underway, left, Exact}
+use Rattle.walk.specs.Walk.{State, Nodes, Placed, Seen, OnStack, Valid, Run, Fails, Graph, popped, Reached, Underway, left, Exact}
 use Rattle.walk.specs.Search.{put}
 use Rattle.theory.proofs.Graph.{reach-append, reach-closed}
 
@@ -115,11 +113,11 @@ module _ {T : Nodes} (placed : Placed T) {s : State} (f : Valid T s) (x : ℕ) (
 
 -- ---- the search
 
--- the state before: no bit is 1, and the stack is empty
-pub valid-empty : {T : Nodes} {s : State} → ((k : ℕ) → s .seen k ≡ 0) → s .top ≡ 0 → Valid T s
-valid-empty {T} {s} z e = record {
-  bits = λ k. omega (arith, z k);
-  nodes = λ k l q. absurd (omega (arith, z k));
+-- the state before: no bit of a node is 1, and the stack is empty
+pub valid-empty : {T : Nodes} {s : State} → ((k : ℕ) → s .seen k < 2) → ((k : ℕ) → k < T .size → s .seen k ≡ 0) → s .top ≡ 0 → Valid T s
+valid-empty {T} {s} b z e = record {
+  bits = b;
+  nodes = λ k l q. absurd (omega (arith, z k l));
   stack = λ i l. absurd (omega arith);
   room = omega arith;
 }
@@ -133,8 +131,8 @@ valid-popped {T} {s} t f l = record {
 }
 
 -- after a run from no bit at all, what is seen is what was named, and all of it is on the stack
-pub run-first : {T : Nodes} {Named : ℕ → Type 0} {s u : State} → ((k : ℕ) → s .seen k ≡ 0) → Run T Named s u → (x : ℕ) → Seen T u x → Named x × OnStack u x
-run-first {T} {Named} {s} {u} z r x q = ⊎-elim (λ o. absurd (omega (arith, o .1, z (T .place x)))) (λ o. o) (r .fresh x q)
+pub run-first : {T : Nodes} {Named : ℕ → Type 0} {s u : State} → Placed T → ((k : ℕ) → k < T .size → s .seen k ≡ 0) → Run T Named s u → (x : ℕ) → Seen T u x → Named x × OnStack u x
+run-first {T} {Named} {s} {u} p z r x q = ⊎-elim (λ o. absurd (omega (arith, o .1, z (T .place x) (p .small x (o .0))))) (λ o. o) (r .fresh x q)
 
 -- the same graph with its roots said otherwise
 module _ {T : Nodes} {R S : ℕ → Type 0} {E : ℕ → ℕ → Type 0} (to : (x : ℕ) → R x → S x) where

@@ -2,7 +2,7 @@
 -- says how bits and entries are kept: a state is three functions of them.
 use mathlib.Core.Path.{_≡_}
 use mathlib.Core.Logic.{_⊎_}
-use Prim.Native.Nat.{ℕ, suc, _+_, _-_, _≤_, _<_}
+use Prim.Native.Nat.{ℕ, _+_, _-_, _≤_, _<_}
 use Rattle.words.specs.Bits.{onesAmong}
 use Rattle.theory.specs.Reach.{Reach}
 

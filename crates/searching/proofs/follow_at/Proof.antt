@@ -4,7 +4,7 @@ use Prim.Native.Nat.{_-_}
 use Rattle.layout.specs.Mem.{memOf}
 use Rattle.tracing.specs.declared.Bit.{Bit}
 use Rattle.walk.proofs.Walking.{run-still}
-use Rattle.searching.specs.Graph.{Tested}
+use Rattle.record_test.specs.Tests.{Tested}
 use Rattle.searching.proofs.Steps.{enter-room, bit-room, enter-run}
 use native.Mathlib.Omega.{arith}
 use borrow.Author.Needs.{needs}

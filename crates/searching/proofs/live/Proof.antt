@@ -1,5 +1,5 @@
 -- `searching::live` meets its contract. Assumes nothing.
-use mathlib.Core.Path.{_∙_, ap}
+use mathlib.Core.Path.{_∙_}
 use Rattle.layout.specs.Mem.{memOf}
 use Rattle.model.specs.Reaching.{IsRoot, IsEntry}
 use Rattle.searching.specs.declared.Edges.the-variants.{All}
@@ -7,33 +7,31 @@ use Rattle.searching.specs.Scratch.{stateOf}
 use Rattle.searching.proofs.Steps.{came-ready, start-waits, finish-named}
 use Rattle.searching.proofs.Rooting.{roots-entries}
 use Rattle.searching.proofs.Finding.{finds-all}
-use lib.ListN.{replicate}
 use mathlib.Core.Logic.{_⊎_}
-use Prim.Native.Nat.{ℕ}
 use borrow.Author.Needs.{needs}
 use Rattle.searching.proofs.live.Tie as tie
 use Rattle.searching.proofs.live.Statement.{statement}
 
 clear-requires : tie.Need-clear-requires
-clear-requires c κs = search needs
+clear-requires c κs = (c .before .before .before .pre .sized .few, c .before .before .before .pre .room)
 
 follow-roots-requires : tie.Need-follow-roots-requires
-follow-roots-requires c κs = let a = c .before .before .before .before .before .before .before in (record { sized = a .pre .sized; room = c .before .before .before .clear .kept .0 ∙ a .pre .room }, c .before .before .before .clear .ensures ∙ ap (λ (k : ℕ). replicate k 0) (a .pre .room))
+follow-roots-requires c κs = let a = c .before .before .before .before .before .before .before in (record { sized = a .pre .sized; room = c .before .before .before .clear .kept .1 .0 ∙ a .pre .room }, c .before .before .before .clear .ensures)
 
 follow-entries-requires : tie.Need-follow-entries-requires
 follow-entries-requires c κs =
     let a = c .before .before .before .before .before .before .before .before .before .before .before in
     let m = memOf (a .args .g) (a .args .mem .now) in
-    (record { sized = a .pre .sized; room = c .before .before .before .follow-roots .kept .1 .1 .0 ∙ c .before .before .before .before .before .before .before .clear .kept .0 ∙ a .pre .room }, came-ready (a .args .g) m (stateOf (a .args .g) (c .before .before .before .before .before .before .before .clear .last .0) 0) (IsRoot m) (c .before .before .before .follow-roots .result) (c .before .before .before .follow-roots .last .1 .1 .0) (c .before .before .before .follow-roots .ensures))
+    (record { sized = a .pre .sized; room = c .before .before .before .follow-roots .kept .1 .1 .0 ∙ c .before .before .before .before .before .before .before .clear .kept .1 .0 ∙ a .pre .room }, came-ready (a .args .g) m (stateOf (a .args .g) (c .before .before .before .before .before .before .before .clear .last .1 .0) 0) (IsRoot m) (c .before .before .before .follow-roots .result) (c .before .before .before .follow-roots .last .1 .1 .0) (c .before .before .before .follow-roots .ensures))
 
 finish-requires : tie.Need-finish-requires
 finish-requires c κs =
     let a = c .before .before .before .before .before .before .before .before .before .before .before .before .before .before .before in
     let m = memOf (a .args .g) (a .args .mem .now) in
-    let zeros = c .before .before .before .before .before .before .before .before .before .before .before .clear .ensures ∙ ap (λ (k : ℕ). replicate k 0) (a .pre .room) in (
-      record { sized = a .pre .sized; room = c .before .before .before .follow-entries .kept .1 .1 .0 ∙ c .before .before .before .before .before .before .before .follow-roots .kept .1 .1 .0 ∙ c .before .before .before .before .before .before .before .before .before .before .before .clear .kept .0 ∙ a .pre .room },
-      start-waits (a .args .g) m (λ at. IsRoot m at ⊎ IsEntry m at) (c .before .before .before .before .before .before .before .before .before .before .before .clear .last .0) zeros (c .before .before .before .follow-entries .result) (c .before .before .before .follow-entries .last .1 .1 .0)
-          (roots-entries (a .args .g) m (stateOf (a .args .g) (c .before .before .before .before .before .before .before .before .before .before .before .clear .last .0) 0) (c .before .before .before .before .before .before .before .follow-roots .result) (c .before .before .before .follow-entries .result) (c .before .before .before .before .before .before .before .follow-roots .last .1 .1 .0) (c .before .before .before .follow-entries .last .1 .1 .0) (c .before .before .before .before .before .before .before .follow-roots .ensures) (c .before .before .before .follow-entries .ensures)),
+    let zeros = c .before .before .before .before .before .before .before .before .before .before .before .clear .ensures in (
+      record { sized = a .pre .sized; room = c .before .before .before .follow-entries .kept .1 .1 .0 ∙ c .before .before .before .before .before .before .before .follow-roots .kept .1 .1 .0 ∙ c .before .before .before .before .before .before .before .before .before .before .before .clear .kept .1 .0 ∙ a .pre .room },
+      start-waits (a .args .g) m (λ at. IsRoot m at ⊎ IsEntry m at) (c .before .before .before .before .before .before .before .before .before .before .before .clear .last .1 .0) zeros (c .before .before .before .follow-entries .result) (c .before .before .before .follow-entries .last .1 .1 .0)
+          (roots-entries (a .args .g) m (stateOf (a .args .g) (c .before .before .before .before .before .before .before .before .before .before .before .clear .last .1 .0) 0) (c .before .before .before .before .before .before .before .follow-roots .result) (c .before .before .before .follow-entries .result) (c .before .before .before .before .before .before .before .follow-roots .last .1 .1 .0) (c .before .before .before .follow-entries .last .1 .1 .0) (c .before .before .before .before .before .before .before .follow-roots .ensures) (c .before .before .before .follow-entries .ensures)),
     )
 
 same-length : tie.Need-same-length
@@ -43,10 +41,10 @@ returns : tie.Need-returns
 returns c =
     let a = c .before .before .before .before .before .before .before .before .before .before .before .before .before .before .before .before .before .before in
     let m = memOf (a .args .g) (a .args .mem .now) in
-    let zeros = c .before .before .before .before .before .before .before .before .before .before .before .before .before .before .clear .ensures ∙ ap (λ (k : ℕ). replicate k 0) (a .pre .room) in
+    let zeros = c .before .before .before .before .before .before .before .before .before .before .before .before .before .before .clear .ensures in
     finds-all (a .args .g) m (λ at. IsRoot m at ⊎ IsEntry m at) (c .before .before .finish .result) (c .before .before .finish .last .1 .1 .1 .0)
-    (finish-named (a .args .g) m (λ at. IsRoot m at ⊎ IsEntry m at) (c .before .before .before .before .before .before .before .before .before .before .before .before .before .before .clear .last .0) zeros All (c .before .before .before .before .before .before .follow-entries .result) (c .before .before .finish .result) (c .before .before .before .before .before .before .follow-entries .last .1 .1 .0) (c .before .before .finish .last .1 .1 .1 .0)
-    (roots-entries (a .args .g) m (stateOf (a .args .g) (c .before .before .before .before .before .before .before .before .before .before .before .before .before .before .clear .last .0) 0) (c .before .before .before .before .before .before .before .before .before .before .follow-roots .result) (c .before .before .before .before .before .before .follow-entries .result) (c .before .before .before .before .before .before .before .before .before .before .follow-roots .last .1 .1 .0) (c .before .before .before .before .before .before .follow-entries .last .1 .1 .0) (c .before .before .before .before .before .before .before .before .before .before .follow-roots .ensures) (c .before .before .before .before .before .before .follow-entries .ensures))
+    (finish-named (a .args .g) m (λ at. IsRoot m at ⊎ IsEntry m at) (c .before .before .before .before .before .before .before .before .before .before .before .before .before .before .clear .last .1 .0) zeros All (c .before .before .before .before .before .before .follow-entries .result) (c .before .before .finish .result) (c .before .before .before .before .before .before .follow-entries .last .1 .1 .0) (c .before .before .finish .last .1 .1 .1 .0)
+    (roots-entries (a .args .g) m (stateOf (a .args .g) (c .before .before .before .before .before .before .before .before .before .before .before .before .before .before .clear .last .1 .0) 0) (c .before .before .before .before .before .before .before .before .before .before .follow-roots .result) (c .before .before .before .before .before .before .follow-entries .result) (c .before .before .before .before .before .before .before .before .before .before .follow-roots .last .1 .1 .0) (c .before .before .before .before .before .before .follow-entries .last .1 .1 .0) (c .before .before .before .before .before .before .before .before .before .before .follow-roots .ensures) (c .before .before .before .before .before .before .follow-entries .ensures))
     (c .before .before .finish .ensures))
 
 pub live-spec : {M : Type 1} → statement M

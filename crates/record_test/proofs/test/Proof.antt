@@ -1,11 +1,11 @@
--- `searching::test` meets its contract. Assumes nothing.
+-- `record_test::test` meets its contract. Assumes nothing.
 use mathlib.Core.Path.{_∙_, sym}
 use Rattle.layout.specs.Mem.{memOf}
 use Rattle.tracing.proofs.Bits.{segment-in}
-use Rattle.searching.proofs.Testing.{off-heap, in-heap, not-free, no-class, classed}
+use Rattle.record_test.proofs.Testing.{off-heap, in-heap, not-free, no-class, classed}
 use borrow.Author.Needs.{needs}
-use Rattle.searching.proofs.test.Tie as tie
-use Rattle.searching.proofs.test.Statement.{statement}
+use Rattle.record_test.proofs.test.Tie as tie
+use Rattle.record_test.proofs.test.Statement.{statement}
 
 heap-words-requires : tie.Need-heap-words-requires
 heap-words-requires c κs = search needs

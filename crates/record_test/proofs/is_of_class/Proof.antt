@@ -1,8 +1,8 @@
--- `searching::is_of_class` meets its contract. Assumes nothing.
-use Rattle.searching.proofs.Testing.{too-big, by-class}
+-- `record_test::is_of_class` meets its contract. Assumes nothing.
+use Rattle.record_test.proofs.Testing.{too-big, by-class}
 use borrow.Author.Needs.{needs}
-use Rattle.searching.proofs.is_of_class.Tie as tie
-use Rattle.searching.proofs.is_of_class.Statement.{statement}
+use Rattle.record_test.proofs.is_of_class.Tie as tie
+use Rattle.record_test.proofs.is_of_class.Statement.{statement}
 
 shape-requires : tie.Need-shape-requires
 shape-requires c κs = search needs

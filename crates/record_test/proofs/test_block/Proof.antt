@@ -1,12 +1,12 @@
--- `searching::test_block` meets its contract. Assumes nothing.
+-- `record_test::test_block` meets its contract. Assumes nothing.
 use Rattle.layout.specs.Mem.{memOf}
 use Rattle.classes.proofs.Filling.{two-words}
 use Rattle.rules.proofs.Deciding.{refuted}
-use Rattle.searching.proofs.Testing.{head-block, head-segment, not-head, not-used, not-sized, passes}
+use Rattle.record_test.proofs.Testing.{head-block, head-segment, not-head, not-used, not-sized, passes}
 use native.Mathlib.Omega.{arith}
 use borrow.Author.Needs.{needs}
-use Rattle.searching.proofs.test_block.Tie as tie
-use Rattle.searching.proofs.test_block.Statement.{statement}
+use Rattle.record_test.proofs.test_block.Tie as tie
+use Rattle.record_test.proofs.test_block.Statement.{statement}
 
 offset-of-requires : tie.Need-offset-of-requires
 offset-of-requires c κs = search needs

@@ -1,11 +1,11 @@
--- `searching::is_marked` meets its contract. Assumes nothing.
+-- `record_test::is_marked` meets its contract. Assumes nothing.
 use mathlib.Core.Path.{_∙_, sym}
 use Rattle.layout.proofs.Sizes.{mark-word}
 use Rattle.tracing.proofs.Bits.{bit-within}
-use Rattle.searching.proofs.Testing.{no-bit, mark-by}
+use Rattle.record_test.proofs.Testing.{no-bit, mark-by}
 use borrow.Author.Needs.{needs}
-use Rattle.searching.proofs.is_marked.Tie as tie
-use Rattle.searching.proofs.is_marked.Statement.{statement}
+use Rattle.record_test.proofs.is_marked.Tie as tie
+use Rattle.record_test.proofs.is_marked.Statement.{statement}
 
 bit-of-requires : tie.Need-bit-of-requires
 bit-of-requires c κs = search needs

@@ -1,11 +1,11 @@
--- `searching::is_used` meets its contract. Assumes nothing.
+-- `record_test::is_used` meets its contract. Assumes nothing.
 use Rattle.layout.specs.Mem.{memOf}
 use Rattle.layout.proofs.Sizes.{most-small}
-use Rattle.searching.proofs.Testing.{used-before, used-by, lent, lent-room}
+use Rattle.record_test.proofs.Testing.{used-before, used-by, lent, lent-room}
 use native.Mathlib.Omega.{arith}
 use borrow.Author.Needs.{needs}
-use Rattle.searching.proofs.is_used.Tie as tie
-use Rattle.searching.proofs.is_used.Statement.{statement}
+use Rattle.record_test.proofs.is_used.Tie as tie
+use Rattle.record_test.proofs.is_used.Statement.{statement}
 
 place-requires : tie.Need-place-requires
 place-requires c κs = search needs

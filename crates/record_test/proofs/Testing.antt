@@ -1,6 +1,6 @@
 -- The test of a word: a block in use at whose head lies a record of the segment's class, and nothing else. Assumes nothing.
 use mathlib.Core.Path.{_≡_, refl, sym, _∙_, ap, subst}
-use mathlib.Core.Bool.{Bool, true, false, true≢false}
+use mathlib.Core.Bool.{true, false, true≢false}
 use mathlib.Core.List.{List}
 use Prim.Native.Nat.{ℕ, _+_, _-_, _*_, _/_, _%_, _≤_, _<_}
 use native.Mathlib.Nat.{mod-lt}
@@ -9,13 +9,12 @@ use lib.Dec.{eqb}
 use lib.ListN.{length}
 use borrow.Rule.Slice.PartMut.{midOf}
 use borrow.Author.Tests.{lt-ltb, le-ltb, eq-eqb, eqb-true}
-use Rattle.rules.specs.Pick.{pick}
 use Rattle.rules.specs.Decides.{Decides}
 use Rattle.rules.proofs.Deciding.{holds, fails}
 use Rattle.words.specs.Bits.{bitOf, bitAt}
 use Rattle.words.proofs.Lists.{bit-split}
 use Rattle.words.proofs.Trees.{words-in}
-use Rattle.classes.specs.Class.{IsClass, blockWords, firstClass, classTest}
+use Rattle.classes.specs.Class.{blockWords, firstClass, classTest}
 use Rattle.classes.specs.Record.{classOfRecord}
 use Rattle.classes.specs.declared.SizeClass.{SizeClass}
 use Rattle.classes.specs.declared.SizeClass.the-variants.{Class, TooBig}
@@ -23,7 +22,7 @@ use Rattle.classes.specs.declared.RecordShape.{RecordShape}
 use Rattle.classes.proofs.Every.{class-passed, class-passes}
 use Rattle.layout.specs.declared.Geometry.{Geometry}
 use Rattle.layout.specs.Geometry.{Sized, len, from, segmentWords, mostBlocks, blocksIn, bitmapWords, segmentOf, bitIn}
-use Rattle.layout.specs.Mem.{Mem, memOf, markWord}
+use Rattle.layout.specs.Mem.{Mem, markWord}
 use Rattle.model.specs.Fields.{tag, class, place}
 use Rattle.model.specs.Segments.{above, bitmap, usedBit}
 use Rattle.model.specs.Records.{shapeOf, blockOf, recordBit}
@@ -32,12 +31,11 @@ use Rattle.model.specs.Consistent.{RecordOk}
 use Rattle.layout.proofs.Sizes.{words-some, segment-below}
 use Rattle.laws.proofs.Blocks.{block-most}
 use Rattle.laws.proofs.Apart.{class-of}
-use Rattle.tracing.specs.declared.Bit.{Bit}
 use Rattle.tracing.specs.declared.Bit.the-variants.{At, Torn}
 use Rattle.tracing.specs.Pushing.{recordBitAt}
 use Rattle.tracing.proofs.Bits.{isAt, bit-within}
 use Rattle.bitmaps.proofs.Lent.{TreePart, tree-at}
-use Rattle.searching.specs.Graph.{Classed}
+use Rattle.record_test.specs.Tests.{Classed}
 use Rattle.layout.specs.Region as Region
 use Rattle.model.specs.Tag as Tag
 

@@ -1,0 +1,2 @@
+-- The laws of the test. Assumes nothing.
+pub mod Testing

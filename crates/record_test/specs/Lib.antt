@@ -1,0 +1,2 @@
+-- What the test of a word answers.
+pub mod Tests
