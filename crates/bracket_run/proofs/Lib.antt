@@ -1,2 +1,3 @@
 -- Laws of the bracket program's loop.
 pub mod Printing
+pub mod Replying
