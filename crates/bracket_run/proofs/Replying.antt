@@ -14,8 +14,8 @@ use Rattle.bracket_lines.specs.declared.Scan.{Scan}
 use Rattle.bracket_lines.specs.Lines.{Telling, whole, tooLong}
 use Rattle.bracket_lines.specs.Split.{Splitter, heard, through, tells, Scans}
 use Rattle.bracket_lines.proofs.Scanning.{through-append, tells-append}
-use Rattle.bracket_steps.specs.Said.{State, Good, Answers}
-use Rattle.bracket_run.specs.Printed.{Replied, noLine, oneLine, longLine, Prints, Wrote, Passed, mostReply}
+use Rattle.bracket_steps.specs.Said.{State, Answers}
+use Rattle.bracket_run.specs.Printed.{Replied, noLine, oneLine, longLine, Prints, Wrote, Passed}
 
 -- replies one after the other
 pub replied-append : {s next end : State} {ts us : List Telling} {a b : List ℕ} → Replied s ts a next → Replied next us b end → Replied s (ts ++ us) (a ++ b) end

@@ -9,8 +9,8 @@ use Rattle.bracket_forms.specs.declared.Reading.{Reading}
 use Rattle.bracket_forms.specs.declared.Reading.the-variants.{Is, Bad}
 use Rattle.bracket_forms.specs.Forms.{FormRead}
 use Rattle.bracket_forms.specs.Replies.{replyText}
-use Rattle.bracket_lines.specs.Lines.{Telling, toldOf}
-use Rattle.bracket_lines.specs.Split.{Splitter, finished, heard, through}
+use Rattle.bracket_lines.specs.Lines.{Telling}
+use Rattle.bracket_lines.specs.Split.{Splitter, finished, heard}
 use Rattle.bracket_lines.proofs.Streams.{fed, joined, stream-told}
 use Rattle.bracket_steps.specs.Said.{State, said, Good}
 use Rattle.bracket_run.specs.Printed.{Replied, noLine, oneLine, longLine, Wrote, Passed}
