@@ -1,2 +1,4 @@
 -- Laws of the bracket program's loop.
 pub mod Printing
+pub mod Replying
+pub mod Transcript

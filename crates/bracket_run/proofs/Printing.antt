@@ -2,7 +2,7 @@
 use mathlib.Core.Path.{_≡_, refl, sym, _∙_, ap}
 use mathlib.Core.Bool.{Bool, true, false, cond}
 use mathlib.Core.List.{List, [], _∷_, _++_, append-assoc, append-nil}
-use Prim.Native.Nat.{ℕ, suc, _+_, _-_, _≤_, _<_}
+use Prim.Native.Nat.{ℕ, _+_, _-_, _≤_, _<_}
 use native.Mathlib.Numerals.{add-one}
 use native.Mathlib.Omega.{arith}
 use lib.Dec.{leb, eqb}
@@ -16,7 +16,6 @@ use Rattle.bracket_forms.specs.Replies.{replyText}
 use Rattle.bracket_forms.specs.declared.Reply.{Reply}
 use Rattle.bracket_forms.proofs.Writer.{reply-stands}
 use Rattle.bracket_lines.specs.Split.{finished}
-use Rattle.bracket_lines.specs.declared.Found.{Found}
 use Rattle.bracket_lines.specs.declared.Found.the-variants.{More, Line, Overlong}
 use Rattle.bracket_run.specs.Printed.{Prints, mostReply}
 

@@ -1,2 +1,3 @@
 -- What the parts of the bracket program's loop owe.
 pub mod Printed
+pub mod Transcript

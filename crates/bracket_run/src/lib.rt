@@ -6,10 +6,13 @@ use bracket_steps::WORDS;
 use libc::STDIN_FILENO;
 use libc::STDOUT_FILENO;
 ghost use mathlib.Core.Path.{_≡_};
-ghost use Prim.Native.Nat.{ℕ, _+_, _*_, _≤_};
-ghost use lib.ListN.{length};
+ghost use Prim.Native.Nat.{_+_, _*_, _≤_};
+ghost use mathlib.Core.List.{[], _∷_};
+ghost use lib.ListN.{length, take};
 ghost use Rattle.bracket_forms.specs.Replies.{replyText};
-ghost use Rattle.bracket_run.specs.Printed.{Prints, mostReply, LineWithin};
+ghost use Rattle.bracket_run.specs.Printed.{Prints, Wrote, Passed, mostReply, LineWithin};
+ghost use Rattle.bracket_lines.specs.Lines.{whole};
+ghost use Rattle.bracket_lines.specs.Split.{heard};
 
 // The bytes of a piece of the input, and of the replies to as many lines.
 const PIECE: usize = 4096;
@@ -51,7 +54,7 @@ fn answer(
     used: usize,
 ) -> Heard
     requires { ⌜ used + mostReply ≤ length (now out) ⌝ }
-    ensures { λ r. ⌜ r .used ≤ used + mostReply ⌝ }
+    ensures { λ r. ⌜ Wrote (record { segments = session .segments; words = now (mem .entry) }) (whole (now (line .entry)) ∷ []) (now (out .entry)) used (r .used) (now (out .exit)) (record { segments = r .session .segments; words = now (mem .exit) }) ⌝ }
 {
     let said = bracket_steps::answer_line(session, mem, line);
     let reply = said.reply;
@@ -72,7 +75,7 @@ fn hear(
     used: usize,
 ) -> Heard
     requires { ⌜ (used + mostReply ≤ length (now out)) × LineWithin found (now line) ⌝ }
-    ensures { λ r. ⌜ r .used ≤ used + mostReply ⌝ }
+    ensures { λ r. ⌜ Wrote (record { segments = session .segments; words = now (mem .entry) }) (heard found (now (line .entry))) (now (out .entry)) used (r .used) (now (out .exit)) (record { segments = r .session .segments; words = now (mem .exit) }) ⌝ }
 {
     match found {
         Found::More => Heard { session, used },
@@ -94,7 +97,8 @@ fn answer_piece(
     out: &mut [u8],
 ) -> Progress
     requires { ⌜ length (now piece) * mostReply ≤ length (now out) ⌝ }
-    ensures { λ r. ⌜ r .used ≤ length (now (out .exit)) ⌝ }
+    ensures room { λ r. ⌜ r .used ≤ length (now (out .exit)) ⌝ }
+    ensures passed { λ r. ⌜ Passed (record { segments = session .segments; words = now (mem .entry) }) (record { count = count; line = now (line .entry) }) (now (piece .entry)) (record { count = r .count; line = now (line .exit) }) (take (r .used) (now (out .exit))) (record { segments = r .session .segments; words = now (mem .exit) }) ⌝ }
 {
     let mut at = 0;
     let mut n = count;

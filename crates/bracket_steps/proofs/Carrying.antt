@@ -20,7 +20,7 @@ use Rattle.bracket_forms.specs.declared.Reply.{Reply}
 use Rattle.bracket_forms.specs.Forms.{FormRead}
 use Rattle.bracket_steps.specs.declared.Task.{Task}
 use Rattle.bracket_steps.specs.declared.Task.the-variants.{Open, Call, Start, Step}
-use Rattle.bracket_steps.specs.Said.{State, heap, roomWords, memoryIn, withMemory, taskOf, done, segmentsFor, oneOrTwo, answered, said, Good, Answers}
+use Rattle.bracket_steps.specs.Said.{State, heap, roomWords, memoryIn, withMemory, taskOf, done, segmentsFor, oneOrTwo, Good, Answers}
 use Rattle.bracket_steps.specs.Ran.{Ready, Ran, Carries}
 use Rattle.bracket_forms.specs.declared.Reply.the-variants as reply
 

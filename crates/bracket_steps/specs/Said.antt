@@ -16,7 +16,6 @@ use Rattle.model.specs.Calls.{exec}
 use Rattle.model.specs.Collector.{startOf, stepOf}
 use Rattle.model.specs.Opening.{opened}
 use Rattle.model.specs.Consistent.{Consistent}
-use Rattle.perform.specs.declared.Request.{Request}
 use Rattle.perform.specs.Requests.{callOf}
 use Rattle.bracket_forms.specs.declared.Form.{Form}
 use Rattle.bracket_forms.specs.declared.Reading.{Reading}

@@ -10,7 +10,7 @@ use perform::Request;
 ghost use mathlib.Core.Path.{_≡_};
 ghost use lib.ListN.{length};
 ghost use Rattle.model.specs.Answers.{answerOf, stepAnswerOf};
-ghost use Rattle.bracket_steps.specs.Said.{State, replyOf, taskOf, segmentsFor, oneOrTwo, roomWords, Answers};
+ghost use Rattle.bracket_steps.specs.Said.{replyOf, taskOf, segmentsFor, oneOrTwo, roomWords, Answers};
 ghost use Rattle.bracket_steps.specs.Ran.{Ran, Carries};
 
 // The words to lend: as many as a heap of two segments has.

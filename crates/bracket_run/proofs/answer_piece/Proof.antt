@@ -1,21 +1,23 @@
 -- `bracket_run::answer_piece` meets its contract. The loop's invariant: each byte passed has room for a reply. Assumes nothing.
 use borrow.Author.Needs.{needs}
 use Prim.Native.Nat.{_-_, _*_, _≤_}
-use mathlib.Core.Path.{_≡_}
+use mathlib.Core.Path.{_≡_, refl}
+use mathlib.Core.List.{[]}
 use native.Mathlib.Omega.{arith}
-use lib.ListN.{length}
-use Rattle.bracket_run.specs.Printed.{mostReply}
+use lib.ListN.{length, take}
+use Rattle.bracket_run.specs.Printed.{Passed, mostReply}
+use Rattle.bracket_run.proofs.Replying.{begins, passes, passed-all}
 use Rattle.bracket_run.proofs.answer_piece.Statement.{statement}
 use Rattle.bracket_run.proofs.answer_piece.Tie as tie
 
 abbrev Inv-loop : tie.InvT-loop
-Inv-loop piece count line₀ mem₀ out₀ at₀ n₀ now-open₀ used₀ line mem out at n now-open used = (at ≤ length piece) × (used ≤ at * mostReply) × (length out ≡ length out₀)
+Inv-loop piece count line₀ mem₀ out₀ at₀ n₀ now-open₀ used₀ line mem out at n now-open used = (at ≤ length piece) × (used ≤ at * mostReply) × (length out ≡ length out₀) × Passed (record { segments = now-open₀ .segments; words = mem₀ }) (record { count = n₀; line = line₀ }) (take at piece) (record { count = n; line = line }) (take used out) (record { segments = now-open .segments; words = mem })
 
 abbrev μ-loop : tie.MeasureT-loop
 μ-loop piece count line₀ mem₀ out₀ at₀ n₀ now-open₀ used₀ line mem out at n now-open used = length piece - at
 
 loop-holds : tie.Need-loop-holds Inv-loop μ-loop
-loop-holds c = omega arith
+loop-holds c = (omega arith, omega arith, refl, begins _ _ [])
 
 next-line-requires : tie.Need-next-line-requires Inv-loop μ-loop
 next-line-requires c κs = search needs
@@ -27,13 +29,18 @@ loop-less : tie.Need-loop-less Inv-loop μ-loop
 loop-less c = omega (arith, c .before .before .before .before .before .before .before .before .next-line .ensures .moves (c .before .before .before .before .before .before .before .before .before .before .loop-test .taken))
 
 loop-again : tie.Need-loop-again Inv-loop μ-loop
-loop-again c = omega (arith, c .before .before .before .before .before .before .before .before .next-line .ensures .moves (c .before .before .before .before .before .before .before .before .before .before .loop-test .taken), c .before .before .before .before .before .before .before .before .next-line .ensures .inside (c .before .before .before .before .before .before .before .before .before .before .before .loop .inv .0), c .before .before .before .hear .ensures)
+loop-again c =
+    let q = passes _ _ _ (c .before .before .before .before .before .before .before .before .before .before .before .loop .at) (record { count = c .before .before .before .before .before .before .before .before .before .before .before .loop .n; line = c .before .before .before .before .before .before .before .before .before .before .before .loop .line }) (c .before .before .before .before .before .before .before .before .before .before .before .loop .inv .3) (c .before .before .before .before .before .before .before .before .next-line .ensures) (c .before .before .before .hear .ensures) in
+    let w = c .before .before .before .hear .ensures .short in
+    let z = c .before .before .before .before .before .before .before .before .next-line .ensures .moves (c .before .before .before .before .before .before .before .before .before .before .loop-test .taken) in
+    let k = c .before .before .before .before .before .before .before .before .next-line .ensures .inside (c .before .before .before .before .before .before .before .before .before .before .before .loop .inv .0) in
+    (k, omega arith, omega arith, q)
 
 same-length : tie.Need-same-length Inv-loop μ-loop
 same-length c = search needs
 
 returns : tie.Need-returns Inv-loop μ-loop
-returns c = omega arith
+returns c = (omega arith, passed-all _ _ _ _ (c .loop-test .left) (c .before .loop .inv .3))
 
 pub answer-piece-spec : {M : Type 1} → statement M
 answer-piece-spec =

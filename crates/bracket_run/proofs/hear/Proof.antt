@@ -2,6 +2,7 @@
 use borrow.Author.Needs.{needs}
 use mathlib.Core.Path.{sym}
 use lib.Seq.{length-take-le}
+use Rattle.bracket_run.proofs.Replying.{wrote-none, wrote-as, wrote-long}
 use Rattle.bracket_run.proofs.hear.Statement.{statement}
 use Rattle.bracket_run.proofs.hear.Tie as tie
 
@@ -24,19 +25,19 @@ put-line-requires : tie.Need-put-line-requires
 put-line-requires c κs = search needs
 
 returns : tie.Need-returns
-returns c = search needs
+returns c = wrote-none _ _ _ (c .enum-told .given .1)
 
 same-length : tie.Need-same-length
 same-length c = search needs
 
 returns-2 : tie.Need-returns-2
-returns-2 c = search needs
+returns-2 c = wrote-as _ (c .before .before .before .before .before .before .before .found .given .1) (c .before .before .answer .ensures)
 
 same-length-2 : tie.Need-same-length-2
 same-length-2 c = search needs
 
 returns-3 : tie.Need-returns-3
-returns-3 c = search needs
+returns-3 c = wrote-long _ (c .before .before .before .before .enum-told2 .given .1) (c .before .before .put-line .ensures)
 
 pub hear-spec : {M : Type 1} → statement M
 hear-spec =

@@ -1,5 +1,5 @@
 -- `bracket_steps::one_or_two` meets its contract. Assumes nothing.
-use borrow.Author.Tests.{lt-ltb, le-ltb, le-leb, lt-leb, eq-eqb, ne-eqb}
+use borrow.Author.Tests.{eq-eqb, ne-eqb}
 use Rattle.bracket_steps.proofs.one_or_two.Statement.{statement}
 use Rattle.bracket_steps.proofs.one_or_two.Tie as tie
 
