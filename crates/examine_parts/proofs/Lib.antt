@@ -1,0 +1,4 @@
+-- Laws of the parts, one return at a time.
+pub mod Tests
+pub mod Records
+pub mod Tables
