@@ -1,12 +1,11 @@
 -- The marks of a segment, one return at a time: none, none past its blocks, and each of a block in use. Assumes nothing.
-use mathlib.Core.Path.{_≡_, refl, sym, _∙_, ap, subst}
+use mathlib.Core.Path.{_≡_, sym, _∙_, ap, subst}
 use mathlib.Core.Bool.{Bool, true, false}
 use mathlib.Core.Logic.{_⊎_, inl, inr}
-use mathlib.Core.List.{List}
-use Prim.Native.Nat.{ℕ, zero, suc, _+_, _-_, _*_, _/_, _%_, _≤_, _<_}
+use Prim.Native.Nat.{ℕ, _+_, _-_, _*_, _/_, _%_, _≤_, _<_}
 use native.Mathlib.Nat.{div-lt-iff-lt-mul, div-add-mod', mod-lt}
 use native.Mathlib.Omega.{arith}
-use lib.Dec.{eqb, ltb}
+use lib.Dec.{eqb}
 use borrow.Author.Tests.{lt-ltb, le-ltb}
 use Rattle.rules.specs.Decides.{Decides}
 use Rattle.rules.specs.Pick.{pick}
@@ -24,7 +23,6 @@ use Rattle.layout.specs.Mem.{Mem, markWord}
 use Rattle.layout.proofs.Sizes.{bytes-are, marks-are, within}
 use Rattle.model.specs.Fields.{tag, class, place}
 use Rattle.model.specs.Segments.{bitmap, marksOf, usedBit}
-use Rattle.model.specs.Consistent.{BlockInUse}
 use Rattle.laws.proofs.Blocks.{blocks-most}
 use Rattle.laws.proofs.Windows.{window-bit}
 use Rattle.examine_parts.specs.Parts.{SegmentMarks, BlockMark, NoneBeyond, Asked, MarksIn}

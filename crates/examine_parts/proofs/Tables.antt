@@ -1,19 +1,18 @@
 -- A mutator's entry, one return at a time: its words, the segments that it holds, and its acknowledgements by the phase. Assumes nothing.
-use mathlib.Core.Path.{_≡_, refl, sym, _∙_, ap, subst}
-use mathlib.Core.Bool.{Bool, true, false, not}
-use Prim.Native.Nat.{ℕ, zero, suc, _+_, _-_, _≤_, _<_}
+use mathlib.Core.Path.{_≡_, refl, sym, _∙_, subst}
+use mathlib.Core.Bool.{Bool, true, false}
+use Prim.Native.Nat.{ℕ, zero, suc, _-_, _≤_, _<_}
 use native.Mathlib.Omega.{arith}
 use lib.Dec.{eqb, leb}
 use Rattle.rules.specs.Decides.{Decides}
 use Rattle.rules.proofs.Deciding.{holds, fails, via, refuted}
-use Rattle.classes.specs.Class.{IsClass}
 use Rattle.layout.specs.declared.Geometry.{Geometry}
 use Rattle.layout.specs.Geometry.{mutatorCount}
 use Rattle.layout.specs.Mem.{Mem, controlWord}
-use Rattle.theory.specs.Phases.{Phase, idle, sync1, sync2, mark, sweep}
+use Rattle.theory.specs.Phases.{sweep}
 use Rattle.model.specs.Rules.{phaseOf, phaseNumber}
 use Rattle.model.specs.Fields.{absent, outside, state, acks, holding, tag, class, owner}
-use Rattle.model.specs.Consistent.{MutatorOk, AcksIn}
+use Rattle.model.specs.Consistent.{AcksIn}
 use Rattle.examine_parts.specs.Parts.{Parts, SegmentParts, Gone, HeldBy, Holds, Entry, Acknowledged, MutatorParts}
 use Rattle.examine_parts.proofs.Tests.{eq-decides, le-decides}
 use Rattle.model.specs.Tag as Tag

@@ -1,8 +1,8 @@
 -- A comparison's answer decides what is compared, and answers joined one after the other. Assumes nothing.
 use mathlib.Core.Path.{_≡_}
-use mathlib.Core.Bool.{Bool, true, false, not}
-use Prim.Native.Nat.{ℕ, _≤_, _<_}
-use lib.Dec.{eqb, leb, ltb}
+use mathlib.Core.Bool.{not}
+use Prim.Native.Nat.{ℕ, _≤_}
+use lib.Dec.{eqb, leb}
 use borrow.Author.Tests.{eqb-true, eq-eqb, leb-true, le-leb}
 use Rattle.laws.proofs.Bools.{not-eq, ne-not}
 use Rattle.rules.specs.Decides.{Decides}

@@ -1,7 +1,7 @@
 -- `examine_parts::block_marks` meets its contract. The loop's invariant: each block passed that is marked has its bit. Assumes nothing.
 use Prim.Native.Nat.{ℕ, _-_, _≤_, _<_}
 use native.Mathlib.Omega.{arith}
-use borrow.Author.Count.{below-more, below-none}
+use borrow.Author.Count.{below-more}
 use borrow.Author.Tests.{not-true, not-false}
 use Rattle.rules.proofs.Deciding.{holds, fails, refuted}
 use Rattle.layout.specs.Mem.{memOf}

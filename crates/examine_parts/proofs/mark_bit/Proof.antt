@@ -1,7 +1,7 @@
 -- `examine_parts::mark_bit` meets its contract. Assumes nothing.
 use native.Mathlib.Omega.{arith}
 use Rattle.layout.specs.Mem.{memOf}
-use Rattle.layout.proofs.Sizes.{mark-word, within, most-small}
+use Rattle.layout.proofs.Sizes.{mark-word, within}
 use Rattle.layout.specs.Geometry.{mostBlocks}
 use Rattle.examine_parts.proofs.Marked.{mark-read}
 use borrow.Author.Needs.{needs}
