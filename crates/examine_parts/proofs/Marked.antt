@@ -146,6 +146,9 @@ module _ (g : Geometry) (m : Mem) where
   marks-in false h = λ s b l q. h s l q b
   marks-in true h = λ s b l q. h s l q b
 
-  pub in-marks : (o : Bool) → MarksIn o g m → (s : ℕ) → s < g .segments → Asked o m s → SegmentMarks g m s
+  in-marks : (o : Bool) → MarksIn o g m → (s : ℕ) → s < g .segments → Asked o m s → SegmentMarks g m s
   in-marks false h = λ s l q b. h s b l q
   in-marks true h = λ s l q b. h s b l q
+
+  pub marks-wrong : (o : Bool) (s : ℕ) → s < g .segments → (r : Bool) → Decides r (Asked o m s → SegmentMarks g m s) → r ≡ false → Decides false (MarksIn o g m)
+  marks-wrong o s l r d e = fails (λ q. refuted d e (in-marks o q s l))

@@ -1,11 +1,12 @@
 -- A mutator's entry, one return at a time: its words, the segments that it holds, and its acknowledgements by the phase. Assumes nothing.
 use mathlib.Core.Path.{_≡_, refl, sym, _∙_, subst}
 use mathlib.Core.Bool.{Bool, true, false}
-use Prim.Native.Nat.{ℕ, zero, suc, _-_, _≤_, _<_}
+use Prim.Native.Nat.{ℕ, zero, suc, _+_, _-_, _≤_, _<_}
 use native.Mathlib.Omega.{arith}
 use lib.Dec.{eqb, leb}
 use Rattle.rules.specs.Decides.{Decides}
 use Rattle.rules.proofs.Deciding.{holds, fails, via, refuted}
+use Rattle.classes.specs.Class.{firstClass, classCount}
 use Rattle.layout.specs.declared.Geometry.{Geometry}
 use Rattle.layout.specs.Geometry.{mutatorCount}
 use Rattle.layout.specs.Mem.{Mem, controlWord}
@@ -89,10 +90,10 @@ module _ (g : Geometry) (m : Mem) (k : ℕ) where
   pub mutator-entry : (r : Bool) → Decides r (Entry m k) → r ≡ false → Decides false (MutatorParts g m k)
   mutator-entry r d e = fails (λ q. refuted d e (record { states = q .0 .states; acknowledged = q .0 .acknowledged; gone = q .0 .gone }))
 
-  pub mutator-table : (r : Bool) → Decides r ((c : ℕ) → c < 13 → 3 ≤ c → Holds g m k c) → r ≡ false → Decides false (MutatorParts g m k)
+  pub mutator-table : (r : Bool) → Decides r ((c : ℕ) → c < firstClass + classCount → firstClass ≤ c → Holds g m k c) → r ≡ false → Decides false (MutatorParts g m k)
   mutator-table r d e = fails (λ q. refuted d e (λ c l h s w. q .0 .holds c s (h, l) w))
 
-  pub mutator-all : (r : Bool) → Decides r (Entry m k) → r ≡ true → (b : Bool) → Decides b ((c : ℕ) → c < 13 → 3 ≤ c → Holds g m k c) → b ≡ true → (a : Bool) → Decides a (Acknowledged m k) → Decides a (MutatorParts g m k)
+  pub mutator-all : (r : Bool) → Decides r (Entry m k) → r ≡ true → (b : Bool) → Decides b ((c : ℕ) → c < firstClass + classCount → firstClass ≤ c → Holds g m k c) → b ≡ true → (a : Bool) → Decides a (Acknowledged m k) → Decides a (MutatorParts g m k)
   mutator-all r d e b h f a o =
       let w = d .sound e in
       let v = h .sound f in

@@ -4,11 +4,11 @@ use layout::Geometry;
 use model::Phase;
 use model::Segment;
 ghost use mathlib.Core.Path.{_≡_};
-ghost use Prim.Native.Nat.{ℕ, _*_, _≤_, _<_};
+ghost use Prim.Native.Nat.{ℕ, _+_, _*_, _≤_, _<_};
 ghost use lib.ListN.{length};
 ghost use Rattle.rules.specs.Decides.{Decides};
 ghost use Rattle.words.specs.Bits.{bitAt};
-ghost use Rattle.classes.specs.Class.{IsClass};
+ghost use Rattle.classes.specs.Class.{IsClass, firstClass, classCount};
 ghost use Rattle.layout.specs.Geometry.{Sized, mutatorCount, mostBlocks, bitIn};
 ghost use Rattle.layout.specs.Mem.{memOf};
 ghost use Rattle.model.specs.Rules.{phaseOf};
@@ -17,6 +17,9 @@ ghost use Rattle.model.specs.Segments.{bitmap};
 ghost use Rattle.model.specs.Tag as Tag;
 ghost use Rattle.model.specs.Consistent.{AcksIn};
 ghost use Rattle.examine_parts.specs.Parts.{Parts, Cleared, Open, Owned, Used, SegmentParts, Gone, HeldBy, Holds, Entry, Acknowledged, MutatorParts, SegmentMarks, BlockMark, NoneBeyond, Asked, MarksIn};
+
+// The words of a mutator's entry that are in use.
+const ENTRY_WORDS: usize = layout::HELD_FROM + classes::CLASS_COUNT as usize;
 
 // Whether the words that a free segment does not use are 0.
 fn cleared(g: Geometry, mem: &[u32], s: usize) -> bool
@@ -72,7 +75,7 @@ fn owned(g: Geometry, mem: &[u32], s: usize, class: u32) -> bool
 fn unheld(g: Geometry, mem: &[u32], s: usize, tag: u32, class: u32) -> bool
     requires { ⌜ (Sized g (length (now mem))) × (s < g .segments) ⌝ }
     requires { ⌜ IsClass class ⌝ }
-    requires { ⌜ (1 ≤ tag) × (tag ≡ 2 → ⊥) ⌝ }
+    requires { ⌜ (Tag.part ≤ tag) × (tag ≡ Tag.held → ⊥) ⌝ }
     ensures { λ r. ⌜ Decides r (Used g (memOf g (now (mem .entry))) s tag class) ⌝ }
 {
     let k = segments::owner(g, mem, s);
@@ -90,7 +93,7 @@ fn unheld(g: Geometry, mem: &[u32], s: usize, tag: u32, class: u32) -> bool
 fn used(g: Geometry, mem: &[u32], s: usize, tag: u32, class: u32) -> bool
     requires { ⌜ (Sized g (length (now mem))) × (s < g .segments) ⌝ }
     requires { ⌜ IsClass class ⌝ }
-    requires { ⌜ 1 ≤ tag ⌝ }
+    requires { ⌜ Tag.part ≤ tag ⌝ }
     ensures { λ r. ⌜ Decides r (Used g (memOf g (now (mem .entry))) s tag class) ⌝ }
 {
     if tag != Segment::TAG_HELD {
@@ -149,7 +152,7 @@ fn gone(g: Geometry, mem: &[u32], k: u32) -> bool
 {
     let at = k as usize * layout::MUTATOR_WORDS;
     let mut i = 0;
-    while i < 28 {
+    while i < ENTRY_WORDS {
         let word = layout::mutator(g, mem, at + i);
         if word != 0 {
             return false;
@@ -195,7 +198,7 @@ fn holds(g: Geometry, mem: &[u32], k: u32, class: u32) -> bool
 // Whether that is so of every class.
 fn holdings(g: Geometry, mem: &[u32], k: u32) -> bool
     requires { ⌜ (Sized g (length (now mem))) × (k < mutatorCount) ⌝ }
-    ensures { λ r. ⌜ Decides r ((c : ℕ) → c < 13 → 3 ≤ c → Holds g (memOf g (now (mem .entry))) k c) ⌝ }
+    ensures { λ r. ⌜ Decides r ((c : ℕ) → c < firstClass + classCount → firstClass ≤ c → Holds g (memOf g (now (mem .entry))) k c) ⌝ }
 {
     let mut class = classes::FIRST_CLASS;
     while class < classes::FIRST_CLASS + classes::CLASS_COUNT {

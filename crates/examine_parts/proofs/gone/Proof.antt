@@ -3,16 +3,17 @@ use Prim.Native.Nat.{ℕ, _+_, _-_, _≤_, _<_}
 use native.Mathlib.Omega.{arith}
 use borrow.Author.Count.{below-more, below-none}
 use Rattle.rules.proofs.Deciding.{holds, fails}
+use Rattle.layout.specs.Geometry.{entryWords}
 use Rattle.layout.specs.Mem.{memOf, mutatorWord}
 use mathlib.Core.Path.{_≡_, sym, _∙_}
 use Rattle.examine_parts.proofs.gone.Statement.{statement}
 use Rattle.examine_parts.proofs.gone.Tie as tie
 
 abbrev Inv-loop : tie.InvT-loop
-Inv-loop g mem k at i₀ i = (i ≤ 28) × ((j : ℕ) → j < i → mutatorWord (memOf g mem) (at + j) ≡ 0)
+Inv-loop g mem k at i₀ i = (i ≤ entryWords) × ((j : ℕ) → j < i → mutatorWord (memOf g mem) (at + j) ≡ 0)
 
 abbrev μ-loop : tie.MeasureT-loop
-μ-loop g mem k at i₀ i = 28 - i
+μ-loop g mem k at i₀ i = entryWords - i
 
 mul-at : tie.Need-mul-at Inv-loop μ-loop
 mul-at c = omega (arith, c .before .pre .1)

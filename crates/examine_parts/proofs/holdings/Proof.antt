@@ -1,19 +1,20 @@
 -- `examine_parts::holdings` meets its contract. The loop's invariant: what the mutator holds of each class passed is held by it. Assumes nothing.
-use Prim.Native.Nat.{ℕ, _-_, _≤_, _<_}
+use Prim.Native.Nat.{ℕ, _+_, _-_, _≤_, _<_}
 use native.Mathlib.Omega.{arith}
 use borrow.Author.Count.{below-more}
 use borrow.Author.Tests.{not-true, not-false}
 use Rattle.rules.proofs.Deciding.{holds, fails, refuted}
+use Rattle.classes.specs.Class.{firstClass, classCount}
 use Rattle.layout.specs.Mem.{memOf}
 use Rattle.examine_parts.specs.Parts.{Holds}
 use Rattle.examine_parts.proofs.holdings.Statement.{statement}
 use Rattle.examine_parts.proofs.holdings.Tie as tie
 
 abbrev Inv-loop : tie.InvT-loop
-Inv-loop g mem k class₀ class = (3 ≤ class) × (class ≤ 13) × ((d : ℕ) → d < class → 3 ≤ d → Holds g (memOf g mem) k d)
+Inv-loop g mem k class₀ class = (firstClass ≤ class) × (class ≤ firstClass + classCount) × ((d : ℕ) → d < class → firstClass ≤ d → Holds g (memOf g mem) k d)
 
 abbrev μ-loop : tie.MeasureT-loop
-μ-loop g mem k class₀ class = 13 - class
+μ-loop g mem k class₀ class = firstClass + classCount - class
 
 loop-holds : tie.Need-loop-holds Inv-loop μ-loop
 loop-holds c = (omega arith, omega arith, λ d l h. absurd (omega arith))

@@ -3,10 +3,10 @@ use Prim.Native.Nat.{ℕ, _-_, _≤_, _<_}
 use native.Mathlib.Omega.{arith}
 use borrow.Author.Count.{below-more, below-none}
 use borrow.Author.Tests.{not-true, not-false}
-use Rattle.rules.proofs.Deciding.{holds, fails, refuted}
+use Rattle.rules.proofs.Deciding.{holds}
 use Rattle.layout.specs.Mem.{memOf}
 use Rattle.examine_parts.specs.Parts.{SegmentMarks, Asked}
-use Rattle.examine_parts.proofs.Marked.{marks-in, in-marks}
+use Rattle.examine_parts.proofs.Marked.{marks-in, marks-wrong}
 use Rattle.examine_parts.proofs.marks.Statement.{statement}
 use Rattle.examine_parts.proofs.marks.Tie as tie
 
@@ -23,7 +23,7 @@ asked-marks-requires : tie.Need-asked-marks-requires Inv-loop μ-loop
 asked-marks-requires c κs = ((c .before .before .before .pre .0, c .loop-test .taken), c .before .before .before .pre .1 _ (c .loop-test .taken))
 
 returns : tie.Need-returns Inv-loop μ-loop
-returns c = let a = c .before .before .before .before .before .args in fails (λ q. refuted (c .before .asked-marks .ensures) (not-true _ (c .if1 .taken)) (in-marks (a .g) (memOf (a .g) (a .mem .now)) (a .condemned-only) q _ (c .before .before .loop-test .taken)))
+returns c = let a = c .before .before .before .before .before .args in marks-wrong (a .g) (memOf (a .g) (a .mem .now)) (a .condemned-only) _ (c .before .before .loop-test .taken) _ (c .before .asked-marks .ensures) (not-true _ (c .if1 .taken))
 
 add-s : tie.Need-add-s Inv-loop μ-loop
 add-s c = omega (arith, c .before .before .before .before .before .pre .0 .few)
