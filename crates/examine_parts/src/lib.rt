@@ -1,0 +1,467 @@
+// The part of the examination's second half that needs no scratch, decided both ways over memory of any content: segment records, mutators' entries,
+// acknowledgements and the phase's number; and of the marks what a phase asks.
+use layout::Geometry;
+use model::Phase;
+use model::Segment;
+ghost use mathlib.Core.Path.{_≡_};
+ghost use Prim.Native.Nat.{ℕ, _*_, _≤_, _<_};
+ghost use lib.ListN.{length};
+ghost use Rattle.rules.specs.Decides.{Decides};
+ghost use Rattle.words.specs.Bits.{bitAt};
+ghost use Rattle.classes.specs.Class.{IsClass};
+ghost use Rattle.layout.specs.Geometry.{Sized, mutatorCount, mostBlocks, bitIn};
+ghost use Rattle.layout.specs.Mem.{memOf};
+ghost use Rattle.model.specs.Rules.{phaseOf};
+ghost use Rattle.model.specs.Fields.{tag, class};
+ghost use Rattle.model.specs.Segments.{bitmap};
+ghost use Rattle.model.specs.Tag as Tag;
+ghost use Rattle.model.specs.Consistent.{AcksIn};
+ghost use Rattle.examine_parts.specs.Parts.{Parts, Cleared, Open, Owned, Used, SegmentParts, Gone, HeldBy, Holds, Entry, Acknowledged, MutatorParts, SegmentMarks, BlockMark, NoneBeyond, Asked, MarksIn};
+
+// Whether the words that a free segment does not use are 0.
+fn cleared(g: Geometry, mem: &[u32], s: usize) -> bool
+    requires { ⌜ (Sized g (length (now mem))) × (s < g .segments) ⌝ }
+    ensures { λ r. ⌜ Decides r (Cleared (memOf g (now (mem .entry))) s) ⌝ }
+{
+    let class = segments::class(g, mem, s);
+    let place = segments::place(g, mem, s);
+    let owner = segments::owner(g, mem, s);
+    if class != 0 {
+        return false;
+    }
+    if place != 0 {
+        return false;
+    }
+    owner == 0
+}
+
+// Whether a block at or after the allocation pointer is free, and a block is in use: one count tells both.
+fn open(g: Geometry, mem: &[u32], s: usize, class: u32) -> bool
+    requires { ⌜ (Sized g (length (now mem))) × (s < g .segments) ⌝ }
+    requires { ⌜ IsClass class ⌝ }
+    ensures { λ r. ⌜ Decides r (Open g (memOf g (now (mem .entry))) s class) ⌝ }
+{
+    let place = segments::place(g, mem, s);
+    let used = bitmaps::in_use(g, mem, s, class, place);
+    let blocks = layout::blocks_in(g, class);
+    if used == 0 {
+        return false;
+    }
+    used != blocks
+}
+
+// Whether the mutator of the record holds the segment.
+fn owned(g: Geometry, mem: &[u32], s: usize, class: u32) -> bool
+    requires { ⌜ (Sized g (length (now mem))) × (s < g .segments) ⌝ }
+    requires { ⌜ IsClass class ⌝ }
+    ensures { λ r. ⌜ Decides r (Owned (memOf g (now (mem .entry))) s class) ⌝ }
+{
+    let k = segments::owner(g, mem, s);
+    if layout::MUTATORS <= k {
+        return false;
+    }
+    let state = mutators::state(g, mem, k);
+    if state == mutators::ABSENT {
+        return false;
+    }
+    let holding = mutators::holding(g, mem, k, class) as usize;
+    holding == s + 1
+}
+
+// Whether a part segment has no mutator, a free block and one in use; and a full one no mutator and its allocation pointer at the end.
+fn unheld(g: Geometry, mem: &[u32], s: usize, tag: u32, class: u32) -> bool
+    requires { ⌜ (Sized g (length (now mem))) × (s < g .segments) ⌝ }
+    requires { ⌜ IsClass class ⌝ }
+    requires { ⌜ (1 ≤ tag) × (tag ≡ 2 → ⊥) ⌝ }
+    ensures { λ r. ⌜ Decides r (Used g (memOf g (now (mem .entry))) s tag class) ⌝ }
+{
+    let k = segments::owner(g, mem, s);
+    if k != 0 {
+        return false;
+    }
+    if tag == Segment::TAG_PART {
+        return open(g, mem, s, class);
+    }
+    let place = segments::place(g, mem, s);
+    place == layout::blocks_in(g, class)
+}
+
+// The same of a segment that is not free.
+fn used(g: Geometry, mem: &[u32], s: usize, tag: u32, class: u32) -> bool
+    requires { ⌜ (Sized g (length (now mem))) × (s < g .segments) ⌝ }
+    requires { ⌜ IsClass class ⌝ }
+    requires { ⌜ 1 ≤ tag ⌝ }
+    ensures { λ r. ⌜ Decides r (Used g (memOf g (now (mem .entry))) s tag class) ⌝ }
+{
+    if tag != Segment::TAG_HELD {
+        return unheld(g, mem, s, tag, class);
+    }
+    let ok = owned(g, mem, s, class);
+    if !ok {
+        return false;
+    }
+    open(g, mem, s, class)
+}
+
+// Whether segment s is as its record asks.
+fn segment(g: Geometry, mem: &[u32], s: usize) -> bool
+    requires { ⌜ (Sized g (length (now mem))) × (s < g .segments) ⌝ }
+    ensures { λ r. ⌜ Decides r (SegmentParts g (memOf g (now (mem .entry))) s) ⌝ }
+{
+    let tag = segments::tag(g, mem, s);
+    if tag == Segment::TAG_FREE {
+        return cleared(g, mem, s);
+    }
+    if Segment::TAG_CONDEMNED < tag {
+        return false;
+    }
+    let class = segments::class(g, mem, s);
+    if class < classes::FIRST_CLASS {
+        return false;
+    }
+    if classes::FIRST_CLASS + classes::CLASS_COUNT <= class {
+        return false;
+    }
+    used(g, mem, s, tag, class)
+}
+
+// Whether every segment is.
+fn segments(g: Geometry, mem: &[u32]) -> bool
+    requires { ⌜ Sized g (length (now mem)) ⌝ }
+    ensures { λ r. ⌜ Decides r ((s : ℕ) → s < g .segments → SegmentParts g (memOf g (now (mem .entry))) s) ⌝ }
+{
+    let n = g.segments;
+    let mut s = 0;
+    while s < n {
+        let ok = segment(g, mem, s);
+        if !ok {
+            return false;
+        }
+        s += 1;
+    }
+    true
+}
+
+// Whether the words of mutator k's entry are 0.
+fn gone(g: Geometry, mem: &[u32], k: u32) -> bool
+    requires { ⌜ (Sized g (length (now mem))) × (k < mutatorCount) ⌝ }
+    ensures { λ r. ⌜ Decides r (Gone (memOf g (now (mem .entry))) k) ⌝ }
+{
+    let at = k as usize * layout::MUTATOR_WORDS;
+    let mut i = 0;
+    while i < 28 {
+        let word = layout::mutator(g, mem, at + i);
+        if word != 0 {
+            return false;
+        }
+        i += 1;
+    }
+    true
+}
+
+// Whether segment s is held by mutator k, with a class.
+fn held_by(g: Geometry, mem: &[u32], k: u32, class: u32, s: usize) -> bool
+    requires { ⌜ Sized g (length (now mem)) ⌝ }
+    ensures { λ r. ⌜ Decides r (HeldBy g (memOf g (now (mem .entry))) k class s) ⌝ }
+{
+    if g.segments <= s {
+        return false;
+    }
+    let tag = segments::tag(g, mem, s);
+    if tag != Segment::TAG_HELD {
+        return false;
+    }
+    let of = segments::class(g, mem, s);
+    if of != class {
+        return false;
+    }
+    let owner = segments::owner(g, mem, s);
+    owner == k
+}
+
+// Whether what mutator k holds of a class is held by it.
+fn holds(g: Geometry, mem: &[u32], k: u32, class: u32) -> bool
+    requires { ⌜ (Sized g (length (now mem))) × (k < mutatorCount) ⌝ }
+    requires { ⌜ IsClass class ⌝ }
+    ensures { λ r. ⌜ Decides r (Holds g (memOf g (now (mem .entry))) k class) ⌝ }
+{
+    let holding = mutators::holding(g, mem, k, class) as usize;
+    if holding == 0 {
+        return true;
+    }
+    held_by(g, mem, k, class, holding - 1)
+}
+
+// Whether that is so of every class.
+fn holdings(g: Geometry, mem: &[u32], k: u32) -> bool
+    requires { ⌜ (Sized g (length (now mem))) × (k < mutatorCount) ⌝ }
+    ensures { λ r. ⌜ Decides r ((c : ℕ) → c < 13 → 3 ≤ c → Holds g (memOf g (now (mem .entry))) k c) ⌝ }
+{
+    let mut class = classes::FIRST_CLASS;
+    while class < classes::FIRST_CLASS + classes::CLASS_COUNT {
+        let ok = holds(g, mem, k, class);
+        if !ok {
+            return false;
+        }
+        class += 1;
+    }
+    true
+}
+
+// Whether so many acknowledgements are those of a phase.
+fn acks_in(p: u32, acks: u32) -> bool
+    ensures { λ r. ⌜ Decides r (AcksIn (phaseOf p) acks) ⌝ }
+{
+    if p == Phase::SYNC1 {
+        return acks <= 1;
+    }
+    if p == Phase::SYNC2 {
+        return 1 <= acks;
+    }
+    if p == Phase::MARK {
+        return 2 <= acks;
+    }
+    true
+}
+
+// Whether mutator k's acknowledgements are, where it is attached.
+fn acknowledged(g: Geometry, mem: &[u32], k: u32) -> bool
+    requires { ⌜ (Sized g (length (now mem))) × (k < mutatorCount) ⌝ }
+    ensures { λ r. ⌜ Decides r (Acknowledged (memOf g (now (mem .entry))) k) ⌝ }
+{
+    let state = mutators::state(g, mem, k);
+    if state == mutators::ABSENT {
+        return true;
+    }
+    let p = layout::control(g, mem, 0);
+    let acks = mutators::acks(g, mem, k);
+    acks_in(p, acks)
+}
+
+// Whether the words of mutator k's entry are in range, and 0 where it is absent.
+fn entry(g: Geometry, mem: &[u32], k: u32) -> bool
+    requires { ⌜ (Sized g (length (now mem))) × (k < mutatorCount) ⌝ }
+    ensures { λ r. ⌜ Decides r (Entry (memOf g (now (mem .entry))) k) ⌝ }
+{
+    let state = mutators::state(g, mem, k);
+    let acks = mutators::acks(g, mem, k);
+    if mutators::OUTSIDE < state {
+        return false;
+    }
+    if 2 < acks {
+        return false;
+    }
+    if state == mutators::ABSENT {
+        return gone(g, mem, k);
+    }
+    true
+}
+
+// Whether mutator k's entry is in order.
+fn mutator(g: Geometry, mem: &[u32], k: u32) -> bool
+    requires { ⌜ (Sized g (length (now mem))) × (k < mutatorCount) ⌝ }
+    ensures { λ r. ⌜ Decides r (MutatorParts g (memOf g (now (mem .entry))) k) ⌝ }
+{
+    let words = entry(g, mem, k);
+    if !words {
+        return false;
+    }
+    let table = holdings(g, mem, k);
+    if !table {
+        return false;
+    }
+    acknowledged(g, mem, k)
+}
+
+// Whether every mutator's is.
+fn mutators(g: Geometry, mem: &[u32]) -> bool
+    requires { ⌜ Sized g (length (now mem)) ⌝ }
+    ensures { λ r. ⌜ Decides r ((k : ℕ) → k < mutatorCount → MutatorParts g (memOf g (now (mem .entry))) k) ⌝ }
+{
+    let mut k = 0;
+    while k < layout::MUTATORS {
+        let ok = mutator(g, mem, k);
+        if !ok {
+            return false;
+        }
+        k += 1;
+    }
+    true
+}
+
+// Whether the phase, the segments and the mutators are in order.
+pub fn parts(g: Geometry, mem: &[u32]) -> bool
+    requires { ⌜ Sized g (length (now mem)) ⌝ }
+    ensures { λ r. ⌜ Decides r (Parts g (memOf g (now (mem .entry)))) ⌝ }
+{
+    let p = layout::control(g, mem, 0);
+    if Phase::SWEEP < p {
+        return false;
+    }
+    let ok = segments(g, mem);
+    if !ok {
+        return false;
+    }
+    mutators(g, mem)
+}
+
+// Whether no segment is condemned.
+pub fn none_condemned(g: Geometry, mem: &[u32]) -> bool
+    requires { ⌜ Sized g (length (now mem)) ⌝ }
+    ensures { λ r. ⌜ Decides r ((s : ℕ) → s < g .segments → tag (memOf g (now (mem .entry))) s ≡ Tag.condemned → ⊥) ⌝ }
+{
+    let n = g.segments;
+    let mut s = 0;
+    while s < n {
+        let tag = segments::tag(g, mem, s);
+        if tag == Segment::TAG_CONDEMNED {
+            return false;
+        }
+        s += 1;
+    }
+    true
+}
+
+// Whether no block has a mark.
+pub fn no_marks(g: Geometry, mem: &[u32]) -> bool
+    requires { ⌜ Sized g (length (now mem)) ⌝ }
+    ensures { λ r. ⌜ Decides r ((k : ℕ) → k < g .segments * mostBlocks g → bitAt (memOf g (now (mem .entry)) .marks) k ≡ 0) ⌝ }
+{
+    let n = g.segments;
+    let mut s = 0;
+    while s < n {
+        let kept = bitmaps::kept(g, mem, s, classes::FIRST_CLASS);
+        if kept != 0 {
+            return false;
+        }
+        s += 1;
+    }
+    true
+}
+
+// The bit of block b of segment s.
+fn block_bit(g: Geometry, mem: &[u32], s: usize, b: u32) -> u32
+    requires { ⌜ (Sized g (length (now mem))) × (s < g .segments) ⌝ }
+    requires { ⌜ b < mostBlocks g ⌝ }
+    ensures { λ r. ⌜ r ≡ bitAt (bitmap g (memOf g (now (mem .entry))) s) b ⌝ }
+{
+    let from = layout::bitmap_from(g, s);
+    let end = layout::bitmap_from(g, s + 1);
+    words::bit_at(&mem[from..end], b)
+}
+
+// Its mark.
+fn mark_bit(g: Geometry, mem: &[u32], s: usize, b: u32) -> u32
+    requires { ⌜ (Sized g (length (now mem))) × (s < g .segments) ⌝ }
+    requires { ⌜ b < mostBlocks g ⌝ }
+    ensures { λ r. ⌜ r ≡ bitAt (memOf g (now (mem .entry)) .marks) (bitIn g s b) ⌝ }
+{
+    let k = layout::bit_in(g, s, b as usize);
+    let word = layout::mark(g, mem, k / 32);
+    words::bit_of(word, (k % 32) as u32)
+}
+
+// Whether the bit of block b is 1 where it is marked.
+fn block_mark(g: Geometry, mem: &[u32], s: usize, b: u32) -> bool
+    requires { ⌜ (Sized g (length (now mem))) × (s < g .segments) ⌝ }
+    requires { ⌜ b < mostBlocks g ⌝ }
+    ensures { λ r. ⌜ Decides r (BlockMark g (memOf g (now (mem .entry))) s b) ⌝ }
+{
+    let mark = mark_bit(g, mem, s, b);
+    if mark == 0 {
+        return true;
+    }
+    let bit = block_bit(g, mem, s, b);
+    bit == 1
+}
+
+// Whether that is so of every block from a place up to n.
+fn block_marks(g: Geometry, mem: &[u32], s: usize, place: u32, n: u32) -> bool
+    requires { ⌜ (Sized g (length (now mem))) × (s < g .segments) ⌝ }
+    requires { ⌜ n ≤ mostBlocks g ⌝ }
+    ensures { λ r. ⌜ Decides r ((b : ℕ) → b < n → place ≤ b → BlockMark g (memOf g (now (mem .entry))) s b) ⌝ }
+{
+    let mut b = place;
+    while b < n {
+        let ok = block_mark(g, mem, s, b);
+        if !ok {
+            return false;
+        }
+        b += 1;
+    }
+    true
+}
+
+// Whether no mark lies past the blocks of a class: as many marks as among those blocks.
+fn none_beyond(g: Geometry, mem: &[u32], s: usize, class: u32) -> bool
+    requires { ⌜ (Sized g (length (now mem))) × (s < g .segments) ⌝ }
+    requires { ⌜ IsClass class ⌝ }
+    ensures { λ r. ⌜ Decides r (NoneBeyond g (memOf g (now (mem .entry))) s class) ⌝ }
+{
+    let all = bitmaps::kept(g, mem, s, classes::FIRST_CLASS);
+    let kept = bitmaps::kept(g, mem, s, class);
+    all == kept
+}
+
+// Whether the marks of a segment of a class are of blocks in use.
+fn used_marks(g: Geometry, mem: &[u32], s: usize, of: u32) -> bool
+    requires { ⌜ (Sized g (length (now mem))) × (s < g .segments) ⌝ }
+    requires { ⌜ (IsClass of) × (of ≡ class (memOf g (now mem)) s) × (tag (memOf g (now mem)) s ≡ Tag.free → ⊥) ⌝ }
+    ensures { λ r. ⌜ Decides r (SegmentMarks g (memOf g (now (mem .entry))) s) ⌝ }
+{
+    let ok = none_beyond(g, mem, s, of);
+    if !ok {
+        return false;
+    }
+    let place = segments::place(g, mem, s);
+    let n = layout::blocks_in(g, of);
+    block_marks(g, mem, s, place, n)
+}
+
+// Whether the marks of segment s are.
+fn segment_marks(g: Geometry, mem: &[u32], s: usize) -> bool
+    requires { ⌜ (Sized g (length (now mem))) × (s < g .segments) ⌝ }
+    requires { ⌜ ((tag (memOf g (now mem)) s ≡ Tag.free → ⊥) → IsClass (class (memOf g (now mem)) s)) ⌝ }
+    ensures { λ r. ⌜ Decides r (SegmentMarks g (memOf g (now (mem .entry))) s) ⌝ }
+{
+    let tag = segments::tag(g, mem, s);
+    if tag == Segment::TAG_FREE {
+        return bitmaps::kept(g, mem, s, classes::FIRST_CLASS) == 0;
+    }
+    let class = segments::class(g, mem, s);
+    used_marks(g, mem, s, class)
+}
+
+// The same, where it is asked of segment s.
+fn asked_marks(g: Geometry, mem: &[u32], s: usize, condemned_only: bool) -> bool
+    requires { ⌜ (Sized g (length (now mem))) × (s < g .segments) ⌝ }
+    requires { ⌜ ((tag (memOf g (now mem)) s ≡ Tag.free → ⊥) → IsClass (class (memOf g (now mem)) s)) ⌝ }
+    ensures { λ r. ⌜ Decides r (Asked «condemned_only» (memOf g (now (mem .entry))) s → SegmentMarks g (memOf g (now (mem .entry))) s) ⌝ }
+{
+    if !condemned_only {
+        return segment_marks(g, mem, s);
+    }
+    let tag = segments::tag(g, mem, s);
+    if tag != Segment::TAG_CONDEMNED {
+        return true;
+    }
+    segment_marks(g, mem, s)
+}
+
+// Whether all marks are of blocks in use: those of every segment, or of the condemned ones only.
+pub fn marks(g: Geometry, mem: &[u32], condemned_only: bool) -> bool
+    requires { ⌜ Sized g (length (now mem)) ⌝ }
+    requires { ⌜ ((s : ℕ) → s < g .segments → (tag (memOf g (now mem)) s ≡ Tag.free → ⊥) → IsClass (class (memOf g (now mem)) s)) ⌝ }
+    ensures { λ r. ⌜ Decides r (MarksIn «condemned_only» g (memOf g (now (mem .entry)))) ⌝ }
+{
+    let n = g.segments;
+    let mut s = 0;
+    while s < n {
+        let ok = asked_marks(g, mem, s, condemned_only);
+        if !ok {
+            return false;
+        }
+        s += 1;
+    }
+    true
+}
