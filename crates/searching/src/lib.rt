@@ -37,7 +37,7 @@ pub enum Met {
 }
 
 // How many pointers of a record are followed.
-fn pointers(g: Geometry, mem: &[u32], edges: Edges, at: usize) -> usize
+pub fn pointers(g: Geometry, mem: &[u32], edges: Edges, at: usize) -> usize
     requires { ⌜ (Sized g (length (now mem))) × RecordOk g (memOf g (now mem)) at ⌝ }
     ensures { λ r. ⌜ r ≡ followed edges g (memOf g (now (mem .entry))) at ⌝ }
 {
@@ -97,7 +97,7 @@ fn follow(g: Geometry, mem: &[u32], w: u32, scratch: &mut [u32], met: Met) -> Me
 }
 
 // Word i of those that may name records.
-fn word(g: Geometry, mem: &[u32], source: Source, i: usize) -> u32
+pub fn word(g: Geometry, mem: &[u32], source: Source, i: usize) -> u32
     requires { ⌜ (Sized g (length (now mem))) × (i < lengthOf source g) ⌝ }
     ensures { λ r. ⌜ r ≡ getD (wordsOf source (memOf g (now (mem .entry)))) i 0 ⌝ }
 {

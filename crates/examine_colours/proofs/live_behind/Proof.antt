@@ -1,0 +1,37 @@
+-- `examine_colours::live_behind` meets its contract. Assumes nothing.
+use mathlib.Core.Path.{_≡_, sym, subst}
+use mathlib.Core.List.{List}
+use Prim.Native.Nat.{ℕ}
+use Rattle.layout.specs.Mem.{memOf}
+use Rattle.model.specs.Reaching.{Live}
+use Rattle.searching.specs.Found.{Finds}
+use Rattle.examine_colours.proofs.Fields.{within, back}
+use borrow.Author.Needs.{needs}
+use Rattle.examine_colours.proofs.live_behind.Statement.{statement}
+use Rattle.examine_colours.proofs.live_behind.Tie as tie
+
+mul-live : tie.Need-mul-live
+mul-live c = search needs
+
+sub-live : tie.Need-sub-live
+sub-live c = search needs
+
+part-live-start : tie.Need-part-live-start
+part-live-start c = search needs
+
+part-live-end : tie.Need-part-live-end
+part-live-end c = search needs
+
+live-requires : tie.Need-live-requires
+live-requires c κs = search needs
+
+same-length : tie.Need-same-length
+same-length c = search needs
+
+returns : tie.Need-returns
+returns c = let a = c .before .before .before .before .before .before in let g = a .args .g in let m = memOf g (a .args .mem .now) in let s = a .args .scratch .now in subst (λ (z : List ℕ). Finds g m (Live m) (c .before .before .live .result) z) (sym (back (a .args .n) s (within g (a .args .mem .now) (a .args .n) s (a .pre)) (c .before .before .live .last .1 .1 .0))) (c .before .before .live .ensures)
+
+pub live-behind-spec : {M : Type 1} → statement M
+live-behind-spec =
+    tie.close
+    (tie.spec mul-live sub-live part-live-start part-live-end live-requires same-length returns)

@@ -1,0 +1,42 @@
+-- `examine_colours::tricolour` meets its contract. Assumes nothing.
+use mathlib.Core.Path.{_≡_, _∙_}
+use lib.ListN.{drop}
+use borrow.Author.Tests.{not-true, not-false}
+use Rattle.rules.proofs.Deciding.{fails, refuted}
+use Rattle.layout.specs.Mem.{memOf}
+use Rattle.model.specs.Reaching.{Live}
+use Rattle.examine_colours.specs.Coloured.{Room}
+use Rattle.examine_colours.proofs.Fields.{twice, resize}
+use Rattle.examine_colours.proofs.Meaning.{finds-decides, bits-front}
+use borrow.Author.Needs.{needs}
+use Rattle.examine_colours.proofs.tricolour.Statement.{statement}
+use Rattle.examine_colours.proofs.tricolour.Tie as tie
+
+front-requires : tie.Need-front-requires
+front-requires c κs = search needs
+
+live-behind-requires : tie.Need-live-behind-requires
+live-behind-requires c κs = search needs
+
+same-length : tie.Need-same-length
+same-length c = search needs
+
+returns : tie.Need-returns
+returns c = let a = c .before .before .before .before .before .before .before .before in let g = a .args .g in let m = memOf g (a .args .mem .now) in fails (λ q. refuted (finds-decides g m (Live m) _ _ (c .before .before .before .live-behind .ensures)) (not-true _ (c .if1 .taken)) (q .records))
+
+keep-requires : tie.Need-keep-requires
+keep-requires c κs = let a = c .before .before .before .before .before .before .before .before .before in let g = a .args .g in let t = c .before .before .before .before .live-behind .last .1 .1 .1 .0 in let r : Room g (a .args .mem .now) (c .before .before .before .before .before .before .front .result) t = record { sized = a .pre .0; field = c .before .before .before .before .before .before .front .ensures; room = c .before .before .before .before .live-behind .kept .1 .1 .1 .0 ∙ a .pre .1 } in twice g (a .args .mem .now) (c .before .before .before .before .before .before .front .result) t r
+
+covered-requires : tie.Need-covered-requires
+covered-requires c κs = let a = c .before .before .before .before .before .before .before .before .before .before .before .before .before in let g = a .args .g in let m = memOf g (a .args .mem .now) in let n = c .before .before .before .before .before .before .before .before .before .before .front .result in let t = c .before .before .before .before .before .before .before .before .live-behind .last .1 .1 .1 .0 in let u = c .before .before .before .keep .last .1 .0 in let r : Room g (a .args .mem .now) n t = record { sized = a .pre .0; field = c .before .before .before .before .before .before .before .before .before .before .front .ensures; room = c .before .before .before .before .before .before .before .before .live-behind .kept .1 .1 .1 .0 ∙ a .pre .1 } in (resize g (a .args .mem .now) n t r u (c .before .before .before .keep .kept .1 .0), bits-front g m (Live m) (a .args .mem .now) n t r (drop n t) u (c .before .before .before .keep .ensures) (c .before .before .before .before .before .before .before .before .live-behind .ensures .good (not-false _ (c .before .before .before .before .before .if1 .left))))
+
+same-length-2 : tie.Need-same-length-2
+same-length-2 c = search needs
+
+returns-2 : tie.Need-returns-2
+returns-2 c = search needs
+
+pub tricolour-spec : {M : Type 1} → statement M
+tricolour-spec =
+    tie.close
+    (tie.spec front-requires live-behind-requires same-length returns keep-requires covered-requires same-length-2 returns-2)

@@ -1,0 +1,2 @@
+-- What the examination's searches decide.
+pub mod Coloured

@@ -1,0 +1,109 @@
+-- What one word, one more word and one block decide. Assumes nothing.
+use mathlib.Core.Path.{_≡_, refl, sym, ap, _∙_, subst}
+use mathlib.Core.Bool.{Bool, true, false, true≢false}
+use mathlib.Core.Logic.{_⊎_, inl, inr, ⊎-elim}
+use mathlib.Core.List.{List}
+use Prim.Native.Nat.{ℕ, suc, _+_, _-_, _*_, _/_, _%_, _^_, _≤_, _<_}
+use native.Mathlib.Numerals.{add-one}
+use native.Mathlib.Omega.{arith}
+use lib.Dec.{eqb}
+use lib.ListN.{length, getD}
+use borrow.Author.Tests.{eq-eqb, eqb-true}
+use Rattle.rules.specs.Decides.{Decides}
+use Rattle.rules.proofs.Deciding.{holds, fails, via}
+use Rattle.rules.proofs.Order.{same-or-not}
+use Rattle.words.specs.Bits.{bitAt}
+use Rattle.words.proofs.Counts.{lt-of}
+use Rattle.classes.specs.Class.{IsClass, blockWords, classTest}
+use Rattle.layout.specs.declared.Geometry.{Geometry}
+use Rattle.layout.specs.Geometry.{len, segmentWords, mostBlocks, blocksIn, segmentOf, bitIn}
+use Rattle.layout.specs.Mem.{Mem}
+use Rattle.layout.proofs.Sizes.{one-way, within, bytes-are, mark-word}
+use Rattle.model.specs.Fields.{class}
+use Rattle.model.specs.Records.{recordBit, marked, blockOf, headerOf, pointerCount}
+use Rattle.model.specs.Consistent.{RecordOk}
+use Rattle.laws.proofs.Apart.{class-of, field-inside}
+use Rattle.laws.proofs.Blocks.{blocks-most, of-block, is-header, block-within}
+use Rattle.classes.proofs.Filling.{two-words}
+use Rattle.classes.proofs.Every.{class-passes}
+use Rattle.searching.specs.Graph.{InRun}
+use Rattle.examine_cycle.specs.declared.Asked.{Asked}
+use Rattle.examine_cycle.specs.Judged.{Known, Fine, FineRun, RecordFine, BlockJudged, SegmentJudged}
+use Rattle.layout.specs.Region as Region
+
+-- ---- one word
+
+pub bit-either : (P : Type 0) (b x : ℕ) → (P → ⊥) → b ≡ x → Decides (eqb b 1) (P ⊎ (x ≡ 1))
+bit-either P b x d e = record { sound = λ t. inr (sym e ∙ eqb-true b 1 t); complete = λ q. eq-eqb b 1 (e ∙ ⊎-elim (λ p. absurd (d p)) (λ z. z) q) }
+
+module _ (g : Geometry) (m : Mem) (cover : List ℕ) (w : ℕ) where
+  pub fine-torn : (w ≡ 0 → ⊥) → (RecordOk g m (w - 1) → ⊥) → Decides false ((x : ℕ) → w ≡ suc x → Fine g m cover x)
+  fine-torn f d = fails (λ h. d (h (w - 1) (omega arith) .0))
+
+  pub fine-by : (w ≡ 0 → ⊥) → RecordOk g m (w - 1) → (k : ℕ) → k ≡ recordBit g m (w - 1) → (r : Bool) → Decides r ((bitAt (m .marks) k ≡ 1) ⊎ (bitAt cover k ≡ 1)) → Decides r ((x : ℕ) → w ≡ suc x → Fine g m cover x)
+  fine-by f ok k ek r d =
+      let at : ℕ = w - 1 in
+      let to : (bitAt (m .marks) k ≡ 1) ⊎ (bitAt cover k ≡ 1) → Fine g m cover at = λ q. (ok, subst (λ (z : ℕ). (bitAt (m .marks) z ≡ 1) ⊎ (bitAt cover z ≡ 1)) ek q) in
+      via (λ q x e. let y : at ≡ x = omega arith in subst (Fine g m cover) y (to q)) (λ h. subst (λ (z : ℕ). (bitAt (m .marks) z ≡ 1) ⊎ (bitAt cover z ≡ 1)) (sym ek) (h at (omega arith) .1)) d
+
+-- ---- one word more
+
+module _ (g : Geometry) (m : Mem) (cover ws : List ℕ) (from f w : ℕ) (ew : w ≡ getD ws (from + f) 0) where
+  pub run-more : FineRun g m cover ws from f → ((x : ℕ) → w ≡ suc x → Fine g m cover x) → FineRun g m cover ws from (f + 1)
+  run-more a b x q = go (same-or-not (q .index) f)
+    where
+      go : (q .index ≡ f) ⊎ (q .index ≡ f → ⊥) → Fine g m cover x
+      go (inl e) = b x (ew ∙ ap (λ (i : ℕ). getD ws (from + i) 0) (sym e) ∙ q .names)
+      go (inr e) = a x (record { index = q .index; within = lt-of (subst (λ (z : ℕ). q .index < z) (add-one f) (q .within)) e; names = q .names })
+
+  pub run-one : (count : ℕ) → f < count → FineRun g m cover ws from count → (x : ℕ) → w ≡ suc x → Fine g m cover x
+  run-one count l a x q = a x (record { index = f; within = l; names = sym ew ∙ q })
+
+-- ---- one block
+
+module _ (g : Geometry) (m : Mem) (s c b : ℕ) (ec : c ≡ class m s) (kc : IsClass c) (l : b < blocksIn g c) where
+  pub bit-small : s < g .segments → (b < mostBlocks g) × (bitIn g s b < g .segments * mostBlocks g)
+  bit-small h = let q = blocks-most g c kc in (omega arith, within (mostBlocks g) s (g .segments) b h (omega arith))
+
+  pub offset-small : b * blockWords c < segmentWords g
+  offset-small = let h = block-within g c kc b l in let p = two-words c kc in omega arith
+
+  -- the record of its bit
+  pub record-of : (x : ℕ) → RecordOk g m x → recordBit g m x ≡ bitIn g s b → x ≡ headerOf g s c b
+  record-of x ok e =
+      let k = class-of g m x ok in
+      let p = of-block g m x k in
+      let u = blocks-most g (class m (segmentOf g x)) k in
+      let v = blocks-most g c kc in
+      let w = one-way (mostBlocks g) (segmentOf g x) (blockOf g m x) s b (omega arith) (omega arith) e in
+      let es : segmentOf g x ≡ s = w .0 in
+      is-header g m x k (ok .aligned) ∙ ap (λ z. headerOf g z (class m z) (blockOf g m x)) es ∙ ap (headerOf g s (class m s)) (w .1) ∙ ap (λ z. headerOf g s z b) (sym ec)
+
+  pub known-record : (bits : List ℕ) → Known g m bits → s < g .segments → bitAt bits (bitIn g s b) ≡ 1 → RecordOk g m (headerOf g s c b)
+  known-record bits k h e = let q = k .records (bitIn g s b) (bit-small h .1) e in subst (RecordOk g m) (record-of (q .node) (q .ok) (q .here)) (q .ok)
+
+-- the pointers of a record lie in the heap
+pub pointers-inside : (g : Geometry) (m : Mem) (at : ℕ) → RecordOk g m at → at + 1 + pointerCount m at ≤ len g Region.heap
+pointers-inside g m at ok = let l = field-inside g m at ok (pointerCount m at) (omega arith) in omega arith
+
+-- ---- what is asked of a record
+
+pub ask : (g : Geometry) (m : Mem) (cover : List ℕ) (s at k : ℕ) (a b : Asked) (r : Bool) → a ≡ b → Decides r (RecordFine b g m cover s at k) → Decides r (RecordFine a g m cover s at k)
+ask g m cover s at k a b r e d = subst (λ (x : Asked). Decides r (RecordFine x g m cover s at k)) (sym e) d
+
+module _ (g : Geometry) (m : Mem) (s c b : ℕ) (ec : c ≡ class m s) (kc : IsClass c) (l : b < blocksIn g c) where
+  pub offset-room : (w : ℕ) → w ≡ blockWords c → (b * w < segmentWords g) × (b * w < 2 ^ 20)
+  offset-room w e = let n = bytes-are g in let n1 = n .1 in let n3 = n .3 in let h : b * w < segmentWords g = subst (λ z. b * z < segmentWords g) (sym e) (offset-small g m s c b ec kc l) in (h, omega arith)
+
+  pub bit-room : s < g .segments → (k x : ℕ) → k ≡ bitIn g s b → len g Region.queued ≤ x → k / 32 < x
+  bit-room h k x e r = let q = mark-word g (bitIn g s b) (bit-small g m s c b ec kc l h .1) in subst (λ z. z / 32 < x) (sym e) (omega arith)
+
+  pub block-by : (asked : Asked) (bits cover : List ℕ) (at k : ℕ) → k ≡ bitIn g s b → at ≡ headerOf g s c b → bitAt bits k ≡ 1 → (r : Bool) → Decides r (RecordFine asked g m cover s at k) → Decides r (BlockJudged asked g m bits cover s c b)
+  block-by asked bits cover at k ek ea one r d =
+      via (λ h e. h) (λ q. q (ap (bitAt bits) (sym ek) ∙ one)) (subst (λ (z : ℕ). Decides r (RecordFine asked g m cover s z (bitIn g s b))) ea (subst (λ (z : ℕ). Decides r (RecordFine asked g m cover s at z)) ek d))
+
+pub any-by : (g : Geometry) (m : Mem) (asked : Asked) (bits cover : List ℕ) (s c : ℕ) → c ≡ class m s → IsClass c → (r : Bool) → Decides r ((b : ℕ) → b < blocksIn g c → BlockJudged asked g m bits cover s c b) → Decides r (SegmentJudged asked g m bits cover s)
+any-by g m asked bits cover s c ec kc r d = via (λ h k. h) (λ q. q (subst IsClass ec kc)) (subst (λ (z : ℕ). Decides r ((b : ℕ) → b < blocksIn g z → BlockJudged asked g m bits cover s z b)) ec d)
+
+pub any-none : (g : Geometry) (m : Mem) (asked : Asked) (bits cover : List ℕ) (s c : ℕ) → c ≡ class m s → classTest c ≡ false → Decides true (SegmentJudged asked g m bits cover s)
+any-none g m asked bits cover s c ec f = holds (λ k. absurd (true≢false (sym (class-passes _ k) ∙ ap classTest (sym ec) ∙ f)))

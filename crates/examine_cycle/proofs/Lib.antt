@@ -1,0 +1,2 @@
+-- The laws of what is judged. Assumes nothing.
+pub mod Judging

@@ -1,0 +1,27 @@
+-- `examine_cycle::any_judged` meets its contract. Assumes nothing.
+use mathlib.Core.Path.{_≡_, _∙_, sym}
+use Rattle.layout.specs.Mem.{memOf}
+use Rattle.classes.proofs.Every.{class-passed}
+use Rattle.examine_cycle.proofs.Judging.{any-by, any-none}
+use borrow.Author.Needs.{needs}
+use Rattle.examine_cycle.proofs.any_judged.Statement.{statement}
+use Rattle.examine_cycle.proofs.any_judged.Tie as tie
+
+class-requires : tie.Need-class-requires
+class-requires c κs = search needs
+
+is-class-requires : tie.Need-is-class-requires
+is-class-requires c κs = search needs
+
+segment-judged-requires : tie.Need-segment-judged-requires
+segment-judged-requires c κs = let a = c .before .before .before .before .before .before in ((a .pre .0, a .pre .1, a .pre .2), (a .pre .3, (c .before .before .class .ensures, class-passed _ (sym (c .before .is-class .ensures) ∙ c .if1 .taken))))
+
+returns : tie.Need-returns
+returns c = let a = c .before .before .before .before .before .before .before in any-by (a .args .g) (memOf (a .args .g) (a .args .mem .now)) (a .args .asked) (a .args .bits .now) (a .args .cover .now) (a .args .s) _ (c .before .before .before .class .ensures) (class-passed _ (sym (c .before .before .is-class .ensures) ∙ c .before .if1 .taken)) _ (c .segment-judged .ensures)
+
+returns-2 : tie.Need-returns-2
+returns-2 c = let a = c .before .before .before .before .before .before in any-none (a .args .g) (memOf (a .args .g) (a .args .mem .now)) (a .args .asked) (a .args .bits .now) (a .args .cover .now) (a .args .s) _ (c .before .before .class .ensures) (sym (c .before .is-class .ensures) ∙ c .if1 .left)
+
+pub any-judged-spec : {M : Type 1} → statement M
+any-judged-spec =
+    tie.close (tie.spec class-requires is-class-requires segment-judged-requires returns returns-2)

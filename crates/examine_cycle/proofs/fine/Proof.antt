@@ -1,0 +1,53 @@
+-- `examine_cycle::fine` meets its contract. Assumes nothing.
+use mathlib.Core.Path.{_≡_, _∙_, sym, subst}
+use Prim.Native.Nat.{_-_}
+use native.Mathlib.Omega.{arith}
+use Rattle.rules.proofs.Deciding.{holds}
+use Rattle.layout.specs.Mem.{memOf}
+use Rattle.searching.specs.Graph.{Tested}
+use Rattle.examine_trace.proofs.Entering.{tested-small}
+use Rattle.examine_cycle.proofs.Judging.{fine-torn, fine-by}
+use borrow.Author.Needs.{needs}
+use Rattle.examine_cycle.proofs.fine.Statement.{statement}
+use Rattle.examine_cycle.proofs.fine.Tie as tie
+
+returns : tie.Need-returns
+returns c = holds (λ x q. absurd (omega (arith, c .if1 .taken)))
+
+sub-at : tie.Need-sub-at
+sub-at c = search needs
+
+cast-at : tie.Need-cast-at
+cast-at c = search needs
+
+test-requires : tie.Need-test-requires
+test-requires c κs = search needs
+
+enum-told : tie.Need-enum-told
+enum-told c = search needs
+
+enum-known-k : tie.Need-enum-known-k
+enum-known-k c = search needs
+
+fine-bit-requires : tie.Need-fine-bit-requires
+fine-bit-requires c κs = let a = c .before .before .before .before .before .before .before in let t = subst (Tested (a .args .g) (memOf (a .args .g) (a .args .mem .now)) (a .args .w - 1)) (c .before .k .given .1) (c .before .before .before .test .ensures) in (a .pre .0, a .pre .1, tested-small _ _ _ _ (t .0) (t .1))
+
+returns-2 : tie.Need-returns-2
+returns-2 c = let a = c .before .before .before .before .before .before in fine-torn (a .args .g) (memOf (a .args .g) (a .args .mem .now)) _ (a .args .w) (c .before .before .before .if1 .left) (subst (Tested (a .args .g) (memOf (a .args .g) (a .args .mem .now)) (a .args .w - 1)) (c .enum-told .given .1) (c .before .before .test .ensures))
+
+returns-3 : tie.Need-returns-3
+returns-3 c = let a = c .before .before .before .before .before .before .before .before in let m = memOf (a .args .g) (a .args .mem .now) in let t = subst (Tested (a .args .g) m (a .args .w - 1)) (c .before .before .k .given .1) (c .before .before .before .before .test .ensures) in fine-by (a .args .g) m (a .args .cover .now) (a .args .w) (c .before .before .before .before .before .if1 .left) (t .0) _ (t .1) _ (c .fine-bit .ensures)
+
+pub fine-spec : {M : Type 1} → statement M
+fine-spec =
+    tie.close
+    (tie.spec
+    returns
+    sub-at
+    cast-at
+    test-requires
+    enum-told
+    enum-known-k
+    fine-bit-requires
+    returns-2
+    returns-3)

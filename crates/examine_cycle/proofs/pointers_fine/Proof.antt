@@ -1,0 +1,27 @@
+-- `examine_cycle::pointers_fine` meets its contract. Assumes nothing.
+use Prim.Native.Nat.{ℕ, _+_, _≤_}
+use mathlib.Core.Path.{_≡_, _∙_, sym, subst}
+use Rattle.rules.specs.Decides.{Decides}
+use Rattle.layout.specs.Geometry.{len}
+use Rattle.layout.specs.Mem.{memOf}
+use Rattle.examine_cycle.specs.Judged.{FineRun}
+use Rattle.examine_cycle.proofs.Judging.{pointers-inside}
+use Rattle.layout.specs.Region as Region
+use borrow.Author.Needs.{needs}
+use Rattle.examine_cycle.proofs.pointers_fine.Statement.{statement}
+use Rattle.examine_cycle.proofs.pointers_fine.Tie as tie
+
+pointers-requires : tie.Need-pointers-requires
+pointers-requires c κs = search needs
+
+add-fine-run : tie.Need-add-fine-run
+add-fine-run c = search needs
+
+fine-run-requires : tie.Need-fine-run-requires
+fine-run-requires c κs = let a = c .before .before .before in (a .pre .0, a .pre .1, subst (λ (n : ℕ). a .args .at + 1 + n ≤ len (a .args .g) Region.heap) (sym (c .pointers .ensures)) (pointers-inside (a .args .g) (memOf (a .args .g) (a .args .mem .now)) (a .args .at) (a .pre .2)))
+
+returns : tie.Need-returns
+returns c = let a = c .before .before .before .before in let m = memOf (a .args .g) (a .args .mem .now) in subst (λ (n : ℕ). Decides (c .fine-run .result) (FineRun (a .args .g) m (a .args .cover .now) (m .heap) (a .args .at + 1) n)) (c .before .pointers .ensures) (c .fine-run .ensures)
+
+pub pointers-fine-spec : {M : Type 1} → statement M
+pointers-fine-spec = tie.close (tie.spec pointers-requires add-fine-run fine-run-requires returns)

@@ -1,0 +1,2 @@
+-- The laws of the phases. Assumes nothing.
+pub mod Phases

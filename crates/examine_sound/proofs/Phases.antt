@@ -1,0 +1,81 @@
+-- What each phase asks, and what `Sound` is. Assumes nothing.
+use mathlib.Core.Path.{_≡_, refl, sym, ap, _∙_, subst}
+use mathlib.Core.Logic.{_⊎_, inl, inr}
+use mathlib.Core.Bool.{Bool, false}
+use Prim.Native.Nat.{ℕ, zero, suc, _≤_, _<_}
+use native.Mathlib.Omega.{arith}
+use Rattle.rules.specs.Decides.{Decides}
+use Rattle.rules.proofs.Deciding.{holds, fails, via, refuted}
+use Rattle.layout.specs.declared.Geometry.{Geometry}
+use Rattle.layout.specs.Mem.{Mem, controlWord}
+use Rattle.theory.specs.Phases.{Phase, idle, sync1, sync2, mark, sweep}
+use Rattle.theory.specs.Reach.{root}
+use Rattle.theory.proofs.Graph.{reach-map}
+use Rattle.model.specs.Rules.{phaseOf, phaseNumber}
+use Rattle.model.specs.Fields.{phase, traceCount}
+use Rattle.model.specs.Reaching.{IsRoot, IsEntry, Live, Reached}
+use Rattle.model.specs.Consistent.{Sound}
+use Rattle.examine_parts.specs.Parts.{Parts}
+use Rattle.examine_trace.specs.Traced.{Traced}
+use Rattle.examine_sound.specs.Cycle.{Classes, Rest, IdleRest, SyncRest, MarkRest, SweepRest}
+
+module _ (g : Geometry) (m : Mem) where
+  -- with nothing on the trace stack, what is live is reached
+  live-reached : traceCount m ≡ 0 → {x : ℕ} → Live m x → Reached m x
+  live-reached e p = reach-map (λ x q. go x q) (λ x y r q. inl q) p
+    where
+      go : (x : ℕ) → IsRoot m x ⊎ IsEntry m x → Reached m x
+      go x (inl r) = root r
+      go x (inr q) = absurd (let l = q .within in omega arith)
+
+  reached-live : {x : ℕ} → Reached m x → Live m x
+  reached-live p = reach-map (λ x q. root (inl q)) (λ x y r q. inl q) p
+
+  module _ (n : ℕ) (en : n ≡ controlWord m 0) (r : Bool) where
+    is : (k : ℕ) → n ≡ k → phase m ≡ phaseOf k
+    is k e = ap phaseOf (sym en ∙ e)
+
+    to : (p : Phase) → phase m ≡ p → Decides r (Rest p g m) → Decides r (Rest (phase m) g m)
+    to p e d = subst (λ (z : Phase). Decides r (Rest z g m)) (sym e) d
+
+    pub in-idle : n ≡ 0 → Decides r (IdleRest g m) → Decides r (Rest (phase m) g m)
+    in-idle e d = to idle (is 0 e) (via (λ q. record { records = q .records; cycle = (q .empty, q .none) }) (λ q. record { empty = q .cycle .0; none = q .cycle .1; records = q .records }) d)
+
+    pub in-sync : n ≡ 1 → Decides r (SyncRest g m) → Decides r (Rest (phase m) g m)
+    in-sync e d = to sync1 (is 1 e) (via (λ q. record { records = q .records; cycle = q .none }) (λ q. record { none = q .cycle; records = q .records }) d)
+
+    pub in-mark : (n ≡ 0 → ⊥) → (n ≡ 1 → ⊥) → n < 4 → Decides r (MarkRest g m) → Decides r (Rest (phase m) g m)
+    in-mark a b l d = go (two-or-three n a b l)
+      where
+        two-or-three : (k : ℕ) → (k ≡ 0 → ⊥) → (k ≡ 1 → ⊥) → k < 4 → (k ≡ 2) ⊎ (k ≡ 3)
+        two-or-three zero a b l = absurd (a refl)
+        two-or-three (suc zero) a b l = absurd (b refl)
+        two-or-three (suc (suc zero)) a b l = inl refl
+        two-or-three (suc (suc (suc k))) a b l = inr (omega arith)
+
+        go : (n ≡ 2) ⊎ (n ≡ 3) → Decides r (Rest (phase m) g m)
+        go (inl e) = to sync2 (is 2 e) (via (λ q. record { records = q .coloured .records; cycle = (q .marks, q .coloured .tricolour) }) (λ q. record { marks = q .cycle .0; coloured = record { records = q .records; tricolour = q .cycle .1 } }) d)
+        go (inr e) = to mark (is 3 e) (via (λ q. record { records = q .coloured .records; cycle = (q .marks, q .coloured .tricolour) }) (λ q. record { marks = q .cycle .0; coloured = record { records = q .records; tricolour = q .cycle .1 } }) d)
+
+    pub in-sweep : 4 ≤ n → controlWord m 0 ≤ 4 → Decides r (SweepRest g m) → Decides r (Rest (phase m) g m)
+    in-sweep l h d = to sweep (is 4 (omega arith)) (via
+        (λ q. record { records = λ at p. q .swept .records at (live-reached (q .empty) p); cycle = (q .empty, q .marks, q .swept .marked) })
+        (λ q. record { empty = q .cycle .0; marks = q .cycle .1; swept = record { records = λ at p. q .records at (reached-live p); marked = q .cycle .2 } })
+        d)
+
+  -- ---- all of it
+
+  pub classes-of : Parts g m → Classes g m
+  classes-of p s l f = p .segments s l .classes f
+
+  pub parts-fail : (r : Bool) → Decides r (Parts g m) → r ≡ false → Decides false (Sound g m)
+  parts-fail r d e = fails (λ s. refuted d e (record { phases = s .phases; segments = s .segments; occupied = s .occupied; mutators = s .mutators; acknowledgements = s .acknowledgements }))
+
+  pub trace-fails : (r : Bool) → Decides r (Traced g m) → r ≡ false → Decides false (Sound g m)
+  trace-fails r d e = fails (λ s. refuted d e (record { trace = s .trace; records = λ at q. s .records at (root (inr q)) }))
+
+  pub all-of : Parts g m → Traced g m → (r : Bool) → Decides r (Rest (phase m) g m) → Decides r (Sound g m)
+  all-of p t r d = via
+      (λ q. record { phases = p .phases; segments = p .segments; occupied = p .occupied; mutators = p .mutators; acknowledgements = p .acknowledgements; records = q .records; trace = t .trace; cycle = q .cycle })
+      (λ s. record { records = s .records; cycle = s .cycle })
+      d

@@ -1,0 +1,22 @@
+-- `examine_sound::sound` meets its contract. Assumes nothing.
+use mathlib.Core.Path.{_≡_, _∙_, ap}
+use Prim.Native.Nat.{ℕ}
+use lib.ListN.{replicate}
+use borrow.Author.Needs.{needs}
+use Rattle.examine_sound.proofs.sound.Statement.{statement}
+use Rattle.examine_sound.proofs.sound.Tie as tie
+
+all-ok-requires : tie.Need-all-ok-requires
+all-ok-requires c κs = search needs
+
+clear-requires : tie.Need-clear-requires
+clear-requires c κs = search needs
+
+same-length : tie.Need-same-length
+same-length c = search needs
+
+returns : tie.Need-returns
+returns c = (c .before .before .before .before .before .before .all-ok .ensures, c .before .before .clear .ensures ∙ ap (λ (n : ℕ). replicate n 0) (c .before .before .before .before .before .before .all-ok .kept .1 .1 .0 ∙ c .before .before .before .before .before .before .before .before .before .before .pre .1))
+
+pub sound-spec : {M : Type 1} → statement M
+sound-spec = tie.close (tie.spec all-ok-requires clear-requires same-length returns)

@@ -1,0 +1,2 @@
+-- What the phases ask.
+pub mod Cycle

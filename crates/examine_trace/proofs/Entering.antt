@@ -1,0 +1,206 @@
+-- One bit, one entry, one more entry and the whole trace stack. Assumes nothing.
+use mathlib.Core.Path.{_≡_, refl, sym, ap, _∙_, subst}
+use mathlib.Core.Bool.{Bool, true, false, true≢false}
+use mathlib.Core.Logic.{_⊎_, inl, inr}
+use mathlib.Core.List.{List}
+use Prim.Native.Nat.{ℕ, suc, _+_, _-_, _*_, _/_, _%_, _≤_, _<_}
+use native.Mathlib.Omega.{arith}
+use lib.Dec.{eqb}
+use lib.ListN.{length, getD, take, drop, replicate}
+use lib.Seq.{take-all}
+use borrow.Author.Tests.{eq-eqb, eqb-true}
+use borrow.Rule.Slice.PartMut.{midOf}
+use Rattle.rules.specs.Decides.{Decides}
+use Rattle.rules.proofs.Deciding.{holds, fails}
+use Rattle.rules.proofs.Order.{same-or-not}
+use Rattle.words.specs.Bits.{bitOf, bitAt, setBit, onesAmong}
+use Rattle.words.specs.Levels.{wordsFor}
+use Rattle.words.proofs.Word.{zero-of-not-one}
+use Rattle.words.proofs.Lists.{bit-split, at-lt, set-there, set-elsewhere, length-setBit}
+use Rattle.words.proofs.Ones.{among-le}
+use Rattle.words.proofs.Zeros.{zeros-bit}
+use Rattle.layout.specs.declared.Geometry.{Geometry}
+use Rattle.layout.specs.Geometry.{Sized, len, from, markWords, mostBlocks}
+use Rattle.layout.specs.Mem.{Mem, memOf, traceWord, readRun}
+use Rattle.layout.proofs.Regions.{read-at}
+use Rattle.layout.proofs.Sizes.{mark-word, marks-are}
+use Rattle.laws.proofs.Lengths.{sizes-of}
+use Rattle.model.specs.Fields.{traceCount}
+use Rattle.model.specs.Records.{recordBit}
+use Rattle.model.specs.Reaching.{IsEntry}
+use Rattle.model.specs.Consistent.{RecordOk, TraceOk}
+use Rattle.searching.proofs.Steps.{placed}
+use Rattle.examine_trace.specs.Traced.{Traced, entryAt, entryBit, EntryOk, BitEnters, Enters, Seen, EntersAll}
+use Rattle.layout.specs.Region as Region
+
+-- ---- one bit of a list of words
+
+pub bit-by : (ws : List ℕ) (k w x : ℕ) → w ≡ getD ws (k / 32) 0 → x ≡ bitOf w (k % 32) → Decides (eqb x 1) (bitAt ws k ≡ 1)
+bit-by ws k w x ew ex =
+    let e : bitAt ws k ≡ x = bit-split ws k ∙ ap (λ z. bitOf z (k % 32)) (sym ew) ∙ sym ex in
+    record { sound = λ t. e ∙ eqb-true x 1 t; complete = λ q. eq-eqb x 1 (sym e ∙ q) }
+
+-- ---- the queued bits as a part of the slice
+
+module _ (g : Geometry) (l : List ℕ) (z : Sized g (length l)) (a b most : ℕ) (em : most ≡ len g Region.trace) (ea : a ≡ from g Region.marks + g .segments * markWords g) (eb : b ≡ length l - most) where
+  pub part-ends : (b ≡ a + len g Region.queued) × (b ≤ length l) × (most ≤ length l)
+  part-ends = let t = z .is in (omega arith, omega arith, omega arith)
+
+  part-is : midOf a (b - a) l ≡ memOf g l .queued
+  part-is =
+      read-at g l Region.queued 0 (len g Region.queued) a b (omega arith, part-ends .0, omega arith, omega arith)
+      ∙ take-all (len g Region.queued) (memOf g l .queued) (let q = sizes-of g l z .queued in omega arith)
+
+  pub part-room : wordsFor most ≤ length (midOf a (b - a) l)
+  part-room = rw part-is (let q = sizes-of g l z .queued in let w = marks-are g (g .segments) in omega arith)
+
+  pub part-count : (r : ℕ) → r ≡ onesAmong (bitAt (midOf a (b - a) l)) most → r ≡ onesAmong (bitAt (memOf g l .queued)) (g .segments * mostBlocks g)
+  part-count r e = e ∙ ap (λ (y : List ℕ). onesAmong (bitAt y) most) part-is ∙ ap (onesAmong (bitAt (memOf g l .queued))) em
+
+-- ---- a bit of an entry
+
+module _ (m : Mem) (k : ℕ) (before : List ℕ) where
+  pub bit-marked : bitAt (m .marks) k ≡ 1 → BitEnters m k before false before
+  bit-marked e = record { new = λ t. absurd (true≢false (sym t)); wrong = λ _ f _ _. omega arith }
+
+  pub bit-unqueued : (bitAt (m .queued) k ≡ 1 → ⊥) → BitEnters m k before false before
+  bit-unqueued d = record { new = λ t. absurd (true≢false (sym t)); wrong = λ _ _ f _. d f }
+
+  pub bit-again : bitAt before k ≡ 1 → BitEnters m k before false before
+  bit-again e = record { new = λ t. absurd (true≢false (sym t)); wrong = λ _ _ _ f. omega arith }
+
+  pub bit-new : (bitAt (m .marks) k ≡ 1 → ⊥) → bitAt (m .queued) k ≡ 1 → (bitAt before k ≡ 1 → ⊥) → BitEnters m k before true (setBit before k)
+  bit-new a b c = record {
+    new = λ _. (zero-of-not-one _ (at-lt (m .marks) k) a, b, zero-of-not-one _ (at-lt before k) c, refl);
+    wrong = λ t. absurd (true≢false t);
+  }
+
+-- ---- one entry
+
+module _ (g : Geometry) (m : Mem) (i : ℕ) (before : List ℕ) (w : ℕ) (ew : w ≡ traceWord m i) where
+  pub enter-nil : w ≡ 0 → Enters g m i before false before
+  enter-nil e = record { new = λ t. absurd (true≢false (sym t)); wrong = λ _ o _. omega (arith, o .named) }
+
+  pub enter-torn : (RecordOk g m (w - 1) → ⊥) → Enters g m i before false before
+  enter-torn d = record { new = λ t. absurd (true≢false (sym t)); wrong = λ _ o _. d (subst (λ (x : ℕ). RecordOk g m (x - 1)) (sym ew) (o .passes)) }
+
+  pub enter-by : (w ≡ 0 → ⊥) → RecordOk g m (w - 1) → (k : ℕ) → k ≡ recordBit g m (w - 1) → (r : Bool) (after : List ℕ) → BitEnters m k before r after → Enters g m i before r after
+  enter-by f ok k ek r after q = record {
+    new = λ t. let n = q .new t in (record { named = omega arith; passes = subst (λ (x : ℕ). RecordOk g m (x - 1)) ew ok; unmarked = ap (bitAt (m .marks)) (sym is) ∙ n .0; bit = ap (bitAt (m .queued)) (sym is) ∙ n .1 }, ap (bitAt before) (sym is) ∙ n .2, n .3 ∙ ap (setBit before) is);
+    wrong = λ t o z. q .wrong t (ap (bitAt (m .marks)) is ∙ o .unmarked) (ap (bitAt (m .queued)) is ∙ o .bit) (ap (bitAt before) is ∙ z);
+  }
+    where
+      is : k ≡ entryBit g m i
+      is = ek ∙ ap (λ (x : ℕ). recordBit g m (x - 1)) ew
+
+-- ---- the entries so far
+
+module _ (g : Geometry) (m : Mem) where
+  pub seen-none : (bits : List ℕ) → len g Region.queued ≤ length bits → ((k : ℕ) → bitAt bits k ≡ 0) → Seen g m 0 bits
+  seen-none bits l z = record {
+    long = l;
+    entries = λ k h. absurd (omega arith);
+    once = λ j k x h. absurd (omega arith);
+    there = λ k h. absurd (omega arith);
+    only = λ b f. absurd (let y = z b in omega arith);
+  }
+
+  entry-is : (at : ℕ) (e : IsEntry m at) → at ≡ entryAt m (e .index)
+  entry-is at e = omega (arith, e .names)
+
+  module _ (i : ℕ) (bits : List ℕ) (p : Seen g m i bits) (r : Bool) (after : List ℕ) (q : Enters g m i bits r after) where
+    pub seen-more : r ≡ true → Seen g m (i + 1) after
+    seen-more e = subst (Seen g m (i + 1)) (sym (q .new e .2)) (record {
+      long = let a = p .long in let b = length-setBit bits at in omega arith;
+      entries = λ k h. entry k h (same-or-not k i);
+      once = λ j k x h. twice j k x h (same-or-not k i);
+      there = λ k h. set k h (same-or-not (entryBit g m k) at);
+      only = λ b f. found b f (same-or-not b at);
+    })
+      where
+        at : ℕ
+        at = entryBit g m i
+
+        inside : at / 32 < length bits
+        inside = let a = mark-word g at (placed g m .small (entryAt m i) (q .new e .0 .passes)) in let b = p .long in omega arith
+
+        entry : (k : ℕ) → k < i + 1 → (k ≡ i) ⊎ (k ≡ i → ⊥) → EntryOk g m k
+        entry k h (inl x) = subst (EntryOk g m) (sym x) (q .new e .0)
+        entry k h (inr x) = p .entries k (omega arith)
+
+        twice : (j k : ℕ) → j < k → k < i + 1 → (k ≡ i) ⊎ (k ≡ i → ⊥) → traceWord m j ≡ traceWord m k → ⊥
+        twice j k x h (inl y) w =
+            let a : bitAt bits (entryBit g m j) ≡ bitAt bits at = ap (λ (z : ℕ). bitAt bits (recordBit g m (z - 1))) (w ∙ ap (traceWord m) y) in
+            let b = p .there j (omega arith) in
+            let c = q .new e .1 in
+            omega arith
+        twice j k x h (inr y) w = p .once j k x (omega arith) w
+
+        set : (k : ℕ) → k < i + 1 → (entryBit g m k ≡ at) ⊎ (entryBit g m k ≡ at → ⊥) → bitAt (setBit bits at) (entryBit g m k) ≡ 1
+        set k h (inl y) = ap (bitAt (setBit bits at)) y ∙ set-there bits at inside
+        set k h (inr y) = set-elsewhere bits at inside (entryBit g m k) y ∙ p .there k (let x : k ≡ i → ⊥ = λ z. y (ap (entryBit g m) z) in omega arith)
+
+        found : (b : ℕ) → bitAt (setBit bits at) b ≡ 1 → (b ≡ at) ⊎ (b ≡ at → ⊥) → (k : ℕ) × (k < i + 1) × (entryBit g m k ≡ b)
+        found b f (inl y) = (i, omega arith, sym y)
+        found b f (inr y) = let o = p .only b (sym (set-elsewhere bits at inside b y) ∙ f) in let l = o .1 in (o .0, omega arith, o .2)
+
+    -- an entry that a trace stack in order has not
+    pub seen-wrong : r ≡ false → i < traceCount m → Traced g m → ⊥
+    seen-wrong e l o = q .wrong e ok (go (same-or-not (bitAt bits (entryBit g m i)) 1))
+      where
+        some : 1 ≤ traceWord m i
+        some = o .trace .named i l
+
+        here : IsEntry m (entryAt m i)
+        here = record { index = i; within = l; names = omega (arith, some) }
+
+        ok : EntryOk g m i
+        ok = record { named = some; passes = o .records _ here; unmarked = o .trace .unmarked _ here; bit = o .trace .bits _ here }
+
+        go : (bitAt bits (entryBit g m i) ≡ 1) ⊎ (bitAt bits (entryBit g m i) ≡ 1 → ⊥) → bitAt bits (entryBit g m i) ≡ 0
+        go (inr d) = zero-of-not-one _ (at-lt bits (entryBit g m i)) d
+        go (inl z) =
+            let k = p .only (entryBit g m i) z in
+            let a = p .entries (k .0) (k .1) in
+            let s = placed g m .apart (entryAt m (k .0)) (entryAt m i) (a .passes) (ok .passes) (k .2) in
+            let n = a .named in
+            absurd (o .trace .once (k .0) i (k .1) l (omega (arith, s, n, some)))
+
+  pub all-new : (n i : ℕ) (bits : List ℕ) → n ≡ traceCount m → i ≤ n → n ≤ i → Seen g m i bits → EntersAll g m true bits
+  all-new n i bits e a b p = record { new = λ _. subst (λ z. Seen g m z bits) (let q : i ≡ n = omega arith in q ∙ e) p; wrong = λ f. absurd (true≢false f) }
+
+  pub one-wrong : (n i : ℕ) (after bits : List ℕ) → n ≡ traceCount m → i < n → Seen g m i bits → (r : Bool) → Enters g m i bits r after → r ≡ false → EntersAll g m false after
+  one-wrong n i after bits e l p r q f = record { new = λ x. absurd (true≢false (sym x)); wrong = λ _ o. seen-wrong i bits p r after q f (subst (λ z. i < z) e l) o }
+
+  -- ---- the whole stack
+
+  module _ (n ones : ℕ) (en : n ≡ traceCount m) (eo : ones ≡ onesAmong (bitAt (m .queued)) (g .segments * mostBlocks g)) where
+    pub count-wrong : (n ≡ ones → ⊥) → Decides false (Traced g m)
+    count-wrong d = fails (λ o. d (en ∙ o .trace .number ∙ sym eo))
+
+    pub count-few : n ≡ ones → n ≤ len g Region.trace
+    count-few e = let l = among-le (bitAt (m .queued)) (at-lt (m .queued)) (g .segments * mostBlocks g) in omega arith
+
+    pub count-right : n ≡ ones → (r : Bool) (after : List ℕ) → EntersAll g m r after → Decides r (Traced g m)
+    count-right e true after q = holds (record {
+      trace = record {
+        named = λ i l. p .entries i l .named;
+        once = p .once;
+        unmarked = λ at x. ap (λ (z : ℕ). bitAt (m .marks) (recordBit g m z)) (entry-is at x) ∙ p .entries (x .index) (x .within) .unmarked;
+        bits = λ at x. ap (λ (z : ℕ). bitAt (m .queued) (recordBit g m z)) (entry-is at x) ∙ p .entries (x .index) (x .within) .bit;
+        number = sym en ∙ e ∙ eo;
+      };
+      records = λ at x. subst (RecordOk g m) (sym (entry-is at x)) (p .entries (x .index) (x .within) .passes);
+    })
+      where
+        p : Seen g m (traceCount m) after
+        p = q .new refl
+    count-right e false after q = fails (q .wrong refl)
+
+-- a cleared scratch has no bit
+pub clear-bits : (n : ℕ) (s : List ℕ) → s ≡ replicate n 0 → (k : ℕ) → bitAt s k ≡ 0
+clear-bits n s e k = ap (λ (l : List ℕ). bitAt l k) e ∙ zeros-bit n k
+
+-- the bit of a record that passes the test
+pub tested-small : (g : Geometry) (m : Mem) (at k : ℕ) → RecordOk g m at → k ≡ recordBit g m at → k < g .segments * mostBlocks g
+tested-small g m at k ok e = subst (λ z. z < g .segments * mostBlocks g) (sym e) (placed g m .small at ok)

@@ -1,0 +1,2 @@
+-- The laws of the trace stack's examination. Assumes nothing.
+pub mod Entering

@@ -1,0 +1,61 @@
+-- `examine_trace::enter_all` meets its contract. Assumes nothing.
+use Prim.Native.Nat.{_-_, _≤_}
+use mathlib.Core.Path.{_≡_, _∙_}
+use lib.ListN.{length}
+use native.Mathlib.Omega.{arith}
+use borrow.Author.Tests.{not-true, not-false}
+use Rattle.layout.specs.Mem.{memOf}
+use Rattle.layout.proofs.Sizes.{trace-most}
+use Rattle.examine_trace.specs.Traced.{Seen}
+use Rattle.examine_trace.proofs.Entering.{seen-none, seen-more, one-wrong, all-new}
+use Rattle.examine_trace.proofs.enter_all.Statement.{statement}
+use Rattle.examine_trace.proofs.enter_all.Tie as tie
+
+abbrev Inv-loop : tie.InvT-loop
+Inv-loop g mem n scratch₀ i₀ scratch i = (i ≤ n) × (length scratch ≡ length scratch₀) × Seen g (memOf g mem) i scratch
+
+abbrev μ-loop : tie.MeasureT-loop
+μ-loop g mem n scratch₀ i₀ scratch i = n - i
+
+loop-holds : tie.Need-loop-holds Inv-loop μ-loop
+loop-holds c = (omega arith, omega arith, seen-none _ _ _ (c .before .before .pre .1 .0) (c .before .before .pre .1 .1))
+
+enter-requires : tie.Need-enter-requires Inv-loop μ-loop
+enter-requires c κs = (c .before .before .before .before .before .pre .0 .0, (let l = c .before .loop-test .taken in let n = c .before .before .before .before .before .pre .0 .2 in omega arith), c .before .before .loop .inv .2 .long)
+
+same-length : tie.Need-same-length Inv-loop μ-loop
+same-length c = c .before .before .before .enter .kept .1 .1 .1 .0 ∙ c .before .before .before .before .before .before .loop .inv .1
+
+returns : tie.Need-returns Inv-loop μ-loop
+returns c = one-wrong _ _ _ _ _ _ (c .before .before .before .before .before .before .before .before .before .pre .0 .1) (c .before .before .before .before .before .loop-test .taken) (c .before .before .before .before .before .before .loop .inv .2) _ (c .before .before .before .enter .ensures) (not-true _ (c .if1 .taken))
+
+add-i : tie.Need-add-i Inv-loop μ-loop
+add-i c = omega (arith, c .before .before .before .before .before .loop-test .taken, c .before .before .before .before .before .before .before .before .before .pre .0 .2, trace-most (c .before .before .before .before .before .before .before .before .before .args .g) (c .before .before .before .before .before .before .before .before .before .pre .0 .0 .few))
+
+loop-less : tie.Need-loop-less Inv-loop μ-loop
+loop-less c = omega (arith, c .before .before .before .before .before .loop-test .taken)
+
+loop-again : tie.Need-loop-again Inv-loop μ-loop
+loop-again c = (omega (arith, c .before .before .before .before .before .loop-test .taken), c .before .before .before .enter .kept .1 .1 .1 .0 ∙ c .before .before .before .before .before .before .loop .inv .1, seen-more _ _ _ _ (c .before .before .before .before .before .before .loop .inv .2) _ _ (c .before .before .before .enter .ensures) (not-false _ (c .if1 .left)))
+
+same-length-2 : tie.Need-same-length-2 Inv-loop μ-loop
+same-length-2 c = c .before .loop .inv .1
+
+returns-2 : tie.Need-returns-2 Inv-loop μ-loop
+returns-2 c = all-new _ _ _ _ _ (c .before .before .before .before .pre .0 .1) (c .before .loop .inv .0) (c .loop-test .left) (c .before .loop .inv .2)
+
+pub enter-all-spec : {M : Type 1} → statement M
+enter-all-spec =
+    tie.close
+    (tie.spec
+    Inv-loop
+    μ-loop
+    loop-holds
+    enter-requires
+    same-length
+    returns
+    add-i
+    loop-less
+    loop-again
+    same-length-2
+    returns-2)

@@ -1,0 +1,2 @@
+-- The trace stack as the examination goes through it.
+pub mod Traced

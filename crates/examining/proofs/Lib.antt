@@ -1,0 +1,2 @@
+-- The laws of the examination's promise. Assumes nothing.
+pub mod Examined

@@ -1,0 +1,48 @@
+-- `examining::examine` meets its contract. Assumes nothing.
+use mathlib.Core.Path.{_≡_, _∙_, sym}
+use Rattle.layout.proofs.Regions.{sized}
+use Rattle.examining.proofs.Examined.{memory-size, scratch-size, promise-yes, promise-no}
+use borrow.Author.Needs.{needs}
+use Rattle.examining.proofs.examine.Statement.{statement}
+use Rattle.examining.proofs.examine.Tie as tie
+
+wrong-size-requires : tie.Need-wrong-size-requires
+wrong-size-requires c κs = search needs
+
+returns : tie.Need-returns
+returns c = let a = c .before .before .before .before in memory-size (a .args .g) (a .args .mem .now) (a .args .scratch .now) (sym (c .before .wrong-size .ensures) ∙ c .if1 .taken)
+
+scratch-words-requires : tie.Need-scratch-words-requires
+scratch-words-requires c κs = sized _ _ (sym (c .before .wrong-size .ensures) ∙ c .if1 .left) .few
+
+returns-2 : tie.Need-returns-2
+returns-2 c = let a = c .before .before .before .before .before .before in scratch-size (a .args .g) (a .args .mem .now) (a .args .scratch .now) (λ e. c .if2 .taken (e ∙ sym (c .before .scratch-words .ensures)))
+
+consistent-requires : tie.Need-consistent-requires
+consistent-requires c κs = (sized _ _ (sym (c .before .before .before .before .wrong-size .ensures) ∙ c .before .before .before .if1 .left), c .before .if2 .left ∙ c .before .before .scratch-words .ensures)
+
+same-length : tie.Need-same-length
+same-length c = search needs
+
+returns-3 : tie.Need-returns-3
+returns-3 c = let a = c .before .before .before .before .before .before .before .before .before .before .before in promise-yes (a .args .g) (a .args .mem .now) (a .args .scratch .now) (sym (c .before .before .before .before .before .before .before .before .wrong-size .ensures) ∙ c .before .before .before .before .before .before .before .if1 .left) (c .before .before .before .before .before .if2 .left ∙ c .before .before .before .before .before .before .scratch-words .ensures) _ (c .before .before .before .consistent .ensures .1) _ (c .before .before .before .consistent .ensures .0) (c .if3 .taken)
+
+same-length-2 : tie.Need-same-length-2
+same-length-2 c = search needs
+
+returns-4 : tie.Need-returns-4
+returns-4 c = let a = c .before .before .before .before .before .before .before .before .before .before .before in promise-no (a .args .g) (a .args .mem .now) (a .args .scratch .now) (sym (c .before .before .before .before .before .before .before .before .wrong-size .ensures) ∙ c .before .before .before .before .before .before .before .if1 .left) (c .before .before .before .before .before .if2 .left ∙ c .before .before .before .before .before .before .scratch-words .ensures) _ (c .before .before .before .consistent .ensures .1) _ (c .before .before .before .consistent .ensures .0) (c .if3 .left)
+
+pub examine-spec : {M : Type 1} → statement M
+examine-spec =
+    tie.close
+    (tie.spec
+    wrong-size-requires
+    returns
+    scratch-words-requires
+    returns-2
+    consistent-requires
+    same-length
+    returns-3
+    same-length-2
+    returns-4)
