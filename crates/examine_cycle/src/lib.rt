@@ -45,7 +45,7 @@ fn fine(g: Geometry, mem: &[u32], cover: &[u32], w: u32) -> bool
         return true;
     }
     let at = (w - 1) as usize;
-    match searching::test(g, mem, at) {
+    match record_test::test(g, mem, at) {
         Bit::Torn => false,
         Bit::At(k) => fine_bit(g, mem, cover, k),
     }

@@ -111,6 +111,6 @@ pub fn sound(g: Geometry, mem: &[u32], scratch: &mut [u32]) -> bool
     ensures { λ r. ⌜ Decides r (Sound g (memOf g (now (mem .entry)))) × (now (scratch .exit) ≡ replicate (scratchWords g) 0) ⌝ }
 {
     let ok = all_ok(g, mem, scratch);
-    searching::clear(scratch);
+    searching::clear_all(scratch);
     ok
 }

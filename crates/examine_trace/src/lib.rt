@@ -73,7 +73,7 @@ fn enter(g: Geometry, mem: &[u32], i: usize, scratch: &mut [u32]) -> bool
         return false;
     }
     let at = (w - 1) as usize;
-    match searching::test(g, mem, at) {
+    match record_test::test(g, mem, at) {
         Bit::Torn => false,
         Bit::At(k) => enter_bit(g, mem, k, scratch),
     }
@@ -106,6 +106,6 @@ pub fn trace_ok(g: Geometry, mem: &[u32], scratch: &mut [u32]) -> bool
     if n != ones {
         return false;
     }
-    searching::clear(scratch);
+    searching::clear_all(scratch);
     enter_all(g, mem, n as usize, scratch)
 }

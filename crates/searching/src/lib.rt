@@ -5,7 +5,7 @@ use tracing::Bit;
 ghost use mathlib.Core.Path.{_≡_};
 ghost use mathlib.Core.Bool.{true};
 ghost use Prim.Native.Nat.{suc, _+_, _-_, _*_, _≤_, _<_};
-ghost use lib.ListN.{length, getD};
+ghost use lib.ListN.{length, getD, replicate};
 ghost use Rattle.words.specs.Bits.{bitAt};
 ghost use Rattle.layout.specs.Geometry.{Sized, len, maxSegments, mutatorCount};
 ghost use Rattle.layout.specs.Mem.{memOf};
@@ -269,6 +269,17 @@ fn clear(g: Geometry, scratch: &mut [u32])
     let n = scratch.len() - layout::trace_words(g);
     let mut i: usize = 0;
     while i < n {
+        scratch[i] = 0;
+        i += 1;
+    }
+}
+
+// Every word of the scratch becomes 0.
+pub fn clear_all(scratch: &mut [u32])
+    ensures { λ _. ⌜ now (scratch .exit) ≡ replicate (length (now (scratch .entry))) 0 ⌝ }
+{
+    let mut i: usize = 0;
+    while i < scratch.len() {
         scratch[i] = 0;
         i += 1;
     }

@@ -4,7 +4,7 @@ use Prim.Native.Nat.{_-_}
 use native.Mathlib.Omega.{arith}
 use Rattle.rules.proofs.Deciding.{holds}
 use Rattle.layout.specs.Mem.{memOf}
-use Rattle.searching.specs.Graph.{Tested}
+use Rattle.record_test.specs.Tests.{Tested}
 use Rattle.examine_trace.proofs.Entering.{tested-small}
 use Rattle.examine_cycle.proofs.Judging.{fine-torn, fine-by}
 use borrow.Author.Needs.{needs}

@@ -9,14 +9,14 @@ use Rattle.examine_sound.proofs.sound.Tie as tie
 all-ok-requires : tie.Need-all-ok-requires
 all-ok-requires c κs = search needs
 
-clear-requires : tie.Need-clear-requires
-clear-requires c κs = search needs
+clear-all-requires : tie.Need-clear-all-requires
+clear-all-requires c κs = search needs
 
 same-length : tie.Need-same-length
 same-length c = search needs
 
 returns : tie.Need-returns
-returns c = (c .before .before .before .before .before .before .all-ok .ensures, c .before .before .clear .ensures ∙ ap (λ (n : ℕ). replicate n 0) (c .before .before .before .before .before .before .all-ok .kept .1 .1 .0 ∙ c .before .before .before .before .before .before .before .before .before .before .pre .1))
+returns c = (c .before .before .before .before .before .before .all-ok .ensures, c .before .before .clear-all .ensures ∙ ap (λ (n : ℕ). replicate n 0) (c .before .before .before .before .before .before .all-ok .kept .1 .1 .0 ∙ c .before .before .before .before .before .before .before .before .before .before .pre .1))
 
 pub sound-spec : {M : Type 1} → statement M
-sound-spec = tie.close (tie.spec all-ok-requires clear-requires same-length returns)
+sound-spec = tie.close (tie.spec all-ok-requires clear-all-requires same-length returns)

@@ -2,7 +2,7 @@
 use mathlib.Core.Path.{_≡_, _∙_, sym, subst}
 use Prim.Native.Nat.{_-_}
 use Rattle.layout.specs.Mem.{memOf}
-use Rattle.searching.specs.Graph.{Tested}
+use Rattle.record_test.specs.Tests.{Tested}
 use Rattle.searching.proofs.Steps.{bit-room}
 use Rattle.examine_trace.proofs.Entering.{enter-nil, enter-torn, enter-by, tested-small}
 use borrow.Author.Needs.{needs}

@@ -19,14 +19,14 @@ queued-count-requires c κs = search needs
 returns : tie.Need-returns
 returns c = let a = c .before .before .before .before .before in count-wrong (a .args .g) (memOf (a .args .g) (a .args .mem .now)) _ _ (c .before .before .control .ensures) (c .before .queued-count .ensures) (c .if1 .taken)
 
-clear-requires : tie.Need-clear-requires
-clear-requires c κs = search needs
+clear-all-requires : tie.Need-clear-all-requires
+clear-all-requires c κs = search needs
 
 cast-enter-all : tie.Need-cast-enter-all
 cast-enter-all c = search needs
 
 enter-all-requires : tie.Need-enter-all-requires
-enter-all-requires c κs = let a = c .before .before .before .before .before .before .before .before .before .before in let m = memOf (a .args .g) (a .args .mem .now) in ((a .pre .0, c .before .before .before .before .before .before .before .control .ensures, count-few (a .args .g) m _ _ (c .before .before .before .before .before .before .before .control .ensures) (c .before .before .before .before .before .before .queued-count .ensures) (c .before .before .before .before .before .if1 .left)), (subst (λ (n : ℕ). len (a .args .g) Region.queued ≤ n) (sym (c .before .before .before .clear .kept .0)) (a .pre .1), clear-bits (length (a .args .scratch .now)) _ (c .before .before .before .clear .ensures)))
+enter-all-requires c κs = let a = c .before .before .before .before .before .before .before .before .before .before in let m = memOf (a .args .g) (a .args .mem .now) in ((a .pre .0, c .before .before .before .before .before .before .before .control .ensures, count-few (a .args .g) m _ _ (c .before .before .before .before .before .before .before .control .ensures) (c .before .before .before .before .before .before .queued-count .ensures) (c .before .before .before .before .before .if1 .left)), (subst (λ (n : ℕ). len (a .args .g) Region.queued ≤ n) (sym (c .before .before .before .clear-all .kept .0)) (a .pre .1), clear-bits (length (a .args .scratch .now)) _ (c .before .before .before .clear-all .ensures)))
 
 same-length : tie.Need-same-length
 same-length c = search needs
@@ -41,7 +41,7 @@ trace-ok-spec =
     control-requires
     queued-count-requires
     returns
-    clear-requires
+    clear-all-requires
     cast-enter-all
     enter-all-requires
     same-length
