@@ -1,4 +1,4 @@
-// The examination: "Is the memory consistent", decided over memory of any content. Sizes first, refusal 1 and not a word changed; else yes or no, and
+// The examination: whether the memory is consistent, decided over memory of any content. Sizes first, refusal 1 and not a word changed; else yes or no, and
 // the scratch ends all zero.
 use layout::Geometry;
 use model::Examined;
