@@ -1,0 +1,343 @@
+// The examination on a heap that calls made and on the same heap with single words changed: for each group of conditions the memory broken in just that way is answered no, and with
+// the word put back yes; words that bind nothing hold junk and are answered yes. Each line says what was changed.
+use layout::Geometry;
+use model::Answer;
+use model::Examined;
+use model::Step;
+use perform::Request;
+
+fn word(text: &[u8]) {
+    io::write_all(1, text);
+}
+
+fn heap() -> Geometry {
+    Geometry { segments: 2 }
+}
+
+// A line: what was changed, and the answer.
+fn say(mem: &[u32], scratch: &mut [u32], text: &[u8]) {
+    word(text);
+    match examining::examine(heap(), mem, scratch) {
+        Examined::Yes => word(b": yes\n"),
+        Examined::No => word(b": no\n"),
+        Examined::Refused(n) => word(b": refused\n"),
+    }
+}
+
+// The word at i of the slice becomes v, is examined, and is put back.
+fn broken(mem: &mut [u32], scratch: &mut [u32], i: usize, v: u32, text: &[u8]) {
+    if i < mem.len() {
+        let kept = mem[i];
+        mem[i] = v;
+        say(mem, scratch, text);
+        mem[i] = kept;
+        say(mem, scratch, b"  put back");
+    }
+}
+
+fn ask(mem: &mut [u32], request: Request) {
+    let a = perform::perform(heap(), mem, request);
+    match a {
+        Answer::Ok => {}
+        Answer::Number(v) => word(b"number\n"),
+        Answer::Same(b) => word(b"same\n"),
+        Answer::Shape(s) => word(b"shape\n"),
+        Answer::Refused(n) => word(b"refused\n"),
+    }
+}
+
+fn make(mem: &mut [u32], root: u32, pointers: u32, values: u32) {
+    ask(
+        mem,
+        Request::Make {
+            mutator: 0,
+            root,
+            pointers,
+            values,
+        },
+    );
+}
+
+fn store(mem: &mut [u32], root: u32, field: u32, from: u32) {
+    ask(
+        mem,
+        Request::Store {
+            mutator: 0,
+            root,
+            field,
+            from,
+        },
+    );
+}
+
+fn check(mem: &mut [u32]) {
+    ask(mem, Request::Check { mutator: 0 });
+}
+
+// A step, which is not refused.
+fn step(mem: &mut [u32]) {
+    let a = stepping::step(heap(), mem);
+    match a {
+        Step::Waiting(n) => {}
+        Step::Moved => {}
+        Step::Traced => {}
+        Step::Swept(s, freed) => {}
+        Step::Done => {}
+        Step::Idle => {}
+        Step::Refused(n) => word(b"refused\n"),
+    }
+}
+
+fn begin(mem: &mut [u32]) {
+    let a = starting::start(heap(), mem);
+    match a {
+        Answer::Ok => {}
+        Answer::Number(v) => word(b"number\n"),
+        Answer::Same(b) => word(b"same\n"),
+        Answer::Shape(s) => word(b"shape\n"),
+        Answer::Refused(n) => word(b"refused\n"),
+    }
+}
+
+// Segment 0 is full of four records of class 12, the first pointing to the second.
+fn fill(mem: &mut [u32]) {
+    opening::open(heap(), mem);
+    ask(mem, Request::Attach { mutator: 0 });
+    make(mem, 0, 1, 600);
+    make(mem, 1, 1, 600);
+}
+
+fn fill_further(mem: &mut [u32]) {
+    make(mem, 2, 1, 600);
+    make(mem, 3, 1, 600);
+    store(mem, 0, 0, 1);
+}
+
+// Segment 1 is held, with two records of class 4.
+fn hold(mem: &mut [u32]) {
+    make(mem, 4, 1, 1);
+    make(mem, 5, 1, 1);
+}
+
+// Where the regions of a heap of two segments begin: mutators 2, heap 1026, segments 9218, stacks 9226, bitmaps 9259, marks 9393, queued 9521, trace 9649.
+
+// The phase, and the bitmap trees.
+fn tree_cases(mem: &mut [u32], scratch: &mut [u32]) {
+    say(mem, scratch, b"a heap in idle");
+    broken(mem, scratch, 0, 5, b"a phase over sweep");
+    broken(
+        mem,
+        scratch,
+        9259,
+        4294967294,
+        b"a full segment's bit, which binds nothing but its tree",
+    );
+    broken(
+        mem,
+        scratch,
+        9326,
+        4294967295,
+        b"a held segment's word full and its summary bit 0",
+    );
+}
+
+// Segment records and stacks.
+fn segment_cases(mem: &mut [u32], scratch: &mut [u32]) {
+    broken(mem, scratch, 9220, 3, b"a full segment's place");
+    broken(
+        mem,
+        scratch,
+        9224,
+        1025,
+        b"a held segment's place past its blocks",
+    );
+    broken(mem, scratch, 9224, 0, b"a held segment with nothing in use");
+    broken(mem, scratch, 9226, 1, b"a count of the free stack");
+}
+
+// What mutators hold, and what an absent one keeps.
+fn mutator_cases(mem: &mut [u32], scratch: &mut [u32]) {
+    broken(mem, scratch, 9225, 1, b"a held segment's mutator");
+    broken(mem, scratch, 21, 0, b"the table of held segments");
+    broken(mem, scratch, 18, 3, b"a state over outside");
+    broken(mem, scratch, 66, 1, b"a root of an absent mutator");
+}
+
+// Live records, and the trace stack in idle.
+fn record_cases(mem: &mut [u32], scratch: &mut [u32]) {
+    broken(mem, scratch, 2, 2, b"a root that names no record's head");
+    broken(
+        mem,
+        scratch,
+        1026,
+        65636,
+        b"a live record's header of another class",
+    );
+    broken(mem, scratch, 1027, 5000, b"a live record's pointer");
+    broken(mem, scratch, 1, 1, b"an entry of the trace stack in idle");
+}
+
+// Words that bind nothing.
+fn free_words(mem: &mut [u32], scratch: &mut [u32]) {
+    broken(
+        mem,
+        scratch,
+        30,
+        4294967295,
+        b"junk in the spare words of an entry",
+    );
+    broken(mem, scratch, 9227, 4294967295, b"junk past a stack's count");
+    broken(
+        mem,
+        scratch,
+        9649,
+        4294967295,
+        b"junk past the trace stack's count",
+    );
+}
+
+// Marks in idle and blocks without a record bind nothing.
+fn free_blocks(mem: &mut [u32], scratch: &mut [u32]) {
+    broken(mem, scratch, 9393, 4294967295, b"junk in the marks in idle");
+    broken(
+        mem,
+        scratch,
+        9217,
+        4294967295,
+        b"junk in a block that holds no record",
+    );
+}
+
+// A record that is dropped: dead records are not examined.
+fn dead_cases(mem: &mut [u32], scratch: &mut [u32]) {
+    ask(
+        mem,
+        Request::Clear {
+            mutator: 0,
+            root: 2,
+        },
+    );
+    say(mem, scratch, b"a record dropped");
+    broken(mem, scratch, 3075, 4294967295, b"a dead record's pointer");
+    broken(mem, scratch, 3074, 4294967295, b"a dead record's header");
+}
+
+// No mark, and at most one acknowledgement.
+fn first_handshake(mem: &mut [u32], scratch: &mut [u32]) {
+    begin(mem);
+    say(mem, scratch, b"in handshake 1");
+    broken(mem, scratch, 19, 2, b"two acknowledgements in handshake 1");
+    broken(mem, scratch, 9393, 1, b"a mark in handshake 1");
+}
+
+// One acknowledgement at least.
+fn second_handshake(mem: &mut [u32], scratch: &mut [u32]) {
+    check(mem);
+    step(mem);
+    say(mem, scratch, b"in handshake 2");
+    broken(mem, scratch, 19, 0, b"no acknowledgement in handshake 2");
+}
+
+// The trace stack, its queued bits, and covered roots.
+fn trace_cases(mem: &mut [u32], scratch: &mut [u32]) {
+    check(mem);
+    say(mem, scratch, b"with its roots on the trace stack");
+    broken(mem, scratch, 9521, 0, b"a queued bit");
+    broken(mem, scratch, 1, 1, b"a covered root off the trace stack");
+}
+
+// No entry twice; then the phase is mark, and two records are traced.
+fn entry_cases(mem: &mut [u32], scratch: &mut [u32]) {
+    broken(mem, scratch, 9650, 1, b"an entry twice");
+    step(mem);
+    step(mem);
+    step(mem);
+}
+
+// Marks of blocks in use only, and covered roots.
+fn mark_cases(mem: &mut [u32], scratch: &mut [u32]) {
+    step(mem);
+    step(mem);
+    say(mem, scratch, b"in mark, with records traced");
+    broken(
+        mem,
+        scratch,
+        9394,
+        4294967295,
+        b"marks of blocks not in use",
+    );
+}
+
+// Then the last record is traced, and the phase is sweep.
+fn covered_cases(mem: &mut [u32], scratch: &mut [u32]) {
+    broken(
+        mem,
+        scratch,
+        9457,
+        0,
+        b"marks of traced records with covered roots",
+    );
+    step(mem);
+    step(mem);
+}
+
+// In sweep the marks of the collect set bind.
+fn sweep_cases(mem: &mut [u32], scratch: &mut [u32]) {
+    say(mem, scratch, b"in sweep");
+    broken(
+        mem,
+        scratch,
+        9393,
+        0,
+        b"marks of reached records in the collect set",
+    );
+    broken(
+        mem,
+        scratch,
+        9457,
+        0,
+        b"marks outside the collect set, which bind nothing",
+    );
+}
+
+fn idle(mem: &mut [u32], scratch: &mut [u32]) {
+    tree_cases(mem, scratch);
+    segment_cases(mem, scratch);
+    mutator_cases(mem, scratch);
+    record_cases(mem, scratch);
+}
+
+fn unbound(mem: &mut [u32], scratch: &mut [u32]) {
+    free_words(mem, scratch);
+    free_blocks(mem, scratch);
+    dead_cases(mem, scratch);
+}
+
+fn handshakes(mem: &mut [u32], scratch: &mut [u32]) {
+    first_handshake(mem, scratch);
+    second_handshake(mem, scratch);
+    trace_cases(mem, scratch);
+    entry_cases(mem, scratch);
+}
+
+fn marking(mem: &mut [u32], scratch: &mut [u32]) {
+    mark_cases(mem, scratch);
+    covered_cases(mem, scratch);
+    sweep_cases(mem, scratch);
+}
+
+fn cases(mem: &mut [u32], scratch: &mut [u32]) {
+    idle(mem, scratch);
+    unbound(mem, scratch);
+    handshakes(mem, scratch);
+    marking(mem, scratch);
+}
+
+fn main() {
+    let mut mem = [3735928559u32; 13745];
+    let mut scratch = [7u32; 4352];
+    fill(&mut mem);
+    fill_further(&mut mem);
+    hold(&mut mem);
+    cases(&mut mem, &mut scratch);
+}
