@@ -32,7 +32,7 @@ pub record Prints (text before : List ℕ) (used r : ℕ) (after : List ℕ) : T
   pub is : take r after ≡ take used before ++ (text ++ (10 ∷ []))
   pub short : r ≤ used + mostReply
 
--- the replies to what is told, behind the first `used` bytes of a buffer
+-- the replies to what is told, behind the first `used` bytes of a buffer: one telling at most
 pub record Wrote (s : State) (ts : List Telling) (before : List ℕ) (used r : ℕ) (after : List ℕ) (end : State) : Type 0 where
   pub text : List ℕ
   pub behind : take r after ≡ take used before ++ text

@@ -1,5 +1,5 @@
 // The examination's parts on the cycle that need a search, over memory of any content: the tricolour invariant, and in sweep the marks of what is
-// reached. Bits of live or reached records and cover bits lie beside each other in a lent scratch.
+// reached. Bits of live or reached records, each of which passes the test, and cover bits lie beside each other in a lent scratch.
 use layout::Geometry;
 use model::Segment;
 use searching::Edges;

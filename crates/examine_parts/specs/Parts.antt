@@ -84,7 +84,7 @@ SegmentMarks g m s = (b : ℕ) → b < mostBlocks g → bitAt (m .marks) (bitIn 
 abbrev pub BlockMark : Geometry → Mem → ℕ → ℕ → Type 0
 BlockMark g m s b = bitAt (m .marks) (bitIn g s b) ≡ 1 → bitAt (bitmap g m s) b ≡ 1
 
--- no block from the last of class c on has a mark
+-- no bit past the last block of class c has a mark
 abbrev pub NoneBeyond : Geometry → Mem → ℕ → ℕ → Type 0
 NoneBeyond g m s c = (b : ℕ) → blocksIn g c ≤ b → b < mostBlocks g → bitAt (marksOf g m s) b ≡ 0
 

@@ -1,5 +1,5 @@
 // The part of the examination's second half that needs no scratch, decided both ways over memory of any content: segment records, mutators' entries,
-// acknowledgements and the phase's number; and of the marks what a phase asks.
+// acknowledgements and the phase's number; and of the marks what a phase asks, once segments that are not free have classes.
 use layout::Geometry;
 use model::Phase;
 use model::Segment;
@@ -71,7 +71,8 @@ fn owned(g: Geometry, mem: &[u32], s: usize, class: u32) -> bool
     holding == s + 1
 }
 
-// Whether a part segment has no mutator, a free block and one in use; and a full one no mutator and its allocation pointer at the end.
+// Whether a part segment has no mutator, a free block and one in use; and a full or condemned one no mutator and its allocation pointer at the
+// end.
 fn unheld(g: Geometry, mem: &[u32], s: usize, tag: u32, class: u32) -> bool
     requires { ⌜ (Sized g (length (now mem))) × (s < g .segments) ⌝ }
     requires { ⌜ IsClass class ⌝ }
@@ -89,7 +90,7 @@ fn unheld(g: Geometry, mem: &[u32], s: usize, tag: u32, class: u32) -> bool
     place == layout::blocks_in(g, class)
 }
 
-// The same of a segment that is not free.
+// The same of any segment that is not free; a held one has its mutator, a free block and one in use.
 fn used(g: Geometry, mem: &[u32], s: usize, tag: u32, class: u32) -> bool
     requires { ⌜ (Sized g (length (now mem))) × (s < g .segments) ⌝ }
     requires { ⌜ IsClass class ⌝ }

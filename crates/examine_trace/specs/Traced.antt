@@ -50,7 +50,7 @@ pub record Seen (g : Geometry) (m : Mem) (i : ℕ) (bits : List ℕ) : Type 0 wh
   pub there : (k : ℕ) → k < i → bitAt bits (entryBit g m k) ≡ 1
   pub only : (b : ℕ) → bitAt bits b ≡ 1 → (k : ℕ) × (k < i) × (entryBit g m k ≡ b)
 
--- all entries entered, or one that a trace stack in order has not
+-- all entries entered, or one that a trace stack in order, of records that pass the test, has not
 pub record EntersAll (g : Geometry) (m : Mem) (r : Bool) (after : List ℕ) : Type 0 where
   pub new : r ≡ true → Seen g m (traceCount m) after
   pub wrong : r ≡ false → Traced g m → ⊥

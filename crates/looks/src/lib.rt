@@ -30,7 +30,7 @@ pub fn phase(g: Geometry, mem: &[u32]) -> PhaseLook
     PhaseLook::Phase(number)
 }
 
-// The words of the segment records.
+// How many words the segment records have.
 fn records_words(g: Geometry) -> usize
     requires { ⌜ g .segments ≤ maxSegments ⌝ }
     ensures { λ r. ⌜ r ≡ len g Region.segments ⌝ }
