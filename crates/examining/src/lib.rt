@@ -12,7 +12,7 @@ ghost use Rattle.model.specs.Consistent.{Consistent};
 ghost use Rattle.model.specs.Promise.{ExaminePromise};
 
 // The length of the scratch: two bits for each block, and a stack with an entry for each.
-fn scratch_words(g: Geometry) -> usize
+pub fn scratch_words(g: Geometry) -> usize
     requires { ⌜ g .segments ≤ maxSegments ⌝ }
     ensures { λ r. ⌜ r ≡ scratchWords g ⌝ }
 {

@@ -30,8 +30,8 @@ pub fn phase(g: Geometry, mem: &[u32]) -> PhaseLook
     PhaseLook::Phase(number)
 }
 
-// How many words the segment records have.
-fn records_words(g: Geometry) -> usize
+// The length of the output of the look at the states: the words of the segment records.
+pub fn states_words(g: Geometry) -> usize
     requires { ⌜ g .segments ≤ maxSegments ⌝ }
     ensures { λ r. ⌜ r ≡ len g Region.segments ⌝ }
 {
@@ -90,7 +90,7 @@ pub fn states(g: Geometry, mem: &[u32], output: &mut [u32]) -> Answer
     if layout::wrong_size(g, mem.len()) {
         return Answer::Refused(1);
     }
-    if output.len() != records_words(g) {
+    if output.len() != states_words(g) {
         return Answer::Refused(1);
     }
     let ok = records_ok(g, mem);

@@ -1,7 +1,7 @@
 -- `borvukhai::borvukhai_attach` meets its contract. Assumes nothing.
 use borrow.Author.Needs.{needs}
 use Rattle.theory.specs.Calls.{c-attach}
-use Rattle.borvukhai.proofs.Unpacked.{exports}
+use Rattle.packing.proofs.Unpacked.{exports}
 use Rattle.borvukhai.proofs.borvukhai_attach.Statement.{statement}
 use Rattle.borvukhai.proofs.borvukhai_attach.Tie as tie
 

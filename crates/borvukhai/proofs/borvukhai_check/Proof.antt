@@ -2,7 +2,7 @@
 use borrow.Author.Needs.{needs}
 use Rattle.borvukhai.proofs.borvukhai_check.Statement.{statement}
 use Rattle.theory.specs.Calls.{c-check}
-use Rattle.borvukhai.proofs.Unpacked.{exports}
+use Rattle.packing.proofs.Unpacked.{exports}
 use Rattle.borvukhai.proofs.borvukhai_check.Tie as tie
 
 geometry-requires : tie.Need-geometry-requires

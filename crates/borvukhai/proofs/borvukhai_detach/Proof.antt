@@ -1,7 +1,7 @@
 -- `borvukhai::borvukhai_detach` meets its contract. Assumes nothing.
 use borrow.Author.Needs.{needs}
 use Rattle.theory.specs.Calls.{c-detach}
-use Rattle.borvukhai.proofs.Unpacked.{exports}
+use Rattle.packing.proofs.Unpacked.{exports}
 use Rattle.borvukhai.proofs.borvukhai_detach.Statement.{statement}
 use Rattle.borvukhai.proofs.borvukhai_detach.Tie as tie
 

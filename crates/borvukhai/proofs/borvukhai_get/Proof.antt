@@ -2,7 +2,7 @@
 use borrow.Author.Needs.{needs}
 use Rattle.borvukhai.proofs.borvukhai_get.Statement.{statement}
 use Rattle.theory.specs.Calls.{c-get}
-use Rattle.borvukhai.proofs.Unpacked.{exports-number}
+use Rattle.packing.proofs.Unpacked.{exports-number}
 use Rattle.borvukhai.proofs.borvukhai_get.Tie as tie
 
 geometry-requires : tie.Need-geometry-requires

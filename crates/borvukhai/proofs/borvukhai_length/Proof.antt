@@ -1,27 +1,26 @@
 -- `borvukhai::borvukhai_length` meets its contract. Assumes nothing.
-use native.Mathlib.Omega.{arith}
+use mathlib.Core.Path.{sym, _∙_}
+use Rattle.layout.specs.Geometry.{total}
+use Rattle.packing.proofs.Lengths.{few, length-is, no-length}
 use borrow.Author.Needs.{needs}
-use Rattle.rules.proofs.Tests.{tests}
-use Rattle.borvukhai.proofs.Lengths.{length-is}
 use Rattle.borvukhai.proofs.borvukhai_length.Statement.{statement}
 use Rattle.borvukhai.proofs.borvukhai_length.Tie as tie
 
-returns : tie.Need-returns
-returns c = search tests
+no-count-requires : tie.Need-no-count-requires
+no-count-requires c κs = search needs
 
-returns-2 : tie.Need-returns-2
-returns-2 c = search tests
+returns : tie.Need-returns
+returns c = no-length total (c .before .before .args .segments) (sym (c .before .no-count .ensures) ∙ c .if1 .taken)
 
 geometry-requires : tie.Need-geometry-requires
 geometry-requires c κs = search needs
 
 total-words-requires : tie.Need-total-words-requires
-total-words-requires c κs = rw (c .geometry .ensures) (omega (arith, c .before .if2 .left))
+total-words-requires c κs = rw (c .geometry .ensures) (few (c .before .before .before .args .segments) (sym (c .before .before .no-count .ensures) ∙ c .before .if1 .left))
 
-returns-3 : tie.Need-returns-3
-returns-3 c =
-    length-is (c .before .before .before .before .args .segments) _ _ (omega (arith, c .before .before .before .if1 .left)) (omega (arith, c .before .before .if2 .left)) (c .before .geometry .ensures) (c .total-words .ensures)
+returns-2 : tie.Need-returns-2
+returns-2 c = length-is total (c .before .before .before .before .args .segments) _ _ (sym (c .before .before .before .no-count .ensures) ∙ c .before .before .if1 .left) (c .before .geometry .ensures) (c .total-words .ensures)
 
 pub borvukhai-length-spec : {M : Type 1} → statement M
 borvukhai-length-spec =
-    tie.close (tie.spec returns returns-2 geometry-requires total-words-requires returns-3)
+    tie.close (tie.spec no-count-requires returns geometry-requires total-words-requires returns-2)

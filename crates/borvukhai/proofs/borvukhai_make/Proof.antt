@@ -1,7 +1,7 @@
 -- `borvukhai::borvukhai_make` meets its contract. Assumes nothing.
 use borrow.Author.Needs.{needs}
 use Rattle.theory.specs.Calls.{c-make}
-use Rattle.borvukhai.proofs.Unpacked.{exports}
+use Rattle.packing.proofs.Unpacked.{exports}
 use Rattle.borvukhai.proofs.borvukhai_make.Statement.{statement}
 use Rattle.borvukhai.proofs.borvukhai_make.Tie as tie
 

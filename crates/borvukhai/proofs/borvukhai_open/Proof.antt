@@ -1,7 +1,7 @@
 -- `borvukhai::borvukhai_open` meets its contract. Assumes nothing.
 use borrow.Author.Needs.{needs}
 use Rattle.borvukhai.proofs.borvukhai_open.Statement.{statement}
-use Rattle.borvukhai.proofs.Unpacked.{exports-open}
+use Rattle.packing.proofs.Unpacked.{exports-open}
 use Rattle.borvukhai.proofs.borvukhai_open.Tie as tie
 
 geometry-requires : tie.Need-geometry-requires

@@ -2,7 +2,7 @@
 use borrow.Author.Needs.{needs}
 use Rattle.borvukhai.proofs.borvukhai_same.Statement.{statement}
 use Rattle.theory.specs.Calls.{c-same}
-use Rattle.borvukhai.proofs.Unpacked.{exports-same}
+use Rattle.packing.proofs.Unpacked.{exports-same}
 use Rattle.borvukhai.proofs.borvukhai_same.Tie as tie
 
 geometry-requires : tie.Need-geometry-requires

@@ -1,7 +1,7 @@
 -- `borvukhai::borvukhai_shape` meets its contract. Assumes nothing.
 use borrow.Author.Needs.{needs}
 use Rattle.theory.specs.Calls.{c-shape}
-use Rattle.borvukhai.proofs.Unpacked.{exports-shape}
+use Rattle.packing.proofs.Unpacked.{exports-shape}
 use Rattle.borvukhai.proofs.borvukhai_shape.Statement.{statement}
 use Rattle.borvukhai.proofs.borvukhai_shape.Tie as tie
 

@@ -1,7 +1,7 @@
 -- `borvukhai::borvukhai_spawn` meets its contract. Assumes nothing.
 use borrow.Author.Needs.{needs}
 use Rattle.theory.specs.Calls.{c-spawn}
-use Rattle.borvukhai.proofs.Unpacked.{exports}
+use Rattle.packing.proofs.Unpacked.{exports}
 use Rattle.borvukhai.proofs.borvukhai_spawn.Statement.{statement}
 use Rattle.borvukhai.proofs.borvukhai_spawn.Tie as tie
 

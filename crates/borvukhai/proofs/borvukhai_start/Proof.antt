@@ -1,6 +1,6 @@
 -- `borvukhai::borvukhai_start` meets its contract. Assumes nothing.
 use borrow.Author.Needs.{needs}
-use Rattle.borvukhai.proofs.Unpacked.{exports-start}
+use Rattle.packing.proofs.Unpacked.{exports-start}
 use Rattle.borvukhai.proofs.borvukhai_start.Statement.{statement}
 use Rattle.borvukhai.proofs.borvukhai_start.Tie as tie
 

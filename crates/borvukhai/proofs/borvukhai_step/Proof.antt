@@ -1,6 +1,6 @@
 -- `borvukhai::borvukhai_step` meets its contract. Assumes nothing.
 use borrow.Author.Needs.{needs}
-use Rattle.borvukhai.proofs.UnpackedStep.{exports-step}
+use Rattle.packing.proofs.UnpackedStep.{exports-step}
 use Rattle.borvukhai.proofs.borvukhai_step.Statement.{statement}
 use Rattle.borvukhai.proofs.borvukhai_step.Tie as tie
 

@@ -2,7 +2,7 @@
 use borrow.Author.Needs.{needs}
 use Rattle.borvukhai.proofs.borvukhai_store.Statement.{statement}
 use Rattle.theory.specs.Calls.{c-store}
-use Rattle.borvukhai.proofs.Unpacked.{exports}
+use Rattle.packing.proofs.Unpacked.{exports}
 use Rattle.borvukhai.proofs.borvukhai_store.Tie as tie
 
 geometry-requires : tie.Need-geometry-requires

@@ -13,26 +13,26 @@ wrong-size-requires c κs = search needs
 returns : tie.Need-returns
 returns c = states-1 _ _ _ (sym (c .before .wrong-size .ensures) ∙ c .if1 .taken)
 
-records-words-requires : tie.Need-records-words-requires
-records-words-requires c κs = sized _ _ (sym (c .before .wrong-size .ensures) ∙ c .if1 .left) .few
+states-words-requires : tie.Need-states-words-requires
+states-words-requires c κs = sized _ _ (sym (c .before .wrong-size .ensures) ∙ c .if1 .left) .few
 
 returns-2 : tie.Need-returns-2
-returns-2 c = states-short _ _ _ (λ e. c .if2 .taken (e ∙ sym (c .before .records-words .ensures)))
+returns-2 c = states-short _ _ _ (λ e. c .if2 .taken (e ∙ sym (c .before .states-words .ensures)))
 
 records-ok-requires : tie.Need-records-ok-requires
 records-ok-requires c κs = sized _ _ (sym (c .before .before .before .wrong-size .ensures) ∙ c .before .before .if1 .left)
 
 returns-3 : tie.Need-returns-3
-returns-3 c = states-13 _ _ _ (sym (c .before .before .before .before .before .wrong-size .ensures) ∙ c .before .before .before .before .if1 .left) (c .before .before .if2 .left ∙ c .before .before .before .records-words .ensures) _ (c .before .records-ok .ensures) (not-true _ (c .if3 .taken))
+returns-3 c = states-13 _ _ _ (sym (c .before .before .before .before .before .wrong-size .ensures) ∙ c .before .before .before .before .if1 .left) (c .before .before .if2 .left ∙ c .before .before .before .states-words .ensures) _ (c .before .records-ok .ensures) (not-true _ (c .if3 .taken))
 
 copy-requires : tie.Need-copy-requires
-copy-requires c κs = (sized _ _ (sym (c .before .before .before .before .before .before .wrong-size .ensures) ∙ c .before .before .before .before .before .if1 .left), c .before .before .before .if2 .left ∙ c .before .before .before .before .records-words .ensures)
+copy-requires c κs = (sized _ _ (sym (c .before .before .before .before .before .before .wrong-size .ensures) ∙ c .before .before .before .before .before .if1 .left), c .before .before .before .if2 .left ∙ c .before .before .before .before .states-words .ensures)
 
 same-length : tie.Need-same-length
 same-length c = search needs
 
 returns-4 : tie.Need-returns-4
-returns-4 c = states-ok _ _ _ (sym (c .before .before .before .before .before .before .before .before .before .wrong-size .ensures) ∙ c .before .before .before .before .before .before .before .before .if1 .left) (c .before .before .before .before .before .before .if2 .left ∙ c .before .before .before .before .before .before .before .records-words .ensures) _ (c .before .before .copy .ensures)
+returns-4 c = states-ok _ _ _ (sym (c .before .before .before .before .before .before .before .before .before .wrong-size .ensures) ∙ c .before .before .before .before .before .before .before .before .if1 .left) (c .before .before .before .before .before .before .if2 .left ∙ c .before .before .before .before .before .before .before .states-words .ensures) _ (c .before .before .copy .ensures)
 
 pub states-spec : {M : Type 1} → statement M
 states-spec =
@@ -40,7 +40,7 @@ states-spec =
     (tie.spec
     wrong-size-requires
     returns
-    records-words-requires
+    states-words-requires
     returns-2
     records-ok-requires
     returns-3

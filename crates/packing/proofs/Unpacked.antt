@@ -20,7 +20,7 @@ use Rattle.model.specs.Promise.{Keeps, Promise, OpenPromise, StartPromise}
 use Rattle.model.proofs.Numbers.{OfTable, among-table, may-table}
 use Rattle.laws.proofs.Headers.{shape-halves}
 use Rattle.theory.specs.Calls as theory
-use Rattle.borvukhai.specs.Packed.{upper, pack, packValue, unpack, unpackNumber, unpackSame, unpackShape}
+use Rattle.packing.specs.Packed.{upper, pack, packValue, unpack, unpackNumber, unpackSame, unpackShape}
 
 -- an answer of a kind, or refused with a number of the table
 pub record Kind (Result : theory.Answer → Type 0) (a : Answer) : Type 0 where

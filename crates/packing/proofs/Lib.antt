@@ -2,3 +2,4 @@
 pub mod Unpacked
 pub mod Lengths
 pub mod UnpackedStep
+pub mod UnpackedLooks

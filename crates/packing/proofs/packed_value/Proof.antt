@@ -1,9 +1,9 @@
--- `borvukhai::packed_value` meets its contract. Assumes nothing.
+-- `packing::packed_value` meets its contract. Assumes nothing.
 use mathlib.Core.Path.{sym, ap}
-use Rattle.borvukhai.specs.Packed.{packValue}
+use Rattle.packing.specs.Packed.{packValue}
 use borrow.Author.Needs.{needs}
-use Rattle.borvukhai.proofs.packed_value.Statement.{statement}
-use Rattle.borvukhai.proofs.packed_value.Tie as tie
+use Rattle.packing.proofs.packed_value.Statement.{statement}
+use Rattle.packing.proofs.packed_value.Tie as tie
 
 enum-told : tie.Need-enum-told
 enum-told c = search needs

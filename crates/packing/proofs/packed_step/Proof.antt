@@ -1,9 +1,9 @@
--- `borvukhai::packed_step` meets its contract. Assumes nothing.
+-- `packing::packed_step` meets its contract. Assumes nothing.
 use mathlib.Core.Path.{sym, ap}
-use Rattle.borvukhai.specs.Packed.{packStep}
+use Rattle.packing.specs.Packed.{packStep}
 use borrow.Author.Needs.{needs}
-use Rattle.borvukhai.proofs.packed_step.Statement.{statement}
-use Rattle.borvukhai.proofs.packed_step.Tie as tie
+use Rattle.packing.proofs.packed_step.Statement.{statement}
+use Rattle.packing.proofs.packed_step.Tie as tie
 
 enum-told : tie.Need-enum-told
 enum-told c = search needs

@@ -18,7 +18,7 @@ use Rattle.model.specs.Answers.{stepAnswerOf, stepRefusalOf, refusalIn, StepRes
 use Rattle.model.specs.Promise.{StepPromise}
 use Rattle.model.proofs.Numbers.{OfTable, among-table}
 use Rattle.theory.specs.Calls as theory
-use Rattle.borvukhai.specs.Packed.{upper, packStep, stepBy, stepWith, unpackStep}
+use Rattle.packing.specs.Packed.{upper, packStep, stepBy, unpackStep}
 use Rattle.model.specs.declared.Step.the-variants as step
 
 -- the three numbers of an answer are small, or it is refused with a number of the table

@@ -5,19 +5,32 @@ use lib.Dec.{eqb, ltb}
 use Rattle.rules.specs.Pick.{pick}
 use Rattle.classes.specs.Record.{pointerCountOf, valueCountOf}
 use Rattle.layout.specs.declared.Geometry.{Geometry}
-use Rattle.layout.specs.Geometry.{maxSegments, total}
+use Rattle.layout.specs.Geometry.{maxSegments, len}
 use Rattle.model.specs.declared.Answer.{Answer}
 use Rattle.model.specs.declared.Answer.the-variants.{Ok, Number, Same, Shape, Refused}
 use Rattle.model.specs.declared.Step.{Step}
+use Rattle.model.specs.declared.PhaseLook.{PhaseLook}
+use Rattle.model.specs.declared.Examined.{Examined}
 use Rattle.model.specs.Records.{halfWord, headerShape}
+use Rattle.layout.specs.Region as Region
 use Rattle.model.specs.declared.Step.the-variants as step
+use Rattle.model.specs.declared.PhaseLook.the-variants as look
+use Rattle.model.specs.declared.Examined.the-variants as examination
 
 abbrev pub geometryOf : ℕ → Geometry
 geometryOf n = record { segments = n }
 
--- the length of the slice for a count that is one, else 0
-abbrev pub lengthFor : ℕ → ℕ
-lengthFor n = pick (ltb n 1) 0 (pick (ltb maxSegments n) 0 (total (geometryOf n)))
+-- "segment count not 1 to 256"
+abbrev pub noCount : ℕ → Bool
+noCount n = pick (ltb n 1) true (ltb maxSegments n)
+
+-- the length of a lent slice for a count of segments, 0 for one that is none
+abbrev pub lengthFor : (Geometry → ℕ) → ℕ → ℕ
+lengthFor words n = pick (noCount n) 0 (words (geometryOf n))
+
+-- the length of the output of the look at the segments' states
+abbrev pub statesWords : Geometry → ℕ
+statesWords g = len g Region.segments
 
 -- ---- a call that answers ok: 0, or the number of its refusal
 
@@ -39,14 +52,14 @@ abbrev pub upper : ℕ
 upper = 2 ^ 32
 
 -- a number that has both a value and a refusal stands for no answer that a call may give
-abbrev pub withValue : (ℕ → Answer) → ℕ → ℕ → Answer
-withValue answer v zero = answer v
-withValue answer zero (suc n) = Refused (suc n)
-withValue answer (suc v) (suc n) = Refused 0
+abbrev pub withValue : {A : Type 0} → (ℕ → A) → (ℕ → A) → ℕ → ℕ → A
+withValue refused answer v zero = answer v
+withValue refused answer zero (suc n) = refused (suc n)
+withValue refused answer (suc v) (suc n) = refused 0
 
 -- get: the number
 abbrev pub unpackNumber : ℕ → Answer
-unpackNumber r = withValue Number (r / upper) (r % upper)
+unpackNumber r = withValue Refused Number (r / upper) (r % upper)
 
 -- same: 1 or 0
 abbrev pub flagged : ℕ → Answer
@@ -55,7 +68,7 @@ flagged (suc zero) = Same true
 flagged (suc (suc v)) = Refused 0
 
 abbrev pub unpackSame : ℕ → Answer
-unpackSame r = withValue flagged (r / upper) (r % upper)
+unpackSame r = withValue Refused flagged (r / upper) (r % upper)
 
 abbrev pub flag : Bool → ℕ
 flag true = 1
@@ -63,7 +76,7 @@ flag false = 0
 
 -- shape: as a record's header has it, the pointers' count in the upper half
 abbrev pub unpackShape : ℕ → Answer
-unpackShape r = withValue (λ v. Shape (headerShape v)) (r / upper) (r % upper)
+unpackShape r = withValue Refused (λ v. Shape (headerShape v)) (r / upper) (r % upper)
 
 abbrev pub packValue : Answer → ℕ
 packValue Ok = 0
@@ -97,10 +110,28 @@ stepBy (suc (suc (suc (suc (suc (suc n)))))) a f = step.Refused 0
 abbrev pub ifPacked : ℕ → Step → Step
 ifPacked r a = pick (eqb (packStep a) r) a (step.Refused 0)
 
-abbrev pub stepWith : ℕ → ℕ → ℕ → Step
-stepWith r v zero = ifPacked r (stepBy (v % 256) (v / 256 % 256) (v / 65536))
-stepWith r zero (suc n) = step.Refused (suc n)
-stepWith r (suc v) (suc n) = step.Refused 0
-
 abbrev pub unpackStep : ℕ → Step
-unpackStep r = stepWith r (r / upper) (r % upper)
+unpackStep r = withValue step.Refused (λ v. ifPacked r (stepBy (v % 256) (v / 256 % 256) (v / 65536))) (r / upper) (r % upper)
+
+-- ---- the looks: the phase's number; whether the examination says yes
+
+abbrev pub unpackPhase : ℕ → PhaseLook
+unpackPhase r = withValue look.Refused look.Phase (r / upper) (r % upper)
+
+abbrev pub packPhase : PhaseLook → ℕ
+packPhase (look.Phase p) = p * upper
+packPhase (look.Refused n) = n
+
+-- 1 or 0
+abbrev pub judged : ℕ → Examined
+judged zero = examination.No
+judged (suc zero) = examination.Yes
+judged (suc (suc v)) = examination.Refused 0
+
+abbrev pub unpackExamined : ℕ → Examined
+unpackExamined r = withValue examination.Refused judged (r / upper) (r % upper)
+
+abbrev pub packExamined : Examined → ℕ
+packExamined examination.Yes = upper
+packExamined examination.No = 0
+packExamined (examination.Refused n) = n
