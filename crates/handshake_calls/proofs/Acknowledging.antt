@@ -2,11 +2,11 @@
 use mathlib.Core.Path.{_≡_, refl, sym, _∙_, ap, subst}
 use mathlib.Core.Bool.{Bool, true, false, true≢false}
 use mathlib.Core.List.{List}
-use Prim.Native.Nat.{ℕ, zero, suc, _<_}
+use Prim.Native.Nat.{ℕ, zero, suc}
 use native.Mathlib.Omega.{arith}
 use lib.ListN.{length}
 use Rattle.layout.specs.declared.Geometry.{Geometry}
-use Rattle.layout.specs.Geometry.{wrongSize, mutatorCount, rootCount}
+use Rattle.layout.specs.Geometry.{wrongSize, rootCount}
 use Rattle.layout.specs.Mem.{Mem, memOf, controlWord, setMutator}
 use Rattle.layout.proofs.Regions.{sized}
 use Rattle.theory.specs.Phases.{owes}
@@ -85,10 +85,6 @@ module _ (g : Geometry) (m : Mem) (k n a : ℕ) (o : Bool) (en : n ≡ controlWo
 -- ---- how check and leave keep their promises: n is the refusal of a mutator that must be inside
 
 module _ (g : Geometry) (xs : List ℕ) (k n : ℕ) (s : n ≡ insideThen (memOf g xs) k 0) (z : n ≡ 0) where
-  pub known : k < mutatorCount
-  unfolding insideThen
-  known = by-ok (observe (memOf g xs)) k 0 (sym s ∙ z) .0
-
   module _ (e : wrongSize g (length xs) ≡ false) (r : Bool) (m₁ : Mem) (p : Acknowledges g (memOf g xs) k r m₁) where
     pub checked : r ≡ true → (ys : List ℕ) → memOf g ys ≡ m₁ → Promise (c-check k) g xs Ok ys
     unfolding insideThen act

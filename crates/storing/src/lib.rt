@@ -3,7 +3,6 @@
 use layout::Geometry;
 use model::Answer;
 use model::Held;
-use model::Phase;
 use records::FieldAt;
 ghost use mathlib.Core.Path.{_≡_};
 ghost use Prim.Native.Nat.{_<_};
@@ -20,14 +19,8 @@ fn store_at(g: Geometry, mem: &mut [u32], k: u32, word: usize, new: u32) -> Answ
     requires { ⌜ (Sized g (length (now mem))) × (k < mutatorCount) × (word < len g Region.heap) ⌝ }
     ensures { λ r. ⌜ Stores g (memOf g (now (mem .entry))) k word new r (memOf g (now (mem .exit))) ⌝ }
 {
-    let phase = Phase {
-        number: layout::control(g, mem, 0),
-    };
-    let duty = phase.duty(layout::mutator(
-        g,
-        mem,
-        k as usize * layout::MUTATOR_WORDS + layout::ACKS_AT,
-    ));
+    let phase = mutators::phase(g, mem);
+    let duty = phase.duty(mutators::acks(g, mem, k));
     let old = records::field(g, mem, word);
     if tracing::barrier(g, mem, duty, new, old) {
         records::set_field(g, mem, word, new);

@@ -5,7 +5,8 @@ use Rattle.layout.proofs.Regions.{sized}
 use Rattle.theory.specs.Calls.{c-check}
 use Rattle.laws.proofs.Promised.{size-1, refused}
 use Rattle.mutators.specs.Inside.{insideThen}
-use Rattle.handshake_calls.proofs.Acknowledging.{known, checked, hindered}
+use Rattle.mutators.proofs.Inside.{then-known}
+use Rattle.handshake_calls.proofs.Acknowledging.{checked, hindered}
 use Rattle.handshake_calls.proofs.check.Tie as tie
 use Rattle.handshake_calls.proofs.check.Statement.{statement}
 
@@ -26,7 +27,7 @@ unfolding insideThen
 returns-2 c = refused (c-check _) _ _ (sym (c .before .before .before .before .wrong-size .ensures) ∙ c .before .before .before .if1 .left) (c .before .inside-refusal .ensures) (c .if2 .taken)
 
 acknowledge-requires : tie.Need-acknowledge-requires
-acknowledge-requires c κs = (sized _ _ (sym (c .before .before .before .before .before .wrong-size .ensures) ∙ c .before .before .before .before .if1 .left), known _ _ _ _ (c .before .before .inside-refusal .ensures) (c .before .if2 .left))
+acknowledge-requires c κs = (sized _ _ (sym (c .before .before .before .before .before .wrong-size .ensures) ∙ c .before .before .before .before .if1 .left), then-known _ _ _ 0 (c .before .before .inside-refusal .ensures) (c .before .if2 .left))
 
 same-length-2 : tie.Need-same-length-2
 same-length-2 c = search needs

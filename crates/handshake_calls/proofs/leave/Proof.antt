@@ -6,7 +6,8 @@ use Rattle.layout.proofs.Regions.{sized, resized}
 use Rattle.theory.specs.Calls.{c-leave}
 use Rattle.laws.proofs.Promised.{size-1, refused}
 use Rattle.mutators.specs.Inside.{insideThen}
-use Rattle.handshake_calls.proofs.Acknowledging.{known, left, hindered}
+use Rattle.mutators.proofs.Inside.{then-known}
+use Rattle.handshake_calls.proofs.Acknowledging.{left, hindered}
 use Rattle.handshake_calls.proofs.leave.Tie as tie
 use Rattle.handshake_calls.proofs.leave.Statement.{statement}
 
@@ -27,10 +28,10 @@ unfolding insideThen
 returns-2 c = refused (c-leave _) _ _ (sym (c .before .before .before .before .wrong-size .ensures) ∙ c .before .before .before .if1 .left) (c .before .inside-refusal .ensures) (c .if2 .taken)
 
 acknowledge-requires : tie.Need-acknowledge-requires
-acknowledge-requires c κs = let l = known _ _ _ _ (c .before .before .inside-refusal .ensures) (c .before .if2 .left) in (sized _ _ (sym (c .before .before .before .before .before .wrong-size .ensures) ∙ c .before .before .before .before .if1 .left), omega arith)
+acknowledge-requires c κs = let l = then-known _ _ _ 0 (c .before .before .inside-refusal .ensures) (c .before .if2 .left) in (sized _ _ (sym (c .before .before .before .before .before .wrong-size .ensures) ∙ c .before .before .before .before .if1 .left), omega arith)
 
 set-state-requires : tie.Need-set-state-requires
-set-state-requires c κs = (resized _ _ _ (sized _ _ (sym (c .before .before .before .before .before .before .before .before .before .before .wrong-size .ensures) ∙ c .before .before .before .before .before .before .before .before .before .if1 .left)) (c .before .before .before .before .acknowledge .kept .1 .0), known _ _ _ _ (c .before .before .before .before .before .before .before .inside-refusal .ensures) (c .before .before .before .before .before .before .if2 .left))
+set-state-requires c κs = (resized _ _ _ (sized _ _ (sym (c .before .before .before .before .before .before .before .before .before .before .wrong-size .ensures) ∙ c .before .before .before .before .before .before .before .before .before .if1 .left)) (c .before .before .before .before .acknowledge .kept .1 .0), then-known _ _ _ 0 (c .before .before .before .before .before .before .before .inside-refusal .ensures) (c .before .before .before .before .before .before .if2 .left))
 
 same-length-2 : tie.Need-same-length-2
 same-length-2 c = search needs

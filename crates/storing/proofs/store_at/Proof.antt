@@ -1,20 +1,14 @@
 -- `storing::store_at` meets its contract. Assumes nothing.
-use borrow.Author.Needs.{needs}
 use Rattle.storing.proofs.Storage.{stores-ok, stores-13}
-use Rattle.storing.proofs.store_at.Tie as tie
+use borrow.Author.Needs.{needs}
 use Rattle.storing.proofs.store_at.Statement.{statement}
+use Rattle.storing.proofs.store_at.Tie as tie
 
-control-requires : tie.Need-control-requires
-control-requires c κs = search needs
+phase-requires : tie.Need-phase-requires
+phase-requires c κs = search needs
 
-mul-mutator : tie.Need-mul-mutator
-mul-mutator c = search needs
-
-add-mutator : tie.Need-add-mutator
-add-mutator c = search needs
-
-mutator-requires : tie.Need-mutator-requires
-mutator-requires c κs = search needs
+acks-requires : tie.Need-acks-requires
+acks-requires c κs = search needs
 
 duty-requires : tie.Need-duty-requires
 duty-requires c κs = search needs
@@ -33,23 +27,21 @@ same-length c = search needs
 
 returns : tie.Need-returns
 returns c =
-    stores-ok _ _ _ _ _ _ _ _ _ _ _ (c .before .before .before .before .before .before .before .before .before .before .before .before .before .before .control .ensures) (c .before .before .before .before .before .before .before .before .before .before .before .before .mutator .ensures) (c .before .before .before .before .before .before .before .before .before .before .before .duty .ensures) (c .before .before .before .before .before .before .before .before .before .field .ensures) (c .before .before .before .before .before .before .before .barrier .ensures)
+    stores-ok _ _ _ _ _ _ _ _ _ _ _ (c .before .before .before .before .before .before .before .before .before .before .before .before .before .before .phase .ensures) (c .before .before .before .before .before .before .before .before .before .before .before .before .acks .ensures) (c .before .before .before .before .before .before .before .before .before .before .before .duty .ensures) (c .before .before .before .before .before .before .before .before .before .field .ensures) (c .before .before .before .before .before .before .before .barrier .ensures)
     _ (c .before .before .before .before .if1 .taken) (c .before .before .set-field .ensures)
 
 same-length-2 : tie.Need-same-length-2
 same-length-2 c = search needs
 
 returns-2 : tie.Need-returns-2
-returns-2 c = stores-13 _ _ _ _ _ _ _ _ _ _ _ (c .before .before .before .before .before .before .before .before .before .before .control .ensures) (c .before .before .before .before .before .before .before .before .mutator .ensures) (c .before .before .before .before .before .before .before .duty .ensures) (c .before .before .before .before .before .field .ensures) (c .before .before .before .barrier .ensures) (c .if1 .left)
+returns-2 c = stores-13 _ _ _ _ _ _ _ _ _ _ _ (c .before .before .before .before .before .before .before .before .before .before .phase .ensures) (c .before .before .before .before .before .before .before .before .acks .ensures) (c .before .before .before .before .before .before .before .duty .ensures) (c .before .before .before .before .before .field .ensures) (c .before .before .before .barrier .ensures) (c .if1 .left)
 
 pub store-at-spec : {M : Type 1} → statement M
 store-at-spec =
     tie.close
     (tie.spec
-    control-requires
-    mul-mutator
-    add-mutator
-    mutator-requires
+    phase-requires
+    acks-requires
     duty-requires
     field-requires
     barrier-requires
