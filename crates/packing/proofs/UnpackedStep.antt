@@ -1,7 +1,7 @@
 -- The answer of a step that keeps step's promise, packed and unpacked, is that answer. Assumes nothing.
 use mathlib.Core.Path.{_≡_, refl, sym, _∙_, ap, subst}
 use mathlib.Core.Bool.{Bool, true, false}
-use mathlib.Core.Option.{none, some, Option·some-injective}
+use mathlib.Core.Option.{none, some}
 use mathlib.Core.List.{List}
 use Prim.Native.Nat.{ℕ, zero, suc, _+_, _*_, _/_, _%_, _≤_, _<_}
 use native.Mathlib.Omega.{arith}
@@ -12,9 +12,8 @@ use Rattle.layout.specs.Geometry.{wrongSize, maxSegments, mutatorCount, mostBlo
 use Rattle.layout.proofs.Regions.{sized}
 use Rattle.layout.proofs.Sizes.{most-small}
 use Rattle.theory.specs.Calls.{a-no}
-use Rattle.theory.proofs.Invariant.{none-some}
 use Rattle.model.specs.declared.Step.{Step}
-use Rattle.model.specs.Answers.{stepAnswerOf, stepRefusalOf, refusalIn, StepResult, isWaiting, isMoved, isTraced, isSwept, isDone, isIdle, stepMayGive}
+use Rattle.model.specs.Answers.{stepAnswerOf, stepRefusalOf, StepResult, isWaiting, isMoved, isTraced, isSwept, isDone, isIdle, stepMayGive}
 use Rattle.model.specs.Promise.{StepPromise}
 use Rattle.model.proofs.Numbers.{OfTable, among-table}
 use Rattle.theory.specs.Calls as theory

@@ -1,2 +1,3 @@
 -- The laws of the test. Assumes nothing.
 pub mod Testing
+pub mod Fitting

@@ -10,15 +10,14 @@ use lib.ListN.{length}
 use borrow.Rule.Slice.PartMut.{midOf}
 use borrow.Author.Tests.{lt-ltb, le-ltb, eq-eqb, eqb-true}
 use Rattle.rules.specs.Decides.{Decides}
-use Rattle.rules.proofs.Deciding.{holds, fails}
+use Rattle.rules.proofs.Deciding.{holds}
 use Rattle.words.specs.Bits.{bitOf, bitAt}
 use Rattle.words.proofs.Lists.{bit-split}
 use Rattle.words.proofs.Trees.{words-in}
 use Rattle.classes.specs.Class.{blockWords, firstClass, classTest}
 use Rattle.classes.specs.Record.{classOfRecord}
 use Rattle.classes.specs.declared.SizeClass.{SizeClass}
-use Rattle.classes.specs.declared.SizeClass.the-variants.{Class, TooBig}
-use Rattle.classes.specs.declared.RecordShape.{RecordShape}
+use Rattle.classes.specs.declared.SizeClass.the-variants.{Class}
 use Rattle.classes.proofs.Every.{class-passed, class-passes}
 use Rattle.layout.specs.declared.Geometry.{Geometry}
 use Rattle.layout.specs.Geometry.{Sized, len, from, segmentWords, mostBlocks, blocksIn, bitmapWords, segmentOf, bitIn}
@@ -38,21 +37,6 @@ use Rattle.bitmaps.proofs.Lent.{TreePart, tree-at}
 use Rattle.record_test.specs.Tests.{Classed}
 use Rattle.layout.specs.Region as Region
 use Rattle.model.specs.Tag as Tag
-
--- ---- a shape of a class
-
-module _ (x : SizeClass) (s s′ : RecordShape) (is : x ≡ classOfRecord s) (e : s ≡ s′) where
-  there : x ≡ classOfRecord s′
-  there = is ∙ ap classOfRecord e
-
-  pub too-big : (c : ℕ) → x ≡ TooBig → Decides false (classOfRecord s′ ≡ Class c)
-  too-big c q = fails (λ p. let h = there in let z : _≡_ {A = ℕ} 0 1 = cc in omega arith)
-
-  pub by-class : (c d : ℕ) → x ≡ Class d → Decides (eqb d c) (classOfRecord s′ ≡ Class c)
-  by-class c d q = record {
-    sound = λ t. sym there ∙ q ∙ ap Class (eqb-true d c t);
-    complete = λ p. let h = there in eq-eqb d c (cc);
-  }
 
 -- ---- a block in use
 

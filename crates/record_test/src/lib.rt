@@ -1,12 +1,12 @@
 // The test of a record: whether a word of the heap is the head of a block in use that holds a record of its segment's class. Memory may have any
 // content; the answer decides `RecordOk`, and with it comes the record's bit.
-use classes::SizeClass;
 use layout::Geometry;
 use tracing::Bit;
 ghost use mathlib.Core.Path.{_≡_};
 ghost use Prim.Native.Nat.{_<_};
 ghost use lib.ListN.{length};
 ghost use Rattle.rules.specs.Decides.{Decides};
+ghost use Rattle.classes.specs.Class.{IsClass};
 ghost use Rattle.classes.specs.Record.{classOfRecord};
 ghost use Rattle.classes.specs.declared.SizeClass.the-variants.{Class};
 ghost use Rattle.layout.specs.Geometry.{Sized, len, segmentOf, mostBlocks};
@@ -18,16 +18,21 @@ ghost use Rattle.model.specs.Consistent.{RecordOk};
 ghost use Rattle.record_test.specs.Tests.{Classed, Tested};
 ghost use Rattle.layout.specs.Region as Region;
 
-// Whether the shape at a word is of a class.
+// Whether the shape at a word is of a class: the class's block holds it, and half the block, which is the block of the class below, does not.
 fn is_of_class(g: Geometry, mem: &[u32], at: usize, class: u32) -> bool
-    requires { ⌜ (Sized g (length (now mem))) × (at < len g Region.heap) ⌝ }
+    requires { ⌜ (Sized g (length (now mem))) × (at < len g Region.heap) × IsClass class ⌝ }
     ensures { λ r. ⌜ Decides r (classOfRecord (shapeOf (memOf g (now (mem .entry))) at) ≡ Class class) ⌝ }
 {
     let shape = records::shape(g, mem, at);
-    match classes::class_of_record(shape) {
-        SizeClass::TooBig => false,
-        SizeClass::Class(c) => c == class,
+    let fields = shape.pointer_count as usize + shape.value_count as usize;
+    let words = classes::block_words(class);
+    if words <= fields {
+        return false;
     }
+    if class == classes::FIRST_CLASS {
+        return true;
+    }
+    words / 2 <= fields
 }
 
 // Whether block b of segment s is in use.

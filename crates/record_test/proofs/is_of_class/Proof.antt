@@ -1,26 +1,42 @@
 -- `record_test::is_of_class` meets its contract. Assumes nothing.
-use Rattle.record_test.proofs.Testing.{too-big, by-class}
+use Rattle.record_test.proofs.Fitting.{too-large, in-first, by-half}
 use borrow.Author.Needs.{needs}
-use Rattle.record_test.proofs.is_of_class.Tie as tie
 use Rattle.record_test.proofs.is_of_class.Statement.{statement}
+use Rattle.record_test.proofs.is_of_class.Tie as tie
 
 shape-requires : tie.Need-shape-requires
 shape-requires c κs = search needs
 
-class-of-record-requires : tie.Need-class-of-record-requires
-class-of-record-requires c κs = search needs
+cast-fields : tie.Need-cast-fields
+cast-fields c = search needs
 
-enum-told : tie.Need-enum-told
-enum-told c = search needs
+cast-fields-2 : tie.Need-cast-fields-2
+cast-fields-2 c = search needs
 
-enum-known-c : tie.Need-enum-known-c
-enum-known-c c = search needs
+add-fields : tie.Need-add-fields
+add-fields c = search needs
+
+block-words-requires : tie.Need-block-words-requires
+block-words-requires c κs = search needs
 
 returns : tie.Need-returns
-returns c = too-big _ _ _ (c .before .before .class-of-record .ensures) (c .before .before .before .shape .ensures .shape) _ (c .enum-told .given .1)
+returns c = too-large _ _ (c .before .before .before .before .shape .ensures .shape) _ _ (c .before .before .before .before .before .before .pre .2) (c .before .block-words .ensures) (c .if1 .taken)
 
 returns-2 : tie.Need-returns-2
-returns-2 c = by-class _ _ _ (c .before .before .before .class-of-record .ensures) (c .before .before .before .before .shape .ensures .shape) _ _ (c .before .c .given .1)
+returns-2 c = in-first _ _ (c .before .before .before .before .before .shape .ensures .shape) _ _ (c .before .before .before .before .before .before .before .pre .2) (c .before .before .block-words .ensures) (c .before .if1 .left) (c .if2 .taken)
+
+returns-3 : tie.Need-returns-3
+returns-3 c = by-half _ _ (c .before .before .before .before .before .shape .ensures .shape) _ _ (c .before .before .before .before .before .before .before .pre .2) (c .before .before .block-words .ensures) (c .before .if1 .left) (c .if2 .left)
 
 pub is-of-class-spec : {M : Type 1} → statement M
-is-of-class-spec = tie.close (tie.spec shape-requires class-of-record-requires enum-told enum-known-c returns returns-2)
+is-of-class-spec =
+    tie.close
+    (tie.spec
+    shape-requires
+    cast-fields
+    cast-fields-2
+    add-fields
+    block-words-requires
+    returns
+    returns-2
+    returns-3)

@@ -27,7 +27,7 @@ is-used-requires : tie.Need-is-used-requires
 is-used-requires c κs = let a = c .before .before .before .before in (a .pre .0, head-segment _ (memOf (a .args .g) (a .args .mem .now)) _ _ _ (a .pre .2) (a .pre .3) _ _ (c .before .before .offset-of .ensures) (c .before .block-words .ensures) (a .pre .1), head-block _ (memOf (a .args .g) (a .args .mem .now)) _ _ _ (a .pre .2) (a .pre .3) _ _ (c .before .before .offset-of .ensures) (c .before .block-words .ensures))
 
 is-of-class-requires : tie.Need-is-of-class-requires
-is-of-class-requires c κs = (c .before .before .before .before .before .before .pre .0, c .before .before .before .before .before .before .pre .1)
+is-of-class-requires c κs = let a = c .before .before .before .before .before .before in (a .pre .0, a .pre .1, a .pre .3 .class)
 
 bit-in-requires : tie.Need-bit-in-requires
 bit-in-requires c κs = let a = c .before .before .before .before .before .before .before .before in let l = head-segment _ (memOf (a .args .g) (a .args .mem .now)) _ _ _ (a .pre .2) (a .pre .3) _ _ (c .before .before .before .before .before .before .offset-of .ensures) (c .before .before .before .before .before .block-words .ensures) (a .pre .1) in (omega (arith, a .pre .0 .few), head-block _ (memOf (a .args .g) (a .args .mem .now)) _ _ _ (a .pre .2) (a .pre .3) _ _ (c .before .before .before .before .before .before .offset-of .ensures) (c .before .before .before .before .before .block-words .ensures))
