@@ -4,6 +4,7 @@
 use crate::refusal::{Refusal, Result};
 
 /// An answer of 32 bits: 0, or a refusal.
+#[inline]
 pub fn plain(answer: u32) -> Result<()> {
     match answer {
         0 => Ok(()),
@@ -12,12 +13,14 @@ pub fn plain(answer: u32) -> Result<()> {
 }
 
 /// An answer of 64 bits: a result above a refusal.
+#[inline]
 pub fn result(answer: u64) -> Result<u32> {
     plain(answer as u32)?;
     Ok((answer >> 32) as u32)
 }
 
 /// An answer of 64 bits whose result is 0 or 1.
+#[inline]
 pub fn truth(answer: u64) -> Result<bool> {
     match result(answer)? {
         0 => Ok(false),

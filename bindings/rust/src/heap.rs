@@ -133,6 +133,7 @@ impl<M: AsRef<[u32]> + AsMut<[u32]>> Heap<M> {
 
     /// A handle on a mutator, for its calls. Nothing is asked of the heap here: a call by a mutator that is not attached is refused
     /// Absent.
+    #[inline]
     pub fn mutator(&mut self, id: MutatorId) -> Mutator<'_> {
         Mutator::new(self.segments, self.memory.as_mut(), id)
     }

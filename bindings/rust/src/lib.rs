@@ -48,8 +48,19 @@
 //! # One call at a time
 //!
 //! Only one call may run over one memory. Calls that change the heap take `&mut Heap`, and a [`Mutator`] borrows the heap as long as it
-//! lives, so the borrow checker sees to it. Threads share a heap through a mutex, and a program with interrupts through its critical
-//! section.
+//! lives, so the compiler refuses what could overlap:
+//!
+//! ```compile_fail,E0499
+//! # use borvukhai::{Heap, MutatorId, Root, Segments};
+//! # let mut heap = Heap::new(Segments::MIN);
+//! # let (a, b) = (MutatorId::new(0).unwrap(), MutatorId::new(1).unwrap());
+//! let mut first = heap.mutator(a);
+//! let mut second = heap.mutator(b); // a second exclusive borrow
+//! first.clear(Root::R0);
+//! ```
+//!
+//! Mutators take turns instead, each by a handle that lives as long as its turn. Threads share a heap through a mutex, and a program with
+//! interrupts through its critical section.
 //!
 //! ```
 //! use std::sync::Mutex;
@@ -86,9 +97,9 @@
 //!
 //! # Layers and features
 //!
-//! [`Heap`] and [`Mutator`] take typed numbers, so that refusals 1 (but for lengths), 2 and 6 cannot happen; [`raw`] has every call over slices and
-//! plain numbers, with every refusal. The crate is `no_std`. The feature `alloc`, on by default, adds `Heap::new`, which owns its
-//! memory.
+//! [`Heap`] and [`Mutator`] take typed numbers: an opened heap's calls are not refused 2 or 6, and 1 only where the output or scratch of
+//! a look has another length. [`raw`] has every call over slices and plain numbers, with every refusal. The crate is `no_std`. The
+//! feature `alloc`, on by default, adds `Heap::new`, which owns its memory.
 //!
 //! An answer that is none of document 01's cannot come from the library; that is proved of it. Were one to come, from another
 //! library, this crate would take it for [`Refusal::Torn`].

@@ -21,6 +21,7 @@ impl MutatorId {
     }
 
     /// The number itself.
+    #[inline]
     pub const fn number(self) -> u32 {
         self.0 as u32
     }
@@ -79,6 +80,7 @@ impl Root {
     }
 
     /// The number itself.
+    #[inline]
     pub const fn number(self) -> u32 {
         self.0 as u32
     }

@@ -48,6 +48,7 @@ impl Segments {
     }
 
     /// The number itself.
+    #[inline]
     pub const fn count(self) -> u32 {
         self.0 as u32
     }
