@@ -127,3 +127,8 @@ pub use mutator::Mutator;
 pub use numbers::{MutatorId, Root, Shape};
 pub use refusal::{NoRefusal, Refusal, Refused, Result};
 pub use segments::Segments;
+
+/// The Rust example of bindings/README.md, so that it is run.
+#[cfg(doctest)]
+#[doc = include_str!("../../README.md")]
+struct Readme;

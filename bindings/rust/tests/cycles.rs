@@ -74,6 +74,7 @@ fn lists_live_through_cycles() -> Result<()> {
     heap.attach(id(1))?;
     let (mut cycles, mut made) = (0, 0);
     while cycles < CYCLES {
+        assert!(made < 1000 * CYCLES * SEGMENTS.count(), "{cycles} cycles only");
         for (number, queue) in queues.iter_mut().enumerate() {
             turn(queue, &mut heap.mutator(id(number as u32)), made)?;
             made += 1;

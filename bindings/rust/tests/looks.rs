@@ -42,8 +42,11 @@ fn the_phases_of_a_cycle() {
     heap.start().unwrap();
     assert_eq!(heap.phase(), Ok(Phase::Sync1));
     heap.mutator(id(0)).leave().unwrap();
-    for then in [Phase::Sync2, Phase::Mark, Phase::Sweep] {
-        while heap.step().unwrap() != Step::Moved {}
+    for (traced, then) in [(0, Phase::Sync2), (0, Phase::Mark), (4, Phase::Sweep)] {
+        for _ in 0..traced {
+            assert_eq!(heap.step(), Ok(Step::Traced));
+        }
+        assert_eq!(heap.step(), Ok(Step::Moved));
         assert_eq!(heap.phase(), Ok(then));
     }
     assert_eq!(heap.step(), Ok(Step::Swept { segment: 0, freed: 0 }));
