@@ -14,6 +14,8 @@ use crate::segments::Segments;
 /// `&mut self`, so that one call runs at a time. A program that shares a heap between threads puts it in a mutex; one that shares it with
 /// an interrupt, in its critical section.
 ///
+/// `M` is to lend the same words each time. One that does not is no danger, but its calls are refused Size, or find another heap.
+///
 /// ```
 /// use borvukhai::{Heap, Refusal, Segments};
 ///

@@ -1,5 +1,7 @@
 //! A mutator's own calls, through a handle that borrows the heap.
 
+use core::fmt;
+
 use crate::numbers::{MutatorId, Root, Shape};
 use crate::raw;
 use crate::refusal::Result;
@@ -14,11 +16,16 @@ use crate::segments::Segments;
 /// Each call may be refused [`Absent`](crate::Refusal::Absent) where the mutator is not attached and, but for
 /// [`enter`](Mutator::enter), [`Side`](crate::Refusal::Side) where it is outside. Size, Script and Slot cannot happen here, and
 /// [`Torn`](crate::Refusal::Torn) only over memory that fails the examination. Each call below names what else refuses it.
-#[derive(Debug)]
 pub struct Mutator<'h> {
     segments: Segments,
     memory: &'h mut [u32],
     id: MutatorId,
+}
+
+impl fmt::Debug for Mutator<'_> {
+    fn fmt(&self, f: &mut fmt::Formatter<'_>) -> fmt::Result {
+        f.debug_struct("Mutator").field("id", &self.id.number()).finish_non_exhaustive()
+    }
 }
 
 impl<'h> Mutator<'h> {
