@@ -1,0 +1,446 @@
+/* Provokes each refusal number of include/borvukhai.h, from every call that can give it, and tries the lengths and the looks.
+ * It prints a line for each part, and says on the error output what was expected where something else came. */
+#include "borvukhai.h"
+
+#include <stdio.h>
+#include <string.h>
+
+/* One heap of a segment is enough for every refusal; the lengths are those of the header. */
+#define SEGMENTS 1u
+#define WORDS 7391u   /* 6354 + 1037 */
+#define STATES 4u
+#define SCRATCH 2176u
+#define MANY 0xffffffffu
+
+/* Each slice has one word more than is lent, for lengths that are too long by one. */
+static uint32_t memory[WORDS + 1];
+static uint32_t before[WORDS + 1];
+static uint32_t output[STATES + 1];
+static uint32_t scratch[SCRATCH + 1];
+#define HEAP SEGMENTS, memory, WORDS
+
+/* Where docs/LAYOUT.md puts the words that the torn cases break. */
+enum {
+    PHASE_AT = 0,
+    TRACE_COUNT_AT = 1,
+    ROOT_AT = 2,                   /* root 0 of mutator 0 */
+    HELD_AT = 2 + 18 + 9,          /* the segment of class 12 that mutator 0 holds */
+    TAG_AT = 1026 + 4096 * SEGMENTS,
+    OFF_HEAP = 4096 * SEGMENTS + 1 /* a reference one past the last word of the heap */
+};
+
+/* The mutators' calls, so that a refusal can be asked of each of them. */
+enum call { ATTACH, SPAWN, DETACH, MAKE, LOAD, STORE, PUT, COPY, CLEAR, CHECK, LEAVE, ENTER, GET, SAME, SHAPE, CALLS };
+
+static const char *const names[CALLS] = {"attach", "spawn", "detach", "make",  "load", "store", "put",  "copy",
+                                         "clear",  "check", "leave",  "enter", "get",  "same",  "shape"};
+
+static int checks;
+static int failures;
+
+static void expect(const char *what, const char *who, unsigned long got, unsigned long wanted) {
+    checks++;
+    if (got != wanted) {
+        fprintf(stderr, "%s %s: %lu, expected %lu\n", what, who, got, wanted);
+        failures++;
+    }
+}
+
+/* The refusal of a call that names one mutator, one root for all its roots and one field. A spawn's parent is mutator 0. */
+static uint32_t refusal(enum call call, uint32_t segments, size_t length, uint32_t mutator, uint32_t root, uint32_t field) {
+    switch (call) {
+    case ATTACH:
+        return borvukhai_attach(segments, memory, length, mutator);
+    case SPAWN:
+        return borvukhai_spawn(segments, memory, length, mutator, 0, root);
+    case DETACH:
+        return borvukhai_detach(segments, memory, length, mutator);
+    case MAKE:
+        return borvukhai_make(segments, memory, length, mutator, root, 1, 600);
+    case LOAD:
+        return borvukhai_load(segments, memory, length, mutator, root, root, field);
+    case STORE:
+        return borvukhai_store(segments, memory, length, mutator, root, field, root);
+    case PUT:
+        return borvukhai_put(segments, memory, length, mutator, root, field, 1);
+    case COPY:
+        return borvukhai_copy(segments, memory, length, mutator, root, root);
+    case CLEAR:
+        return borvukhai_clear(segments, memory, length, mutator, root);
+    case CHECK:
+        return borvukhai_check(segments, memory, length, mutator);
+    case LEAVE:
+        return borvukhai_leave(segments, memory, length, mutator);
+    case ENTER:
+        return borvukhai_enter(segments, memory, length, mutator);
+    case GET:
+        return borvukhai_refusal(borvukhai_get(segments, memory, length, mutator, root, field));
+    case SAME:
+        return borvukhai_refusal(borvukhai_same(segments, memory, length, mutator, root, root));
+    default:
+        return borvukhai_refusal(borvukhai_shape(segments, memory, length, mutator, root));
+    }
+}
+
+/* A call is refused with a number, and no word has changed. */
+static void refused(const char *what, enum call call, uint32_t mutator, uint32_t root, uint32_t field, uint32_t wanted) {
+    memcpy(before, memory, sizeof memory);
+    expect(what, names[call], refusal(call, SEGMENTS, WORDS, mutator, root, field), wanted);
+    expect(what, "keeps the memory", memcmp(before, memory, sizeof memory) == 0, 1);
+}
+
+static void ok(const char *who, uint32_t answer) {
+    expect("ok", who, answer, BORVUKHAI_OK);
+}
+
+/* A heap with mutator 0 inside. */
+static void fresh(void) {
+    memset(memory, 0xa5, sizeof memory);
+    ok("open", borvukhai_open(HEAP));
+    ok("attach", borvukhai_attach(HEAP, 0));
+}
+
+/* A fresh heap whose one segment four records of one pointer and 600 values fill. */
+static void full(void) {
+    uint32_t root;
+    fresh();
+    for (root = 0; root < 4; root++) {
+        ok("make", borvukhai_make(HEAP, 0, root, 1, 600));
+    }
+}
+
+/* The calls that name no mutator, with a wrong count of segments or a wrong length. */
+static void size_of_others(uint32_t segments, size_t length) {
+    expect("size", "open", borvukhai_open(segments, memory, length), BORVUKHAI_SIZE);
+    expect("size", "start", borvukhai_start(segments, memory, length), BORVUKHAI_SIZE);
+    expect("size", "step", borvukhai_refusal(borvukhai_step(segments, memory, length)), BORVUKHAI_SIZE);
+    expect("size", "phase", borvukhai_refusal(borvukhai_phase(segments, memory, length)), BORVUKHAI_SIZE);
+    expect("size", "states", borvukhai_states(segments, memory, length, output, STATES), BORVUKHAI_SIZE);
+    expect("size", "examine", borvukhai_refusal(borvukhai_examine(segments, memory, length, scratch, SCRATCH)), BORVUKHAI_SIZE);
+}
+
+static void size(void) {
+    static const struct {
+        uint32_t segments;
+        size_t length;
+    } wrong[] = {{0, WORDS}, {2, WORDS}, {257, WORDS}, {MANY, WORDS}, {1, WORDS - 1}, {1, WORDS + 1}, {1, 0}, {0, 0}};
+    size_t i;
+    int call;
+    full();
+    memcpy(before, memory, sizeof memory);
+    memset(output, 0x5a, sizeof output);
+    memset(scratch, 0x5a, sizeof scratch);
+    for (i = 0; i < sizeof wrong / sizeof wrong[0]; i++) {
+        for (call = 0; call < CALLS; call++) {
+            expect("size", names[call], refusal((enum call)call, wrong[i].segments, wrong[i].length, MANY, MANY, MANY), BORVUKHAI_SIZE);
+        }
+        size_of_others(wrong[i].segments, wrong[i].length);
+    }
+    expect("size", "output too short", borvukhai_states(HEAP, output, STATES - 1), BORVUKHAI_SIZE);
+    expect("size", "output too long", borvukhai_states(HEAP, output, STATES + 1), BORVUKHAI_SIZE);
+    expect("size", "scratch too short", borvukhai_refusal(borvukhai_examine(HEAP, scratch, SCRATCH - 1)), BORVUKHAI_SIZE);
+    expect("size", "scratch too long", borvukhai_refusal(borvukhai_examine(HEAP, scratch, SCRATCH + 1)), BORVUKHAI_SIZE);
+    expect("size", "keeps the memory", memcmp(before, memory, sizeof memory) == 0, 1);
+    expect("size", "keeps the output", output[0] == 0x5a5a5a5au && output[STATES] == 0x5a5a5a5au, 1);
+    expect("size", "keeps the scratch", scratch[0] == 0x5a5a5a5au && scratch[SCRATCH] == 0x5a5a5a5au, 1);
+}
+
+static void script(void) {
+    int call;
+    full();
+    for (call = 0; call < CALLS; call++) {
+        refused("script", (enum call)call, 32, MANY, MANY, BORVUKHAI_SCRIPT);
+        refused("script", (enum call)call, MANY, 0, 0, BORVUKHAI_SCRIPT);
+    }
+    expect("script", "spawn's parent", borvukhai_spawn(HEAP, 1, 32, 0), BORVUKHAI_SCRIPT);
+}
+
+static void taken(void) {
+    full();
+    refused("taken", ATTACH, 0, 0, 0, BORVUKHAI_TAKEN);
+    refused("taken", SPAWN, 0, MANY, 0, BORVUKHAI_TAKEN);
+}
+
+static void absent(void) {
+    int call;
+    full();
+    for (call = DETACH; call < CALLS; call++) {
+        refused("absent", (enum call)call, 31, MANY, MANY, BORVUKHAI_ABSENT);
+    }
+    expect("absent", "spawn's parent", borvukhai_spawn(HEAP, 1, 31, MANY), BORVUKHAI_ABSENT);
+}
+
+static void side(void) {
+    int call;
+    full();
+    refused("side", ENTER, 0, 0, 0, BORVUKHAI_SIDE);
+    ok("leave", borvukhai_leave(HEAP, 0));
+    for (call = DETACH; call < CALLS; call++) {
+        if (call != ENTER) {
+            refused("side", (enum call)call, 0, MANY, MANY, BORVUKHAI_SIDE);
+        }
+    }
+    refused("side", SPAWN, 1, MANY, 0, BORVUKHAI_SIDE);
+    ok("enter", borvukhai_enter(HEAP, 0));
+}
+
+static void slot(void) {
+    static const enum call calls[] = {MAKE, LOAD, STORE, PUT, COPY, CLEAR, GET, SAME, SHAPE};
+    size_t i;
+    full();
+    for (i = 0; i < sizeof calls / sizeof calls[0]; i++) {
+        refused("slot", calls[i], 0, 16, MANY, BORVUKHAI_SLOT);
+        refused("slot", calls[i], 0, MANY, 0, BORVUKHAI_SLOT);
+    }
+    refused("slot", SPAWN, 1, 16, 0, BORVUKHAI_SLOT);
+    expect("slot", "store's from", borvukhai_store(HEAP, 0, 0, 0, 16), BORVUKHAI_SLOT);
+    expect("slot", "same's other", borvukhai_refusal(borvukhai_same(HEAP, 0, 0, 16)), BORVUKHAI_SLOT);
+}
+
+static void dark(void) {
+    static const enum call calls[] = {LOAD, STORE, PUT, GET, SHAPE};
+    size_t i;
+    full();
+    for (i = 0; i < sizeof calls / sizeof calls[0]; i++) {
+        refused("dark", calls[i], 0, 15, MANY, BORVUKHAI_DARK);
+    }
+}
+
+static void field(void) {
+    full();
+    refused("field", LOAD, 0, 0, 1, BORVUKHAI_FIELD);
+    refused("field", STORE, 0, 0, 1, BORVUKHAI_FIELD);
+    refused("field", PUT, 0, 0, 600, BORVUKHAI_FIELD);
+    refused("field", GET, 0, 0, 600, BORVUKHAI_FIELD);
+    refused("field", LOAD, 0, 0, MANY, BORVUKHAI_FIELD);
+    refused("field", STORE, 0, 0, MANY, BORVUKHAI_FIELD);
+    refused("field", PUT, 0, 0, MANY, BORVUKHAI_FIELD);
+    refused("field", GET, 0, 0, MANY, BORVUKHAI_FIELD);
+}
+
+static void too_big(void) {
+    fresh();
+    expect("too big", "1023 + 1", borvukhai_make(HEAP, 0, 0, 1023, 1), BORVUKHAI_TOO_BIG);
+    expect("too big", "0 + 1024", borvukhai_make(HEAP, 0, 0, 0, 1024), BORVUKHAI_TOO_BIG);
+    expect("too big", "a sum that would wrap", borvukhai_make(HEAP, 0, 0, MANY, 2), BORVUKHAI_TOO_BIG);
+    expect("too big", "both", borvukhai_make(HEAP, 0, 0, MANY, MANY), BORVUKHAI_TOO_BIG);
+    ok("1000 + 23", borvukhai_make(HEAP, 0, 0, 1000, 23));
+}
+
+static void no_room(void) {
+    full();
+    refused("no room", MAKE, 0, 4, 0, BORVUKHAI_NO_ROOM);
+    expect("no room", "of another class", borvukhai_make(HEAP, 0, 4, 0, 0), BORVUKHAI_NO_ROOM);
+}
+
+static void not_now(void) {
+    full();
+    ok("start", borvukhai_start(HEAP));
+    refused("not now", ATTACH, 1, 0, 0, BORVUKHAI_NOT_NOW);
+    refused("not now", SPAWN, 1, 0, 0, BORVUKHAI_NOT_NOW);
+    refused("not now", DETACH, 0, 0, 0, BORVUKHAI_NOT_NOW);
+    expect("not now", "start", borvukhai_start(HEAP), BORVUKHAI_NOT_NOW);
+}
+
+static void none_full(void) {
+    fresh();
+    expect("none full", "start", borvukhai_start(HEAP), BORVUKHAI_NONE_FULL);
+    ok("make", borvukhai_make(HEAP, 0, 0, 1, 600));
+    expect("none full", "start with a held segment", borvukhai_start(HEAP), BORVUKHAI_NONE_FULL);
+}
+
+/* A root that names a word off the heap: the calls that want its record. */
+static void torn_root(void) {
+    static const enum call calls[] = {LOAD, STORE, PUT, GET, SHAPE};
+    size_t i;
+    for (i = 0; i < sizeof calls / sizeof calls[0]; i++) {
+        full();
+        memory[ROOT_AT] = OFF_HEAP;
+        expect("torn", names[calls[i]], refusal(calls[i], SEGMENTS, WORDS, 0, 0, 0), BORVUKHAI_TORN);
+    }
+}
+
+/* The same root in the second handshake, where an acknowledgement enters the roots on the trace stack. */
+static void torn_handshake(enum call call) {
+    full();
+    memory[ROOT_AT] = OFF_HEAP;
+    ok("start", borvukhai_start(HEAP));
+    ok("check", borvukhai_check(HEAP, 0));
+    expect("torn", "second handshake", borvukhai_step_kind(borvukhai_step(HEAP)), BORVUKHAI_STEP_MOVED);
+    expect("torn", names[call], refusal(call, SEGMENTS, WORDS, 0, 0, 0), BORVUKHAI_TORN);
+}
+
+/* A held segment that is none. */
+static void torn_hold(enum call call) {
+    fresh();
+    memory[HELD_AT] = SEGMENTS + 1;
+    expect("torn", names[call], refusal(call, SEGMENTS, WORDS, 0, 0, 0), BORVUKHAI_TORN);
+}
+
+static void torn(void) {
+    torn_root();
+    torn_handshake(CHECK);
+    torn_handshake(LEAVE);
+    torn_hold(MAKE);
+    torn_hold(DETACH);
+    fresh();
+    memory[PHASE_AT] = BORVUKHAI_SWEEP + 1;
+    expect("torn", "step", borvukhai_refusal(borvukhai_step(HEAP)), BORVUKHAI_TORN);
+    expect("torn", "phase", (unsigned long)borvukhai_phase(HEAP), BORVUKHAI_TORN);
+    fresh();
+    memory[TAG_AT] = BORVUKHAI_SEGMENT_CONDEMNED + 1;
+    output[0] = MANY;
+    expect("torn", "states", borvukhai_states(HEAP, output, STATES), BORVUKHAI_TORN);
+    expect("torn", "states keeps the output", output[0], MANY);
+}
+
+/* The formulas of docs/LAYOUT.md, and 0 for a count that is not 1 to 256. */
+static void lengths(void) {
+    static const uint32_t none[] = {0, 257, 258, 65536, 0x80000000u, MANY};
+    uint32_t n;
+    size_t i;
+    for (n = 1; n <= 256; n++) {
+        expect("lengths", "memory", (unsigned long)borvukhai_length(n), 6354ul * n + 1037ul);
+        expect("lengths", "output", (unsigned long)borvukhai_states_length(n), 4ul * n);
+        expect("lengths", "scratch", (unsigned long)borvukhai_scratch_length(n), 2176ul * n);
+    }
+    for (i = 0; i < sizeof none / sizeof none[0]; i++) {
+        expect("lengths", "memory", (unsigned long)borvukhai_length(none[i]), 0);
+        expect("lengths", "output", (unsigned long)borvukhai_states_length(none[i]), 0);
+        expect("lengths", "scratch", (unsigned long)borvukhai_scratch_length(none[i]), 0);
+    }
+}
+
+/* The look at the states says these four words of the segment. */
+static void state(const char *who, uint32_t tag, uint32_t class_, uint32_t place, uint32_t mutator) {
+    memset(output, 0x5a, sizeof output);
+    ok("states", borvukhai_states(HEAP, output, STATES));
+    expect("tag", who, output[0], tag);
+    expect("class", who, output[1], class_);
+    expect("place", who, output[2], place);
+    expect("mutator", who, output[3], mutator);
+    expect("beyond the output", who, output[STATES], 0x5a5a5a5au);
+}
+
+static void phase(uint32_t wanted) {
+    expect("phase", "of", (unsigned long)borvukhai_phase(HEAP), (unsigned long)((uint64_t)wanted << 32));
+}
+
+/* One step does this and leads to this phase. */
+static void step(const char *who, uint32_t kind, uint32_t then) {
+    uint64_t answer = borvukhai_step(HEAP);
+    expect("step", who, borvukhai_refusal(answer), BORVUKHAI_OK);
+    expect("step", who, borvukhai_step_kind(answer), kind);
+    phase(then);
+}
+
+/* A segment through its five states, and the phases of one cycle. */
+static void states_and_phases(void) {
+    fresh();
+    state("free", BORVUKHAI_SEGMENT_FREE, 0, 0, 0);
+    ok("detach", borvukhai_detach(HEAP, 0));
+    ok("attach", borvukhai_attach(HEAP, 7));
+    ok("make", borvukhai_make(HEAP, 7, 0, 1, 600));
+    state("held", BORVUKHAI_SEGMENT_HELD, 12, 1, 7);
+    ok("spawn", borvukhai_spawn(HEAP, 0, 7, 0));
+    ok("detach", borvukhai_detach(HEAP, 7));
+    state("part", BORVUKHAI_SEGMENT_PART, 12, 1, 0);
+    ok("make", borvukhai_make(HEAP, 0, 1, 1, 600));
+    ok("make", borvukhai_make(HEAP, 0, 1, 1, 600));
+    ok("make", borvukhai_make(HEAP, 0, 1, 1, 600));
+    state("full", BORVUKHAI_SEGMENT_FULL, 12, 4, 0);
+    phase(BORVUKHAI_IDLE);
+    ok("start", borvukhai_start(HEAP));
+    state("condemned", BORVUKHAI_SEGMENT_CONDEMNED, 12, 4, 0);
+    phase(BORVUKHAI_SYNC1);
+    step("waiting", BORVUKHAI_STEP_WAITING, BORVUKHAI_SYNC1);
+    ok("leave", borvukhai_leave(HEAP, 0));
+    step("to sync 2", BORVUKHAI_STEP_MOVED, BORVUKHAI_SYNC2);
+    step("to mark", BORVUKHAI_STEP_MOVED, BORVUKHAI_MARK);
+    step("traced", BORVUKHAI_STEP_TRACED, BORVUKHAI_MARK);
+    step("traced", BORVUKHAI_STEP_TRACED, BORVUKHAI_MARK);
+    step("to sweep", BORVUKHAI_STEP_MOVED, BORVUKHAI_SWEEP);
+    step("swept", BORVUKHAI_STEP_SWEPT, BORVUKHAI_SWEEP);
+    state("part again", BORVUKHAI_SEGMENT_PART, 12, 0, 0);
+    step("done", BORVUKHAI_STEP_DONE, BORVUKHAI_IDLE);
+    step("idle", BORVUKHAI_STEP_IDLE, BORVUKHAI_IDLE);
+}
+
+/* The answers that carry a result: get, same, shape and a sweep's step. */
+static void results(void) {
+    uint64_t answer;
+    full();
+    ok("put", borvukhai_put(HEAP, 0, 2, 599, MANY));
+    expect("get", "a large value", borvukhai_result(borvukhai_get(HEAP, 0, 2, 599)), MANY);
+    expect("same", "two records", (unsigned long)borvukhai_same(HEAP, 0, 0, 1), 0);
+    expect("same", "one record", borvukhai_result(borvukhai_same(HEAP, 0, 1, 1)), 1);
+    expect("same", "nil and nil", borvukhai_result(borvukhai_same(HEAP, 0, 14, 15)), 1);
+    answer = borvukhai_shape(HEAP, 0, 3);
+    expect("shape", "pointers", borvukhai_pointers(answer), 1);
+    expect("shape", "values", borvukhai_values(answer), 600);
+    ok("clear", borvukhai_clear(HEAP, 0, 0));
+    ok("start", borvukhai_start(HEAP));
+    expect("step", "waiting for", borvukhai_step_waiting(borvukhai_step(HEAP)), 1);
+    ok("leave", borvukhai_leave(HEAP, 0));
+    do {
+        answer = borvukhai_step(HEAP);
+    } while (borvukhai_step_kind(answer) == BORVUKHAI_STEP_MOVED || borvukhai_step_kind(answer) == BORVUKHAI_STEP_TRACED);
+    expect("step", "swept", borvukhai_step_kind(answer), BORVUKHAI_STEP_SWEPT);
+    expect("step", "segment", borvukhai_step_segment(answer), 0);
+    expect("step", "freed", borvukhai_step_freed(answer), 1);
+}
+
+/* The examination answers so, and leaves the scratch all 0. */
+static void examined(const char *who, uint32_t wanted) {
+    uint64_t answer;
+    size_t i;
+    unsigned long used = 0;
+    memset(scratch, 0x5a, sizeof scratch);
+    memcpy(before, memory, sizeof memory);
+    answer = borvukhai_examine(HEAP, scratch, SCRATCH);
+    expect("examine", who, borvukhai_refusal(answer), BORVUKHAI_OK);
+    expect("examine", who, borvukhai_result(answer), wanted);
+    for (i = 0; i < SCRATCH; i++) {
+        used += scratch[i] != 0;
+    }
+    expect("scratch not 0", who, used, 0);
+    expect("beyond the scratch", who, scratch[SCRATCH], 0x5a5a5a5au);
+    expect("examine keeps the memory", who, memcmp(before, memory, sizeof memory) == 0, 1);
+}
+
+static void examination(void) {
+    fresh();
+    examined("an opened heap", 1);
+    full();
+    examined("a full heap", 1);
+    ok("start", borvukhai_start(HEAP));
+    examined("a cycle", 1);
+    memory[TRACE_COUNT_AT] = 1;
+    examined("a trace stack of nothing", 0);
+    full();
+    memory[ROOT_AT]++;
+    examined("a root inside a block", 0);
+    memset(memory, 0xff, sizeof memory);
+    examined("all ones", 0);
+}
+
+int main(void) {
+    static const struct {
+        const char *name;
+        void (*run)(void);
+    } parts[] = {{"1 size", size},         {"2 script", script},        {"3 taken", taken},
+                 {"4 absent", absent},     {"5 side", side},            {"6 slot", slot},
+                 {"7 dark", dark},         {"8 field", field},          {"9 too big", too_big},
+                 {"10 no room", no_room},  {"11 not now", not_now},     {"12 none full", none_full},
+                 {"13 torn", torn},        {"lengths", lengths},        {"states and phases", states_and_phases},
+                 {"results", results},     {"examination", examination}};
+    size_t i;
+    for (i = 0; i < sizeof parts / sizeof parts[0]; i++) {
+        int failed = failures;
+        int tried = checks;
+        parts[i].run();
+        printf("%s: %d checks, %d failed\n", parts[i].name, checks - tried, failures - failed);
+    }
+    printf("%d checks, %d failed\n", checks, failures);
+    return failures == 0 ? 0 : 1;
+}

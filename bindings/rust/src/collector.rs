@@ -1,0 +1,129 @@
+//! The collector's calls: start, step, and a cycle run to its end.
+
+use crate::heap::Heap;
+use crate::numbers::MutatorId;
+use crate::raw;
+use crate::refusal::{Refusal, Result};
+
+/// What a step did.
+#[derive(Clone, Copy, Debug, PartialEq, Eq, Hash)]
+pub enum Step {
+    /// Nothing: no cycle runs.
+    Idle,
+    /// A handshake waits for so many mutators that are inside: each of them must check or leave.
+    Waiting(u32),
+    /// The next phase.
+    Moved,
+    /// One record was marked.
+    Traced,
+    /// One segment of the collect set was swept.
+    Swept {
+        /// Its number.
+        segment: u32,
+        /// How many blocks in use became free.
+        freed: u32,
+    },
+    /// The cycle has ended.
+    Done,
+}
+
+impl Step {
+    /// The upper 32 bits of the answer of step.
+    pub(crate) const fn unpack(bits: u32) -> Result<Step> {
+        let next = bits >> 8 & 0xff;
+        match bits & 0xff {
+            0 => Ok(Step::Idle),
+            1 => Ok(Step::Waiting(next)),
+            2 => Ok(Step::Moved),
+            3 => Ok(Step::Traced),
+            4 => Ok(Step::Swept { segment: next, freed: bits >> 16 }),
+            5 => Ok(Step::Done),
+            _ => Err(Refusal::Torn),
+        }
+    }
+}
+
+impl<M: AsRef<[u32]> + AsMut<[u32]>> Heap<M> {
+    /// A cycle begins: every full segment is condemned. Refused NotNow while a cycle runs, and NoneFull.
+    pub fn start(&mut self) -> Result<()> {
+        raw::start(self.segments().count(), self.words())
+    }
+
+    /// One small step of the collector, to be called between the mutators' calls. Where no cycle runs it does nothing. Refused Torn,
+    /// over memory that fails the examination only.
+    ///
+    /// A cycle needs the mutators: while a step answers [`Step::Waiting`], each mutator that is inside must
+    /// [`check`](crate::Mutator::check) or [`leave`](crate::Mutator::leave).
+    pub fn step(&mut self) -> Result<Step> {
+        raw::step(self.segments().count(), self.words())
+    }
+
+    /// The cycle that runs, to its end, in this one call; the answer is how many blocks became free. Where no cycle runs it does
+    /// nothing, and the answer is 0.
+    ///
+    /// This is the pause that steps avoid: for moments when time does not matter, or when no room is left. Where a
+    /// handshake waits, it checks for every mutator that is inside; as the heap is borrowed, none of them is within a call.
+    ///
+    /// For n segments it takes at most 2049 n + 6 steps: in each handshake one that waits and one that moves on, one for each record
+    /// marked, of which a segment has at most 2048, one that moves on to the sweep, one for each segment, and the last. Over memory
+    /// that fails the examination more might be wanted; then it is refused Torn after so many.
+    ///
+    /// ```
+    /// use borvukhai::{Heap, MutatorId, Refusal, Root, Segments, Shape};
+    ///
+    /// let mut heap = Heap::new(Segments::MIN);
+    /// let mut mutator = heap.attach(MutatorId::new(0).unwrap())?;
+    /// for _ in 0..4 {
+    ///     mutator.make(Root::R0, Shape::new(1, 600))?;
+    /// }
+    /// assert_eq!(mutator.make(Root::R0, Shape::new(1, 600)), Err(Refusal::NoRoom));
+    /// heap.start()?;
+    /// assert_eq!(heap.finish_cycle()?, 3);
+    /// # Ok::<(), Refusal>(())
+    /// ```
+    pub fn finish_cycle(&mut self) -> Result<u32> {
+        let mut total: u32 = 0;
+        for _ in 0..2049 * self.segments().count() + 6 {
+            match self.step()? {
+                Step::Waiting(_) => self.check_all()?,
+                Step::Swept { freed, .. } => total = total.saturating_add(freed),
+                Step::Moved | Step::Traced => {}
+                Step::Done | Step::Idle => return Ok(total),
+            }
+        }
+        Err(Refusal::Torn)
+    }
+
+    /// A check for each mutator that is inside.
+    fn check_all(&mut self) -> Result<()> {
+        for id in MutatorId::all() {
+            match self.mutator(id).check() {
+                Ok(()) | Err(Refusal::Absent | Refusal::Side) => {}
+                Err(refusal) => return Err(refusal),
+            }
+        }
+        Ok(())
+    }
+}
+
+#[cfg(test)]
+mod tests {
+    use super::*;
+
+    #[test]
+    fn every_kind_of_step() {
+        assert_eq!(Step::unpack(0), Ok(Step::Idle));
+        assert_eq!(Step::unpack(32 << 8 | 1), Ok(Step::Waiting(32)));
+        assert_eq!(Step::unpack(2), Ok(Step::Moved));
+        assert_eq!(Step::unpack(3), Ok(Step::Traced));
+        assert_eq!(Step::unpack(2048 << 16 | 255 << 8 | 4), Ok(Step::Swept { segment: 255, freed: 2048 }));
+        assert_eq!(Step::unpack(5), Ok(Step::Done));
+    }
+
+    #[test]
+    fn a_kind_off_the_table_is_torn() {
+        for kind in 6..=255 {
+            assert_eq!(Step::unpack(kind), Err(Refusal::Torn));
+        }
+    }
+}

@@ -1,0 +1,176 @@
+//! The looks: phase, segment states and examination. A look changes no word of the heap.
+
+use crate::heap::Heap;
+use crate::numbers::MutatorId;
+use crate::raw;
+use crate::refusal::{Refusal, Result};
+
+/// Where a cycle is.
+#[derive(Clone, Copy, Debug, PartialEq, Eq, PartialOrd, Ord, Hash)]
+pub enum Phase {
+    /// No cycle runs.
+    Idle,
+    /// The first handshake (document 01: roll 1).
+    Sync1,
+    /// The second handshake (document 01: roll 2).
+    Sync2,
+    /// Records that are reached are marked.
+    Mark,
+    /// Segments of the collect set are swept.
+    Sweep,
+}
+
+impl Phase {
+    /// The upper 32 bits of the answer of phase.
+    pub(crate) const fn unpack(number: u32) -> Result<Phase> {
+        match number {
+            0 => Ok(Phase::Idle),
+            1 => Ok(Phase::Sync1),
+            2 => Ok(Phase::Sync2),
+            3 => Ok(Phase::Mark),
+            4 => Ok(Phase::Sweep),
+            _ => Err(Refusal::Torn),
+        }
+    }
+}
+
+/// What a segment is used for. A class is 3 to 12: its blocks have 2^class bytes. A place is the next block to look at, and the number of
+/// blocks where the segment is full or condemned.
+#[derive(Clone, Copy, Debug, PartialEq, Eq, Hash)]
+pub enum SegmentState {
+    /// It has no record.
+    Free,
+    /// It has records, and room; no mutator holds it.
+    Part {
+        /// The size class.
+        class: u32,
+        /// The next block to look at.
+        place: u32,
+    },
+    /// A mutator makes its records of this class in it.
+    Held {
+        /// The size class.
+        class: u32,
+        /// The next block to look at.
+        place: u32,
+        /// Who holds it.
+        mutator: MutatorId,
+    },
+    /// It has no room.
+    Full {
+        /// The size class.
+        class: u32,
+        /// The number of blocks.
+        place: u32,
+    },
+    /// It was full when the cycle began: it is in the collect set, not swept yet.
+    Condemned {
+        /// The size class.
+        class: u32,
+        /// The number of blocks.
+        place: u32,
+    },
+}
+
+impl SegmentState {
+    /// The state that four words of the output of states are.
+    fn unpack(words: &[u32]) -> Result<SegmentState> {
+        let &[tag, class, place, mutator] = words else {
+            return Err(Refusal::Torn);
+        };
+        match tag {
+            0 => Ok(SegmentState::Free),
+            1 => Ok(SegmentState::Part { class, place }),
+            2 => match MutatorId::new(mutator) {
+                Some(mutator) => Ok(SegmentState::Held { class, place, mutator }),
+                None => Err(Refusal::Torn),
+            },
+            3 => Ok(SegmentState::Full { class, place }),
+            4 => Ok(SegmentState::Condemned { class, place }),
+            _ => Err(Refusal::Torn),
+        }
+    }
+}
+
+/// The states of the segments, from segment 0 on: what [`Heap::states`] answers.
+#[derive(Clone, Debug)]
+pub struct States<'o> {
+    words: core::slice::ChunksExact<'o, u32>,
+}
+
+impl<'o> States<'o> {
+    /// The states in these words, if every four of them are one.
+    fn of(words: &'o [u32]) -> Result<States<'o>> {
+        let words = words.chunks_exact(4);
+        for state in words.clone() {
+            SegmentState::unpack(state)?;
+        }
+        Ok(States { words })
+    }
+}
+
+impl Iterator for States<'_> {
+    type Item = SegmentState;
+
+    fn next(&mut self) -> Option<SegmentState> {
+        // `of` has seen that every four words are a state.
+        SegmentState::unpack(self.words.next()?).ok()
+    }
+
+    fn size_hint(&self) -> (usize, Option<usize>) {
+        self.words.size_hint()
+    }
+}
+
+impl ExactSizeIterator for States<'_> {}
+
+impl<M: AsRef<[u32]> + AsMut<[u32]>> Heap<M> {
+    /// Where the cycle is. Refused Torn, over memory that fails the examination only.
+    pub fn phase(&self) -> Result<Phase> {
+        raw::phase(self.segments().count(), self.memory())
+    }
+
+    /// The state of each segment, from segment 0 on, through an output of [`Segments::states_length`](crate::Segments::states_length)
+    /// words. Refused Size where the output has another length, and Torn.
+    ///
+    /// Over memory that fails the examination the library may name a holder over 31; that is Torn here.
+    ///
+    /// ```
+    /// use borvukhai::{Heap, MutatorId, Root, SegmentState, Segments, Shape};
+    ///
+    /// let mut heap = Heap::new(Segments::new(2).unwrap());
+    /// let id = MutatorId::new(5).unwrap();
+    /// heap.attach(id)?.make(Root::R0, Shape::new(1, 600))?;
+    ///
+    /// let mut output = [0; 8];
+    /// let mut states = heap.states(&mut output)?;
+    /// assert_eq!(states.next(), Some(SegmentState::Held { class: 12, place: 1, mutator: id }));
+    /// assert_eq!(states.next(), Some(SegmentState::Free));
+    /// assert_eq!(states.next(), None);
+    /// # Ok::<(), borvukhai::Refusal>(())
+    /// ```
+    pub fn states<'o>(&self, output: &'o mut [u32]) -> Result<States<'o>> {
+        raw::states(self.segments().count(), self.memory(), output)?;
+        States::of(output)
+    }
+
+    /// The examination: whether the memory is consistent, through a scratch of
+    /// [`Segments::scratch_length`](crate::Segments::scratch_length) words of any content, which ends all 0. Refused Size where the
+    /// scratch has another length.
+    pub fn examine(&self, scratch: &mut [u32]) -> Result<bool> {
+        raw::examine(self.segments().count(), self.memory(), scratch)
+    }
+}
+
+#[cfg(test)]
+mod tests {
+    use super::*;
+
+    #[test]
+    fn numbers_off_the_tables_are_torn() {
+        assert_eq!(Phase::unpack(5), Err(Refusal::Torn));
+        assert_eq!(SegmentState::unpack(&[5, 12, 0, 0]), Err(Refusal::Torn));
+        assert_eq!(SegmentState::unpack(&[2, 12, 0, 32]), Err(Refusal::Torn));
+        assert!(States::of(&[0, 0, 0, 0, 5, 12, 0, 0]).is_err());
+    }
+}

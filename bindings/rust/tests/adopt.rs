@@ -1,0 +1,104 @@
+//! Memory that holds a heap already: taken up as it was, refused where it is torn, and safe where it is not examined.
+
+mod common;
+
+use borvukhai::{Heap, Refusal, Root, Segments, Shape, Step};
+use common::{OFF_HEAP, ONE, SCRATCH, at, fresh, full, id};
+
+#[test]
+fn a_heap_goes_on_in_the_middle_of_a_cycle() {
+    let mut words = full();
+    let mut heap = Heap::open(ONE, &mut words[..]).unwrap();
+    let mut mutator = heap.attach(id(9)).unwrap();
+    for root in [Root::R0, Root::R1, Root::R1, Root::R1] {
+        mutator.make(root, Shape::new(1, 600)).unwrap();
+    }
+    mutator.put(Root::R0, 599, 123).unwrap();
+    heap.start().unwrap();
+    assert_eq!(heap.step(), Ok(Step::Waiting(1)));
+
+    let mut heap = Heap::adopt(ONE, words, &mut [7; SCRATCH]).unwrap();
+    assert_eq!(heap.finish_cycle(), Ok(2));
+    assert_eq!(heap.mutator(id(9)).get(Root::R0, 599), Ok(123));
+}
+
+#[test]
+fn torn_memory_is_refused_and_handed_back() {
+    let breaks: [(usize, u32); 6] =
+        [(at::PHASE, 5), (at::TRACE_COUNT, 1), (at::ROOT, OFF_HEAP), (at::HELD, 1), (at::TAG, 0), (at::FREE_COUNT, 1)];
+    for (word, value) in breaks {
+        let mut words = full();
+        words[word] = value;
+        let mut scratch = [7; SCRATCH];
+        let refused = Heap::adopt(ONE, words.clone(), &mut scratch).unwrap_err();
+        assert_eq!(refused.refusal, Refusal::Torn, "word {word}");
+        assert!(refused.memory == words, "word {word}");
+        assert_eq!(scratch, [0; SCRATCH]);
+    }
+}
+
+#[test]
+fn another_length_is_refused() {
+    for scratch in [0, SCRATCH - 1, SCRATCH + 1] {
+        let refused = Heap::adopt(ONE, fresh(), &mut vec![0; scratch]).unwrap_err();
+        assert_eq!(refused.refusal, Refusal::Size);
+    }
+    let two = Segments::new(2).unwrap();
+    let refused = Heap::adopt(two, fresh(), &mut vec![0; two.scratch_length()]).unwrap_err();
+    assert_eq!(refused.refusal, Refusal::Size);
+}
+
+/// Numbers by a xorshift.
+struct Dice(u64);
+
+impl Dice {
+    fn below(&mut self, n: u32) -> u32 {
+        self.0 ^= self.0 << 13;
+        self.0 ^= self.0 >> 7;
+        self.0 ^= self.0 << 17;
+        (self.0 >> 32) as u32 % n
+    }
+    fn root(&mut self) -> Root {
+        Root::new(self.below(16)).unwrap()
+    }
+}
+
+/// One call of any kind; what it answers does not matter.
+fn any_call(heap: &mut Heap<Vec<u32>>, dice: &mut Dice) {
+    let mut mutator = heap.mutator(id(dice.below(32)));
+    let (a, b, field) = (dice.root(), dice.root(), dice.below(4));
+    let _ = match dice.below(14) {
+        0 => mutator.make(a, Shape::new(field, dice.below(1024))),
+        1 => mutator.load(a, b, field),
+        2 => mutator.store(a, field, b),
+        3 => mutator.put(a, field, field),
+        4 => mutator.get(a, field).map(drop),
+        5 => mutator.copy(a, b),
+        6 => mutator.same(a, b).map(drop),
+        7 => mutator.shape(a).map(drop),
+        8 => mutator.check(),
+        9 => mutator.leave(),
+        10 => mutator.enter(),
+        11 => mutator.detach(),
+        12 => heap.start(),
+        _ => heap.step().map(drop),
+    };
+    let _ = heap.states(&mut [0; 4]).map(Iterator::count);
+}
+
+#[test]
+fn calls_over_words_of_any_content_end() {
+    let mut dice = Dice(0x9e37_79b9_7f4a_7c15);
+    for round in 0..200 {
+        let mut words = full();
+        for _ in 0..1 << (round % 13) {
+            let word = dice.below(words.len() as u32) as usize;
+            words[word] = if round % 2 == 0 { dice.below(u32::MAX) } else { dice.below(40) };
+        }
+        let mut heap = Heap::adopt_unexamined(ONE, words).unwrap();
+        for _ in 0..100 {
+            any_call(&mut heap, &mut dice);
+        }
+        let _ = heap.finish_cycle();
+    }
+}

@@ -1,0 +1,131 @@
+//! Many cycles beside two mutators at work: each keeps a list of records and always finds in it what it put there. The heap is far too
+//! small for all the records that are made, so the lists live on blocks that cycles freed.
+#![cfg(feature = "alloc")]
+
+mod common;
+
+use std::collections::VecDeque;
+
+use borvukhai::{Heap, Mutator, Refusal, Result, Root, Segments, Shape, Step};
+use common::id;
+
+const SEGMENTS: Segments = Segments::new(4).unwrap();
+const LIST: usize = 300;
+const CYCLES: u32 = 200;
+
+const FIRST: Root = Root::R0;
+const LAST: Root = Root::R1;
+const NEW: Root = Root::R2;
+const NODE: Shape = Shape::new(1, 1);
+
+/// A list in a mutator's roots FIRST and LAST, and what it should hold.
+#[derive(Default)]
+struct Queue {
+    expected: VecDeque<u32>,
+}
+
+impl Queue {
+    fn push(&mut self, mutator: &mut Mutator<'_>, value: u32) -> Result<()> {
+        mutator.make(NEW, NODE)?;
+        mutator.put(NEW, 0, value)?;
+        if self.expected.is_empty() {
+            mutator.copy(FIRST, NEW)?;
+        } else {
+            mutator.store(LAST, 0, NEW)?;
+        }
+        mutator.copy(LAST, NEW)?;
+        mutator.clear(NEW)?;
+        self.expected.push_back(value);
+        Ok(())
+    }
+
+    fn pop(&mut self, mutator: &mut Mutator<'_>) -> Result<()> {
+        assert_eq!(mutator.get(FIRST, 0).ok(), self.expected.pop_front());
+        mutator.load(FIRST, FIRST, 0)
+    }
+
+    fn walk(&self, mutator: &mut Mutator<'_>) -> Result<()> {
+        mutator.copy(NEW, FIRST)?;
+        for &value in &self.expected {
+            assert_eq!(mutator.get(NEW, 0), Ok(value));
+            mutator.load(NEW, NEW, 0)?;
+        }
+        assert_eq!(mutator.shape(NEW), Err(Refusal::Dark), "the list ends");
+        Ok(())
+    }
+}
+
+/// One turn of a mutator: an acknowledgement, a record more, and one less where there are many.
+fn turn(queue: &mut Queue, mutator: &mut Mutator<'_>, value: u32) -> Result<()> {
+    mutator.check()?;
+    queue.push(mutator, value)?;
+    if queue.expected.len() > LIST { queue.pop(mutator) } else { Ok(()) }
+}
+
+fn examined(heap: &Heap<Box<[u32]>>) -> bool {
+    heap.examine(&mut vec![1; SEGMENTS.scratch_length()]) == Ok(true)
+}
+
+#[test]
+fn lists_live_through_cycles() -> Result<()> {
+    let mut heap = Heap::new(SEGMENTS);
+    let mut queues = [Queue::default(), Queue::default()];
+    heap.attach(id(0))?;
+    heap.attach(id(1))?;
+    let (mut cycles, mut made) = (0, 0);
+    while cycles < CYCLES {
+        assert!(made < 1000 * CYCLES * SEGMENTS.count(), "{cycles} cycles only");
+        for (number, queue) in queues.iter_mut().enumerate() {
+            turn(queue, &mut heap.mutator(id(number as u32)), made)?;
+            made += 1;
+            let _ = heap.start(); // where a segment is full and no cycle runs
+            for _ in 0..3 {
+                if heap.step()? == Step::Done {
+                    cycles += 1;
+                    assert!(examined(&heap));
+                }
+            }
+        }
+    }
+    assert!(made > 100 * LIST as u32, "{made} records in {cycles} cycles");
+    for (number, queue) in queues.iter().enumerate() {
+        queue.walk(&mut heap.mutator(id(number as u32)))?;
+    }
+    Ok(())
+}
+
+#[test]
+fn a_cycle_in_one_call_makes_room() -> Result<()> {
+    let mut heap = Heap::new(Segments::MIN);
+    heap.attach(id(0))?;
+    heap.attach(id(1))?.leave()?;
+    let mut freed = 0;
+    for made in 1..=10_000 {
+        if heap.mutator(id(0)).make(FIRST, Shape::new(0, 1000)) == Err(Refusal::NoRoom) {
+            heap.start()?;
+            freed += heap.finish_cycle()?;
+            assert!(heap.mutator(id(0)).make(FIRST, Shape::new(0, 1000)).is_ok());
+        }
+        assert!(made - freed <= 4);
+    }
+    assert_eq!(heap.finish_cycle(), Ok(0), "no cycle runs");
+    Ok(())
+}
+
+/// The bound of finish_cycle is met by a heap full of the smallest records, all of them alive.
+#[test]
+fn a_cycle_of_all_the_blocks_ends_within_the_bound() -> Result<()> {
+    let mut heap = Heap::new(SEGMENTS);
+    let mut mutator = heap.attach(id(0))?;
+    while mutator.make(NEW, Shape::new(1, 0)).is_ok() {
+        mutator.store(NEW, 0, FIRST)?;
+        mutator.copy(FIRST, NEW)?;
+    }
+    heap.start()?;
+    assert_eq!(heap.finish_cycle(), Ok(0));
+    heap.mutator(id(0)).clear(FIRST)?;
+    heap.mutator(id(0)).clear(NEW)?;
+    heap.start()?;
+    assert_eq!(heap.finish_cycle(), Ok(2048 * SEGMENTS.count()));
+    Ok(())
+}

@@ -1,0 +1,75 @@
+//! The looks: a segment through its five states, the phases of a cycle, the examination, and that none of them changes the memory.
+
+mod common;
+
+use borvukhai::{Heap, Phase, Refusal, Root, SegmentState, Step};
+use common::{ONE, SCRATCH, SHAPE, at, fresh, full, id};
+
+fn state(heap: &Heap<Vec<u32>>) -> SegmentState {
+    let before = heap.memory().to_vec();
+    let mut output = [9; 4];
+    let mut states = heap.states(&mut output).unwrap();
+    assert_eq!(states.len(), 1);
+    let state = states.next().unwrap();
+    assert_eq!((states.len(), states.next()), (0, None));
+    assert!(heap.memory() == before, "a word has changed");
+    state
+}
+
+#[test]
+fn the_states_of_a_segment() {
+    let mut heap = Heap::open(ONE, vec![0; ONE.length()]).unwrap();
+    assert_eq!(state(&heap), SegmentState::Free);
+    heap.attach(id(7)).unwrap().make(Root::R0, SHAPE).unwrap();
+    assert_eq!(state(&heap), SegmentState::Held { class: 12, place: 1, mutator: id(7) });
+    heap.spawn(id(0), id(7), Root::R0).unwrap();
+    heap.mutator(id(7)).detach().unwrap();
+    assert_eq!(state(&heap), SegmentState::Part { class: 12, place: 1 });
+    for _ in 0..3 {
+        heap.mutator(id(0)).make(Root::R1, SHAPE).unwrap();
+    }
+    assert_eq!(state(&heap), SegmentState::Full { class: 12, place: 4 });
+    heap.start().unwrap();
+    assert_eq!(state(&heap), SegmentState::Condemned { class: 12, place: 4 });
+    assert_eq!(heap.finish_cycle(), Ok(2));
+    assert_eq!(state(&heap), SegmentState::Part { class: 12, place: 0 });
+}
+
+#[test]
+fn the_phases_of_a_cycle() {
+    let mut heap = Heap::adopt_unexamined(ONE, full()).unwrap();
+    assert_eq!(heap.phase(), Ok(Phase::Idle));
+    heap.start().unwrap();
+    assert_eq!(heap.phase(), Ok(Phase::Sync1));
+    heap.mutator(id(0)).leave().unwrap();
+    for (traced, then) in [(0, Phase::Sync2), (0, Phase::Mark), (4, Phase::Sweep)] {
+        for _ in 0..traced {
+            assert_eq!(heap.step(), Ok(Step::Traced));
+        }
+        assert_eq!(heap.step(), Ok(Step::Moved));
+        assert_eq!(heap.phase(), Ok(then));
+    }
+    assert_eq!(heap.step(), Ok(Step::Swept { segment: 0, freed: 0 }));
+    assert_eq!(heap.step(), Ok(Step::Done));
+    assert_eq!(heap.phase(), Ok(Phase::Idle));
+    assert_eq!(heap.step(), Ok(Step::Idle));
+}
+
+#[test]
+fn the_examination() {
+    for (words, consistent) in [(fresh(), true), (full(), true), (vec![u32::MAX; ONE.length()], false)] {
+        let heap = Heap::adopt_unexamined(ONE, words.clone()).unwrap();
+        let mut scratch = [0xffff_ffff; SCRATCH];
+        assert_eq!(heap.examine(&mut scratch), Ok(consistent));
+        assert_eq!(scratch, [0; SCRATCH]);
+        assert_eq!(heap.into_memory(), words);
+    }
+}
+
+#[test]
+fn a_holder_over_31_is_torn() {
+    let mut words = fresh();
+    words[at::TAG..at::TAG + 4].copy_from_slice(&[2, 12, 0, 32]);
+    let heap = Heap::adopt_unexamined(ONE, words).unwrap();
+    assert_eq!(heap.states(&mut [0; 4]).unwrap_err(), Refusal::Torn);
+}

@@ -1,0 +1,61 @@
+//! The error itself: numbers, words, sentences, conversions.
+
+use std::collections::HashSet;
+use std::error::Error;
+
+use borvukhai::{Heap, MutatorId, NoRefusal, Refusal, Root, Segments};
+
+const WORDS: [&str; 13] =
+    ["size", "script", "taken", "absent", "side", "slot", "dark", "field", "too big", "no room", "not now", "none full", "torn"];
+
+#[test]
+fn numbers_and_words_of_document_01() {
+    for (i, refusal) in Refusal::ALL.into_iter().enumerate() {
+        let number = i as u32 + 1;
+        assert_eq!(refusal.number(), number);
+        assert_eq!(u32::from(refusal), number);
+        assert_eq!(Refusal::try_from(number), Ok(refusal));
+        assert_eq!(refusal.word(), WORDS[i]);
+    }
+}
+
+#[test]
+fn other_numbers_are_no_refusal() {
+    for number in [0, 14, u32::MAX] {
+        assert_eq!(Refusal::try_from(number), Err(NoRefusal(number)));
+        assert_eq!(Refusal::from_number(number), None);
+    }
+    assert_eq!(NoRefusal(14).to_string(), "14 is not the number of a refusal, 1 to 13");
+}
+
+#[test]
+fn a_sentence_of_its_own_for_each() {
+    let sentences: HashSet<String> = Refusal::ALL.iter().map(Refusal::to_string).collect();
+    assert_eq!(sentences.len(), 13);
+    assert!(sentences.iter().all(|sentence| !sentence.is_empty() && !sentence.ends_with('.')));
+}
+
+fn opened(words: &mut [u32]) -> Result<(), Box<dyn Error + '_>> {
+    Heap::open(Segments::MIN, words)?;
+    Ok(())
+}
+
+#[test]
+fn an_error_like_others() {
+    let error: Box<dyn Error + Send + Sync> = Refusal::NoRoom.into();
+    assert_eq!(error.downcast_ref::<Refusal>(), Some(&Refusal::NoRoom));
+    assert_eq!(opened(&mut [0; 3]).unwrap_err().to_string(), Refusal::Size.to_string());
+}
+
+#[test]
+fn numbers_of_mutators_and_roots() {
+    assert_eq!(MutatorId::all().map(u32::from).collect::<Vec<_>>(), (0..32).collect::<Vec<_>>());
+    assert_eq!(Root::all().map(u32::from).collect::<Vec<_>>(), (0..16).collect::<Vec<_>>());
+    assert_eq!((Root::R0.number(), Root::R9.number(), Root::R15.number()), (0, 9, 15));
+    for number in [32, u32::MAX] {
+        assert_eq!(MutatorId::try_from(number), Err(Refusal::Script));
+    }
+    for number in [16, u32::MAX] {
+        assert_eq!(Root::try_from(number), Err(Refusal::Slot));
+    }
+}
