@@ -4,9 +4,9 @@
  * asks nothing of the numbers and nothing of what the words hold: it answers a result, or one refusal of the list below, always. It
  * keeps nothing between calls but the words of the slice.
  *
- * A lent slice: a pointer that is not null, aligned to 4 bytes, to so many words that may be read (and written, where it is not const),
- * which overlap no other slice of the call, and which nobody else reads or writes while the call runs. Only one call at a time may run
- * over one slice: a call is not to be interrupted by another one over the same slice.
+ * A lent slice: a pointer that is not null, aligned to 4 bytes, also where the length is 0, to so many words that may be read (and
+ * written, where it is not const), which overlap no other slice of the call. While a call runs nobody else writes to its slices, nor reads
+ * those that are not const: so a call that changes the heap is not to be interrupted by another call over the same slice.
  *
  * The terms: a mutator (document 01: script) is 0 to 31, a root (document 01: slot) 0 to 15. A record has pointers (document 01: links),
  * numbered from 0, and values (document 01: numbers), numbered from 0. A reference never leaves the heap: records are named by roots.
@@ -60,8 +60,8 @@ enum {
 };
 
 /* States of a segment: the first of its four words in the output of borvukhai_states. The others are its class (3 to 12), its place (the
- * next block to look at; the number of blocks where it is full or condemned) and the mutator that holds it; a word that a state does
- * not have is 0. */
+ * next block to look at; the number of blocks where it is full or condemned) and the mutator that holds it; in memory that passes the
+ * examination a word that a state does not have is 0. Over other memory place and mutator may be any number. */
 enum {
     BORVUKHAI_SEGMENT_FREE = 0,
     BORVUKHAI_SEGMENT_PART = 1,      /* class, place */
@@ -71,6 +71,11 @@ enum {
 };
 
 /* ---- lengths, in words; 0 for a count that is not 1 to 256 */
+
+/* The same as constants, for arrays and a count that is 1 to 256. */
+#define BORVUKHAI_LENGTH(segments) (6354u * (segments) + 1037u)
+#define BORVUKHAI_STATES_LENGTH(segments) (4u * (segments))
+#define BORVUKHAI_SCRATCH_LENGTH(segments) (2176u * (segments))
 
 /* The slice that every call is lent: 6354 n + 1037 words for n segments. */
 size_t borvukhai_length(uint32_t segments);

@@ -6,7 +6,7 @@
 #include <string.h>
 
 #define SEGMENTS 2u
-#define WORDS (6354u * SEGMENTS + 1037u) /* borvukhai_length(SEGMENTS) */
+#define WORDS BORVUKHAI_LENGTH(SEGMENTS)
 
 static uint32_t memory[WORDS];
 #define HEAP SEGMENTS, memory, WORDS /* the first three arguments of every call */

@@ -7,9 +7,9 @@
 
 /* One heap of a segment is enough for every refusal; the lengths are those of the header. */
 #define SEGMENTS 1u
-#define WORDS 7391u   /* 6354 + 1037 */
-#define STATES 4u
-#define SCRATCH 2176u
+#define WORDS BORVUKHAI_LENGTH(SEGMENTS)
+#define STATES BORVUKHAI_STATES_LENGTH(SEGMENTS)
+#define SCRATCH BORVUKHAI_SCRATCH_LENGTH(SEGMENTS)
 #define MANY 0xffffffffu
 
 /* Each slice has one word more than is lent, for lengths that are too long by one. */
@@ -294,7 +294,7 @@ static void torn(void) {
     expect("torn", "states keeps the output", output[0], MANY);
 }
 
-/* The formulas of docs/LAYOUT.md, and 0 for a count that is not 1 to 256. */
+/* The formulas of docs/LAYOUT.md, the header's constants the same, and 0 for a count that is not 1 to 256. */
 static void lengths(void) {
     static const uint32_t none[] = {0, 257, 258, 65536, 0x80000000u, MANY};
     uint32_t n;
@@ -303,6 +303,9 @@ static void lengths(void) {
         expect("lengths", "memory", (unsigned long)borvukhai_length(n), 6354ul * n + 1037ul);
         expect("lengths", "output", (unsigned long)borvukhai_states_length(n), 4ul * n);
         expect("lengths", "scratch", (unsigned long)borvukhai_scratch_length(n), 2176ul * n);
+        expect("lengths", "constant of the memory", (unsigned long)BORVUKHAI_LENGTH(n), (unsigned long)borvukhai_length(n));
+        expect("lengths", "constant of the output", (unsigned long)BORVUKHAI_STATES_LENGTH(n), (unsigned long)borvukhai_states_length(n));
+        expect("lengths", "constant of the scratch", (unsigned long)BORVUKHAI_SCRATCH_LENGTH(n), (unsigned long)borvukhai_scratch_length(n));
     }
     for (i = 0; i < sizeof none / sizeof none[0]; i++) {
         expect("lengths", "memory", (unsigned long)borvukhai_length(none[i]), 0);
