@@ -1,6 +1,6 @@
 #!/usr/bin/env python3
 """Rows from callgrind's dumps: counts.py PREFIX DUMP.. prints, for each dump that a row made, its name, the probe's count
-and the count of the calls alone (what the functions named PREFIX.. and all below them cost when called from a probe)."""
+and the count of the calls alone (what the functions named PREFIX.. and all below them cost when a workload calls them)."""
 import sys
 
 
@@ -23,7 +23,7 @@ def read(path, prefix):
             after_calls = True
         elif after_calls:
             after_calls = False
-            if callee.startswith(prefix) and function.startswith("probe_"):
+            if callee.startswith(prefix) and not function.startswith(prefix):
                 alone += int(line.split()[1])
         elif line.startswith("summary: "):
             total = int(line.split()[1])

@@ -1,0 +1,94 @@
+/* Times, in nanoseconds a call, of the workloads that the other programs count: one line each. The machine may be busy, so
+ * bench/run runs it many times, the libraries in turn, and compares within a turn. */
+#include "build.h"
+#include "clock.h"
+#include "mutate.h"
+
+#define CALLS 200000
+
+/* `call` so often, its answer checked each time. */
+#define TIME(name, call, expected)                                            \
+    do {                                                                      \
+        u64 begin_ = now();                                                   \
+        for (u32 i = 0; i < CALLS; i++) MUST(call, expected);                 \
+        printf("%s\t%.3f\n", name, (double)(now() - begin_) / CALLS);         \
+    } while (0)
+
+static void time_fields(void) {
+    struct heap heap = heap_with_mutator(256), *h = &heap;
+    MUST(HEAP(make)(OVER(h), 0, 0, 2, 2), 0);
+    MUST(HEAP(make)(OVER(h), 0, 1, 2, 2), 0);
+    TIME("store: nothing", HEAP(store)(OVER(h), 0, 0, 1, 1), 0);
+    TIME("load", HEAP(load)(OVER(h), 0, 2, 0, 1), 0);
+    TIME("put", HEAP(put)(OVER(h), 0, 0, 1, 77), 0);
+    TIME("get", HEAP(get)(OVER(h), 0, 0, 1), RESULT(77));
+    TIME("copy", HEAP(copy)(OVER(h), 0, 4, 0), 0);
+    TIME("same", HEAP(same)(OVER(h), 0, 4, 0), RESULT(1));
+    TIME("shape", HEAP(shape)(OVER(h), 0, 0), RESULT(2 << 16 | 2));
+    TIME("clear", HEAP(clear)(OVER(h), 0, 4), 0);
+    TIME("check, idle", HEAP(check)(OVER(h), 0), 0);
+    heap_close(h);
+}
+
+/* An empty heap of 256 segments filled; the first filling, not timed, touches the memory. */
+static void time_make(u32 pointers, u32 values, const char *name) {
+    struct heap h = heap_with_mutator(256);
+    build_dead(&h, pointers, values);
+    heap_reopen(&h);
+    u64 begin = now();
+    u32 made = build_dead(&h, pointers, values);
+    printf("%s\t%.3f\n", name, (double)(now() - begin) / made);
+    heap_close(&h);
+}
+
+static void time_cycle(struct heap *h, u32 records, const char *name) {
+    u32 traced = 0, kind;
+    u64 begin = now();
+    MUST(HEAP(start)(OVER(h)), 0);
+    do {
+        kind = borvukhai_step_kind(HEAP(step)(OVER(h)));
+        if (kind == BORVUKHAI_STEP_WAITING) MUST(HEAP(check)(OVER(h), 0), 0);
+        if (kind == BORVUKHAI_STEP_TRACED) traced++;
+    } while (kind != BORVUKHAI_STEP_DONE);
+    u64 end = now();
+    printf("%s\t%.3f\n", name, (double)(end - begin) / records);
+    if (traced != 0) MUST(traced, records);
+}
+
+static void time_cycles(u32 segments) {
+    char name[96];
+    struct heap h = heap_with_mutator(segments);
+    u32 live = build_graph(&h, 1);
+    snprintf(name, sizeof name, "cycle, %u segments, half live", segments);
+    time_cycle(&h, live, name);
+    heap_reopen(&h);
+    build_dead(&h, 0, 1);
+    snprintf(name, sizeof name, "cycle, %u segments, dead, class 3", segments);
+    time_cycle(&h, segments, name);
+    heap_close(&h);
+}
+
+static void time_pace(u32 pace) {
+    struct heap h = heap_open(64);
+    struct mutate w = mutate_begin(&h);
+    w.pace = pace;
+    u64 begin = now();
+    while (w.calls < (pace == 0 ? 100000 : 400000)) mutate_turn(&w);
+    u64 end = now();
+    if (pace == 0) printf("mutation, no collector\t%.3f\n", (double)(end - begin) / w.calls);
+    else printf("mutation, a step every %u calls\t%.3f\n", pace, (double)(end - begin) / w.calls);
+    heap_close(&h);
+}
+
+int main(void) {
+    time_fields();
+    time_make(1, 1, "make 1+1");
+    time_make(8, 8, "make 8+8");
+    time_cycles(64);
+    time_cycles(256);
+    time_pace(0);
+    time_pace(16);
+    time_pace(4);
+    time_pace(1);
+    return 0;
+}
