@@ -1,5 +1,6 @@
 /* The churn workload on Boehm's collector. A record is its pointers, of 8 bytes, and then the header and the values, of 4
  * bytes each: 16 bytes for 1 + 1, 104 for 8 + 8. The heap may grow to so many bytes as the other side is lent. */
+#define GC_THREADS /* declares GC_set_markers_count: one core marks, as on the other side */
 #include <gc.h>
 
 #include "churn.h"
@@ -39,11 +40,14 @@ static void build_live(const struct churn *c) {
     GC_gcollect();
 }
 
-static void churn(struct churn *c) {
+static void churn(struct churn *c, const char *path) {
+    uint64_t begin = now();
     for (uint32_t i = 0; i < c->makes; i++) TIMED(c, recent[i % 8] = make(c));
+    if (c->seen == NULL) churn_report_total(c, begin);
+    else churn_report_calls(c, path);
 }
 
-/* Makes alone: a heap's blocks of dead records, collected, and then made again while no collection may start. */
+/* Makes alone: so many dead records as the heap has blocks, collected, then as many again while no collection may start. */
 static void fill(const struct churn *c) {
     uint32_t blocks = c->makes / 2;
     for (uint32_t i = 0; i < blocks; i++) recent[i % 8] = make(c);
@@ -64,16 +68,14 @@ static uint32_t live_records(void) {
 int main(int argc, char **argv) {
     struct churn c = churn_read(argc, argv);
     GC_set_all_interior_pointers(0);
-    GC_set_max_heap_size((size_t)c.segments * 6354 * 4 + 1037 * 4);
+    GC_set_max_heap_size(((size_t)c.segments * 6354 + 1037) * 4);
+    GC_set_markers_count(1);
     GC_INIT();
-    if (argc > 5 && strcmp(argv[5], "incremental") == 0) GC_enable_incremental();
+    if (getenv("BENCH_INCREMENTAL") != NULL) GC_enable_incremental();
     if (strcmp(argv[4], "fill") == 0) return fill(&c), 0;
     build_live(&c);
-    uint64_t begin = now();
-    GC_word collections = GC_get_gc_no();
-    churn(&c);
-    churn_report(&c, begin, argv[4]);
-    if (live_records() != c.live) return fprintf(stderr, "boehm: a live record is lost\n"), 1;
-    fprintf(stderr, "boehm: %lu collections, heap of %zu bytes%s\n", (unsigned long)(GC_get_gc_no() - collections), GC_get_heap_size(), GC_is_incremental_mode() ? ", incremental" : "");
+    GC_word before = GC_get_gc_no();
+    churn(&c, argc > 5 ? argv[5] : NULL);
+    if (live_records() != c.live || GC_get_gc_no() == before) return fprintf(stderr, "boehm: a live record is lost, or none was collected\n"), 1;
     return 0;
 }

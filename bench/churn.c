@@ -1,12 +1,14 @@
 /* The churn workload on the heap: the collector starts after 5/16 of the heap's blocks were made, and takes eight steps after
- * each make until it is done. A make that finds no room is an error: the pace is to be enough. */
+ * each make until it is done. A make that finds no room is an error: the pace is to be enough. Where single calls are timed
+ * the run is played nine times, and a call's length is the least that it took: every turn makes the same calls. */
+#include "build.h"
 #include "churn.h"
-#include "heap.h"
 
 #define HEAD 0     /* the root that reaches the live set */
 #define NEW 1      /* of the live record in the making */
 #define RECENT 2   /* to 13, live records that new ones may point to; then the last eight short-lived ones in 2 to 9 */
 #define STEPS 8
+#define TURNS 9
 
 static void make_live(struct heap *h, const struct churn *c, u64 *random) {
     MUST(HEAP(make)(OVER(h), 0, NEW, c->pointers, c->values), 0);
@@ -16,7 +18,7 @@ static void make_live(struct heap *h, const struct churn *c, u64 *random) {
     MUST(HEAP(copy)(OVER(h), 0, HEAD, NEW), 0);
 }
 
-/* One call of the collector's side; answers whether the cycle is over. */
+/* One step of the collector; answers whether the cycle is over. */
 static int step_once(struct heap *h) {
     u64 answer = HEAP(step)(OVER(h));
     if (borvukhai_refusal(answer) != 0) wrong("step", answer, 0, __FILE__, __LINE__);
@@ -49,13 +51,45 @@ static void churn(struct heap *h, struct churn *c) {
     }
 }
 
+static void churn_total(struct heap *h, struct churn *c) {
+    build_live(h, c);
+    u64 begin = now();
+    churn(h, c);
+    churn_report_total(c, begin);
+}
+
+static void churn_each(struct heap *h, struct churn *c, const char *path) {
+    for (c->turn = 0; c->turn < TURNS; c->turn++) {
+        if (c->turn != 0) heap_reopen(h);
+        c->count = 0;
+        build_live(h, c);
+        churn(h, c);
+    }
+    churn_report_calls(c, path);
+}
+
+/* Makes alone: an empty heap filled, the second time after its memory has been touched. */
+static void churn_fill(struct heap *h, struct churn *c) {
+    build_dead(h, c->pointers, c->values);
+    heap_reopen(h);
+    u64 begin = now();
+    u32 made = build_dead(h, c->pointers, c->values);
+    printf("%.3f\n", (double)(now() - begin) / made);
+}
+
+/* What the machine adds: so many empty calls as a turn has, the longest of them as seen. */
+static void churn_nothing(struct churn *c) {
+    for (u32 i = 0; i < 4 * c->makes; i++) TIMED(c, (void)0);
+    churn_report_calls(c, NULL);
+}
+
 int main(int argc, char **argv) {
     struct churn c = churn_read(argc, argv);
     struct heap h = heap_with_mutator(c.segments);
-    build_live(&h, &c);
-    u64 begin = now();
-    churn(&h, &c);
-    churn_report(&c, begin, argv[4]);
+    if (strcmp(argv[4], "fill") == 0) churn_fill(&h, &c);
+    else if (c.seen == NULL) churn_total(&h, &c);
+    else if (argc > 5 && strcmp(argv[5], "nothing") == 0) churn_nothing(&c);
+    else churn_each(&h, &c, argc > 5 ? argv[5] : NULL);
     heap_close(&h);
     return 0;
 }

@@ -1,6 +1,6 @@
 /* The churn workload, of which churn.c is the heap's side and boehm.c Boehm's: a live set of half of the heap's blocks, made
  * with a dead record after each live one, and then short-lived records of the same shape, the last eight of which are
- * held. Every call is timed, or none. */
+ * held. Either the whole is timed, or every single call. */
 #ifndef BENCH_CHURN_H
 #define BENCH_CHURN_H
 
@@ -12,12 +12,15 @@
 
 #include "clock.h"
 
+#define MOST_CALLS 8 /* for each record made: itself, and what the collector's side does for it on the average */
+
 struct churn {
     uint32_t segments, pointers, values;
     uint32_t live;    /* records of the live set */
     uint32_t makes;   /* short-lived records, so many as twice the heap's blocks */
-    uint32_t *calls;  /* the length of each call in ns; NULL where none is timed */
-    uint32_t count;
+    uint32_t *seen;   /* the length of each call in ns in the first turn; NULL where calls are not timed */
+    uint32_t *least;  /* the least that the same call took in any turn */
+    uint32_t turn, count;
 };
 
 /* Blocks of 2^c bytes that hold 1 + fields words, in segments of 16 KiB. */
@@ -29,47 +32,62 @@ static inline uint32_t blocks_of(uint32_t segments, uint32_t fields) {
 
 static inline struct churn churn_read(int argc, char **argv) {
     if (argc < 5) {
-        fprintf(stderr, "usage: %s SEGMENTS POINTERS VALUES total|each|FILE ..\n", argv[0]);
+        fprintf(stderr, "usage: %s SEGMENTS POINTERS VALUES total|each|fill [FILE]\n", argv[0]);
         exit(2);
     }
-    struct churn c = {(uint32_t)atoi(argv[1]), (uint32_t)atoi(argv[2]), (uint32_t)atoi(argv[3]), 0, 0, NULL, 0};
+    struct churn c = {(uint32_t)atoi(argv[1]), (uint32_t)atoi(argv[2]), (uint32_t)atoi(argv[3]), 0, 0, NULL, NULL, 0, 0};
     uint32_t blocks = blocks_of(c.segments, c.pointers + c.values);
     c.live = blocks / 2;
     c.makes = 2 * blocks;
-    if (strcmp(argv[4], "total") != 0) c.calls = calloc(8 * (size_t)c.makes, sizeof *c.calls);
+    if (strcmp(argv[4], "each") == 0) {
+        c.seen = calloc(MOST_CALLS * (size_t)c.makes, sizeof *c.seen);
+        c.least = calloc(MOST_CALLS * (size_t)c.makes, sizeof *c.least);
+    }
     return c;
 }
 
 static inline void churn_timed(struct churn *c, uint64_t begin) {
     uint64_t length = now() - begin;
-    c->calls[c->count++] = length > UINT32_MAX ? UINT32_MAX : (uint32_t)length;
+    uint32_t i = c->count++;
+    if (i >= MOST_CALLS * c->makes) abort();
+    if (c->turn == 0) c->seen[i] = c->least[i] = (uint32_t)length;
+    else if (length < c->least[i]) c->least[i] = (uint32_t)length;
 }
 /* `statement`, timed where calls are. */
-#define TIMED(c, statement)                              \
-    do {                                                 \
-        uint64_t begin_ = (c)->calls ? now() : 0;        \
-        statement;                                       \
-        if ((c)->calls) churn_timed(c, begin_);          \
+#define TIMED(c, statement)                       \
+    do {                                          \
+        uint64_t begin_ = (c)->seen ? now() : 0;  \
+        statement;                                \
+        if ((c)->seen) churn_timed(c, begin_);    \
     } while (0)
 
-static inline void churn_write(const struct churn *c, const char *path) {
+static inline uint32_t longest_of(const uint32_t *lengths, uint32_t count) {
+    uint32_t longest = 0;
+    for (uint32_t i = 0; i < count; i++) longest = lengths[i] > longest ? lengths[i] : longest;
+    return longest;
+}
+
+static inline void churn_write(const uint32_t *lengths, uint32_t count, const char *path) {
     FILE *file = fopen(path, "wb");
-    if (file == NULL || fwrite(c->calls, sizeof *c->calls, c->count, file) != c->count || fclose(file) != 0) {
+    if (file == NULL || fwrite(lengths, sizeof *lengths, count, file) != count || fclose(file) != 0) {
         perror(path);
         exit(1);
     }
 }
 
-/* The result: in "total" the time for each short-lived record with its share of the collector's work, else the longest call. */
-static inline void churn_report(const struct churn *c, uint64_t begin, const char *mode) {
-    uint32_t longest = 0;
-    if (c->calls == NULL) {
-        printf("%.3f\n", (double)(now() - begin) / c->makes);
-        return;
-    }
-    for (uint32_t i = 0; i < c->count; i++) longest = c->calls[i] > longest ? c->calls[i] : longest;
-    printf("%" PRIu32 "\n", longest);
-    if (strcmp(mode, "each") != 0) churn_write(c, mode);
+/* The longest call, by its least length and as seen in the first turn; the lengths into FILE and FILE.seen. */
+static inline void churn_report_calls(const struct churn *c, const char *path) {
+    char seen[4096];
+    printf("%" PRIu32 "\t%" PRIu32 "\n", longest_of(c->least, c->count), longest_of(c->seen, c->count));
+    if (path == NULL) return;
+    snprintf(seen, sizeof seen, "%s.seen", path);
+    churn_write(c->least, c->count, path);
+    churn_write(c->seen, c->count, seen);
+}
+
+/* The time for each short-lived record with its share of the collector's work. */
+static inline void churn_report_total(const struct churn *c, uint64_t begin) {
+    printf("%.3f\n", (double)(now() - begin) / c->makes);
 }
 
 #endif
