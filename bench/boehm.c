@@ -41,9 +41,9 @@ static void build_live(const struct churn *c) {
 }
 
 static void churn(struct churn *c, const char *path) {
-    uint64_t begin = now();
+    uint64_t begin = now_working();
     for (uint32_t i = 0; i < c->makes; i++) TIMED(c, recent[i % 8] = make(c));
-    if (c->seen == NULL) churn_report_total(c, begin);
+    if (path == NULL) churn_report_total(c, begin);
     else churn_report_calls(c, path);
 }
 
@@ -54,9 +54,9 @@ static void fill(const struct churn *c) {
     memset(recent, 0, sizeof recent);
     GC_gcollect();
     GC_disable();
-    uint64_t begin = now();
+    uint64_t begin = now_working();
     for (uint32_t i = 0; i < blocks; i++) recent[i % 8] = make(c);
-    printf("%.3f\n", (double)(now() - begin) / blocks);
+    printf("%.3f\n", (double)(now_working() - begin) / blocks);
 }
 
 static uint32_t live_records(void) {

@@ -1,6 +1,5 @@
 /* The churn workload on the heap: the collector starts after 5/16 of the heap's blocks were made, and takes eight steps after
- * each make until it is done. A make that finds no room is an error: the pace is to be enough. Where single calls are timed
- * the run is played nine times, and a call's length is the least that it took: every turn makes the same calls. */
+ * each make until it is done. A make that finds no room is an error: the pace is to be enough. */
 #include "build.h"
 #include "churn.h"
 
@@ -8,7 +7,6 @@
 #define NEW 1      /* of the live record in the making */
 #define RECENT 2   /* to 13, live records that new ones may point to; then the last eight short-lived ones in 2 to 9 */
 #define STEPS 8
-#define TURNS 9
 
 static void make_live(struct heap *h, const struct churn *c, u64 *random) {
     MUST(HEAP(make)(OVER(h), 0, NEW, c->pointers, c->values), 0);
@@ -51,45 +49,36 @@ static void churn(struct heap *h, struct churn *c) {
     }
 }
 
-static void churn_total(struct heap *h, struct churn *c) {
+static void churn_run(struct heap *h, struct churn *c, const char *path) {
     build_live(h, c);
-    u64 begin = now();
+    u64 begin = now_working();
     churn(h, c);
-    churn_report_total(c, begin);
-}
-
-static void churn_each(struct heap *h, struct churn *c, const char *path) {
-    for (c->turn = 0; c->turn < TURNS; c->turn++) {
-        if (c->turn != 0) heap_reopen(h);
-        c->count = 0;
-        build_live(h, c);
-        churn(h, c);
-    }
-    churn_report_calls(c, path);
+    if (path == NULL) churn_report_total(c, begin);
+    else churn_report_calls(c, path);
 }
 
 /* Makes alone: an empty heap filled, the second time after its memory has been touched. */
 static void churn_fill(struct heap *h, struct churn *c) {
     build_dead(h, c->pointers, c->values);
     heap_reopen(h);
-    u64 begin = now();
+    u64 begin = now_working();
     u32 made = build_dead(h, c->pointers, c->values);
-    printf("%.3f\n", (double)(now() - begin) / made);
+    printf("%.3f\n", (double)(now_working() - begin) / made);
 }
 
-/* What the machine adds: so many empty calls as a turn has, the longest of them as seen. */
-static void churn_nothing(struct churn *c) {
-    for (u32 i = 0; i < 4 * c->makes; i++) TIMED(c, (void)0);
-    churn_report_calls(c, NULL);
+/* What the machine adds: about so many empty calls as a run has. */
+static void churn_nothing(struct churn *c, const char *path) {
+    for (u32 i = 0; i < 3 * c->makes; i++) TIMED(c, (void)0);
+    churn_report_calls(c, path);
 }
 
 int main(int argc, char **argv) {
     struct churn c = churn_read(argc, argv);
     struct heap h = heap_with_mutator(c.segments);
+    const char *path = argc > 5 ? argv[5] : NULL;
     if (strcmp(argv[4], "fill") == 0) churn_fill(&h, &c);
-    else if (c.seen == NULL) churn_total(&h, &c);
-    else if (argc > 5 && strcmp(argv[5], "nothing") == 0) churn_nothing(&c);
-    else churn_each(&h, &c, argc > 5 ? argv[5] : NULL);
+    else if (strcmp(argv[4], "nothing") == 0) churn_nothing(&c, path);
+    else churn_run(&h, &c, path);
     heap_close(&h);
     return 0;
 }

@@ -9,9 +9,9 @@
 /* `call` so often, its answer checked each time. */
 #define TIME(name, call, expected)                                            \
     do {                                                                      \
-        u64 begin_ = now();                                                   \
+        u64 begin_ = now_working();                                                   \
         for (u32 i = 0; i < CALLS; i++) MUST(call, expected);                 \
-        printf("%s\t%.3f\n", name, (double)(now() - begin_) / CALLS);         \
+        printf("%s\t%.3f\n", name, (double)(now_working() - begin_) / CALLS);         \
     } while (0)
 
 static void time_fields(void) {
@@ -35,22 +35,22 @@ static void time_make(u32 pointers, u32 values, const char *name) {
     struct heap h = heap_with_mutator(256);
     build_dead(&h, pointers, values);
     heap_reopen(&h);
-    u64 begin = now();
+    u64 begin = now_working();
     u32 made = build_dead(&h, pointers, values);
-    printf("%s\t%.3f\n", name, (double)(now() - begin) / made);
+    printf("%s\t%.3f\n", name, (double)(now_working() - begin) / made);
     heap_close(&h);
 }
 
 static void time_cycle(struct heap *h, u32 records, const char *name) {
     u32 traced = 0, kind;
-    u64 begin = now();
+    u64 begin = now_working();
     MUST(HEAP(start)(OVER(h)), 0);
     do {
         kind = borvukhai_step_kind(HEAP(step)(OVER(h)));
         if (kind == BORVUKHAI_STEP_WAITING) MUST(HEAP(check)(OVER(h), 0), 0);
         if (kind == BORVUKHAI_STEP_TRACED) traced++;
     } while (kind != BORVUKHAI_STEP_DONE);
-    u64 end = now();
+    u64 end = now_working();
     printf("%s\t%.3f\n", name, (double)(end - begin) / records);
     if (traced != 0) MUST(traced, records);
 }
@@ -72,9 +72,9 @@ static void time_pace(u32 pace) {
     struct heap h = heap_open(64);
     struct mutate w = mutate_begin(&h);
     w.pace = pace;
-    u64 begin = now();
+    u64 begin = now_working();
     while (w.calls < (pace == 0 ? 100000 : 400000)) mutate_turn(&w);
-    u64 end = now();
+    u64 end = now_working();
     if (pace == 0) printf("mutation, no collector\t%.3f\n", (double)(end - begin) / w.calls);
     else printf("mutation, a step every %u calls\t%.3f\n", pace, (double)(end - begin) / w.calls);
     heap_close(&h);
