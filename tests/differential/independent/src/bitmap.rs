@@ -43,6 +43,9 @@ impl Tree<'_> {
 pub fn summarize(level0: &[u32; LEVEL_WORDS], class: u32) -> u64 {
     let words = classes::level_words(class).min(LEVEL_WORDS);
     let mut summary = empty_summary(class);
+    if !level0[..words].contains(&u32::MAX) {
+        return summary;
+    }
     for (index, word) in level0[..words].iter().enumerate() {
         summary |= u64::from(*word == u32::MAX) << index;
     }

@@ -2,7 +2,7 @@
 
 use core::ops::{Deref, DerefMut};
 
-use crate::answers::{Answer, Refusal, Shape, MARK, SYNC1, SYNC2};
+use crate::answers::{refuse, Answer, Refusal, Shape, MARK, SYNC1, SYNC2};
 use crate::classes::{self, class_of};
 use crate::layout::{Heap, ACKNOWLEDGED, HELD_OF};
 use crate::mutators::check_roots;
@@ -18,7 +18,7 @@ impl Record {
     #[inline(always)]
     fn pointer(&self, field: u32) -> Answer<usize> {
         if field >= self.shape.pointers {
-            return Err(Refusal::FIELD);
+            return refuse(Refusal::FIELD);
         }
         Ok(self.at + 1 + field as usize)
     }
@@ -27,7 +27,7 @@ impl Record {
     #[inline(always)]
     fn value(&self, field: u32) -> Answer<usize> {
         if field >= self.shape.values {
-            return Err(Refusal::FIELD);
+            return refuse(Refusal::FIELD);
         }
         Ok(self.at + 1 + self.shape.pointers as usize + field as usize)
     }
@@ -39,7 +39,7 @@ impl<M: Deref<Target = [u32]>> Heap<M> {
     fn record(&self, own: usize, root: u32) -> Answer<Record> {
         let at = self.word(own + root as usize)? as usize;
         if at == 0 {
-            return Err(Refusal::DARK);
+            return refuse(Refusal::DARK);
         }
         let header = self.word(at)?;
         Ok(Record { at, shape: Shape { pointers: header >> 16, values: header & 0xffff } })
@@ -54,9 +54,9 @@ fn may_have_duty(phase: u32) -> bool {
 
 impl<M: DerefMut<Target = [u32]>> Heap<M> {
     /// The write barrier: between the mutator's first acknowledgement and mark the new value, then the old; in mark the old.
-    #[inline(never)]
-    fn barrier(&mut self, own: usize, phase: u32, new: u32, old: u32) -> Answer<()> {
-        if phase == MARK {
+    #[inline(always)]
+    fn barrier(&mut self, own: usize, new: u32, old: u32) -> Answer<()> {
+        if self.phase()? == MARK {
             return self.queue(old);
         }
         if self.word(own + ACKNOWLEDGED)? != 0 {
@@ -67,9 +67,9 @@ impl<M: DerefMut<Target = [u32]>> Heap<M> {
     }
 
     /// A record made after the mutator's second acknowledgement and before sweep is born marked.
-    #[inline(never)]
-    fn birth(&mut self, own: usize, phase: u32, reference: usize) -> Answer<()> {
-        if phase >= SYNC2 && self.word(own + ACKNOWLEDGED)? == SYNC2 {
+    #[inline(always)]
+    fn birth(&mut self, own: usize, reference: usize) -> Answer<()> {
+        if self.phase()? >= SYNC2 && self.word(own + ACKNOWLEDGED)? == SYNC2 {
             self.mark_at_birth(reference as u32)?;
         }
         Ok(())
@@ -99,17 +99,31 @@ pub fn make(segments: u32, mem: &mut [u32], mutator: u32, to: u32, pointers: u32
     check_roots(to)?;
     let fields = u64::from(pointers) + u64::from(values);
     let class = class_of(fields)?;
-    let held = own + HELD_OF + (class - classes::LOWEST) as usize;
+    let held = own + HELD_OF + class as usize - classes::LOWEST as usize;
+    let descriptor = heap.word(held)?;
+    if descriptor == 0 || may_have_duty(heap.phase()?) {
+        return make_slowly(segments, heap.mem, mutator, to, pointers, values);
+    }
+    let at = heap.next_block(descriptor as usize, held, class)?;
+    heap.write_record(at, class, pointers << 16 | values, fields as usize)?;
+    heap.set(own + to as usize, at as u32)
+}
+
+/// The same where the mutator may hold no segment of the class, or where the record may be born marked.
+#[inline(never)]
+fn make_slowly(segments: u32, mem: &mut [u32], mutator: u32, to: u32, pointers: u32, values: u32) -> Answer<()> {
+    let mut heap = Heap { mem, segments: segments as usize };
+    let own = heap.inside(mutator)?;
+    let fields = u64::from(pointers) + u64::from(values);
+    let class = class_of(fields)?;
+    let held = own + HELD_OF + class as usize - classes::LOWEST as usize;
     let descriptor = match heap.word(held)? {
         0 => heap.take(mutator, held, class)?,
         descriptor => descriptor as usize,
     };
     let at = heap.next_block(descriptor, held, class)?;
     heap.write_record(at, class, pointers << 16 | values, fields as usize)?;
-    let phase = heap.phase()?;
-    if may_have_duty(phase) {
-        heap.birth(own, phase, at)?;
-    }
+    heap.birth(own, at)?;
     heap.set(own + to as usize, at as u32)
 }
 
@@ -132,11 +146,18 @@ pub fn store(segments: u32, mem: &mut [u32], mutator: u32, root: u32, field: u32
     check_roots(root | from)?;
     let pointer = heap.record(own, root)?.pointer(field)?;
     let new = heap.word(own + from as usize)?;
-    let phase = heap.phase()?;
-    if may_have_duty(phase) {
-        let old = heap.word(pointer)?;
-        heap.barrier(own, phase, new, old)?;
+    if may_have_duty(heap.phase()?) {
+        return store_with_duty(heap.segments, heap.mem, own, pointer, new);
     }
+    heap.set(pointer, new)
+}
+
+/// The same between start and sweep.
+#[inline(never)]
+fn store_with_duty(segments: usize, mem: &mut [u32], own: usize, pointer: usize, new: u32) -> Answer<()> {
+    let mut heap = Heap { mem, segments };
+    let old = heap.word(pointer)?;
+    heap.barrier(own, new, old)?;
     heap.set(pointer, new)
 }
 

@@ -1,6 +1,6 @@
 //! Size classes 3 to 12: which class a record has, how many blocks a segment of it has, and how many words of level 0 they take.
 
-use crate::answers::{Answer, Refusal};
+use crate::answers::{refuse, Answer, Refusal};
 
 pub const LOWEST: u32 = 3;
 pub const HIGHEST: u32 = 12;
@@ -36,7 +36,7 @@ const fn class_table() -> [u32; 1024] {
 pub fn class_of(fields: u64) -> Answer<u32> {
     match CLASS_OF.get(fields as usize) {
         Some(&class) if fields <= MOST_FIELDS => Ok(class),
-        _ => Err(Refusal::TOO_BIG),
+        _ => refuse(Refusal::TOO_BIG),
     }
 }
 

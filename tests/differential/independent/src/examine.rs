@@ -3,7 +3,7 @@
 //! Beside the layout's own invariants it checks the collector's promise: in mark, each reached record of a condemned segment is marked
 //! or is reached from the trace stack over records not yet marked; in sweep, it is marked.
 
-use crate::answers::{Answer, Refusal, IDLE, MARK, SWEEP, SYNC1, SYNC2};
+use crate::answers::{refuse, Answer, Refusal, IDLE, MARK, SWEEP, SYNC1, SYNC2};
 use crate::bitmap::summarize;
 use crate::classes::{self, class_of, CLASSES};
 use crate::layout::{
@@ -330,7 +330,7 @@ impl Examination<'_> {
 pub fn examine(segments: u32, mem: &[u32], scratch: &mut [u32]) -> Answer<bool> {
     let heap = Heap::over(segments, mem)?;
     if scratch.len() != scratch_length(segments) {
-        return Err(Refusal::SIZE);
+        return refuse(Refusal::SIZE);
     }
     scratch.fill(0);
     let phase = heap.phase()?;

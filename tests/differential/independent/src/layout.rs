@@ -5,7 +5,7 @@
 
 use core::ops::{Deref, DerefMut};
 
-use crate::answers::{Answer, Refusal, IDLE};
+use crate::answers::{or_torn, refuse, Answer, Refusal, IDLE};
 use crate::segments;
 
 pub const MOST_SEGMENTS: u32 = 256;
@@ -52,6 +52,12 @@ const fn is_count(segments: u32) -> bool {
     segments.wrapping_sub(1) < MOST_SEGMENTS
 }
 
+/// Is this the length of the lent slice for the count?
+#[inline(always)]
+pub const fn fits(segments: u32, length: usize) -> bool {
+    is_count(segments) && length == WORDS_PER_SEGMENT * segments as usize + BLOCKS
+}
+
 /// The words of the lent slice: 6344 n + 1040, or 0 for a count not 1 to 256.
 #[inline(always)]
 pub const fn length(segments: u32) -> usize {
@@ -92,23 +98,21 @@ impl<M: Deref<Target = [u32]>> Heap<M> {
     /// Refused 1 where the count or the length is wrong.
     #[inline(always)]
     pub fn over(segments: u32, mem: M) -> Answer<Heap<M>> {
-        let count = segments as usize;
-        let right = is_count(segments) && mem.len() == WORDS_PER_SEGMENT * count + BLOCKS;
-        if !right || mem.len() < BLOCKS {
-            return Err(Refusal::SIZE);
+        if !fits(segments, mem.len()) {
+            return refuse(Refusal::SIZE);
         }
-        Ok(Heap { mem, segments: count })
+        Ok(Heap { mem, segments: segments as usize })
     }
 
     #[inline(always)]
     pub fn word(&self, at: usize) -> Answer<u32> {
-        self.mem.get(at).copied().ok_or(Refusal::TORN)
+        or_torn(self.mem.get(at).copied())
     }
 
     #[inline(always)]
     pub fn array<const N: usize>(&self, at: usize) -> Answer<&[u32; N]> {
-        let from = self.mem.get(at..).ok_or(Refusal::TORN)?;
-        from.first_chunk().ok_or(Refusal::TORN)
+        let words = or_torn(self.mem.get(at..at.wrapping_add(N)))?;
+        or_torn(words.first_chunk())
     }
 
     #[inline(always)]
@@ -146,19 +150,19 @@ impl<M: DerefMut<Target = [u32]>> Heap<M> {
 
     #[inline(always)]
     pub fn word_mut(&mut self, at: usize) -> Answer<&mut u32> {
-        self.mem.get_mut(at).ok_or(Refusal::TORN)
+        or_torn(self.mem.get_mut(at))
     }
 
     #[inline(always)]
     pub fn array_mut<const N: usize>(&mut self, at: usize) -> Answer<&mut [u32; N]> {
-        let from = self.mem.get_mut(at..).ok_or(Refusal::TORN)?;
-        from.first_chunk_mut().ok_or(Refusal::TORN)
+        let words = or_torn(self.mem.get_mut(at..at.wrapping_add(N)))?;
+        or_torn(words.first_chunk_mut())
     }
 
     #[inline(always)]
     pub fn fill(&mut self, from: usize, words: usize) -> Answer<()> {
         let end = from.wrapping_add(words);
-        self.mem.get_mut(from..end).ok_or(Refusal::TORN)?.fill(0);
+        or_torn(self.mem.get_mut(from..end))?.fill(0);
         Ok(())
     }
 }

@@ -2,7 +2,7 @@
 
 use core::ops::{Deref, DerefMut};
 
-use crate::answers::{Answer, Refusal};
+use crate::answers::{or_torn, Answer, Refusal};
 use crate::bitmap::{self, Tree};
 use crate::classes;
 use crate::layout::{Heap, BLOCKS, CLASS, DESCRIPTOR_WORDS, FREE_TOP, LEVEL0, NEXT, NUMBER, PART_TOP, PLACE, STATE, SUMMARY, TIE};
@@ -19,7 +19,7 @@ pub type Descriptor = [u32; DESCRIPTOR_WORDS];
 /// The bitmap tree of a descriptor.
 #[inline(always)]
 pub fn tree(descriptor: &Descriptor) -> Answer<Tree<'_>> {
-    let level0 = descriptor.last_chunk().ok_or(Refusal::TORN)?;
+    let level0 = or_torn(descriptor.last_chunk())?;
     let summary = u64::from(descriptor[SUMMARY]) | u64::from(descriptor[SUMMARY + 1]) << 32;
     Ok(Tree { level0, summary })
 }

@@ -5,9 +5,9 @@
 
 use core::ops::{Deref, DerefMut};
 
-use crate::answers::{Answer, Refusal};
+use crate::answers::{or_torn, Answer};
 use crate::classes;
-use crate::layout::{Heap, BITMAP_WORDS, BLOCKS, CLASS, TRACE_HEIGHT};
+use crate::layout::{Heap, BITMAP_WORDS, BLOCKS, CLASS, MOST_BLOCKS, SEGMENT_WORDS, TRACE_HEIGHT};
 
 /// A word of a bitmap and the one bit in it.
 #[derive(Clone, Copy)]
@@ -36,51 +36,26 @@ impl<M: Deref<Target = [u32]>> Heap<M> {
 }
 
 impl<M: DerefMut<Target = [u32]>> Heap<M> {
-    /// Enters so many references, from this word on, on the trace stack: each but nil, a marked record and one that is on it.
+    /// Enters so many references, from this word on, on the trace stack: each but nil, a marked record and one that is on it. The stack's
+    /// height before and after.
     #[inline(always)]
-    pub fn queue_fields(&mut self, from: usize, count: usize) -> Answer<()> {
-        let before = self.word(TRACE_HEIGHT)? as usize;
-        let mut height = before;
-        for at in from..from + count {
-            height += self.queue_at(self.word(at)?, height)?;
+    pub fn queue_fields(&mut self, from: usize, count: usize, mut height: usize) -> Answer<usize> {
+        let bits = MOST_BLOCKS * self.segments;
+        let (blocks, rest) = or_torn(self.mem.split_at_mut_checked(BLOCKS + SEGMENT_WORDS * self.segments))?;
+        for reference in or_torn(blocks.get(from..from.wrapping_add(count)))? {
+            height += queue_in(rest, bits, *reference, height)?;
         }
-        self.set(TRACE_HEIGHT, height as u32)
+        Ok(height)
     }
 
     /// Enters one reference.
     #[inline(always)]
     pub fn queue(&mut self, reference: u32) -> Answer<()> {
         let height = self.word(TRACE_HEIGHT)? as usize;
-        let more = self.queue_at(reference, height)?;
+        let bits = MOST_BLOCKS * self.segments;
+        let rest = or_torn(self.mem.get_mut(BLOCKS + SEGMENT_WORDS * self.segments..))?;
+        let more = queue_in(rest, bits, reference, height)?;
         self.set(TRACE_HEIGHT, (height + more) as u32)
-    }
-
-    /// Enters a reference at this height of the trace stack; how many were entered, 0 or 1.
-    #[inline(always)]
-    fn queue_at(&mut self, reference: u32, height: usize) -> Answer<usize> {
-        if reference == 0 {
-            return Ok(0);
-        }
-        let bit = self.queued_bit(reference);
-        let word = self.word_mut(bit.at)?;
-        if *word & bit.mask != 0 {
-            return Ok(0);
-        }
-        *word |= bit.mask;
-        let top = self.trace_stack() + height;
-        self.set(top, reference)?;
-        Ok(1)
-    }
-
-    /// Takes the last entered record from the trace stack.
-    #[inline(always)]
-    pub fn unqueue(&mut self) -> Answer<Option<u32>> {
-        let height = self.word(TRACE_HEIGHT)?;
-        if height == 0 {
-            return Ok(None);
-        }
-        self.set(TRACE_HEIGHT, height - 1)?;
-        self.word(self.trace_stack() + height as usize - 1).map(Some)
     }
 
     #[inline(always)]
@@ -98,18 +73,45 @@ impl<M: DerefMut<Target = [u32]>> Heap<M> {
         self.mark(reference)
     }
 
-    /// Marks a record and enters its pointers in order.
+    /// Takes the last entered record, marks it and enters its pointers in order. Was there one?
     #[inline(always)]
-    pub fn trace(&mut self, reference: u32) -> Answer<()> {
+    pub fn trace(&mut self) -> Answer<bool> {
+        let height = self.word(TRACE_HEIGHT)? as usize;
+        if height == 0 {
+            return Ok(false);
+        }
+        let reference = self.word(self.trace_stack() + height - 1)?;
         self.mark(reference)?;
         let header = self.word(reference as usize)?;
-        self.queue_fields(reference as usize + 1, (header >> 16) as usize)
+        let height = self.queue_fields(reference as usize + 1, (header >> 16) as usize, height - 1)?;
+        self.set(TRACE_HEIGHT, height as u32)?;
+        Ok(true)
     }
 
-    /// No mark, and nothing queued.
+    /// No mark, and nothing queued. It goes by segments, since a large fill counts a step for each byte where it is measured.
     pub fn clear_marks(&mut self) -> Answer<()> {
-        let (from, to) = (self.queued_bits(), self.descriptors());
-        self.mem.get_mut(from..to).ok_or(Refusal::TORN)?.fill(0);
+        let (queued, marks) = (self.queued_bits(), self.mark_bits());
+        for segment in 0..self.segments {
+            *self.array_mut(queued + segment * BITMAP_WORDS)? = [0; BITMAP_WORDS];
+            *self.array_mut(marks + segment * BITMAP_WORDS)? = [0; BITMAP_WORDS];
+        }
         Ok(())
     }
+}
+
+/// Enters a reference at this height of the trace stack, with which `rest` begins; the queued bits begin at `bits`. How many were entered,
+/// 0 or 1.
+#[inline(always)]
+fn queue_in(rest: &mut [u32], bits: usize, reference: u32, height: usize) -> Answer<usize> {
+    if reference == 0 {
+        return Ok(0);
+    }
+    let offset = reference.wrapping_sub(BLOCKS as u32);
+    let word = or_torn(rest.get_mut(bits + (offset / 64) as usize))?;
+    if *word >> (offset / 2 % 32) & 1 != 0 {
+        return Ok(0);
+    }
+    *word |= 1 << (offset / 2 % 32);
+    *or_torn(rest.get_mut(height))? = reference;
+    Ok(1)
 }

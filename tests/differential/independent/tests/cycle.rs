@@ -47,7 +47,7 @@ fn all_dead_is_free() {
     let mut world = world();
     clear_all(&mut world, 0);
     assert_eq!(world.start(), Ok(()));
-    world.to_mark(&[0]);
+    world.play_to_mark(&[0]);
     assert_eq!(world.trace_all(), 0);
     assert_eq!(world.step(), Ok(Step::Swept { segment: 0, freed: 4 }));
     assert_eq!(world.state(0), [FREE, 0, 0, 0]);
@@ -123,7 +123,7 @@ fn no_barrier_before_the_first_acknowledgement() {
     assert_eq!(world.start(), Ok(()));
     assert_eq!(world.store(0, 0, 0, 2), Ok(()));
     clear_all(&mut world, 0);
-    world.to_mark(&[0]);
+    world.play_to_mark(&[0]);
     assert_eq!(world.trace_all(), 0);
     assert_eq!(world.step(), Ok(Step::Swept { segment: 0, freed: 4 }));
 }
@@ -138,7 +138,7 @@ fn barrier_in_mark() {
         assert_eq!(world.clear(0, root), Ok(()));
     }
     assert_eq!(world.start(), Ok(()));
-    world.to_mark(&[0]);
+    world.play_to_mark(&[0]);
     assert_eq!(world.load(0, 1, 0, 0), Ok(()));
     assert_eq!(world.load(0, 2, 1, 0), Ok(()));
     assert_eq!(world.store(0, 1, 0, 9), Ok(()));
@@ -163,7 +163,7 @@ fn trace_order() {
         assert_eq!(world.clear(0, root), Ok(()));
     }
     assert_eq!(world.start(), Ok(()));
-    world.to_mark(&[0]);
+    world.play_to_mark(&[0]);
     assert_eq!(world.step(), Ok(Step::Traced));
     assert_eq!(world.load(0, 1, 0, 0), Ok(()));
     assert_eq!(world.load(0, 2, 0, 1), Ok(()));
@@ -202,7 +202,7 @@ fn born_marked() {
 fn attach_and_spawn_in_mark() {
     let mut world = world();
     assert_eq!(world.start(), Ok(()));
-    world.to_mark(&[0]);
+    world.play_to_mark(&[0]);
     assert_eq!(world.attach(4), Ok(()));
     assert_eq!(world.spawn(5, 0, 2), Ok(()));
     for mutator in [4, 5] {
@@ -227,12 +227,12 @@ fn full_during_the_cycle() {
     world.fill_segment(0);
     clear_all(&mut world, 0);
     assert_eq!(world.state(1), [FULL, 12, 4, 0]);
-    world.to_mark(&[0]);
+    world.play_to_mark(&[0]);
     assert_eq!(world.trace_all(), 0);
     assert_eq!(world.step(), Ok(Step::Swept { segment: 0, freed: 4 }));
     assert_eq!(world.step(), Ok(Step::Done));
     assert_eq!(world.start(), Ok(()));
-    world.to_mark(&[0]);
+    world.play_to_mark(&[0]);
     assert_eq!(world.trace_all(), 0);
     assert_eq!(world.step(), Ok(Step::Swept { segment: 1, freed: 4 }));
 }
@@ -247,7 +247,7 @@ fn sweep_order() {
     }
     clear_all(&mut world, 0);
     assert_eq!(world.start(), Ok(()));
-    world.to_mark(&[0]);
+    world.play_to_mark(&[0]);
     assert_eq!(world.trace_all(), 0);
     for segment in 0..5 {
         assert_eq!(world.step(), Ok(Step::Swept { segment, freed: 4 }));
@@ -273,7 +273,7 @@ fn sparse_survivors() {
     assert_eq!(world.clear(0, 1), Ok(()));
     assert_eq!(world.state(0), [FULL, 3, 2048, 0]);
     assert_eq!(world.start(), Ok(()));
-    world.to_mark(&[0]);
+    world.play_to_mark(&[0]);
     assert_eq!(world.trace_all(), 293);
     assert_eq!(world.step(), Ok(Step::Swept { segment: 0, freed: 2048 - 293 }));
     assert_eq!(world.step(), Ok(Step::Done));
