@@ -13,6 +13,23 @@ static void rows_make(struct heap *h, u32 pointers, u32 values, const char *shap
     ROW(probe_make(h, 0, 0, pointers, values), 0, "make %s, last bit of a word", shape);
 }
 
+/* Four segments filled: what a make costs on the average, with the words' ends and the segments taken. */
+PROBE u32 probe_fill(struct heap *h, u32 pointers, u32 values) {
+    u32 made = 0;
+    while (HEAP(make)(OVER(h), 0, 0, pointers, values) == 0) made++;
+    return made;
+}
+
+static void rows_fill(void) {
+    struct heap h = heap_with_mutator(4);
+    ROW(probe_fill(&h, 0, 1), 8192, "fill 0+1");
+    heap_reopen(&h);
+    ROW(probe_fill(&h, 1, 1), 4096, "fill 1+1");
+    heap_reopen(&h);
+    ROW(probe_fill(&h, 8, 8), 512, "fill 8+8");
+    heap_close(&h);
+}
+
 static void rows_make_large(struct heap *h) {
     heap_reopen(h);
     MUST(HEAP(make)(OVER(h), 0, 0, 600, 400), 0);
@@ -124,6 +141,7 @@ int main(void) {
     rows_make(&h, 1, 1, "1+1");
     rows_make(&h, 8, 8, "8+8");
     rows_make_large(&h);
+    rows_fill();
     rows_fields(&h);
     rows_mutators(&h);
     rows_handshake(&h);

@@ -84,9 +84,9 @@ def main():
     out += f'<rect width="{WIDTH}" height="{HEIGHT}" fill="white"/>\n'
     out += text(14, 26, "How long a call takes: 4 MiB of records, half of it live, short-lived records of 1 + 1 made", size=16, weight="600")
     out += grid() + curve(incremental, ORANGE, 2) + curve(boehm, RED, 2.2) + curve(heap, BLUE, 2.6)
-    out += label(heap, 2e-5, f"verified heap: make, check, start, step|longest call {longest(heap)}", BLUE, 14, -4)
-    out += label(incremental, 3e-3, f"Boehm's, incremental: allocation|longest call {longest(incremental)}", ORANGE, 14, -6)
-    out += label(boehm, 4e-6, f"Boehm's: allocation|longest call {longest(boehm)}", RED, -10, -24, "end")
+    out += label(heap, 2e-4, f"verified heap|every call|longest {longest(heap)}", BLUE, -12, -10, "end")
+    out += label(incremental, 3e-3, f"Boehm's, incremental|every allocation|longest {longest(incremental)}", ORANGE, 16, -6)
+    out += label(boehm, 3e-6, f"Boehm's|every allocation|longest {longest(boehm)}", RED, 10, -26)
     with open(path, "w") as file:
         file.write(out + "</svg>\n")
 

@@ -7,7 +7,7 @@ import sys
 from array import array
 from statistics import median
 
-from rows import CYCLES, LONGEST, PACES, SINGLE, YARDSTICK
+from rows import CYCLES, FILLED, LONGEST, PACES, SINGLE, YARDSTICK
 
 BEGIN, END = "<!-- measured: written by bench/run -->", "<!-- end of measured -->"
 HEAD = "| {} | verified | independent | ratio | limit | |{}\n|---|---:|---:|---:|---:|---|{}\n"
@@ -44,6 +44,8 @@ def single_table(v, i):
     text = HEAD.format("instructions of one call", " as probes |", "---|")
     for name, limit in SINGLE:
         text += line(name, v[name][1], i[name][1], limit, f"{number(v[name][0])} / {number(i[name][0])}")
+    for name, makes, limit in FILLED:
+        text += line(f"make {name.split()[1]}, mean over {makes:,}", v[name][1] / makes, i[name][1] / makes, limit, "")
     text += line("a new pointer in mark (64 against 16)", *(new_pointer(rows, 64, 16) for rows in (v, i)), 1.15, "")
     text += line("a new pointer in mark (1,023 against 64)", *(new_pointer(rows, 1023, 64) for rows in (v, i)), 1.15, "")
     return text

@@ -17,6 +17,9 @@ SINGLE = [
     ("step: done, 4 segments", None), ("step: done, 256 segments", None), ("step: idle", None),
 ]
 
+# Heaps of four segments filled: the row, the makes, and the limit for the mean of a make.
+FILLED = [("fill 0+1", 8192, 1.0), ("fill 1+1", 4096, 1.0), ("fill 8+8", 512, 1.0)]
+
 # Each kind of call, the beginnings of the names of its rows, and the limit; the longest of them counts.
 LONGEST = [
     ("open", ["open"], 1.2), ("attach", ["attach"], 1.2), ("spawn", ["spawn"], 1.2), ("detach", ["detach"], 1.2), ("make", ["make"], 1.2),
