@@ -56,10 +56,10 @@ def new_pointer(rows, more, fewer):
 
 
 def yardstick_table(i):
-    text = "| the independent implementation, as probes | instructions | wanted at most | |\n|---|---:|---:|---|\n"
-    for name, most in YARDSTICK:
-        count = new_pointer(i, 64, 16) if name is None else i[name][0]
-        text += f"| {name or 'a new pointer in mark'} | {number(count)} | {most} | {'ok' if count <= most else 'MISS'} |\n"
+    text = "| the independent implementation | instructions with a caller of so many | wanted at most | |\n|---|---:|---:|---|\n"
+    for name, caller, most in YARDSTICK:
+        count = new_pointer(i, 64, 16) if name is None else i[name][1] + caller
+        text += f"| {name or 'a new pointer in mark'} | {number(count)}{f' ({caller})' if caller else ''} | {most} | {'ok' if count <= most else 'MISS'} |\n"
     return text
 
 
@@ -202,7 +202,7 @@ def tables(folder):
     churn = read_churn(folder)
     if any(program == "boehm" for program, *_ in churn):
         parts += [make_tables(churn), pause_table(folder, churn)]
-    parts.append("Limits missed: " + ("none." if not missed else "\n\n" + "\n".join("- " + m for m in missed)) + "\n")
+    parts.append("Limits missed, of those measured here: " + ("none." if not missed else "\n\n" + "\n".join("- " + m for m in missed)) + "\n")
     return "\n".join(parts)
 
 
