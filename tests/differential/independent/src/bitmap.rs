@@ -11,9 +11,19 @@ pub struct Tree<'a> {
     pub summary: u64,
 }
 
+/// The lowest free block after this one, where it is in the same word of level 0.
+#[inline(always)]
+pub fn next_in_word(word: u32, block: u32) -> Option<u32> {
+    let used = word | (2_u32 << (block % 32)).wrapping_sub(1);
+    match used {
+        u32::MAX => None,
+        used => Some(block / 32 * 32 | used.trailing_ones()),
+    }
+}
+
 impl Tree<'_> {
     /// The lowest free block at or after the place, in a segment of so many blocks.
-    #[inline(always)]
+    #[inline]
     pub fn next_free(&self, blocks: u32, place: u32) -> Option<u32> {
         if place >= blocks {
             return None;
@@ -27,7 +37,7 @@ impl Tree<'_> {
     }
 
     /// The lowest free block of the words after the one with this index.
-    #[inline(always)]
+    #[inline]
     fn climb(&self, index: u32) -> Option<u32> {
         let summary = self.summary | !(u64::MAX << index << 1);
         if summary == u64::MAX {
@@ -102,6 +112,10 @@ mod tests {
                 }
                 for place in 0..=classes::blocks(class) {
                     assert_eq!(search(class, level0, place), scan(class, level0, place));
+                }
+                for block in 0..classes::blocks(class) {
+                    let expected = scan(class, level0, block + 1).filter(|next| next / 32 == block / 32);
+                    assert_eq!(next_in_word(level0[block as usize / 32], block), expected);
                 }
             }
         }

@@ -3,8 +3,8 @@
 use core::ops::{Deref, DerefMut};
 
 use crate::answers::{refuse, Answer, Refusal, Shape, MARK, SYNC1, SYNC2};
-use crate::classes::{self, class_of};
-use crate::layout::{Heap, ACKNOWLEDGED, HELD_OF};
+use crate::classes::class_of;
+use crate::layout::{held_of, Heap, ACKNOWLEDGED};
 use crate::mutators::check_roots;
 
 /// A record that a root names: where its header is, and its counts.
@@ -75,18 +75,12 @@ impl<M: DerefMut<Target = [u32]>> Heap<M> {
         Ok(())
     }
 
-    /// The header, then nil and 0 in every field. Small blocks are written whole.
+    /// The header, then nil and 0 in every word of a block of this many.
     #[inline(always)]
-    fn write_record(&mut self, at: usize, class: u32, header: u32, fields: usize) -> Answer<()> {
-        match class {
-            3 => *self.array_mut(at)? = [header, 0],
-            4 => *self.array_mut(at)? = [header, 0, 0, 0],
-            5 => *self.array_mut(at)? = [header, 0, 0, 0, 0, 0, 0, 0],
-            _ => {
-                self.set(at, header)?;
-                self.fill(at + 1, fields)?;
-            }
-        }
+    fn write_block<const N: usize>(&mut self, at: usize, header: u32) -> Answer<()> {
+        let block: &mut [u32; N] = self.array_mut(at)?;
+        *block = [0; N];
+        block[0] = header;
         Ok(())
     }
 }
@@ -97,34 +91,44 @@ pub fn make(segments: u32, mem: &mut [u32], mutator: u32, to: u32, pointers: u32
     let mut heap = Heap::over(segments, mem)?;
     let own = heap.inside(mutator)?;
     check_roots(to)?;
-    let fields = u64::from(pointers) + u64::from(values);
-    let class = class_of(fields)?;
-    let held = own + HELD_OF + class as usize - classes::LOWEST as usize;
-    let descriptor = heap.word(held)?;
+    let class = class_of(u64::from(pointers) + u64::from(values))?;
+    let held = held_of(own, class);
+    let descriptor = heap.word(held)? as usize;
     if descriptor == 0 || may_have_duty(heap.phase()?) {
         return make_slowly(segments, heap.mem, mutator, to, pointers, values);
     }
-    let at = heap.next_block(descriptor as usize, held, class)?;
-    heap.write_record(at, class, pointers << 16 | values, fields as usize)?;
-    heap.set(own + to as usize, at as u32)
+    let at = heap.next_block(descriptor, class)?;
+    let header = pointers << 16 | values;
+    match class {
+        3 => heap.write_block::<2>(at, header)?,
+        4 => heap.write_block::<4>(at, header)?,
+        5 => heap.write_block::<8>(at, header)?,
+        6 => heap.write_block::<16>(at, header)?,
+        7 => heap.write_block::<32>(at, header)?,
+        _ => return make_slowly(segments, heap.mem, mutator, to, pointers, values),
+    }
+    heap.set(own + to as usize, at as u32)?;
+    heap.advance(descriptor, held, class)
 }
 
-/// The same where the mutator may hold no segment of the class, or where the record may be born marked.
+/// The same for a record of any class, where the mutator may hold no segment of it and the record may be born marked.
 #[inline(never)]
 fn make_slowly(segments: u32, mem: &mut [u32], mutator: u32, to: u32, pointers: u32, values: u32) -> Answer<()> {
     let mut heap = Heap { mem, segments: segments as usize };
     let own = heap.inside(mutator)?;
     let fields = u64::from(pointers) + u64::from(values);
     let class = class_of(fields)?;
-    let held = own + HELD_OF + class as usize - classes::LOWEST as usize;
+    let held = held_of(own, class);
     let descriptor = match heap.word(held)? {
         0 => heap.take(mutator, held, class)?,
         descriptor => descriptor as usize,
     };
-    let at = heap.next_block(descriptor, held, class)?;
-    heap.write_record(at, class, pointers << 16 | values, fields as usize)?;
+    let at = heap.next_block(descriptor, class)?;
+    heap.set(at, pointers << 16 | values)?;
+    heap.fill(at + 1, fields as usize)?;
     heap.birth(own, at)?;
-    heap.set(own + to as usize, at as u32)
+    heap.set(own + to as usize, at as u32)?;
+    heap.advance(descriptor, held, class)
 }
 
 /// A pointer of the record in a root into root `to`.

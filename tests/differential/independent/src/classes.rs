@@ -45,16 +45,22 @@ pub fn is_class(class: u32) -> bool {
     (LOWEST..=HIGHEST).contains(&class)
 }
 
-/// A block of the class has 2^shift words.
+/// The first word of a block of the class, from its segment's first.
 #[inline(always)]
-pub fn shift(class: u32) -> u32 {
-    class.wrapping_sub(2) & 15
+pub fn block_start(class: u32, block: u32) -> u32 {
+    block.wrapping_shl(class) / 4
+}
+
+/// The block of the class in which a word lies, counted from its segment's first.
+#[inline(always)]
+pub fn block_at(class: u32, word: u32) -> u32 {
+    (word * 4).wrapping_shr(class)
 }
 
 /// The blocks of a segment of the class.
 #[inline(always)]
 pub fn blocks(class: u32) -> u32 {
-    4096 >> shift(class)
+    16384_u32.wrapping_shr(class)
 }
 
 /// The words that level 0 of the class has.

@@ -6,7 +6,7 @@ use crate::answers::{or_torn, refuse, Answer, Refusal, Step, IDLE, MARK, SWEEP, 
 use crate::bitmap::{self, LEVEL_WORDS};
 use crate::classes;
 use crate::layout::{
-    Heap, ACKNOWLEDGED, BITMAP_WORDS, CLASS, CONDEMNED_TOP, FREE_TOP, MUTATORS, MUTATOR_WORDS, NEXT, NUMBER, PHASE, PLACE, SIDE, STATE,
+    Heap, ACKNOWLEDGED, CLASS, CONDEMNED_TOP, FREE_TOP, LEVEL0, MARKS, MUTATORS, MUTATOR_WORDS, NEXT, NUMBER, PHASE, PLACE, SIDE, STATE,
 };
 use crate::mutators::{ABSENT, OUTSIDE};
 use crate::segments::{self, fill_up, part_top, set_summary, Descriptor};
@@ -73,18 +73,18 @@ impl<M: DerefMut<Target = [u32]>> Heap<M> {
     fn sweep(&mut self, descriptor: usize) -> Answer<Step> {
         let segment = self.word(descriptor + NUMBER)?;
         let class = self.word(descriptor + CLASS)?;
-        let marks = self.mark_bits() + segment as usize * BITMAP_WORDS;
-        let (before, after) = or_torn(self.mem.split_at_mut_checked(descriptor))?;
-        let marks = or_torn(before.get(marks..marks.wrapping_add(classes::level_words(class))))?;
-        let words: &mut Descriptor = or_torn(after.first_chunk_mut())?;
+        let words: &mut Descriptor = self.array_mut(descriptor)?;
+        let (head, marks) = words.split_at_mut(MARKS);
+        let marks = or_torn(marks.get(..classes::level_words(class)))?;
         let blocks = classes::blocks(class);
         if marks.iter().fold(0, |any, word| any | word) == 0 {
-            words[STATE] = segments::FREE;
+            head[STATE] = segments::FREE;
             self.push(FREE_TOP, descriptor)?;
             return Ok(Step::Swept { segment, freed: blocks });
         }
         let marked: u32 = marks.iter().map(|word| word.count_ones()).sum();
-        take_marks(words, marks, class)?;
+        or_torn(head[LEVEL0..].get_mut(..marks.len()))?.copy_from_slice(marks);
+        rebuild(words, class)?;
         if words[STATE] == segments::PART {
             self.push(part_top(class), descriptor)?;
         }
@@ -92,11 +92,10 @@ impl<M: DerefMut<Target = [u32]>> Heap<M> {
     }
 }
 
-/// Level 0 becomes the marks of a segment that is not free, and the summary is rebuilt: the segment is part, or full.
+/// Level 0 has become the marks of a segment that is not free: the summary is rebuilt, and the segment is part, or full.
 #[inline(always)]
-fn take_marks(words: &mut Descriptor, marks: &[u32], class: u32) -> Answer<()> {
-    let level0: &mut [u32; LEVEL_WORDS] = or_torn(words.last_chunk_mut())?;
-    or_torn(level0.get_mut(..marks.len()))?.copy_from_slice(marks);
+fn rebuild(words: &mut Descriptor, class: u32) -> Answer<()> {
+    let level0: &mut [u32; LEVEL_WORDS] = or_torn(words[LEVEL0..].first_chunk_mut())?;
     level0[0] |= classes::padding(class);
     let summary = bitmap::summarize(level0, class);
     let index = summary.trailing_ones();

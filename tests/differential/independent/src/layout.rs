@@ -1,7 +1,7 @@
 //! Where everything lies in the lent slice, the lengths, and `Heap`: the slice once its length is known to be right.
 //!
 //! First the mutators, 32 words each, then the control words, then the segments' blocks, so that a reference is the index of its header
-//! in the slice and 0 is nil. After the blocks: the trace stack, the queued bits, the mark bitmaps and the segments' descriptors.
+//! in the slice and 0 is nil. After the blocks: the queued bits and the segments' descriptors. The trace stack grows down from the end.
 
 use core::ops::{Deref, DerefMut};
 
@@ -10,13 +10,13 @@ use crate::segments;
 
 pub const MOST_SEGMENTS: u32 = 256;
 
-/// A mutator: 16 roots, the descriptor of the segment held of each class (0: none), its side and its acknowledgements.
+/// A mutator: 16 roots, its side, its acknowledgements, and by class the descriptor of the segment that it holds (0: none).
 pub const MUTATORS: u32 = 32;
 pub const ROOTS: u32 = 16;
 pub const MUTATOR_WORDS: usize = 32;
-pub const HELD_OF: usize = 16;
-pub const SIDE: usize = 26;
-pub const ACKNOWLEDGED: usize = 27;
+pub const SIDE: usize = 16;
+pub const ACKNOWLEDGED: usize = 17;
+const HELD_BY_CLASS: usize = 16;
 
 /// The control words. Each stack of segments is named by the descriptor on its top, 0 where it is empty.
 pub const PHASE: usize = 1024;
@@ -33,9 +33,9 @@ pub const SEGMENT_WORDS: usize = 4096;
 pub const MOST_BLOCKS: usize = 2048;
 pub const BITMAP_WORDS: usize = 64;
 
-/// A descriptor: these words, then level 0 of the bitmap tree. The tie is the mutator that holds the segment, or the descriptor below it
-/// on its stack. The summary has two words, the lower half first.
-pub const DESCRIPTOR_WORDS: usize = 72;
+/// A descriptor: these words, then level 0 of the bitmap tree, then the mark bitmap. The tie is the mutator that holds the segment, or the
+/// descriptor below it on its stack. The summary has two words, the lower half first.
+pub const DESCRIPTOR_WORDS: usize = 136;
 pub const STATE: usize = 0;
 pub const CLASS: usize = 1;
 pub const PLACE: usize = 2;
@@ -44,8 +44,15 @@ pub const TIE: usize = 4;
 pub const NUMBER: usize = 5;
 pub const SUMMARY: usize = 6;
 pub const LEVEL0: usize = 8;
+pub const MARKS: usize = 72;
 
-const WORDS_PER_SEGMENT: usize = SEGMENT_WORDS + MOST_BLOCKS + 2 * BITMAP_WORDS + DESCRIPTOR_WORDS;
+const WORDS_PER_SEGMENT: usize = SEGMENT_WORDS + BITMAP_WORDS + DESCRIPTOR_WORDS + MOST_BLOCKS;
+
+/// The word of a mutator that names the segment which it holds of a class.
+#[inline(always)]
+pub const fn held_of(own: usize, class: u32) -> usize {
+    own + HELD_BY_CLASS + (class & 15) as usize
+}
 
 #[inline(always)]
 const fn is_count(segments: u32) -> bool {
@@ -116,28 +123,24 @@ impl<M: Deref<Target = [u32]>> Heap<M> {
     }
 
     #[inline(always)]
-    pub fn trace_stack(&self) -> usize {
+    pub fn queued_bits(&self) -> usize {
         BLOCKS + SEGMENT_WORDS * self.segments
     }
 
     #[inline(always)]
-    pub fn queued_bits(&self) -> usize {
-        self.trace_stack() + MOST_BLOCKS * self.segments
-    }
-
-    #[inline(always)]
-    pub fn mark_bits(&self) -> usize {
-        self.queued_bits() + BITMAP_WORDS * self.segments
-    }
-
-    #[inline(always)]
     pub fn descriptors(&self) -> usize {
-        self.mark_bits() + BITMAP_WORDS * self.segments
+        BLOCKS + (SEGMENT_WORDS + BITMAP_WORDS) * self.segments
     }
 
     #[inline(always)]
     pub fn descriptor(&self, segment: usize) -> usize {
         self.descriptors() + DESCRIPTOR_WORDS * segment
+    }
+
+    /// The word of the trace stack that is its top at this height, which is not 0.
+    #[inline(always)]
+    pub fn trace_top(&self, height: usize) -> usize {
+        self.mem.len().wrapping_sub(height)
     }
 }
 

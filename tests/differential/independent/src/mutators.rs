@@ -3,8 +3,8 @@
 use core::ops::{Deref, DerefMut};
 
 use crate::answers::{refuse, Answer, Refusal, MARK, SYNC1, SYNC2};
-use crate::classes::CLASSES;
-use crate::layout::{Heap, ACKNOWLEDGED, CLASS, HELD_OF, MUTATORS, MUTATOR_WORDS, PHASE, ROOTS, SIDE, STATE};
+use crate::classes;
+use crate::layout::{held_of, Heap, ACKNOWLEDGED, MUTATORS, MUTATOR_WORDS, PHASE, ROOTS, SIDE, STATE};
 use crate::segments::{self, part_top};
 
 /// Sides.
@@ -109,10 +109,9 @@ impl<M: DerefMut<Target = [u32]>> Heap<M> {
 
     /// The segments that the mutator holds become part, in class order, their places kept.
     fn release_segments(&mut self, own: usize) -> Answer<()> {
-        for held in own + HELD_OF..own + HELD_OF + CLASSES {
-            let descriptor = self.word(held)? as usize;
+        for class in classes::LOWEST..=classes::HIGHEST {
+            let descriptor = self.word(held_of(own, class))? as usize;
             if descriptor != 0 {
-                let class = self.word(descriptor + CLASS)?;
                 self.set(descriptor + STATE, segments::PART)?;
                 self.push(part_top(class), descriptor)?;
             }

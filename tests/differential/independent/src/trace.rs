@@ -7,7 +7,7 @@ use core::ops::{Deref, DerefMut};
 
 use crate::answers::{or_torn, Answer};
 use crate::classes;
-use crate::layout::{Heap, BITMAP_WORDS, BLOCKS, CLASS, MOST_BLOCKS, SEGMENT_WORDS, TRACE_HEIGHT};
+use crate::layout::{Heap, BITMAP_WORDS, BLOCKS, CLASS, MARKS, SEGMENT_WORDS, TRACE_HEIGHT};
 
 /// A word of a bitmap and the one bit in it.
 #[derive(Clone, Copy)]
@@ -27,35 +27,22 @@ impl<M: Deref<Target = [u32]>> Heap<M> {
     /// The mark bit of a record.
     #[inline(always)]
     pub fn mark_bit(&self, reference: u32) -> Answer<Bit> {
-        let offset = reference.wrapping_sub(BLOCKS as u32) as usize;
-        let segment = offset / 4096;
-        let class = self.word(self.descriptor(segment) + CLASS)?;
-        let block = (offset % 4096) >> classes::shift(class);
-        Ok(Bit { at: self.mark_bits() + segment * BITMAP_WORDS + block / 32, mask: 1 << (block % 32) })
+        let offset = reference.wrapping_sub(BLOCKS as u32);
+        let descriptor = self.descriptor(offset as usize / SEGMENT_WORDS);
+        let class = self.word(descriptor + CLASS)?;
+        let block = classes::block_at(class, offset % SEGMENT_WORDS as u32);
+        Ok(Bit { at: descriptor + MARKS + (block / 32) as usize, mask: 1 << (block % 32) })
     }
 }
 
 impl<M: DerefMut<Target = [u32]>> Heap<M> {
-    /// Enters so many references, from this word on, on the trace stack: each but nil, a marked record and one that is on it. The stack's
-    /// height before and after.
-    #[inline(always)]
-    pub fn queue_fields(&mut self, from: usize, count: usize, mut height: usize) -> Answer<usize> {
-        let bits = MOST_BLOCKS * self.segments;
-        let (blocks, rest) = or_torn(self.mem.split_at_mut_checked(BLOCKS + SEGMENT_WORDS * self.segments))?;
-        for reference in or_torn(blocks.get(from..from.wrapping_add(count)))? {
-            height += queue_in(rest, bits, *reference, height)?;
-        }
-        Ok(height)
-    }
-
-    /// Enters one reference.
+    /// Enters one reference on the trace stack.
     #[inline(always)]
     pub fn queue(&mut self, reference: u32) -> Answer<()> {
-        let height = self.word(TRACE_HEIGHT)? as usize;
-        let bits = MOST_BLOCKS * self.segments;
-        let rest = or_torn(self.mem.get_mut(BLOCKS + SEGMENT_WORDS * self.segments..))?;
-        let more = queue_in(rest, bits, reference, height)?;
-        self.set(TRACE_HEIGHT, (height + more) as u32)
+        let mut height = self.word(TRACE_HEIGHT)? as usize;
+        let from = self.queued_bits();
+        queue_in(or_torn(self.mem.get_mut(from..))?, reference, &mut height)?;
+        self.set(TRACE_HEIGHT, height as u32)
     }
 
     #[inline(always)]
@@ -76,42 +63,49 @@ impl<M: DerefMut<Target = [u32]>> Heap<M> {
     /// Takes the last entered record, marks it and enters its pointers in order. Was there one?
     #[inline(always)]
     pub fn trace(&mut self) -> Answer<bool> {
-        let height = self.word(TRACE_HEIGHT)? as usize;
+        let mut height = self.word(TRACE_HEIGHT)? as usize;
         if height == 0 {
             return Ok(false);
         }
-        let reference = self.word(self.trace_stack() + height - 1)?;
+        let reference = self.word(self.trace_top(height))?;
+        height -= 1;
         self.mark(reference)?;
-        let header = self.word(reference as usize)?;
-        let height = self.queue_fields(reference as usize + 1, (header >> 16) as usize, height - 1)?;
+        let pointers = (self.word(reference as usize)? >> 16) as usize;
+        let first = reference as usize + 1;
+        let (blocks, rest) = or_torn(self.mem.split_at_mut_checked(BLOCKS + SEGMENT_WORDS * self.segments))?;
+        for reference in or_torn(blocks.get(first..first.wrapping_add(pointers)))? {
+            queue_in(rest, *reference, &mut height)?;
+        }
         self.set(TRACE_HEIGHT, height as u32)?;
         Ok(true)
     }
 
-    /// No mark, and nothing queued. It goes by segments, since a large fill counts a step for each byte where it is measured.
+    /// No mark, and nothing queued.
     pub fn clear_marks(&mut self) -> Answer<()> {
-        let (queued, marks) = (self.queued_bits(), self.mark_bits());
         for segment in 0..self.segments {
-            *self.array_mut(queued + segment * BITMAP_WORDS)? = [0; BITMAP_WORDS];
-            *self.array_mut(marks + segment * BITMAP_WORDS)? = [0; BITMAP_WORDS];
+            *self.array_mut(self.queued_bits() + segment * BITMAP_WORDS)? = [0; BITMAP_WORDS];
+            *self.array_mut(self.descriptor(segment) + MARKS)? = [0; BITMAP_WORDS];
         }
         Ok(())
     }
 }
 
-/// Enters a reference at this height of the trace stack, with which `rest` begins; the queued bits begin at `bits`. How many were entered,
-/// 0 or 1.
+/// Enters a reference at this height of the trace stack, with which `rest` ends; the queued bits begin it. Nothing is entered for nil, a
+/// marked record or one that is on the stack.
 #[inline(always)]
-fn queue_in(rest: &mut [u32], bits: usize, reference: u32, height: usize) -> Answer<usize> {
+fn queue_in(rest: &mut [u32], reference: u32, height: &mut usize) -> Answer<()> {
     if reference == 0 {
-        return Ok(0);
+        return Ok(());
     }
     let offset = reference.wrapping_sub(BLOCKS as u32);
-    let word = or_torn(rest.get_mut(bits + (offset / 64) as usize))?;
-    if *word >> (offset / 2 % 32) & 1 != 0 {
-        return Ok(0);
+    let mask = 1 << (offset / 2 % 32);
+    let word = or_torn(rest.get_mut((offset / 64) as usize))?;
+    if *word & mask != 0 {
+        return Ok(());
     }
-    *word |= 1 << (offset / 2 % 32);
-    *or_torn(rest.get_mut(height))? = reference;
-    Ok(1)
+    *word |= mask;
+    *height += 1;
+    let top = rest.len().wrapping_sub(*height);
+    *or_torn(rest.get_mut(top))? = reference;
+    Ok(())
 }
