@@ -128,23 +128,23 @@ def read_churn(folder):
     return churn
 
 
-def churn_line(name, verified, boehm, limit):
+def churn_line(name, verified, independent, boehm, limit):
     """Boehm's rows: here the limit is on the median of the ratios of the rounds."""
     ratios = [a / b for a, b in zip(verified, boehm)]
     verdict = "" if limit is None else "ok" if median(ratios) <= limit else "MISS"
     if verdict == "MISS":
         missed.append(f"{name}, beside Boehm's: {median(ratios):.2f}, limit {limit}")
-    return f"| {name} | {median(verified):.1f} | {median(boehm):.1f} | {spread(ratios)} | {limit or ''} | {verdict} |\n"
+    return f"| {name} | {median(verified):.1f} | {median(boehm):.1f} | {spread(ratios)} | {limit or ''} | {verdict} | {median(independent):.1f} |\n"
 
 
 def make_tables(churn):
-    text = "| ns a record, medians | verified | Boehm's | ratio within a round: median (quartiles) | limit | |\n|---|---:|---:|---:|---:|---|\n"
+    text = "| ns a record, medians | verified | Boehm's | ratio within a round: median (quartiles) | limit | | independent |\n|---|---:|---:|---:|---:|---|---:|\n"
     for mode, label, limit in (("fill", "make alone", 1.0), ("total", "make with its share of the cycles", None)):
         for program, other in (("boehm", ""), ("incremental", ", Boehm's incremental")):
             for segments in (64, 256):
                 for shape in ("1+1", "8+8"):
-                    a, b = ([f[0] for f in churn[(p, segments, shape, mode)]] for p in ("verified", program))
-                    text += churn_line(f"{label}, {shape}, {segments} segments{other}", a, b, limit if program == "boehm" else None)
+                    figures = ([f[0] for f in churn[(p, segments, shape, mode)]] for p in ("verified", "independent", program))
+                    text += churn_line(f"{label}, {shape}, {segments} segments{other}", *figures, limit if program == "boehm" else None)
     return text
 
 
@@ -157,16 +157,18 @@ def least_longest(folder, program, segments, shape):
 
 
 def pause_table(folder, churn):
-    text = "| longest single call, µs | verified | Boehm's | times longer | wanted | | as seen, medians: verified, Boehm's, an empty call |\n|---|---:|---:|---:|---:|---|---:|\n"
+    text = "| longest single call, µs | verified | Boehm's | times longer | wanted | | independent | as seen, medians: verified, Boehm's, an empty call |\n"
+    text += "|---|---:|---:|---:|---:|---|---:|---:|\n"
     for program, label in (("boehm", ""), ("incremental", ", Boehm's incremental")):
         for segments in (64, 256):
             for shape in ("1+1", "8+8"):
-                ours, theirs = (least_longest(folder, p, segments, shape) for p in ("verified", program))
+                ours, theirs, independent = (least_longest(folder, p, segments, shape) for p in ("verified", program, "independent"))
                 seen = [median(f[0] for f in churn[(p, segments, shape, mode)]) / 1000 for p, mode in (("verified", "each"), (program, "each"), ("verified", "nothing"))]
                 name, times = f"{shape}, {segments} segments{label}", theirs / ours
                 if times < 50:
                     missed.append(f"longest call, {name}: {times:.0f} times shorter than Boehm's, wanted 50")
-                text += f"| {name} | {ours / 1000:.1f} | {theirs / 1000:.0f} | {times:.0f} | 50 | {'ok' if times >= 50 else 'MISS'} | {', '.join(f'{x:,.0f}' for x in seen)} |\n"
+                verdict = "ok" if times >= 50 else "MISS"
+                text += f"| {name} | {ours / 1000:.1f} | {theirs / 1000:.0f} | {times:.0f} | 50 | {verdict} | {independent / 1000:.1f} | {', '.join(f'{x:,.0f}' for x in seen)} |\n"
     return text
 
 
