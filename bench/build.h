@@ -51,6 +51,18 @@ static inline u32 build_graph(struct heap *h, u32 dead) {
     return live;
 }
 
+/* Mutators 1 to `mutators` outside, each with sixteen records of its own; mutator 0 too where they are all 32. */
+static inline void build_outside(struct heap *h, u32 mutators) {
+    heap_reopen(h);
+    build_full_segment(h, 0);
+    for (u32 m = 1; m <= mutators && m < 32; m++) MUST(HEAP(attach)(OVER(h), m), 0);
+    for (u32 m = mutators == 32 ? 0 : 1; m <= mutators && m < 32; m++) {
+        for (u32 root = 0; root < 16; root++) MUST(HEAP(make)(OVER(h), m, root, 1, 1), 0);
+        MUST(HEAP(leave)(OVER(h), m), 0);
+    }
+    MUST(HEAP(start)(OVER(h)), 0);
+}
+
 /* Mutator 0, the only one, acknowledges the first and the second handshake: the phase is mark. */
 static inline void build_handshakes(struct heap *h) {
     for (u32 i = 0; i < 2; i++) {

@@ -54,18 +54,6 @@ static void rows_attach_long(struct heap *h) {
     ROW(probe_detach(h, 1), 0, "detach, holds a segment of each class");
 }
 
-/* Mutators 1 to `mutators` outside, each with sixteen records of its own; mutator 0 too where they are all 32. */
-static void build_outside(struct heap *h, u32 mutators) {
-    heap_reopen(h);
-    build_full_segment(h, 0);
-    for (u32 m = 1; m <= mutators && m < 32; m++) MUST(HEAP(attach)(OVER(h), m), 0);
-    for (u32 m = mutators == 32 ? 0 : 1; m <= mutators && m < 32; m++) {
-        for (u32 root = 0; root < 16; root++) MUST(HEAP(make)(OVER(h), m, root, 1, 1), 0);
-        MUST(HEAP(leave)(OVER(h), m), 0);
-    }
-    MUST(HEAP(start)(OVER(h)), 0);
-}
-
 static void rows_outside(struct heap *h) {
     build_outside(h, 31);
     MUST(HEAP(check)(OVER(h), 0), 0);

@@ -168,7 +168,7 @@ def pause_table(folder, churn):
                 if times < 50:
                     missed.append(f"longest call, {name}: {times:.0f} times shorter than Boehm's, wanted 50")
                 verdict = "ok" if times >= 50 else "MISS"
-                text += f"| {name} | {ours / 1000:.1f} | {theirs / 1000:.0f} | {times:.0f} | 50 | {verdict} | {independent / 1000:.1f} | {', '.join(f'{x:,.0f}' for x in seen)} |\n"
+                text += f"| {name} | {ours / 1000:.1f} | {theirs / 1000:.0f} | {times:.0f} | 50 | {verdict} | {independent / 1000:.1f} | {', '.join(f'{x:,.0f}' if x >= 1 else f'{x:.1f}' for x in seen)} |\n"
     return text
 
 

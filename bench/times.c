@@ -80,6 +80,39 @@ static void time_pace(u32 pace) {
     heap_close(&h);
 }
 
+/* One call, in ns: the least of many times, each in a state that is built again. */
+static void time_longest(void (*build)(struct heap *), u64 answer, const char *name) {
+    struct heap h = heap_open(256);
+    u64 least = UINT64_MAX;
+    for (u32 i = 0; i < 15; i++) {
+        build(&h);
+        u64 begin = now();
+        MUST(answer == 0 ? HEAP(start)(OVER(&h)) : HEAP(step)(OVER(&h)), answer);
+        u64 length = now() - begin;
+        least = length < least ? length : least;
+    }
+    printf("%s\t%llu\n", name, (unsigned long long)least);
+    heap_close(&h);
+}
+
+static void build_for_start(struct heap *h) {
+    heap_reopen(h);
+    build_dead(h, 8, 8);
+}
+
+static void build_for_handshake(struct heap *h) {
+    build_outside(h, 32);
+    MUST(HEAP(step)(OVER(h)), STEP(MOVED));
+}
+
+static void build_for_mark(struct heap *h) {
+    heap_reopen(h);
+    build_full_segment(h, 0);
+    build_fan(h, 0, 15, 1023, 0);
+    MUST(HEAP(start)(OVER(h)), 0);
+    build_handshakes(h);
+}
+
 int main(void) {
     time_fields();
     time_make(1, 1, "make 1+1");
@@ -90,5 +123,8 @@ int main(void) {
     time_pace(16);
     time_pace(4);
     time_pace(1);
+    time_longest(build_for_start, 0, "longest start");
+    time_longest(build_for_handshake, STEP(MOVED), "longest step in a handshake");
+    time_longest(build_for_mark, STEP(TRACED), "longest step in mark");
     return 0;
 }
