@@ -17,7 +17,7 @@ pub fn next_in_word(word: u32, block: u32) -> Option<u32> {
     let used = word | (2_u32 << (block % 32)).wrapping_sub(1);
     match used {
         u32::MAX => None,
-        used => Some(block / 32 * 32 | used.trailing_ones()),
+        used => Some((block / 32 * 32) | used.trailing_ones()),
     }
 }
 

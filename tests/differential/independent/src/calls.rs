@@ -5,7 +5,7 @@ use core::ops::{Deref, DerefMut};
 use crate::answers::{refuse, Answer, Refusal, Shape, MARK, SYNC1, SYNC2};
 use crate::classes::class_of;
 use crate::layout::{held_of, Heap, ACKNOWLEDGED};
-use crate::mutators::check_roots;
+use crate::mutators::{check_roots, words_of};
 
 /// A record that a root names: where its header is, and its counts.
 struct Record {
@@ -83,7 +83,22 @@ impl<M: DerefMut<Target = [u32]>> Heap<M> {
         block[0] = header;
         Ok(())
     }
+
+    /// The same for a block of a small class.
+    #[inline(always)]
+    fn write_small(&mut self, at: usize, class: u32, header: u32) -> Answer<()> {
+        match class {
+            3 => self.write_block::<2>(at, header),
+            4 => self.write_block::<4>(at, header),
+            5 => self.write_block::<8>(at, header),
+            6 => self.write_block::<16>(at, header),
+            _ => self.write_block::<32>(at, header),
+        }
+    }
 }
+
+/// The highest class whose blocks are written whole.
+const SMALL: u32 = 7;
 
 /// A new record into root `to`.
 #[inline]
@@ -92,40 +107,37 @@ pub fn make(segments: u32, mem: &mut [u32], mutator: u32, to: u32, pointers: u32
     let own = heap.inside(mutator)?;
     check_roots(to)?;
     let class = class_of(u64::from(pointers) + u64::from(values))?;
+    let header = pointers << 16 | values;
     let held = held_of(own, class);
     let descriptor = heap.word(held)? as usize;
-    if descriptor == 0 || may_have_duty(heap.phase()?) {
-        return make_slowly(segments, heap.mem, mutator, to, pointers, values);
+    if descriptor == 0 || class > SMALL || may_have_duty(heap.phase()?) {
+        return make_slowly(segments, heap.mem, mutator, to, header);
     }
     let at = heap.next_block(descriptor, class)?;
-    let header = pointers << 16 | values;
-    match class {
-        3 => heap.write_block::<2>(at, header)?,
-        4 => heap.write_block::<4>(at, header)?,
-        5 => heap.write_block::<8>(at, header)?,
-        6 => heap.write_block::<16>(at, header)?,
-        7 => heap.write_block::<32>(at, header)?,
-        _ => return make_slowly(segments, heap.mem, mutator, to, pointers, values),
-    }
+    heap.write_small(at, class, header)?;
     heap.set(own + to as usize, at as u32)?;
     heap.advance(descriptor, held, class)
 }
 
 /// The same for a record of any class, where the mutator may hold no segment of it and the record may be born marked.
 #[inline(never)]
-fn make_slowly(segments: u32, mem: &mut [u32], mutator: u32, to: u32, pointers: u32, values: u32) -> Answer<()> {
+fn make_slowly(segments: u32, mem: &mut [u32], mutator: u32, to: u32, header: u32) -> Answer<()> {
     let mut heap = Heap { mem, segments: segments as usize };
-    let own = heap.inside(mutator)?;
-    let fields = u64::from(pointers) + u64::from(values);
-    let class = class_of(fields)?;
+    let own = words_of(mutator)?;
+    let fields = (header >> 16) + (header & 0xffff);
+    let class = class_of(fields.into())?;
     let held = held_of(own, class);
     let descriptor = match heap.word(held)? {
         0 => heap.take(mutator, held, class)?,
         descriptor => descriptor as usize,
     };
     let at = heap.next_block(descriptor, class)?;
-    heap.set(at, pointers << 16 | values)?;
-    heap.fill(at + 1, fields as usize)?;
+    if class <= SMALL {
+        heap.write_small(at, class, header)?;
+    } else {
+        heap.set(at, header)?;
+        heap.fill(at + 1, fields as usize)?;
+    }
     heap.birth(own, at)?;
     heap.set(own + to as usize, at as u32)?;
     heap.advance(descriptor, held, class)

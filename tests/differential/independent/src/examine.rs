@@ -175,9 +175,9 @@ impl Examination<'_> {
             MARK => words[ACKNOWLEDGED] == 2,
             _ => words[ACKNOWLEDGED] <= 2,
         })?;
-        for class in 0..16 {
+        for class in classes::LOWEST..=classes::HIGHEST {
             let held = words[held_of(0, class)];
-            if held != 0 && class != 0 && class != 1 {
+            if held != 0 {
                 let segment = self.named(held)?;
                 must(segment[STATE] == HELD && segment[CLASS] == class && segment[TIE] == mutator)?;
             }
