@@ -1,5 +1,5 @@
 /* One C interface, two libraries: the prototypes of include/borvukhai.h under the prefix that BENCH_PREFIX names, and
- * the few helpers that every workload uses. A workload is compiled once for each library. */
+ * the few functions that every workload uses. A workload is compiled once for each library. */
 #ifndef BENCH_HEAP_H
 #define BENCH_HEAP_H
 

@@ -7,25 +7,45 @@ import sys
 from array import array
 from statistics import median
 
-from rows import CYCLES, FILLED, LONGEST, PACES, SINGLE, YARDSTICK
+from rows import CYCLES, FILLED, GROUPS, LONGEST, PACES, SINGLE, YARDSTICK
 
 BEGIN, END = "<!-- measured: written by bench/run -->", "<!-- end of measured -->"
 HEAD = "| {} | verified | independent | ratio | limit | |{}\n|---|---:|---:|---:|---:|---|{}\n"
-missed = []
+judged = []  # (table, name, ratio, limit) of every row with a limit
 
 
 def number(x):
     return f"{x:,.0f}" if x >= 1000 or x == int(x) else f"{x:.1f}"
 
 
-def line(name, verified, independent, limit, more=None):
-    """A row of a table; a limit that is missed is remembered."""
+def judge(table, name, ratio, limit):
+    """ok or MISS, remembered for the summary; nothing where there is no limit."""
+    if limit is None:
+        return ""
+    judged.append((table, name, ratio, limit))
+    return "ok" if ratio <= limit + 1e-9 else "MISS"
+
+
+def line(table, name, verified, independent, limit, more=None):
+    """A row of a table."""
     ratio = verified / independent
-    verdict = "" if limit is None else "ok" if ratio <= limit + 1e-9 else "MISS"
-    if verdict == "MISS":
-        missed.append(f"{name}: {ratio:.2f}, limit {limit}")
+    verdict = judge(table, name, ratio, limit)
     shown = "" if limit is None else str(limit)
     return f"| {name} | {number(verified)} | {number(independent)} | {ratio:.2f} | {shown} | {verdict} |" + (f" {more} |" if more is not None else "") + "\n"
+
+
+def summary_table():
+    """Each limit with the best and the worst ratio that it was held against."""
+    text = "| limits | ratio, best to worst | limit | rows within it | |\n|---|---:|---:|---:|---|\n"
+    for table, begins, name in GROUPS:
+        rows = [(ratio, limit) for t, row, ratio, limit in judged if t == table and row.startswith(begins)]
+        if rows:
+            kept = sum(ratio <= limit + 1e-9 for ratio, limit in rows)
+            text += f"| {name} | {min(rows)[0]:.2f} to {max(rows)[0]:.2f} | {rows[0][1]} | {kept} of {len(rows)} | {'ok' if kept == len(rows) else 'MISS'} |\n"
+    pauses = [1 / ratio for t, _, ratio, _ in judged if t == "pause"]
+    if pauses:
+        text += f"| Boehm's longest call by the longest of any kind here | {max(pauses):.0f} to {min(pauses):.0f} | at least 50 | {sum(p >= 50 for p in pauses)} of {len(pauses)} | {'ok' if min(pauses) >= 50 else 'MISS'} |\n"
+    return text
 
 
 def read_rows(folder, library):
@@ -43,11 +63,11 @@ def read_said(folder):
 def single_table(v, i):
     text = HEAD.format("instructions of one call", " as probes |", "---|")
     for name, limit in SINGLE:
-        text += line(name, v[name][1], i[name][1], limit, f"{number(v[name][0])} / {number(i[name][0])}")
+        text += line("one call", name, v[name][1], i[name][1], limit, f"{number(v[name][0])} / {number(i[name][0])}")
     for name, makes, limit in FILLED:
-        text += line(f"make {name.split()[1]}, mean over {makes:,}", v[name][1] / makes, i[name][1] / makes, limit, "")
-    text += line("a new pointer in mark (64 against 16)", *(new_pointer(rows, 64, 16) for rows in (v, i)), 1.15, "")
-    text += line("a new pointer in mark (1,023 against 64)", *(new_pointer(rows, 1023, 64) for rows in (v, i)), 1.15, "")
+        text += line("one call", f"make {name.split()[1]}, mean over {makes:,}", v[name][1] / makes, i[name][1] / makes, limit, "")
+    text += line("one call", "a new pointer in mark (64 against 16)", *(new_pointer(rows, 64, 16) for rows in (v, i)), 1.15, "")
+    text += line("one call", "a new pointer in mark (1,023 against 64)", *(new_pointer(rows, 1023, 64) for rows in (v, i)), 1.15, "")
     return text
 
 
@@ -67,7 +87,7 @@ def longest_table(v, i, mixed):
     text = HEAD.format("instructions of the longest call, 256 segments", " longest in the mixed run, ns |", "---|")
     for kind, begins, limit in LONGEST:
         most = [max(rows[name][1] for name in rows if name.startswith(tuple(begins))) for rows in (v, i)]
-        text += line(kind, *most, limit, mixed_cell(kind, mixed))
+        text += line("longest", kind, *most, limit, mixed_cell(kind, mixed))
     return text
 
 
@@ -85,12 +105,12 @@ def cycles_table(v, i, said):
     for segments in CYCLES:
         for kind in ("live", "half live"):
             name = f"cycle, {segments} segments, {kind}"
-            text += line(f"{count_of(segments)}, {kind}: for each of {said[name]:,} live records", v[name][1] / said[name], i[name][1] / said[name], 1.1)
+            text += line("cycle", f"{count_of(segments)}, {kind}: for each of {said[name]:,} live records", v[name][1] / said[name], i[name][1] / said[name], 1.1)
         for size in (3, 4):
             name = f"cycle, {segments} segments, dead, class {size}"
-            text += line(f"{count_of(segments)}, dead, class {size}: the whole", v[name][1], i[name][1], None)
+            text += line("cycle", f"{count_of(segments)}, dead, class {size}: the whole", v[name][1], i[name][1], None)
     for name in PACES:
-        text += line(f"{name}: for each call", v[name][1] / said[name], i[name][1] / said[name], None)
+        text += line("cycle", f"{name}: for each call", v[name][1] / said[name], i[name][1] / said[name], None)
     return text
 
 
@@ -131,9 +151,7 @@ def read_churn(folder):
 def churn_line(name, verified, independent, boehm, limit):
     """Boehm's rows: here the limit is on the median of the ratios of the rounds."""
     ratios = [a / b for a, b in zip(verified, boehm)]
-    verdict = "" if limit is None else "ok" if median(ratios) <= limit else "MISS"
-    if verdict == "MISS":
-        missed.append(f"{name}, beside Boehm's: {median(ratios):.2f}, limit {limit}")
+    verdict = judge("Boehm's", name, median(ratios), limit)
     return f"| {name} | {median(verified):.1f} | {median(boehm):.1f} | {spread(ratios)} | {limit or ''} | {verdict} | {median(independent):.1f} |\n"
 
 
@@ -165,9 +183,7 @@ def pause_table(folder, churn):
                 ours, theirs, independent = (least_longest(folder, p, segments, shape) for p in ("verified", program, "independent"))
                 seen = [median(f[0] for f in churn[(p, segments, shape, mode)]) / 1000 for p, mode in (("verified", "each"), (program, "each"), ("verified", "nothing"))]
                 name, times = f"{shape}, {segments} segments{label}", theirs / ours
-                if times < 50:
-                    missed.append(f"longest call, {name}: {times:.0f} times shorter than Boehm's, wanted 50")
-                verdict = "ok" if times >= 50 else "MISS"
+                verdict = judge("pause", name, ours / theirs, 1 / 50)
                 text += f"| {name} | {ours / 1000:.1f} | {theirs / 1000:.0f} | {times:.0f} | 50 | {verdict} | {independent / 1000:.1f} | {', '.join(f'{x:,.0f}' if x >= 1 else f'{x:.1f}' for x in seen)} |\n"
     return text
 
@@ -196,7 +212,7 @@ def read_mixed(folder):
 
 
 def tables(folder):
-    parts = [machine()]
+    parts = []
     if os.path.exists(os.path.join(folder, "verified.rows")):
         v, i, said = read_rows(folder, "verified"), read_rows(folder, "independent"), read_said(folder)
         parts += [single_table(v, i), yardstick_table(i), longest_table(v, i, read_mixed(folder)), cycles_table(v, i, said)]
@@ -204,8 +220,7 @@ def tables(folder):
     churn = read_churn(folder)
     if any(program == "boehm" for program, *_ in churn):
         parts += [make_tables(churn), pause_table(folder, churn)]
-    parts.append("Limits missed, of those measured here: " + ("none." if not missed else "\n\n" + "\n".join("- " + m for m in missed)) + "\n")
-    return "\n".join(parts)
+    return "\n".join([machine(), summary_table()] + parts)
 
 
 def main():

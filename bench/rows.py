@@ -34,6 +34,14 @@ LONGEST = [
 CYCLES = [1, 64, 256]
 PACES = ["mutation, no collector", "mutation, a step every 16 calls", "mutation, a step every 4 calls", "mutation, a step every 1 calls"]
 
+# The limits in one view: the table, the beginnings of its rows' names, and how the group is called.
+GROUPS = [
+    ("one call", ("load", "get", "put"), "load, get, put"), ("one call", ("copy", "clear", "same"), "copy, clear, same"),
+    ("one call", ("store",), "store, in each duty"), ("one call", ("make",), "make, in each case"),
+    ("one call", ("a new pointer",), "a new pointer in mark"), ("cycle", ("",), "a whole cycle, for each live record"),
+    ("longest", ("",), "the longest call of each kind"), ("Boehm's", ("make",), "make alone, beside Boehm's, by time"),
+]
+
 # How fast the independent implementation must be for the ratios to mean something: the call, the instructions of the C caller with
 # which the wanted figure was taken, and that figure; None is the new pointer in mark.
 YARDSTICK = [("load", 16, 61), ("get", 15, 58), ("put", 16, 60), ("store: nothing", 16, 101), ("make 0+1", 16, 199), (None, 0, 40)]
