@@ -61,7 +61,7 @@ def grid():
     for power, label in SHARES.items():
         y = y_of(10**power)
         out += f'<path d="M{LEFT} {y:.1f}H{WIDTH - RIGHT}" stroke="{GRID}"/>\n' + text(LEFT - 8, y + 4, label.replace("1,000,000", "million"), anchor="end", size=11)
-    out += text((LEFT + WIDTH - RIGHT) / 2, HEIGHT - 18, "length of a single call (logarithmic; the clock's own 20 ns included)", anchor="middle")
+    out += text((LEFT + WIDTH - RIGHT) / 2, HEIGHT - 18, "length of a single call: the least of the repeated runs, with the clock's own 20 ns (logarithmic)", anchor="middle")
     return out + text(14, TOP - 14, "share of calls that are longer", size=13)
 
 
