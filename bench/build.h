@@ -1,0 +1,84 @@
+/* Heaps in a wanted state: records of many pointers, full segments, a graph that fills the heap, a handshake answered. */
+#ifndef BENCH_BUILD_H
+#define BENCH_BUILD_H
+
+#include "heap.h"
+
+/* In root `to` a record of so many pointers, each to a new record of 0 + 1; after each of them `dead` more that nobody holds. */
+static inline void build_fan(struct heap *h, u32 mutator, u32 to, u32 pointers, u32 dead) {
+    u32 leaf = to == 0 ? 1 : 0;
+    MUST(HEAP(make)(OVER(h), mutator, to, pointers, 0), 0);
+    for (u32 field = 0; field < pointers; field++) {
+        MUST(HEAP(make)(OVER(h), mutator, leaf, 0, 1), 0);
+        MUST(HEAP(store)(OVER(h), mutator, to, field, leaf), 0);
+        for (u32 i = 0; i < dead; i++) MUST(HEAP(make)(OVER(h), mutator, leaf, 0, 1), 0);
+    }
+    MUST(HEAP(clear)(OVER(h), mutator, leaf), 0);
+}
+
+/* One full segment of class 12, all of it dead, so that a cycle can start. */
+static inline void build_full_segment(struct heap *h, u32 mutator) {
+    for (u32 i = 0; i < 4; i++) MUST(HEAP(make)(OVER(h), mutator, 0, 0, 1023), 0);
+    MUST(HEAP(clear)(OVER(h), mutator, 0), 0);
+}
+
+/* Dead records of one shape until there is no room: every segment is full. Answers how many. */
+static inline u32 build_dead(struct heap *h, u32 pointers, u32 values) {
+    u32 made = 0, refusal;
+    while ((refusal = HEAP(make)(OVER(h), 0, 0, pointers, values)) == 0) made++;
+    MUST(refusal, BORVUKHAI_NO_ROOM);
+    MUST(HEAP(clear)(OVER(h), 0, 0), 0);
+    return made;
+}
+
+/* Records of 4 + 11 until there is no room; the one in root 0 reaches all live ones. Each holds the one before it and three
+ * random ones among the last held in roots 2 to 13. After each live record come `dead` dead ones. Answers how many live. */
+static inline u32 build_graph(struct heap *h, u32 dead) {
+    u64 random = SEED;
+    u32 made = 0, live = 0, refusal;
+    for (;; made++) {
+        if ((refusal = HEAP(make)(OVER(h), 0, 1, 4, 11)) != 0) break;
+        if (made % (dead + 1) != 0) continue;
+        MUST(HEAP(store)(OVER(h), 0, 1, 0, 0), 0);
+        for (u32 field = 1; field < 4; field++) MUST(HEAP(store)(OVER(h), 0, 1, field, 2 + below(&random, 12)), 0);
+        MUST(HEAP(put)(OVER(h), 0, 1, 10, live++), 0);
+        MUST(HEAP(copy)(OVER(h), 0, 2 + below(&random, 12), 1), 0);
+        MUST(HEAP(copy)(OVER(h), 0, 0, 1), 0);
+    }
+    MUST(refusal, BORVUKHAI_NO_ROOM);
+    MUST(HEAP(get)(OVER(h), 0, 0, 10), RESULT(live - 1));
+    for (u32 root = 1; root < 14; root++) MUST(HEAP(clear)(OVER(h), 0, root), 0);
+    return live;
+}
+
+/* Mutators 1 to `mutators` outside, each with sixteen records of its own; mutator 0 too where they are all 32. */
+static inline void build_outside(struct heap *h, u32 mutators) {
+    heap_reopen(h);
+    build_full_segment(h, 0);
+    for (u32 m = 1; m <= mutators && m < 32; m++) MUST(HEAP(attach)(OVER(h), m), 0);
+    for (u32 m = mutators == 32 ? 0 : 1; m <= mutators && m < 32; m++) {
+        for (u32 root = 0; root < 16; root++) MUST(HEAP(make)(OVER(h), m, root, 1, 1), 0);
+        MUST(HEAP(leave)(OVER(h), m), 0);
+    }
+    MUST(HEAP(start)(OVER(h)), 0);
+}
+
+/* Mutator 0, the only one, acknowledges the first and the second handshake: the phase is mark. */
+static inline void build_handshakes(struct heap *h) {
+    for (u32 i = 0; i < 2; i++) {
+        MUST(HEAP(step)(OVER(h)), STEP(WAITING) | (u64)1 << 40);
+        MUST(HEAP(check)(OVER(h), 0), 0);
+        MUST(HEAP(step)(OVER(h)), STEP(MOVED));
+    }
+}
+
+/* Mark to its end: sweep is next. Answers how many records it marked. */
+static inline u32 build_marked(struct heap *h) {
+    u32 traced = 0;
+    u64 answer;
+    while ((answer = HEAP(step)(OVER(h))) == STEP(TRACED)) traced++;
+    MUST(answer, STEP(MOVED));
+    return traced;
+}
+
+#endif

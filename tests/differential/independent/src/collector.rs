@@ -1,0 +1,149 @@
+//! The cycle: start, and step in each phase.
+
+use core::ops::DerefMut;
+
+use crate::answers::{or_torn, refuse, Answer, Refusal, Step, IDLE, MARK, SWEEP, SYNC1, SYNC2};
+use crate::bitmap::{self, LEVEL_WORDS};
+use crate::classes;
+use crate::layout::{
+    Heap, ACKNOWLEDGED, CLASS, CONDEMNED_TOP, FREE_TOP, LEVEL0, MARKS, MUTATORS, MUTATOR_WORDS, NEXT, NUMBER, PHASE, PLACE, SIDE, STATE,
+};
+use crate::mutators::{ABSENT, OUTSIDE};
+use crate::segments::{self, fill_up, part_top, set_summary, Descriptor};
+
+impl<M: DerefMut<Target = [u32]>> Heap<M> {
+    /// Every full segment is condemned, stacked so that the lowest comes off first; refused 12 where there is none.
+    fn condemn(&mut self) -> Answer<()> {
+        for segment in (0..self.segments).rev() {
+            let descriptor = self.descriptor(segment);
+            if self.word(descriptor + STATE)? == segments::FULL {
+                self.set(descriptor + STATE, segments::CONDEMNED)?;
+                self.push(CONDEMNED_TOP, descriptor)?;
+            }
+        }
+        match self.word(CONDEMNED_TOP)? {
+            0 => refuse(Refusal::NONE_FULL),
+            _ => Ok(()),
+        }
+    }
+
+    /// A handshake: acknowledges for the mutators outside, and moves on when none inside owes.
+    fn handshake(&mut self, phase: u32) -> Answer<Step> {
+        let mut waiting = 0;
+        for own in (0..MUTATORS as usize).map(|mutator| mutator * MUTATOR_WORDS) {
+            let side = self.word(own + SIDE)?;
+            if side == ABSENT || !self.owes(own, phase)? {
+                continue;
+            }
+            if side == OUTSIDE {
+                self.acknowledge(own, phase)?;
+            } else {
+                waiting += 1;
+            }
+        }
+        if waiting != 0 {
+            return Ok(Step::Waiting(waiting));
+        }
+        self.set(PHASE, phase + 1)?;
+        Ok(Step::Moved)
+    }
+
+    /// Marking: one record, or the next phase.
+    #[inline(always)]
+    fn mark_step(&mut self) -> Answer<Step> {
+        if self.trace()? {
+            return Ok(Step::Traced);
+        }
+        self.set(PHASE, SWEEP)?;
+        Ok(Step::Moved)
+    }
+
+    /// Sweeping: the lowest condemned segment, or the end of the cycle.
+    fn sweep_step(&mut self) -> Answer<Step> {
+        match self.pop(CONDEMNED_TOP)? {
+            Some(descriptor) => self.sweep(descriptor),
+            None => {
+                self.set(PHASE, IDLE)?;
+                Ok(Step::Done)
+            }
+        }
+    }
+
+    /// Level 0 of the segment becomes its marks; it is then free, full or part.
+    fn sweep(&mut self, descriptor: usize) -> Answer<Step> {
+        let segment = self.word(descriptor + NUMBER)?;
+        let class = self.word(descriptor + CLASS)?;
+        let words: &mut Descriptor = self.array_mut(descriptor)?;
+        let (head, marks) = words.split_at_mut(MARKS);
+        let marks = or_torn(marks.get(..classes::level_words(class)))?;
+        let blocks = classes::blocks(class);
+        if marks.iter().fold(0, |any, word| any | word) == 0 {
+            head[STATE] = segments::FREE;
+            self.push(FREE_TOP, descriptor)?;
+            return Ok(Step::Swept { segment, freed: blocks });
+        }
+        let marked: u32 = marks.iter().map(|word| word.count_ones()).sum();
+        or_torn(head[LEVEL0..].get_mut(..marks.len()))?.copy_from_slice(marks);
+        rebuild(words, class)?;
+        if words[STATE] == segments::PART {
+            self.push(part_top(class), descriptor)?;
+        }
+        Ok(Step::Swept { segment, freed: blocks.wrapping_sub(marked) })
+    }
+}
+
+/// Level 0 has become the marks of a segment that is not free: the summary is rebuilt, and the segment is part, or full.
+#[inline(always)]
+fn rebuild(words: &mut Descriptor, class: u32) -> Answer<()> {
+    let level0: &mut [u32; LEVEL_WORDS] = or_torn(words[LEVEL0..].first_chunk_mut())?;
+    level0[0] |= classes::padding(class);
+    let summary = bitmap::summarize(level0, class);
+    let index = summary.trailing_ones();
+    let next = index * 32 + level0[index as usize % LEVEL_WORDS].trailing_ones();
+    set_summary(words, summary);
+    if summary == u64::MAX {
+        fill_up(words, class);
+        return Ok(());
+    }
+    words[STATE] = segments::PART;
+    words[PLACE] = 0;
+    words[NEXT] = next;
+    Ok(())
+}
+
+/// A cycle begins: every full segment is condemned; refused 11 outside idle, 12 with none full.
+#[inline]
+pub fn start(segments: u32, mem: &mut [u32]) -> Answer<()> {
+    let mut heap = Heap::over(segments, mem)?;
+    if heap.phase()? != IDLE {
+        return refuse(Refusal::NOT_NOW);
+    }
+    heap.condemn()?;
+    heap.clear_marks()?;
+    for own in (0..MUTATORS as usize).map(|mutator| mutator * MUTATOR_WORDS) {
+        heap.set(own + ACKNOWLEDGED, 0)?;
+    }
+    heap.set(PHASE, SYNC1)
+}
+
+/// One small step of the collector.
+#[inline]
+pub fn step(segments: u32, mem: &mut [u32]) -> Answer<Step> {
+    let mut heap = Heap::over(segments, mem)?;
+    if heap.phase()? == MARK {
+        return heap.mark_step();
+    }
+    step_elsewhere(heap.segments, heap.mem)
+}
+
+/// The same in the other phases.
+#[inline(never)]
+fn step_elsewhere(segments: usize, mem: &mut [u32]) -> Answer<Step> {
+    let mut heap = Heap { mem, segments };
+    match heap.phase()? {
+        IDLE => Ok(Step::Idle),
+        SWEEP => heap.sweep_step(),
+        phase @ (SYNC1 | SYNC2) => heap.handshake(phase),
+        _ => refuse(Refusal::TORN),
+    }
+}
