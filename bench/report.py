@@ -75,11 +75,13 @@ def new_pointer(rows, more, fewer):
     return (rows[f"step: mark, {more} new pointers"][1] - rows[f"step: mark, {fewer} new pointers"][1]) / (more - fewer)
 
 
-def yardstick_table(i):
-    text = "| the independent implementation | instructions with a caller of so many | wanted at most | |\n|---|---:|---:|---|\n"
-    for name, caller, most in YARDSTICK:
-        count = new_pointer(i, 64, 16) if name is None else i[name][1] + caller
-        text += f"| {name or 'a new pointer in mark'} | {number(count)}{f' ({caller})' if caller else ''} | {most} | {'ok' if count <= most else 'MISS'} |\n"
+def yardstick_table(v, i):
+    """Both libraries with a C caller, beside the figures that the independent one had to reach."""
+    text = "| instructions with a caller of so many | yardstick | independent | | verified | ratio to the yardstick | limit | |\n|---|---:|---:|---|---:|---:|---:|---|\n"
+    for name, caller, most, limit in YARDSTICK:
+        own, other = ((rows[name][1] + caller) if name else new_pointer(rows, 64, 16) for rows in (v, i))
+        verdicts = ("ok" if other <= most else "too slow", "ok" if own / most <= limit + 1e-9 else "MISS")
+        text += f"| {name or 'a new pointer in mark'} ({caller}) | {most} | {number(other)} | {verdicts[0]} | {number(own)} | {own / most:.2f} | {limit} | {verdicts[1]} |\n"
     return text
 
 
@@ -215,7 +217,7 @@ def tables(folder):
     parts = []
     if os.path.exists(os.path.join(folder, "verified.rows")):
         v, i, said = read_rows(folder, "verified"), read_rows(folder, "independent"), read_said(folder)
-        parts += [single_table(v, i), yardstick_table(i), longest_table(v, i, read_mixed(folder)), cycles_table(v, i, said)]
+        parts += [single_table(v, i), yardstick_table(v, i), longest_table(v, i, read_mixed(folder)), cycles_table(v, i, said)]
     parts.append(times_table(folder))
     churn = read_churn(folder)
     if any(program == "boehm" for program, *_ in churn):

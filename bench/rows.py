@@ -43,5 +43,8 @@ GROUPS = [
 ]
 
 # How fast the independent implementation must be for the ratios to mean something: the call, the instructions of the C caller with
-# which the wanted figure was taken, and that figure; None is the new pointer in mark.
-YARDSTICK = [("load", 16, 61), ("get", 15, 58), ("put", 16, 60), ("store: nothing", 16, 101), ("make 0+1", 16, 199), (None, 0, 40)]
+# which the wanted figure was taken, that figure, and the limit of a ratio to it; None is the new pointer in mark.
+YARDSTICK = [
+    ("load", 16, 61, 1.1), ("get", 15, 58, 1.1), ("put", 16, 60, 1.1), ("store: nothing", 16, 101, 1.0), ("make 0+1", 16, 199, 1.0),
+    (None, 0, 40, 1.15),
+]
