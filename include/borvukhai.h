@@ -4,9 +4,11 @@
  * asks nothing of the numbers and nothing of what the words hold: it answers a result, or one refusal of the list below, always. It
  * keeps nothing between calls but the words of the slice.
  *
- * A lent slice: a pointer that is not null, aligned to 4 bytes, also where the length is 0, to so many words that may be read (and
- * written, where it is not const), which overlap no other slice of the call. While a call runs nobody else writes to its slices, nor reads
- * those that are not const: so a call that changes the heap is not to be interrupted by another call over the same slice.
+ * A lent slice: a pointer that is not null, aligned to 4 bytes, also where the length is 0, to so many words, of no more than PTRDIFF_MAX
+ * bytes, that may be read (and written, where it is not const), which overlap no other slice of the call; so too where the length is one
+ * that is refused. While a call runs nobody else writes to its slices, nor reads those that are not const: no call that changes the heap
+ * runs while any other call over the same slice runs, in either order. Calls that take the heap as const may overlap one another, each
+ * with an output or scratch of its own.
  *
  * The terms: a mutator (document 01: script) is 0 to 31, a root (document 01: slot) 0 to 15. A record has pointers (document 01: links),
  * numbered from 0, and values (document 01: numbers), numbered from 0. A reference never leaves the heap: records are named by roots.
@@ -61,7 +63,7 @@ enum {
 
 /* States of a segment: the first of its four words in the output of borvukhai_states. The others are its class (3 to 12), its place (the
  * next block to look at; the number of blocks where it is full or condemned) and the mutator that holds it; in memory that passes the
- * examination a word that a state does not have is 0. Over other memory place and mutator may be any number. */
+ * examination a word that a state does not have is 0. Over other memory place, mutator, and the class of a free segment may be any number. */
 enum {
     BORVUKHAI_SEGMENT_FREE = 0,
     BORVUKHAI_SEGMENT_PART = 1,      /* class, place */
@@ -70,14 +72,14 @@ enum {
     BORVUKHAI_SEGMENT_CONDEMNED = 4  /* class, place */
 };
 
-/* ---- lengths, in words; 0 for a count that is not 1 to 256 */
+/* ---- lengths, in words */
 
-/* The same as constants, for arrays and a count that is 1 to 256. */
+/* As constants, for arrays, of a count that is 1 to 256. */
 #define BORVUKHAI_LENGTH(segments) (6354u * (segments) + 1037u)
 #define BORVUKHAI_STATES_LENGTH(segments) (4u * (segments))
 #define BORVUKHAI_SCRATCH_LENGTH(segments) (2176u * (segments))
 
-/* The slice that every call is lent: 6354 n + 1037 words for n segments. */
+/* As functions, which answer 0 for a count that is not 1 to 256. The slice that every call is lent: 6354 n + 1037 words for n segments. */
 size_t borvukhai_length(uint32_t segments);
 /* The output of borvukhai_states: 4 n words. */
 size_t borvukhai_states_length(uint32_t segments);
@@ -93,7 +95,7 @@ uint32_t borvukhai_open(uint32_t segments, uint32_t *mem, size_t length);
 uint32_t borvukhai_attach(uint32_t segments, uint32_t *mem, size_t length, uint32_t mutator);
 /* The same, but root 0 is a copy of one root of a parent that is inside. Refused SIZE, SCRIPT, TAKEN, ABSENT, SIDE, SLOT, NOT_NOW, TORN. */
 uint32_t borvukhai_spawn(uint32_t segments, uint32_t *mem, size_t length, uint32_t mutator, uint32_t parent, uint32_t root);
-/* A mutator goes for good; its roots are emptied. Refused SIZE, SCRIPT, ABSENT, SIDE, NOT_NOW, TORN. */
+/* A mutator goes; its roots are emptied, and its number is free for another. Refused SIZE, SCRIPT, ABSENT, SIDE, NOT_NOW, TORN. */
 uint32_t borvukhai_detach(uint32_t segments, uint32_t *mem, size_t length, uint32_t mutator);
 
 /* A new record of so many pointers, all nil, and values, all 0, into root `to`. Refused SIZE, SCRIPT, ABSENT, SIDE, SLOT, TOO_BIG, NO_ROOM,

@@ -1,4 +1,4 @@
-/* Provokes each refusal number of include/borvukhai.h, from every call that can give it, and tries the lengths and the looks.
+/* Provokes each refusal number of include/borvukhai.h, from every call that gives it, and tries the lengths and the looks.
  * It prints a line for each part, and says on the error output what was expected where something else came. */
 #include "borvukhai.h"
 

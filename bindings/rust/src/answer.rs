@@ -15,8 +15,12 @@ pub fn plain(answer: u32) -> Result<()> {
 /// An answer of 64 bits: a result above a refusal.
 #[inline]
 pub fn result(answer: u64) -> Result<u32> {
-    plain(answer as u32)?;
-    Ok((answer >> 32) as u32)
+    let value = (answer >> 32) as u32;
+    match plain(answer as u32) {
+        Ok(()) => Ok(value),
+        Err(refusal) if value == 0 => Err(refusal),
+        Err(_) => Err(Refusal::Torn),
+    }
 }
 
 /// An answer of 64 bits whose result is 0 or 1.
@@ -50,6 +54,7 @@ mod tests {
             assert_eq!(result(number.into()), Err(Refusal::Torn));
         }
         assert_eq!(truth(2 << 32), Err(Refusal::Torn));
+        assert_eq!(result(1 << 32 | 7), Err(Refusal::Torn));
     }
 
     #[test]

@@ -30,14 +30,13 @@ pub enum Step {
 impl Step {
     /// The upper 32 bits of the answer of step.
     pub(crate) const fn unpack(bits: u32) -> Result<Step> {
-        let next = bits >> 8 & 0xff;
-        match bits & 0xff {
-            0 => Ok(Step::Idle),
-            1 => Ok(Step::Waiting(next)),
-            2 => Ok(Step::Moved),
-            3 => Ok(Step::Traced),
-            4 => Ok(Step::Swept { segment: next, freed: bits >> 16 }),
-            5 => Ok(Step::Done),
+        match (bits & 0xff, bits >> 8 & 0xff, bits >> 16) {
+            (0, 0, 0) => Ok(Step::Idle),
+            (1, waiting, 0) => Ok(Step::Waiting(waiting)),
+            (2, 0, 0) => Ok(Step::Moved),
+            (3, 0, 0) => Ok(Step::Traced),
+            (4, segment, freed) => Ok(Step::Swept { segment, freed }),
+            (5, 0, 0) => Ok(Step::Done),
             _ => Err(Refusal::Torn),
         }
     }
@@ -58,8 +57,8 @@ impl<M: AsRef<[u32]> + AsMut<[u32]>> Heap<M> {
         raw::step(self.segments().count(), self.words())
     }
 
-    /// The cycle that runs, to its end, in this one call; the answer is how many blocks became free. Where no cycle runs it does
-    /// nothing, and the answer is 0.
+    /// The cycle that runs, to its end, in this one call; the answer is how many blocks became free in it, not counting those of segments
+    /// that were swept before. Where no cycle runs it does nothing, and the answer is 0.
     ///
     /// This is the pause that steps avoid: for moments when time does not matter, or when no room is left. Where a
     /// handshake waits, it checks for every mutator that is inside; as the heap is borrowed, none of them is within a call.
@@ -124,6 +123,9 @@ mod tests {
     fn a_kind_off_the_table_is_torn() {
         for kind in 6..=255 {
             assert_eq!(Step::unpack(kind), Err(Refusal::Torn));
+        }
+        for more in [0x100, 0x1_0001, 0x102, 0x1_0002, 0x103, 0x105] {
+            assert_eq!(Step::unpack(more), Err(Refusal::Torn));
         }
     }
 }

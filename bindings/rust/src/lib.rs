@@ -47,8 +47,8 @@
 //!
 //! # One call at a time
 //!
-//! Only one call may run over one memory. Calls that change the heap take `&mut Heap`, and a [`Mutator`] borrows the heap as long as it
-//! lives, so the compiler refuses what could overlap:
+//! No call that changes the heap may run while another call over the same memory runs; the looks may run beside each other. Calls that
+//! change the heap take `&mut Heap`, and a [`Mutator`] borrows the heap as long as it lives, so the compiler refuses what could overlap:
 //!
 //! ```compile_fail,E0499
 //! # use borvukhai::{Heap, MutatorId, Root, Segments};
@@ -98,7 +98,7 @@
 //! # Layers and features
 //!
 //! [`Heap`] and [`Mutator`] take typed numbers: an opened heap's calls are not refused 2 or 6, and 1 only where the output or scratch of
-//! a look has another length. [`raw`] has every call over slices and plain numbers, with every refusal. The crate is `no_std`. The
+//! a look has another length (or the memory does not lend the same words each time). [`raw`] has every call over slices and plain numbers, with every refusal. The crate is `no_std`. The
 //! feature `alloc`, on by default, adds `Heap::new`, which owns its memory.
 //!
 //! An answer that is none of document 01's cannot come from the library; that is proved of it. Were one to come, from another

@@ -133,7 +133,8 @@ impl<M: AsRef<[u32]> + AsMut<[u32]>> Heap<M> {
     /// The state of each segment, from segment 0 on, through an output of [`Segments::states_length`](crate::Segments::states_length)
     /// words. Refused Size where the output has another length, and Torn.
     ///
-    /// Over memory that fails the examination the library may name a holder over 31; that is Torn here.
+    /// Over memory that fails the examination the library may name a holder over 31; that is Torn here too, and the output then holds the
+    /// words that the library wrote. Otherwise a refusal leaves the output as it was.
     ///
     /// ```
     /// use borvukhai::{Heap, MutatorId, Root, SegmentState, Segments, Shape};

@@ -14,8 +14,9 @@ use crate::segments::Segments;
 /// handle again with [`Heap::mutator`](crate::Heap::mutator).
 ///
 /// Each call may be refused [`Absent`](crate::Refusal::Absent) where the mutator is not attached and, but for
-/// [`enter`](Mutator::enter), [`Side`](crate::Refusal::Side) where it is outside. Size, Script and Slot cannot happen here, and
-/// [`Torn`](crate::Refusal::Torn) only over memory that fails the examination. Each call below names what else refuses it.
+/// [`enter`](Mutator::enter), [`Side`](crate::Refusal::Side) where it is outside. Script and Slot cannot happen here, Size only over memory
+/// that does not lend the same words each time, and [`Torn`](crate::Refusal::Torn) only over memory that fails the examination. Each call
+/// below names what else refuses it.
 pub struct Mutator<'h> {
     segments: Segments,
     memory: &'h mut [u32],
@@ -47,7 +48,8 @@ impl<'h> Mutator<'h> {
 
     /// A new record, its pointers nil and its values 0, into root `to`. Refused TooBig and NoRoom.
     ///
-    /// On NoRoom, a cycle may help: its sweep hands back blocks that nobody reached when it began.
+    /// On NoRoom, a cycle may help: it hands back blocks that nobody reached when it began, of segments that were full then. Where
+    /// [`start`](crate::Heap::start) is refused NoneFull, none can.
     #[inline]
     pub fn make(&mut self, to: Root, shape: Shape) -> Result<()> {
         raw::make(self.count(), self.memory, self.id.number(), to.number(), shape.pointers, shape.values)
