@@ -1,0 +1,97 @@
+//! Size classes 3 to 12: which class a record has, how many blocks a segment of it has, and how many words of level 0 they take.
+
+use crate::answers::{Answer, Refusal};
+
+pub const LOWEST: u32 = 3;
+pub const HIGHEST: u32 = 12;
+pub const CLASSES: usize = 10;
+
+/// The most pointers and values together.
+pub const MOST_FIELDS: u64 = 1023;
+
+/// The class by the count of pointers and values together.
+static CLASS_OF: [u32; 1024] = class_table();
+
+/// The smallest class whose block of 2^c bytes holds the header and the fields.
+const fn smallest(fields: u32) -> u32 {
+    let mut class = LOWEST;
+    while 1 << class < 4 * (1 + fields) {
+        class += 1;
+    }
+    class
+}
+
+const fn class_table() -> [u32; 1024] {
+    let mut table = [0; 1024];
+    let mut fields = 0;
+    while fields < 1024 {
+        table[fields] = smallest(fields as u32);
+        fields += 1;
+    }
+    table
+}
+
+/// The class of a record of so many fields; refused 9.
+#[inline(always)]
+pub fn class_of(fields: u64) -> Answer<u32> {
+    match CLASS_OF.get(fields as usize) {
+        Some(&class) if fields <= MOST_FIELDS => Ok(class),
+        _ => Err(Refusal::TOO_BIG),
+    }
+}
+
+#[inline(always)]
+pub fn is_class(class: u32) -> bool {
+    (LOWEST..=HIGHEST).contains(&class)
+}
+
+/// A block of the class has 2^shift words.
+#[inline(always)]
+pub fn shift(class: u32) -> u32 {
+    class.wrapping_sub(2) & 15
+}
+
+/// The blocks of a segment of the class.
+#[inline(always)]
+pub fn blocks(class: u32) -> u32 {
+    4096 >> shift(class)
+}
+
+/// The words that level 0 of the class has.
+#[inline(always)]
+pub fn level_words(class: u32) -> usize {
+    blocks(class).div_ceil(32) as usize
+}
+
+/// The bits past the end of level 0's last word: 1 where they are.
+#[inline(always)]
+pub fn padding(class: u32) -> u32 {
+    match blocks(class) {
+        blocks if blocks < 32 => u32::MAX << blocks,
+        _ => 0,
+    }
+}
+
+#[cfg(test)]
+mod tests {
+    use super::*;
+
+    #[test]
+    fn class_cases() {
+        let cases = [(0, 3), (1, 3), (2, 4), (3, 4), (4, 5), (511, 11), (512, 12), (1023, 12)];
+        for (fields, class) in cases {
+            assert_eq!(class_of(fields), Ok(class), "{fields} fields");
+        }
+        assert_eq!(class_of(1024), Err(Refusal::TOO_BIG));
+        assert_eq!(class_of(u64::from(u32::MAX) * 2), Err(Refusal::TOO_BIG));
+    }
+
+    #[test]
+    fn blocks_by_class() {
+        let blocks_of = [2048, 1024, 512, 256, 128, 64, 32, 16, 8, 4];
+        for (class, expected) in (LOWEST..=HIGHEST).zip(blocks_of) {
+            assert_eq!(blocks(class), expected);
+            assert_eq!(level_words(class), (expected as usize).max(32) / 32);
+        }
+    }
+}

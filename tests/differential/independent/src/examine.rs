@@ -1,0 +1,342 @@
+//! The examination: does the memory hold what an opening establishes and every call keeps? It answers over memory of any content.
+//!
+//! Beside the layout's own invariants it checks the collector's promise: in mark, each reached record of a condemned segment is marked
+//! or is reached from the trace stack over records not yet marked; in sweep, it is marked.
+
+use crate::answers::{Answer, Refusal, IDLE, MARK, SWEEP, SYNC1, SYNC2};
+use crate::bitmap::summarize;
+use crate::classes::{self, class_of, CLASSES};
+use crate::layout::{
+    scratch_length, Heap, ACKNOWLEDGED, BITMAP_WORDS, BLOCKS, CLASS, CONDEMNED_TOP, DESCRIPTOR_WORDS, FREE_TOP, HELD_OF, LEVEL0, MOST_BLOCKS,
+    MUTATORS, MUTATOR_WORDS, NEXT, NUMBER, PLACE, ROOTS, SEGMENT_WORDS, SIDE, STATE, TIE, TRACE_HEIGHT,
+};
+use crate::mutators::{in_handshake, ABSENT, OUTSIDE};
+use crate::segments::{part_top, tree, Descriptor, CONDEMNED, FREE, FULL, HELD, PART};
+use crate::trace::Bit;
+
+/// A condition that holds, or nothing.
+fn must(holds: bool) -> Option<()> {
+    holds.then_some(())
+}
+
+/// The memory, and the scratch in its three parts: records still to look into, records reached, and records reached from the trace stack
+/// over unmarked ones.
+struct Examination<'a> {
+    heap: Heap<&'a [u32]>,
+    phase: u32,
+    waiting: &'a mut [u32],
+    height: usize,
+    reached: &'a mut [u32],
+    grey: &'a mut [u32],
+}
+
+/// 1 bit of a bitmap of the scratch is set. Was it new?
+fn add(bitmap: &mut [u32], reference: u32) -> Option<bool> {
+    let offset = reference.wrapping_sub(BLOCKS as u32);
+    let word = bitmap.get_mut(offset as usize / 64)?;
+    let mask = 1 << (offset / 2 % 32);
+    let new = *word & mask == 0;
+    *word |= mask;
+    Some(new)
+}
+
+fn contains(bitmap: &[u32], reference: u32) -> Option<bool> {
+    let offset = reference.wrapping_sub(BLOCKS as u32);
+    Some(bitmap.get(offset as usize / 64)? >> (offset / 2 % 32) & 1 == 1)
+}
+
+/// Is a block of a segment in use?
+fn in_use(descriptor: &Descriptor, block: u32) -> Option<bool> {
+    Some(block < descriptor[PLACE] || tree(descriptor).ok()?.level0.get(block as usize / 32)? >> (block % 32) & 1 == 1)
+}
+
+impl Examination<'_> {
+    fn word(&self, at: usize) -> Option<u32> {
+        self.heap.word(at).ok()
+    }
+
+    fn segment(&self, segment: usize) -> Option<&Descriptor> {
+        must(segment < self.heap.segments)?;
+        self.heap.described(self.heap.descriptor(segment)).ok()
+    }
+
+    /// The descriptor at an index that a stack or a mutator names.
+    fn named(&self, at: u32) -> Option<&Descriptor> {
+        let distance = (at as usize).checked_sub(self.heap.descriptors())?;
+        must(distance % DESCRIPTOR_WORDS == 0)?;
+        self.segment(distance / DESCRIPTOR_WORDS)
+    }
+
+    fn bit(&self, bit: Bit) -> Option<bool> {
+        Some(self.word(bit.at)? & bit.mask != 0)
+    }
+
+    fn is_marked(&self, reference: u32) -> Option<bool> {
+        self.bit(self.heap.mark_bit(reference).ok()?)
+    }
+
+    fn trace_height(&self) -> Option<usize> {
+        Some(self.word(TRACE_HEIGHT)? as usize)
+    }
+
+    /// The control words, the segments, their stacks, the mutators and the records, then what is reached.
+    fn all(&mut self) -> Option<()> {
+        self.control()?;
+        for segment in 0..self.heap.segments {
+            self.descriptor(segment)?;
+        }
+        self.stacks()?;
+        for mutator in 0..MUTATORS {
+            self.mutator(mutator)?;
+        }
+        self.headers()?;
+        if self.phase != IDLE && self.phase != SWEEP {
+            self.marks()?;
+        }
+        self.grey_records()?;
+        self.reached_records()
+    }
+
+    fn control(&self) -> Option<()> {
+        must(self.phase <= SWEEP)?;
+        let height = self.trace_height()?;
+        must(height <= MOST_BLOCKS * self.heap.segments)?;
+        must(height == 0 || in_handshake(self.phase) || self.phase == MARK)
+    }
+
+    fn descriptor(&self, segment: usize) -> Option<()> {
+        let words = self.segment(segment)?;
+        must(words[NUMBER] as usize == segment && words[STATE] <= CONDEMNED)?;
+        if words[STATE] == FREE {
+            return Some(());
+        }
+        let class = words[CLASS];
+        must(classes::is_class(class))?;
+        self.bitmap(words, class)?;
+        let blocks = classes::blocks(class);
+        if words[STATE] == FULL || words[STATE] == CONDEMNED {
+            must(words[PLACE] == blocks && words[NEXT] == blocks)?;
+            return must(words[STATE] == FULL || self.phase != IDLE);
+        }
+        must(words[PLACE] < blocks && tree(words).ok()?.next_free(blocks, words[PLACE]) == Some(words[NEXT]))?;
+        must(words[STATE] == PART || self.holds(words[TIE], segment, class)?)
+    }
+
+    fn bitmap(&self, words: &Descriptor, class: u32) -> Option<()> {
+        let tree = tree(words).ok()?;
+        let padding = classes::padding(class);
+        must(words[LEVEL0] & padding == padding && tree.summary == summarize(tree.level0, class))
+    }
+
+    /// Does the mutator hold the segment?
+    fn holds(&self, mutator: u32, segment: usize, class: u32) -> Option<bool> {
+        must(mutator < MUTATORS)?;
+        let own = mutator as usize * MUTATOR_WORDS;
+        let held = self.word(own + HELD_OF + (class - classes::LOWEST) as usize)?;
+        Some(self.word(own + SIDE)? != ABSENT && held as usize == self.heap.descriptor(segment))
+    }
+
+    fn stacks(&self) -> Option<()> {
+        self.stack(FREE_TOP, FREE, None)?;
+        self.stack(CONDEMNED_TOP, CONDEMNED, None)?;
+        for class in classes::LOWEST..=classes::HIGHEST {
+            self.stack(part_top(class), PART, Some(class))?;
+        }
+        must(!in_handshake(self.phase) && self.phase != MARK || self.word(CONDEMNED_TOP)? != 0)
+    }
+
+    /// A stack has each segment of the state, and of the class if one is given, once. The condemned ones lie in order.
+    fn stack(&self, top: usize, state: u32, class: Option<u32>) -> Option<()> {
+        let belongs = |words: &Descriptor| words[STATE] == state && class.is_none_or(|class| words[CLASS] == class);
+        let mut left = 0;
+        for segment in 0..self.heap.segments {
+            left += usize::from(belongs(self.segment(segment)?));
+        }
+        let mut at = self.word(top)?;
+        while at != 0 {
+            let words = self.named(at)?;
+            must(belongs(words))?;
+            left = left.checked_sub(1)?;
+            must(state != CONDEMNED || words[TIE] == 0 || words[TIE] > at)?;
+            at = words[TIE];
+        }
+        must(left == 0)
+    }
+
+    fn mutator(&self, mutator: u32) -> Option<()> {
+        let words: &[u32; MUTATOR_WORDS] = self.heap.array(mutator as usize * MUTATOR_WORDS).ok()?;
+        if words[SIDE] == ABSENT {
+            return must(words.iter().all(|word| *word == 0));
+        }
+        must(words[SIDE] <= OUTSIDE && words[ACKNOWLEDGED + 1..].iter().all(|word| *word == 0))?;
+        must(match self.phase {
+            SYNC1 => words[ACKNOWLEDGED] <= 1,
+            SYNC2 => words[ACKNOWLEDGED] == 1 || words[ACKNOWLEDGED] == 2,
+            MARK => words[ACKNOWLEDGED] == 2,
+            _ => words[ACKNOWLEDGED] <= 2,
+        })?;
+        for (class, held) in (classes::LOWEST..).zip(&words[HELD_OF..HELD_OF + CLASSES]) {
+            if *held != 0 {
+                let segment = self.named(*held)?;
+                must(segment[STATE] == HELD && segment[CLASS] == class && segment[TIE] == mutator)?;
+            }
+        }
+        Some(())
+    }
+
+    /// Each block in use has a record of its class.
+    fn headers(&self) -> Option<()> {
+        for segment in 0..self.heap.segments {
+            let words = self.segment(segment)?;
+            if words[STATE] == FREE {
+                continue;
+            }
+            let class = words[CLASS];
+            for block in 0..classes::blocks(class) {
+                let at = BLOCKS + SEGMENT_WORDS * segment + ((block as usize) << classes::shift(class));
+                must(!in_use(words, block)? || self.has_class(at, class)?)?;
+            }
+        }
+        Some(())
+    }
+
+    fn has_class(&self, at: usize, class: u32) -> Option<bool> {
+        let header = self.word(at)?;
+        Some(class_of(u64::from(header >> 16) + u64::from(header & 0xffff)) == Ok(class))
+    }
+
+    /// Nil, or the first word of a block in use.
+    fn is_reference(&self, reference: u32) -> Option<()> {
+        if reference == 0 {
+            return Some(());
+        }
+        let offset = (reference as usize).checked_sub(BLOCKS)?;
+        let words = self.segment(offset / SEGMENT_WORDS)?;
+        must(words[STATE] != FREE)?;
+        let (within, shift) = (offset % SEGMENT_WORDS, classes::shift(words[CLASS]));
+        let block = within >> shift;
+        must(block << shift == within && in_use(words, block as u32)?)
+    }
+
+    /// Before sweep: marks are of blocks in use; what is queued is exactly what is marked or on the trace stack, each once, never both.
+    fn marks(&mut self) -> Option<()> {
+        let mut marked = 0;
+        for segment in 0..self.heap.segments {
+            marked += self.marks_of(segment)?;
+        }
+        let height = self.trace_height()?;
+        for entry in 0..height {
+            let reference = self.word(self.heap.trace_stack() + entry)?;
+            must(reference != 0)?;
+            self.is_reference(reference)?;
+            must(self.bit(self.heap.queued_bit(reference))? && !self.is_marked(reference)?)?;
+            must(add(self.grey, reference)?)?;
+        }
+        let queued = self.heap.mem.get(self.heap.queued_bits()..self.heap.mark_bits())?;
+        must(queued.iter().map(|word| word.count_ones() as usize).sum::<usize>() == height + marked)
+    }
+
+    /// The count of a segment's marks, each of a block in use whose queued bit is set.
+    fn marks_of(&self, segment: usize) -> Option<usize> {
+        let marks: &[u32; BITMAP_WORDS] = self.heap.array(self.heap.mark_bits() + segment * BITMAP_WORDS).ok()?;
+        let words = self.segment(segment)?;
+        let mut marked = 0;
+        for block in 0..MOST_BLOCKS {
+            if marks[block / 32] >> (block % 32) & 1 == 0 {
+                continue;
+            }
+            let class = words[CLASS];
+            must(words[STATE] != FREE && block < classes::blocks(class) as usize && in_use(words, block as u32)?)?;
+            let reference = BLOCKS + SEGMENT_WORDS * segment + (block << classes::shift(class));
+            must(self.bit(self.heap.queued_bit(reference as u32))?)?;
+            marked += 1;
+        }
+        Some(marked)
+    }
+
+    fn await_record(&mut self, reference: u32) -> Option<()> {
+        *self.waiting.get_mut(self.height)? = reference;
+        self.height += 1;
+        Some(())
+    }
+
+    fn next_record(&mut self) -> Option<u32> {
+        self.height = self.height.checked_sub(1)?;
+        self.waiting.get(self.height).copied()
+    }
+
+    fn pointers_of(&self, reference: u32) -> Option<core::ops::Range<usize>> {
+        let first = reference as usize + 1;
+        Some(first..first + (self.word(reference as usize)? >> 16) as usize)
+    }
+
+    /// What the trace stack reaches over unmarked records.
+    fn grey_records(&mut self) -> Option<()> {
+        for entry in 0..self.trace_height()? {
+            let reference = self.word(self.heap.trace_stack() + entry)?;
+            self.await_record(reference)?;
+        }
+        while let Some(record) = self.next_record() {
+            for at in self.pointers_of(record)? {
+                let reference = self.word(at)?;
+                self.is_reference(reference)?;
+                if reference != 0 && !self.is_marked(reference)? && add(self.grey, reference)? {
+                    self.await_record(reference)?;
+                }
+            }
+        }
+        self.height = 0;
+        Some(())
+    }
+
+    /// What roots and trace stack reach is records, and the collector will keep it.
+    fn reached_records(&mut self) -> Option<()> {
+        for mutator in 0..MUTATORS as usize {
+            for root in 0..ROOTS as usize {
+                self.reach(self.word(mutator * MUTATOR_WORDS + root)?)?;
+            }
+        }
+        for entry in 0..self.trace_height()? {
+            self.reach(self.word(self.heap.trace_stack() + entry)?)?;
+        }
+        while let Some(record) = self.next_record() {
+            for at in self.pointers_of(record)? {
+                self.reach(self.word(at)?)?;
+            }
+        }
+        Some(())
+    }
+
+    fn reach(&mut self, reference: u32) -> Option<()> {
+        self.is_reference(reference)?;
+        if reference == 0 || !add(self.reached, reference)? {
+            return Some(());
+        }
+        must(self.is_kept(reference)?)?;
+        self.await_record(reference)
+    }
+
+    /// Will the cycle that runs keep this reached record?
+    fn is_kept(&self, reference: u32) -> Option<bool> {
+        let words = self.segment((reference as usize - BLOCKS) / SEGMENT_WORDS)?;
+        if words[STATE] != CONDEMNED || in_handshake(self.phase) {
+            return Some(true);
+        }
+        Some(self.is_marked(reference)? || contains(self.grey, reference)?)
+    }
+}
+
+/// Yes where the memory is consistent. The scratch ends all 0; refused 1 only, and then it is as it was.
+pub fn examine(segments: u32, mem: &[u32], scratch: &mut [u32]) -> Answer<bool> {
+    let heap = Heap::over(segments, mem)?;
+    if scratch.len() != scratch_length(segments) {
+        return Err(Refusal::SIZE);
+    }
+    scratch.fill(0);
+    let phase = heap.phase()?;
+    let (waiting, bitmaps) = scratch.split_at_mut(MOST_BLOCKS * heap.segments);
+    let (reached, grey) = bitmaps.split_at_mut(BITMAP_WORDS * heap.segments);
+    let consistent = Examination { heap, phase, waiting, height: 0, reached, grey }.all().is_some();
+    scratch.fill(0);
+    Ok(consistent)
+}

@@ -1,0 +1,44 @@
+//! The looks at the phase and at the segments' states.
+
+use core::ops::Deref;
+
+use crate::answers::{Answer, Refusal, SWEEP};
+use crate::layout::{states_length, Heap, CLASS, PLACE, STATE, TIE};
+use crate::segments::{CONDEMNED, FREE, HELD};
+
+/// The phase.
+#[inline]
+pub fn phase(segments: u32, mem: &[u32]) -> Answer<u32> {
+    match Heap::over(segments, mem)?.phase()? {
+        phase if phase <= SWEEP => Ok(phase),
+        _ => Err(Refusal::TORN),
+    }
+}
+
+impl<M: Deref<Target = [u32]>> Heap<M> {
+    /// A segment's state, class, place and mutator; 0 for what its state does not have.
+    fn state(&self, segment: usize) -> Answer<[u32; 4]> {
+        let descriptor = self.described(self.descriptor(segment))?;
+        match descriptor[STATE] {
+            FREE => Ok([FREE, 0, 0, 0]),
+            HELD => Ok([HELD, descriptor[CLASS], descriptor[PLACE], descriptor[TIE]]),
+            state if state <= CONDEMNED => Ok([state, descriptor[CLASS], descriptor[PLACE], 0]),
+            _ => Err(Refusal::TORN),
+        }
+    }
+}
+
+/// Four words for each segment into the output, which a refusal leaves as it was.
+pub fn states(segments: u32, mem: &[u32], output: &mut [u32]) -> Answer<()> {
+    let heap = Heap::over(segments, mem)?;
+    if output.len() != states_length(segments) {
+        return Err(Refusal::SIZE);
+    }
+    for segment in 0..heap.segments {
+        heap.state(segment)?;
+    }
+    for (segment, words) in output.chunks_exact_mut(4).enumerate() {
+        words.copy_from_slice(&heap.state(segment)?);
+    }
+    Ok(())
+}

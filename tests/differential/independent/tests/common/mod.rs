@@ -1,0 +1,119 @@
+//! A heap in memory that was full of other words, examined after every call.
+
+#![allow(dead_code)]
+
+use independent::{Answer, Shape, Step};
+
+pub struct World {
+    pub segments: u32,
+    pub mem: Vec<u32>,
+}
+
+macro_rules! calls {
+    ($($name:ident($($number:ident),*) -> $result:ty;)*) => {$(
+        pub fn $name(&mut self $(, $number: u32)*) -> Answer<$result> {
+            let before = self.mem.clone();
+            let answer = independent::$name(self.segments, &mut self.mem $(, $number)*);
+            if answer.is_err() {
+                assert!(before == self.mem, "refused, and changed");
+            }
+            self.examine();
+            answer
+        }
+    )*};
+}
+
+impl World {
+    pub fn new(segments: u32) -> World {
+        let mut mem = vec![0; independent::length(segments)];
+        let mut random = 7_u64;
+        for word in &mut mem {
+            random = random.wrapping_mul(6_364_136_223_846_793_005).wrapping_add(1_442_695_040_888_963_407);
+            *word = (random >> 32) as u32;
+        }
+        let mut world = World { segments, mem };
+        assert!(!world.consistent());
+        assert_eq!(independent::open(segments, &mut world.mem), Ok(()));
+        world.examine();
+        world
+    }
+
+    pub fn consistent(&self) -> bool {
+        let mut scratch = vec![5; independent::scratch_length(self.segments)];
+        let answer = independent::examine(self.segments, &self.mem, &mut scratch);
+        assert!(scratch.iter().all(|word| *word == 0));
+        answer == Ok(true)
+    }
+
+    pub fn examine(&self) {
+        assert!(self.consistent(), "the examination fails");
+    }
+
+    calls! {
+        attach(mutator) -> ();
+        spawn(mutator, parent, root) -> ();
+        detach(mutator) -> ();
+        make(mutator, to, pointers, values) -> ();
+        load(mutator, to, root, field) -> ();
+        store(mutator, root, field, from) -> ();
+        put(mutator, root, field, value) -> ();
+        copy(mutator, to, from) -> ();
+        clear(mutator, to) -> ();
+        check(mutator) -> ();
+        leave(mutator) -> ();
+        enter(mutator) -> ();
+        start() -> ();
+        step() -> Step;
+    }
+
+    pub fn get(&self, mutator: u32, root: u32, field: u32) -> Answer<u32> {
+        independent::get(self.segments, &self.mem, mutator, root, field)
+    }
+
+    pub fn same(&self, mutator: u32, root: u32, other: u32) -> Answer<bool> {
+        independent::same(self.segments, &self.mem, mutator, root, other)
+    }
+
+    pub fn shape(&self, mutator: u32, root: u32) -> Answer<Shape> {
+        independent::shape(self.segments, &self.mem, mutator, root)
+    }
+
+    pub fn phase(&self) -> u32 {
+        independent::phase(self.segments, &self.mem).expect("a phase")
+    }
+
+    pub fn state(&self, segment: usize) -> [u32; 4] {
+        let mut output = vec![0; independent::states_length(self.segments)];
+        assert_eq!(independent::states(self.segments, &self.mem, &mut output), Ok(()));
+        output[4 * segment..][..4].try_into().expect("four words")
+    }
+
+    /// Fills a segment of class 12 with records of one pointer and 600 values in roots 0 to 3 of the mutator.
+    pub fn fill_segment(&mut self, mutator: u32) {
+        for root in 0..4 {
+            assert_eq!(self.make(mutator, root, 1, 600), Ok(()));
+        }
+    }
+
+    /// Plays the cycle from the first handshake to the phase mark, all mutators inside checking.
+    pub fn to_mark(&mut self, mutators: &[u32]) {
+        for _ in 0..2 {
+            for mutator in mutators {
+                assert_eq!(self.check(*mutator), Ok(()));
+            }
+            assert_eq!(self.step(), Ok(Step::Moved));
+        }
+    }
+
+    /// Steps while records are traced; how many were, once the phase is sweep.
+    pub fn trace_all(&mut self) -> u32 {
+        let mut traced = 0;
+        loop {
+            match self.step() {
+                Ok(Step::Traced) => traced += 1,
+                Ok(Step::Moved) => return traced,
+                other => panic!("{other:?} in mark"),
+            }
+        }
+    }
+}

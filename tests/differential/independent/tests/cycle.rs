@@ -1,0 +1,286 @@
+//! Whole cycles: handshakes, write barrier, born marked, mutators that come and go, and the sweep.
+
+mod common;
+
+use common::World;
+use independent::{Step, FREE, FULL, HELD, IDLE, MARK, PART, SWEEP, SYNC1, SYNC2};
+
+/// Two segments, the first full of four records in roots 0 to 3 of mutator 0.
+fn world() -> World {
+    let mut world = World::new(2);
+    assert_eq!(world.attach(0), Ok(()));
+    world.fill_segment(0);
+    world
+}
+
+fn clear_all(world: &mut World, mutator: u32) {
+    for root in 0..16 {
+        assert_eq!(world.clear(mutator, root), Ok(()));
+    }
+}
+
+#[test]
+fn phases() {
+    let mut world = world();
+    assert_eq!(world.phase(), IDLE);
+    assert_eq!(world.start(), Ok(()));
+    assert_eq!(world.phase(), SYNC1);
+    assert_eq!(world.step(), Ok(Step::Waiting(1)));
+    assert_eq!(world.check(0), Ok(()));
+    assert_eq!(world.check(0), Ok(()));
+    assert_eq!(world.step(), Ok(Step::Moved));
+    assert_eq!(world.phase(), SYNC2);
+    assert_eq!(world.step(), Ok(Step::Waiting(1)));
+    assert_eq!(world.check(0), Ok(()));
+    assert_eq!(world.step(), Ok(Step::Moved));
+    assert_eq!(world.phase(), MARK);
+    assert_eq!(world.trace_all(), 4);
+    assert_eq!(world.phase(), SWEEP);
+    assert_eq!(world.step(), Ok(Step::Swept { segment: 0, freed: 0 }));
+    assert_eq!(world.state(0), [FULL, 12, 4, 0]);
+    assert_eq!(world.step(), Ok(Step::Done));
+    assert_eq!(world.phase(), IDLE);
+}
+
+#[test]
+fn all_dead_is_free() {
+    let mut world = world();
+    clear_all(&mut world, 0);
+    assert_eq!(world.start(), Ok(()));
+    world.to_mark(&[0]);
+    assert_eq!(world.trace_all(), 0);
+    assert_eq!(world.step(), Ok(Step::Swept { segment: 0, freed: 4 }));
+    assert_eq!(world.state(0), [FREE, 0, 0, 0]);
+    assert_eq!(world.step(), Ok(Step::Done));
+    assert_eq!(world.make(0, 0, 0, 0), Ok(()));
+    assert_eq!(world.state(0), [HELD, 3, 1, 0]);
+}
+
+#[test]
+fn no_mutator_at_all() {
+    let mut world = world();
+    assert_eq!(world.detach(0), Ok(()));
+    assert_eq!(world.start(), Ok(()));
+    for _ in 0..3 {
+        assert_eq!(world.step(), Ok(Step::Moved));
+    }
+    assert_eq!(world.step(), Ok(Step::Swept { segment: 0, freed: 4 }));
+    assert_eq!(world.step(), Ok(Step::Done));
+}
+
+/// The collector acknowledges for those outside; one that enters still owes.
+#[test]
+fn outside_mutators() {
+    let mut world = world();
+    for mutator in [1, 2, 30] {
+        assert_eq!(world.spawn(mutator, 0, 1), Ok(()));
+        assert_eq!(world.leave(mutator), Ok(()));
+    }
+    assert_eq!(world.start(), Ok(()));
+    assert_eq!(world.enter(2), Ok(()));
+    assert_eq!(world.step(), Ok(Step::Waiting(2)));
+    assert_eq!(world.leave(2), Ok(()));
+    assert_eq!(world.step(), Ok(Step::Waiting(1)));
+    assert_eq!(world.enter(30), Ok(()));
+    assert_eq!(world.check(0), Ok(()));
+    assert_eq!(world.step(), Ok(Step::Moved));
+    assert_eq!(world.step(), Ok(Step::Waiting(2)));
+    assert_eq!(world.check(30), Ok(()));
+    clear_all(&mut world, 0);
+    assert_eq!(world.check(0), Ok(()));
+    assert_eq!(world.step(), Ok(Step::Moved));
+    assert_eq!(world.trace_all(), 1);
+    assert_eq!(world.step(), Ok(Step::Swept { segment: 0, freed: 3 }));
+}
+
+/// Between first acknowledgement and mark both values are entered, the new first: the old is then the first traced.
+#[test]
+fn barrier_before_mark() {
+    let mut world = world();
+    assert_eq!(world.store(0, 0, 0, 1), Ok(()));
+    assert_eq!(world.start(), Ok(()));
+    assert_eq!(world.store(0, 0, 0, 2), Ok(()));
+    assert_eq!(world.store(0, 0, 0, 1), Ok(()));
+    assert_eq!(world.check(0), Ok(()));
+    assert_eq!(world.store(0, 0, 0, 2), Ok(()));
+    clear_all(&mut world, 0);
+    assert_eq!(world.step(), Ok(Step::Moved));
+    assert_eq!(world.check(0), Ok(()));
+    assert_eq!(world.step(), Ok(Step::Moved));
+    assert_eq!(world.trace_all(), 2);
+    assert_eq!(world.step(), Ok(Step::Swept { segment: 0, freed: 2 }));
+    assert_eq!(world.make(0, 5, 0, 600), Ok(()));
+    assert_eq!(world.state(0), [HELD, 12, 1, 0]);
+    assert_eq!(world.make(0, 5, 0, 600), Ok(()));
+    assert_eq!(world.state(0), [FULL, 12, 4, 0]);
+}
+
+/// No duty before the first acknowledgement.
+#[test]
+fn no_barrier_before_the_first_acknowledgement() {
+    let mut world = world();
+    assert_eq!(world.store(0, 0, 0, 1), Ok(()));
+    assert_eq!(world.start(), Ok(()));
+    assert_eq!(world.store(0, 0, 0, 2), Ok(()));
+    clear_all(&mut world, 0);
+    world.to_mark(&[0]);
+    assert_eq!(world.trace_all(), 0);
+    assert_eq!(world.step(), Ok(Step::Swept { segment: 0, freed: 4 }));
+}
+
+/// In mark the old value is entered, the new is not.
+#[test]
+fn barrier_in_mark() {
+    let mut world = world();
+    assert_eq!(world.store(0, 0, 0, 1), Ok(()));
+    assert_eq!(world.store(0, 1, 0, 2), Ok(()));
+    for root in 1..4 {
+        assert_eq!(world.clear(0, root), Ok(()));
+    }
+    assert_eq!(world.start(), Ok(()));
+    world.to_mark(&[0]);
+    assert_eq!(world.load(0, 1, 0, 0), Ok(()));
+    assert_eq!(world.load(0, 2, 1, 0), Ok(()));
+    assert_eq!(world.store(0, 1, 0, 9), Ok(()));
+    assert_eq!(world.store(0, 0, 0, 9), Ok(()));
+    clear_all(&mut world, 0);
+    assert_eq!(world.trace_all(), 3);
+    assert_eq!(world.step(), Ok(Step::Swept { segment: 0, freed: 1 }));
+    assert_eq!(world.state(0), [PART, 12, 0, 0]);
+}
+
+/// The last entered is traced first: pointers in field order, so the last pointer's record first.
+#[test]
+fn trace_order() {
+    let mut world = World::new(2);
+    assert_eq!(world.attach(0), Ok(()));
+    for root in 0..4 {
+        assert_eq!(world.make(0, root, 2, 600), Ok(()));
+    }
+    assert_eq!(world.store(0, 0, 0, 1), Ok(()));
+    assert_eq!(world.store(0, 0, 1, 2), Ok(()));
+    for root in 1..4 {
+        assert_eq!(world.clear(0, root), Ok(()));
+    }
+    assert_eq!(world.start(), Ok(()));
+    world.to_mark(&[0]);
+    assert_eq!(world.step(), Ok(Step::Traced));
+    assert_eq!(world.load(0, 1, 0, 0), Ok(()));
+    assert_eq!(world.load(0, 2, 0, 1), Ok(()));
+    assert_eq!(world.make(0, 3, 1, 0), Ok(()));
+    assert_eq!(world.step(), Ok(Step::Traced));
+    assert_eq!(world.store(0, 2, 0, 3), Ok(()));
+    assert_eq!(world.trace_all(), 1);
+    assert_eq!(world.step(), Ok(Step::Swept { segment: 0, freed: 1 }));
+}
+
+/// A record made after the second acknowledgement is marked and never traced; one made before is traced.
+#[test]
+fn born_marked() {
+    let mut world = world();
+    for root in 1..4 {
+        assert_eq!(world.clear(0, root), Ok(()));
+    }
+    assert_eq!(world.start(), Ok(()));
+    assert_eq!(world.check(0), Ok(()));
+    assert_eq!(world.make(0, 1, 1, 0), Ok(()));
+    assert_eq!(world.step(), Ok(Step::Moved));
+    assert_eq!(world.make(0, 2, 1, 0), Ok(()));
+    assert_eq!(world.check(0), Ok(()));
+    assert_eq!(world.make(0, 3, 1, 0), Ok(()));
+    assert_eq!(world.store(0, 3, 0, 3), Ok(()));
+    assert_eq!(world.step(), Ok(Step::Moved));
+    assert_eq!(world.make(0, 4, 1, 0), Ok(()));
+    assert_eq!(world.store(0, 4, 0, 3), Ok(()));
+    assert_eq!(world.store(0, 4, 0, 4), Ok(()));
+    assert_eq!(world.trace_all(), 3);
+    assert_eq!(world.step(), Ok(Step::Swept { segment: 0, freed: 3 }));
+}
+
+/// Mutators that come in during mark count as having acknowledged twice: born marked, no handshake owed.
+#[test]
+fn attach_and_spawn_in_mark() {
+    let mut world = world();
+    assert_eq!(world.start(), Ok(()));
+    world.to_mark(&[0]);
+    assert_eq!(world.attach(4), Ok(()));
+    assert_eq!(world.spawn(5, 0, 2), Ok(()));
+    for mutator in [4, 5] {
+        assert_eq!(world.make(mutator, 1, 1, 100), Ok(()));
+        if mutator == 4 {
+            assert_eq!(world.store(4, 1, 0, 1), Ok(()));
+            assert_eq!(world.store(4, 1, 0, 1), Ok(()));
+            assert_eq!(world.detach(4), Ok(()));
+        }
+    }
+    assert_eq!(world.trace_all(), 4);
+    assert_eq!(world.step(), Ok(Step::Swept { segment: 0, freed: 0 }));
+    assert_eq!(world.step(), Ok(Step::Done));
+}
+
+/// A segment that becomes full during the cycle is not condemned.
+#[test]
+fn full_during_the_cycle() {
+    let mut world = world();
+    clear_all(&mut world, 0);
+    assert_eq!(world.start(), Ok(()));
+    world.fill_segment(0);
+    clear_all(&mut world, 0);
+    assert_eq!(world.state(1), [FULL, 12, 4, 0]);
+    world.to_mark(&[0]);
+    assert_eq!(world.trace_all(), 0);
+    assert_eq!(world.step(), Ok(Step::Swept { segment: 0, freed: 4 }));
+    assert_eq!(world.step(), Ok(Step::Done));
+    assert_eq!(world.start(), Ok(()));
+    world.to_mark(&[0]);
+    assert_eq!(world.trace_all(), 0);
+    assert_eq!(world.step(), Ok(Step::Swept { segment: 1, freed: 4 }));
+}
+
+/// The lowest condemned segment is swept first, and the last freed is the first taken.
+#[test]
+fn sweep_order() {
+    let mut world = World::new(5);
+    assert_eq!(world.attach(0), Ok(()));
+    for _ in 0..5 {
+        world.fill_segment(0);
+    }
+    clear_all(&mut world, 0);
+    assert_eq!(world.start(), Ok(()));
+    world.to_mark(&[0]);
+    assert_eq!(world.trace_all(), 0);
+    for segment in 0..5 {
+        assert_eq!(world.step(), Ok(Step::Swept { segment, freed: 4 }));
+    }
+    assert_eq!(world.step(), Ok(Step::Done));
+    assert_eq!(world.make(0, 0, 0, 0), Ok(()));
+    assert_eq!(world.state(4), [HELD, 3, 1, 0]);
+}
+
+/// A long list and a ring survive a cycle; the rest of their segments is freed and used again.
+#[test]
+fn sparse_survivors() {
+    let mut world = World::new(3);
+    assert_eq!(world.attach(0), Ok(()));
+    let mem = &mut world.mem;
+    for made in 0..2048 {
+        independent::make(3, mem, 0, 1, 1, 0).expect("room");
+        if made % 7 == 0 {
+            independent::store(3, mem, 0, 1, 0, 0).expect("a pointer");
+            independent::copy(3, mem, 0, 0, 1).expect("two roots");
+        }
+    }
+    assert_eq!(world.clear(0, 1), Ok(()));
+    assert_eq!(world.state(0), [FULL, 3, 2048, 0]);
+    assert_eq!(world.start(), Ok(()));
+    world.to_mark(&[0]);
+    assert_eq!(world.trace_all(), 293);
+    assert_eq!(world.step(), Ok(Step::Swept { segment: 0, freed: 2048 - 293 }));
+    assert_eq!(world.step(), Ok(Step::Done));
+    for _ in 0..2048 - 293 {
+        assert_eq!(independent::make(3, &mut world.mem, 0, 1, 0, 1), Ok(()));
+    }
+    world.examine();
+    assert_eq!(world.state(0), [FULL, 3, 2048, 0]);
+    assert_eq!(world.state(1), [FREE, 0, 0, 0]);
+}
