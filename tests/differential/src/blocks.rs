@@ -38,6 +38,24 @@ impl Blocks {
         Ok(segment)
     }
 
+    /// The records last put into the blocks of a segment of the class.
+    pub fn records(&self, segment: usize, class: u32) -> &[Reference] {
+        let at = segment * PER_SEGMENT;
+        &self.held[at..at + layout::blocks(class) as usize]
+    }
+
+    /// The record in the block that a reference in the verified library's memory names.
+    pub fn named(&self, memory: &[u32], reference: u32) -> Option<Reference> {
+        let word = (reference as usize).checked_sub(1)?;
+        let segment = word / layout::SEGMENT_WORDS;
+        if segment >= self.segments as usize {
+            return None;
+        }
+        let class = layout::segment(memory, self.segments, segment as u32)[1];
+        let block = word % layout::SEGMENT_WORDS * 4 >> class;
+        self.records(segment, class).get(block).copied()
+    }
+
     /// A cycle begins; `states` is the look at the states just before.
     pub fn start(&mut self, states: &[u32], heap: &mut UnboundedHeap) {
         heap.search();

@@ -46,6 +46,7 @@ pub const SWEEP: u32 = 4;
 pub const STEP_KINDS: [&str; 6] = ["Idle", "Waiting", "Moved", "Traced", "Swept", "Done"];
 pub const WAITING: u32 = 1;
 pub const MOVED: u32 = 2;
+pub const TRACED: u32 = 3;
 pub const SWEPT: u32 = 4;
 pub const DONE: u32 = 5;
 

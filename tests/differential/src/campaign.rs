@@ -113,18 +113,18 @@ impl Campaign {
             _ => rng.pick(&[20_000u64, 60_000]),
         };
         let calls = if self.options.calls == 0 { calls } else { calls.min(self.options.calls) };
-        let played = self.play_list(count, seed, rng, calls);
+        let played = self.play_list(count, seed, rng, calls, None);
         played.map_err(|fault| format!("seed {}, list {number}, {count} segments, {fault}", self.options.seed))
     }
 
-    fn play_list(&mut self, count: u32, seed: u64, mut rng: Rng, calls: u64) -> Result<(), String> {
+    fn play_list(&mut self, count: u32, seed: u64, mut rng: Rng, calls: u64, until: Option<u32>) -> Result<(), String> {
         let every = self.examine_every(count);
         let longer = self.options.guard > 0;
         let plan = Plan::draw(&mut rng, count, calls, longer);
         let name = plan.profile.name;
         self.pair(count);
         let pair = self.pairs.get_mut(&count).expect("just made");
-        let mut list = List::new(pair, &mut self.lists, Chooser::new(plan, rng), seed, every);
+        let mut list = List::new(pair, &mut self.lists, Chooser::new(plan, rng), seed, every).until(until);
         let played = list.play();
         *self.by_count.entry(count).or_default() += list.calls;
         played.map_err(|fault| format!("profile \"{name}\", {fault}"))
@@ -139,7 +139,8 @@ impl Campaign {
         let most = rng.pick(&[100, 2_000, 6_000, 12_000]);
         let calls = u64::from(rng.between(1, most));
         let list_rng = Rng::new(rng.next());
-        let played = self.play_list(count, seed, list_rng, calls);
+        let until = Some(rng.below(5));
+        let played = self.play_list(count, seed, list_rng, calls, until);
         let played = played.and_then(|()| self.play_torn(count, rng));
         played.map_err(|fault| format!("seed {}, torn case {number}, {count} segments, {fault}", self.options.seed))
     }

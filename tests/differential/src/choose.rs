@@ -50,6 +50,9 @@ impl Chooser {
         if call.kind == Make && refusal(answer) == NO_ROOM && self.plan.relieves {
             self.starved = 48;
         }
+        if refusal(answer) != 0 && self.rng.chance(900) {
+            self.queue.clear();
+        }
     }
 
     fn call(&self, kind: Kind, args: [u32; 4]) -> Call {
@@ -61,7 +64,7 @@ impl Chooser {
         if self.rng.below(16384) < self.plan.wrong_size {
             return self.wrong(heap);
         }
-        if let Some(call) = self.queue.pop_front() {
+        if let Some(call) = self.queued(heap) {
             return call;
         }
         if self.run > 0 && (phase != IDLE || self.rng.chance(64)) {
@@ -86,6 +89,16 @@ impl Chooser {
             kind = self.plan.kind(&mut self.rng);
         }
         self.of_kind(kind, heap)
+    }
+
+    /// The next call of a pattern; a chain that has ended ends the pattern.
+    fn queued(&mut self, heap: &UnboundedHeap) -> Option<Call> {
+        let call = self.queue.pop_front()?;
+        if call.kind == Load && heap.record(call.args[0], call.args[2]).is_none() {
+            self.queue.clear();
+            return None;
+        }
+        Some(call)
     }
 
     /// A collector's call or an acknowledgement, at the list's pace; faster where a make found no room.
@@ -146,6 +159,7 @@ impl Chooser {
         let mutator = match kind {
             Attach | Spawn => self.mutator(absent),
             Enter => self.mutator(heap.outside),
+            Load | Store | Put | Get | Shape => self.mutator(heap.furnished()),
             _ => self.mutator(heap.inside),
         };
         let args = match kind {
@@ -163,7 +177,7 @@ impl Chooser {
             }
             Store => {
                 let (root, field) = self.field(heap, mutator, true);
-                [mutator, root, field, self.root()]
+                [mutator, root, field, self.lit(heap, mutator)]
             }
             Put => {
                 let (root, field) = self.field(heap, mutator, false);
@@ -174,7 +188,8 @@ impl Chooser {
                 [mutator, root, field, 0]
             }
             Copy | Same => [mutator, self.root(), self.root(), 0],
-            Clear | Shape => [mutator, self.root(), 0, 0],
+            Clear => [mutator, self.root(), 0, 0],
+            Shape => [mutator, self.lit(heap, mutator), 0, 0],
             _ => [mutator, 0, 0, 0],
         };
         let mut call = self.call(kind, args);
@@ -209,6 +224,15 @@ impl Chooser {
         self.rng.below(16)
     }
 
+    /// Mostly a root with a record.
+    fn lit(&mut self, heap: &UnboundedHeap, mutator: u32) -> u32 {
+        let root = self.root();
+        match mutator {
+            0..32 if root < 16 && self.rng.chance(800) => self.rng.bit(heap.lit(mutator)).unwrap_or(root),
+            _ => root,
+        }
+    }
+
     /// A root, most often one with a record that has such a field, and the number of a pointer (true) or a value (false) of it.
     fn field(&mut self, heap: &UnboundedHeap, mutator: u32, pointer: bool) -> (u32, u32) {
         let mut root = self.root();
@@ -225,7 +249,12 @@ impl Chooser {
             let far = [count, count.wrapping_sub(1), count + 1, 0, 1023, 65536, u32::MAX];
             return (root, self.rng.pick(&far));
         }
-        (root, self.rng.below(count))
+        let field = match self.rng.below(8) {
+            0..=4 => self.rng.below(count.min(3)),
+            5 => count - 1 - self.rng.below(count.min(3)),
+            _ => self.rng.below(count),
+        };
+        (root, field)
     }
 
     fn shape(&mut self) -> (u32, u32) {
@@ -296,9 +325,10 @@ impl Chooser {
     /// The first call of a pattern; the others are queued.
     fn pattern(&mut self, heap: &UnboundedHeap) -> Option<Call> {
         let m = self.rng.bit(heap.inside)?;
-        match self.rng.below(4) {
-            0 => self.hide(heap, m),
-            1 => self.walk(heap, m),
+        match self.rng.below(8) {
+            0 | 1 => self.hide(heap, m),
+            2 | 3 => self.walk(heap, m),
+            4 | 5 if self.plan.profile.rows => self.row(m),
             _ => self.push(m),
         }
         self.queue.pop_front()
@@ -313,6 +343,20 @@ impl Chooser {
         let (new, head) = (self.rng.below(8), 8 + self.rng.below(8));
         let calls = [(Make, [m, new, pointers, values]), (Store, [m, new, pointers - 1, head]), (Copy, [m, head, new, 0])];
         self.queue.extend(calls.map(|(kind, args)| Call::new(kind, self.plan.segments, args)));
+    }
+
+    /// Many records that live, one block after the other, then some that die: bitmaps with long runs.
+    fn row(&mut self, m: u32) {
+        let class = self.rng.pick(&self.plan.palette);
+        let pointers = (1 << class) / 4 - 1;
+        let (new, head) = (self.rng.below(8), 8 + self.rng.below(8));
+        for _ in 0..self.rng.between(1, 120) {
+            let calls = [(Make, [m, new, pointers, 0]), (Store, [m, new, 0, head]), (Copy, [m, head, new, 0])];
+            self.queue.extend(calls.map(|(kind, args)| Call::new(kind, self.plan.segments, args)));
+        }
+        for _ in 0..self.rng.below(40) {
+            self.queue.push_back(Call::new(Make, self.plan.segments, [m, new, pointers, 0]));
+        }
     }
 
     /// Some steps along a chain.

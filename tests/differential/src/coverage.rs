@@ -78,6 +78,8 @@ pub struct Coverage {
     pub examined: u64,
     pub watched: u64,
     pub compared_states: u64,
+    pub compared_stacks: u64,
+    pub longest_stack: usize,
     pub by_kind: [[u64; 14]; KINDS],
     pub steps: [u64; 6],
     pub situations: Vec<u64>,
@@ -95,6 +97,8 @@ impl Coverage {
             examined: 0,
             watched: 0,
             compared_states: 0,
+            compared_stacks: 0,
+            longest_stack: 0,
             by_kind: [[0; 14]; KINDS],
             steps: [0; 6],
             situations: vec![0; SITUATIONS.len()],
@@ -173,6 +177,7 @@ impl Coverage {
             "  {} looks at the states compared, {} examinations, {} calls watched to change no word",
             self.compared_states, self.examined, self.watched
         );
+        println!("  {} trace stacks compared, the longest of {} entries", self.compared_stacks, self.longest_stack);
         let met: Vec<String> = SITUATIONS.iter().map(|&situation| format!("{situation:?} {}", self.situations[situation as usize])).collect();
         for line in met.chunks(5) {
             println!("  {}", line.join(", "));

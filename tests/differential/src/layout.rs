@@ -34,6 +34,16 @@ pub fn held(memory: &[u32], mutator: u32, class: u32) -> u32 {
     memory[MUTATORS + 32 * mutator as usize + 15 + class as usize]
 }
 
+/// How many entries the trace stack has.
+pub fn trace_count(memory: &[u32]) -> usize {
+    memory[1] as usize
+}
+
+/// An entry of the trace stack, the first entered first.
+pub fn trace_entry(memory: &[u32], segments: u32, number: usize) -> u32 {
+    memory[regions(segments)[8] + number]
+}
+
 /// The four words of a segment's record: state, class, place, mutator.
 pub fn segment(memory: &[u32], segments: u32, number: u32) -> [u32; 4] {
     let at = regions(segments)[3] + 4 * number as usize;

@@ -5,6 +5,7 @@ use crate::blocks::Blocks;
 use crate::calls::*;
 use crate::choose::Chooser;
 use crate::coverage::{Coverage, Situation};
+use crate::cycle::Cycle;
 use crate::layout;
 use crate::lent::Lent;
 use crate::recent::Recent;
@@ -25,6 +26,7 @@ pub struct List<'a> {
     chooser: Chooser,
     heap: UnboundedHeap,
     blocks: Blocks,
+    cycle: Cycle,
     phase: u32,
     /// The segments' states at the last comparison.
     states: Vec<u32>,
@@ -33,6 +35,8 @@ pub struct List<'a> {
     recent: Recent,
     rng: Rng,
     examine_every: u32,
+    /// The list may end early, in this phase; in idle, with a full segment.
+    until: Option<u32>,
     pub calls: u64,
 }
 
@@ -51,14 +55,26 @@ impl<'a> List<'a> {
             chooser,
             heap: UnboundedHeap::new(),
             blocks: Blocks::new(n),
+            cycle: Cycle::new(),
             phase: IDLE,
             states: vec![0; 4 * n as usize],
             shadow: Vec::new(),
             recent: Recent::new(),
             rng: Rng::new(!seed),
             examine_every,
+            until: None,
             calls: 0,
         }
+    }
+
+    /// The list is to end early in this phase.
+    pub fn until(mut self, phase: Option<u32>) -> List<'a> {
+        self.until = phase;
+        self
+    }
+
+    fn may_end(&self, full: bool) -> bool {
+        self.until == Some(self.phase) && full && 4 * self.calls > self.chooser.plan.calls
     }
 
     /// Plays the whole list; where something differs, says what and lists the last calls.
@@ -72,6 +88,9 @@ impl<'a> List<'a> {
         self.open()?;
         while self.calls < self.chooser.plan.calls && self.heap.words() < most_words(self.n) {
             let full = self.phase != IDLE || self.some_full();
+            if self.may_end(full) {
+                break;
+            }
             let call = self.chooser.next(&self.heap, self.phase, full);
             self.calls += 1;
             crate::watchdog::beat();
@@ -154,6 +173,7 @@ impl<'a> List<'a> {
             facts.note(self.pair.verified.memory.words(), call, answer, self.coverage);
             self.performed(call, answer)?;
         }
+        self.compare_top()?;
         if self.n <= 4 || self.rng.below(self.n) == 0 {
             self.compare_states()?;
         }
@@ -219,6 +239,7 @@ impl<'a> List<'a> {
             return Err(format!("{call}: verified {answer}, unbounded heap {expected}"));
         }
         if refusal(answer) == 0 {
+            self.cycle.perform(call, &self.heap);
             self.heap.perform(call);
         }
         Ok(())
@@ -266,6 +287,7 @@ impl<'a> List<'a> {
                     self.coverage.met(Situation::CycleOverManySegments);
                 }
                 self.blocks.start(&self.states, &mut self.heap);
+                self.cycle.start();
                 self.moved_to(SYNC1)?;
                 self.compare_states()
             }
@@ -289,6 +311,11 @@ impl<'a> List<'a> {
     }
 
     fn stepped(&mut self, answer: u64) -> Result<(), String> {
+        let expected = self.cycle.step(&self.heap, &self.blocks, &self.states);
+        if answer != expected {
+            let (answer, expected) = (answer_words(Step, answer), answer_words(Step, expected));
+            return Err(format!("step: verified {answer}, by document 01 {expected}"));
+        }
         match step_kind(answer) {
             MOVED => self.moved_to(self.phase + 1),
             DONE => {
@@ -373,9 +400,37 @@ impl<'a> List<'a> {
         Ok(())
     }
 
+    /// The verified library's trace stack has as many entries as document 01 says, and the same last one.
+    fn compare_top(&mut self) -> Result<(), String> {
+        let count = layout::trace_count(self.pair.verified.memory.words());
+        if count != self.cycle.stack.len() {
+            return Err(format!("the trace stack has {count} entries, by document 01 {}", self.cycle.stack.len()));
+        }
+        match count {
+            0 => Ok(()),
+            _ => self.compare_entry(count - 1),
+        }
+    }
+
+    fn compare_entry(&self, number: usize) -> Result<(), String> {
+        let memory = self.pair.verified.memory.words();
+        let found = self.blocks.named(memory, layout::trace_entry(memory, self.n, number));
+        match found == Some(self.cycle.stack[number]) {
+            true => Ok(()),
+            false => Err(format!("entry {number} of the trace stack is record {found:?}, by document 01 {}", self.cycle.stack[number])),
+        }
+    }
+
+    fn compare_stack(&mut self) -> Result<(), String> {
+        self.coverage.compared_stacks += 1;
+        self.coverage.longest_stack = self.coverage.longest_stack.max(self.cycle.stack.len());
+        (0..self.cycle.stack.len()).try_for_each(|number| self.compare_entry(number))
+    }
+
     /// The examination says yes, leaves the memory as it was and the scratch all zero; guard words stand.
     fn examine(&mut self) -> Result<(), String> {
         let call = self.right(Examine);
+        self.compare_stack()?;
         if self.rng.chance(64) {
             let word = self.rng.word();
             self.pair.verified.scratch.words_mut().fill(word);

@@ -5,6 +5,7 @@ mod calls;
 mod campaign;
 mod choose;
 mod coverage;
+mod cycle;
 mod damage;
 mod interface;
 mod layout;
@@ -20,6 +21,7 @@ mod torn;
 mod unbounded;
 mod watchdog;
 
+use calls::*;
 use campaign::Campaign;
 use options::{Options, HELP};
 use std::process::ExitCode;
@@ -40,12 +42,14 @@ fn summary(campaign: &Campaign, seconds: f64) {
     println!("{calls} calls in {seconds:.1} s ({:.2} million a second)", calls as f64 / seconds / 1e6);
 }
 
-/// What a whole campaign must have met: everything on consistent memory, and 13 from every call that may give it.
+/// The calls that docs/PROMISES.md says may meet 13: the others read nothing that could lead them astray.
+const LED_ASTRAY: [Kind; 12] = [Detach, Make, Load, Store, Put, Get, Shape, Check, Leave, Step, Phase, States];
+
+/// What a whole campaign must have met: everything on consistent memory, and 13 on torn memory.
 fn missing(campaign: &Campaign) -> Vec<String> {
     let mut missing = campaign.lists.missing();
-    for kind in calls::ALL_KINDS {
-        let torn = campaign.torn.by_kind[kind as usize][13];
-        if kind.may_refuse().contains(&calls::TORN) && torn == 0 {
+    for kind in LED_ASTRAY {
+        if campaign.torn.by_kind[kind as usize][13] == 0 {
             missing.push(format!("{kind:?} refused 13 on torn memory"));
         }
     }
@@ -59,7 +63,7 @@ fn run(options: Options) -> ExitCode {
     let began = Instant::now();
     let mut campaign = Campaign::new(options);
     if let Err(fault) = campaign.play() {
-        println!("DIFFERENCE: {fault}");
+        println!("DIFFERENCE after {} calls: {fault}", campaign.lists.calls + campaign.torn.calls);
         return ExitCode::FAILURE;
     }
     summary(&campaign, began.elapsed().as_secs_f64());

@@ -15,11 +15,13 @@ pub struct Profile {
     bad: u32,
     /// Of 1024 choices, how many are a pattern of calls rather than one call.
     pub patterns: u32,
+    /// Whether long rows of records that live beside each other are made.
+    pub rows: bool,
 }
 
 const LOOKS: [(Kind, u32); 2] = [(Phase, 1), (States, 1)];
 
-pub const PROFILES: [Profile; 10] = [
+pub const PROFILES: [Profile; 11] = [
     Profile {
         name: "small records",
         weights: &[
@@ -43,6 +45,7 @@ pub const PROFILES: [Profile; 10] = [
         mutators: 4,
         bad: 8,
         patterns: 40,
+        rows: false,
     },
     Profile {
         name: "mixed sizes",
@@ -67,6 +70,7 @@ pub const PROFILES: [Profile; 10] = [
         mutators: 6,
         bad: 16,
         patterns: 60,
+        rows: false,
     },
     Profile {
         name: "big records",
@@ -91,6 +95,7 @@ pub const PROFILES: [Profile; 10] = [
         mutators: 5,
         bad: 16,
         patterns: 60,
+        rows: false,
     },
     Profile {
         name: "chains",
@@ -114,6 +119,7 @@ pub const PROFILES: [Profile; 10] = [
         mutators: 3,
         bad: 8,
         patterns: 400,
+        rows: false,
     },
     Profile {
         name: "barrier",
@@ -135,6 +141,7 @@ pub const PROFILES: [Profile; 10] = [
         mutators: 4,
         bad: 8,
         patterns: 120,
+        rows: false,
     },
     Profile {
         name: "inside and outside",
@@ -159,6 +166,7 @@ pub const PROFILES: [Profile; 10] = [
         mutators: 12,
         bad: 16,
         patterns: 40,
+        rows: false,
     },
     Profile {
         name: "coming and going",
@@ -183,6 +191,7 @@ pub const PROFILES: [Profile; 10] = [
         mutators: 32,
         bad: 24,
         patterns: 40,
+        rows: false,
     },
     Profile {
         name: "no room",
@@ -207,6 +216,7 @@ pub const PROFILES: [Profile; 10] = [
         mutators: 8,
         bad: 12,
         patterns: 240,
+        rows: false,
     },
     Profile {
         name: "bounds",
@@ -233,6 +243,7 @@ pub const PROFILES: [Profile; 10] = [
         mutators: 8,
         bad: 300,
         patterns: 10,
+        rows: false,
     },
     Profile {
         name: "values",
@@ -257,6 +268,16 @@ pub const PROFILES: [Profile; 10] = [
         mutators: 3,
         bad: 24,
         patterns: 20,
+        rows: false,
+    },
+    Profile {
+        name: "dense",
+        weights: &[(Make, 60), (Load, 10), (Store, 10), (Copy, 6), (Clear, 4), (Same, 2), (Check, 3), (Leave, 1), (Enter, 2), (Detach, 1)],
+        classes: (3, 6),
+        mutators: 2,
+        bad: 4,
+        patterns: 60,
+        rows: true,
     },
 ];
 
@@ -287,13 +308,14 @@ pub struct Plan {
 impl Plan {
     pub fn draw(rng: &mut Rng, segments: u32, calls: u64, longer: bool) -> Plan {
         let profile = &PROFILES[rng.below(PROFILES.len() as u32) as usize];
-        let most = profile.mutators.min(2 * segments + 1);
+        let crowded = rng.chance(250);
+        let most = profile.mutators.min(if crowded { 2 * segments + 1 } else { segments });
         Plan {
             profile,
             segments,
             calls,
             palette: palette(rng, profile, segments),
-            mutators: if rng.chance(200) { most } else { rng.between(1, most) },
+            mutators: if rng.chance(400) { most } else { rng.between(1, most) },
             pace: rng.pick(&[8, 40, 40, 150, 150, 400, 700]),
             bursts: rng.chance(300),
             checks: rng.pick(&[10, 60, 60, 150, 400]),

@@ -98,7 +98,7 @@ impl<'a> Torn<'a> {
             return fault("refused 1 is given exactly for a wrong count or length");
         }
         if !self.kept(call, answer) {
-            return fault("memory, output or scratch changed");
+            return fault("memory, output or scratch changed, or a state that is none");
         }
         if self.consistent && refusal(answer) == TORN {
             return fault("the memory passes the examination");
@@ -120,6 +120,10 @@ impl<'a> Torn<'a> {
         }
         self.counts.refused_unchanged += u64::from(no_word && refused != 0);
         let shows = call.kind == States && refused == 0;
+        let state = |words: &[u32]| words[0] == 0 || words[0] <= 4 && (3..=12).contains(&words[1]);
+        if shows && !self.lent.output.words().chunks_exact(4).all(state) {
+            return false;
+        }
         if !shows && self.lent.output.words() != self.output {
             return false;
         }

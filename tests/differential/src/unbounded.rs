@@ -65,6 +65,23 @@ impl UnboundedHeap {
         roots.map(|(root, &reference)| u32::from(reference != 0) << root).sum()
     }
 
+    /// Bit m: mutator m is inside and has a record; where none has, those inside.
+    pub fn furnished(&self) -> u32 {
+        let mut mask = 0;
+        let mut rest = self.inside;
+        while rest != 0 {
+            let mutator = rest.trailing_zeros();
+            rest &= rest - 1;
+            let roots = &self.mutators[mutator as usize].roots;
+            mask |= u32::from(roots.iter().any(|&root| root != 0)) << mutator;
+        }
+        if mask == 0 {
+            self.inside
+        } else {
+            mask
+        }
+    }
+
     /// The number from 2 to 9 that applies, the lowest, or 0.
     fn refused(&self, call: &Call) -> u32 {
         let [m, x, y, z] = call.args;
@@ -149,6 +166,11 @@ impl UnboundedHeap {
     fn value_at(&self, mutator: u32, root: u32, field: u32) -> usize {
         let record = &self.records[self.root(mutator, root) as usize - 1];
         record.fields + (record.pointers + field) as usize
+    }
+
+    pub fn pointers(&self, reference: Reference) -> &[Reference] {
+        let record = &self.records[reference as usize - 1];
+        &self.fields[record.fields..record.fields + record.pointers as usize]
     }
 
     /// What the pointer holds, of a call that is not refused.
