@@ -50,7 +50,7 @@ impl Chooser {
         if call.kind == Make && refusal(answer) == NO_ROOM && self.plan.relieves {
             self.starved = 48;
         }
-        if refusal(answer) != 0 && self.rng.chance(900) {
+        if matches!(call.kind, Make | Load | Store) && refusal(answer) != 0 && self.rng.chance(900) {
             self.queue.clear();
         }
     }
@@ -63,6 +63,10 @@ impl Chooser {
     pub fn next(&mut self, heap: &UnboundedHeap, phase: u32, full: bool) -> Call {
         if self.rng.below(16384) < self.plan.wrong_size {
             return self.wrong(heap);
+        }
+        let between = !self.queue.is_empty() && self.rng.chance(256);
+        if let Some(call) = between.then(|| self.of_the_cycle(heap, phase, full)).flatten() {
+            return call;
         }
         if let Some(call) = self.queued(heap) {
             return call;
@@ -125,7 +129,11 @@ impl Chooser {
     /// A call that may leave records unreached or segments to others.
     fn relieving(&mut self, heap: &UnboundedHeap) -> Call {
         let kind = self.rng.pick(&[Clear, Clear, Clear, Clear, Store, Store, Detach]);
-        self.of_kind(kind, heap)
+        let mut call = self.of_kind(kind, heap);
+        if kind == Clear {
+            call.args[1] = self.rng.below(16);
+        }
+        call
     }
 
     fn acknowledging(&mut self, heap: &UnboundedHeap) -> Call {
@@ -221,7 +229,9 @@ impl Chooser {
                 _ => self.rng.word(),
             };
         }
-        self.rng.below(16)
+        // Where rows are made, their heads stand in the upper roots and stay a while.
+        let keep = self.plan.profile.rows && self.rng.chance(1010);
+        self.rng.below(if keep { 8 } else { 16 })
     }
 
     /// Mostly a root with a record.
@@ -326,9 +336,9 @@ impl Chooser {
     fn pattern(&mut self, heap: &UnboundedHeap) -> Option<Call> {
         let m = self.rng.bit(heap.inside)?;
         match self.rng.below(8) {
+            4..=7 if self.plan.profile.rows => self.row(m),
             0 | 1 => self.hide(heap, m),
             2 | 3 => self.walk(heap, m),
-            4 | 5 if self.plan.profile.rows => self.row(m),
             _ => self.push(m),
         }
         self.queue.pop_front()
@@ -345,16 +355,23 @@ impl Chooser {
         self.queue.extend(calls.map(|(kind, args)| Call::new(kind, self.plan.segments, args)));
     }
 
-    /// Many records that live, one block after the other, then some that die: bitmaps with long runs.
+    /// Many records that live, one block after the other, then some that die: bitmaps with long runs of ones.
     fn row(&mut self, m: u32) {
         let class = self.rng.pick(&self.plan.palette);
-        let pointers = (1 << class) / 4 - 1;
-        let (new, head) = (self.rng.below(8), 8 + self.rng.below(8));
-        for _ in 0..self.rng.between(1, 120) {
-            let calls = [(Make, [m, new, pointers, 0]), (Store, [m, new, 0, head]), (Copy, [m, head, new, 0])];
+        let (blocks, pointers) = (16384 >> class, (1 << class) / 4 - 1);
+        let live = match self.rng.below(4) {
+            0 => self.rng.between(1, 2 * blocks),
+            1 => self.rng.between(1, blocks / 4 + 1),
+            _ => self.rng.between(1, 100),
+        };
+        let (mut new, mut head) = (8 + self.rng.below(8), 8 + self.rng.below(8));
+        for _ in 0..live.min(3000) {
+            let calls = [(Make, [m, new, pointers, 0]), (Store, [m, new, 0, head])];
             self.queue.extend(calls.map(|(kind, args)| Call::new(kind, self.plan.segments, args)));
+            (new, head) = (head, new);
         }
-        for _ in 0..self.rng.below(40) {
+        let dead = if self.rng.chance(512) { self.rng.below(blocks / 8 + 2) } else { 0 };
+        for _ in 0..dead {
             self.queue.push_back(Call::new(Make, self.plan.segments, [m, new, pointers, 0]));
         }
     }

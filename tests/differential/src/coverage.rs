@@ -80,6 +80,8 @@ pub struct Coverage {
     pub compared_states: u64,
     pub compared_stacks: u64,
     pub longest_stack: usize,
+    /// By class from 3 on: segments swept that became free, part and full.
+    pub by_class: [[u64; 3]; 10],
     pub by_kind: [[u64; 14]; KINDS],
     pub steps: [u64; 6],
     pub situations: Vec<u64>,
@@ -99,6 +101,7 @@ impl Coverage {
             compared_states: 0,
             compared_stacks: 0,
             longest_stack: 0,
+            by_class: [[0; 3]; 10],
             by_kind: [[0; 14]; KINDS],
             steps: [0; 6],
             situations: vec![0; SITUATIONS.len()],
@@ -140,6 +143,12 @@ impl Coverage {
                 missing.push(format!("{kind:?} not refused"));
             }
         }
+        for (class, [free, part, full]) in (3..).zip(self.by_class) {
+            // That all of more than 256 blocks are reached is rare.
+            if free == 0 || part == 0 || class > 5 && full == 0 {
+                missing.push(format!("a segment of class {class} swept to free, to part and to full"));
+            }
+        }
         for (name, _) in STEP_KINDS.iter().zip(self.steps).filter(|(_, count)| *count == 0) {
             missing.push(format!("Step answered {name}"));
         }
@@ -178,6 +187,8 @@ impl Coverage {
             self.compared_states, self.examined, self.watched
         );
         println!("  {} trace stacks compared, the longest of {} entries", self.compared_stacks, self.longest_stack);
+        let classes: Vec<String> = (3..).zip(self.by_class).map(|(class, [free, part, full])| format!("{class}: {free}/{part}/{full}")).collect();
+        println!("  swept to free/part/full by class: {}", classes.join(", "));
         let met: Vec<String> = SITUATIONS.iter().map(|&situation| format!("{situation:?} {}", self.situations[situation as usize])).collect();
         for line in met.chunks(5) {
             println!("  {}", line.join(", "));

@@ -349,6 +349,8 @@ impl<'a> List<'a> {
             self.coverage.met(Situation::ReachedSurvives);
         }
         self.compare_states()?;
+        let became = [0, 1, 2, 2, 2][self.states[at] as usize];
+        self.coverage.by_class[before[1] as usize - 3][became] += 1;
         self.coverage.met(match self.states[at] {
             0 => Situation::SweptToFree,
             1 => Situation::SweptToPart,

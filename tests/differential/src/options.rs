@@ -22,9 +22,9 @@ pub const HELP: &str = "differential: plays lists of calls on the verified libra
 heap, compares every answer, and plays calls on torn memory.
 
   --seed S            the campaign follows from it (default 1)
-  --calls N           calls on consistent memory (default 20000000)
-  --torn N            calls on torn memory (default 2000000)
-  --long              200 million calls and 20 million on torn memory
+  --calls N           calls on consistent memory (default 40000000)
+  --torn N            calls on torn memory (default 4000000)
+  --long              400 million calls and 20 million on torn memory
   --mode lists|torn   only the one or the other
   --segments 1,2,64   segment counts to draw from (default a mix of 1 to 256)
   --examine-every K   calls between examinations (default by segment count)
@@ -42,8 +42,8 @@ impl Options {
     fn usual() -> Options {
         Options {
             seed: 1,
-            calls: 20_000_000,
-            torn: 2_000_000,
+            calls: 40_000_000,
+            torn: 4_000_000,
             segments: Vec::new(),
             examine_every: 0,
             only: None,
@@ -61,7 +61,7 @@ impl Options {
                 "--seed" => options.seed = number(&name, args.next())?,
                 "--calls" => options.calls = number(&name, args.next())?,
                 "--torn" => options.torn = number(&name, args.next())?,
-                "--long" => (options.calls, options.torn) = (200_000_000, 20_000_000),
+                "--long" => (options.calls, options.torn) = (400_000_000, 20_000_000),
                 "--mode" => mode = args.next().unwrap_or_default(),
                 "--segments" => options.segments = counts(args.next())?,
                 "--examine-every" => options.examine_every = number(&name, args.next())?,

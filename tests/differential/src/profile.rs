@@ -272,11 +272,11 @@ pub const PROFILES: [Profile; 11] = [
     },
     Profile {
         name: "dense",
-        weights: &[(Make, 60), (Load, 10), (Store, 10), (Copy, 6), (Clear, 4), (Same, 2), (Check, 3), (Leave, 1), (Enter, 2), (Detach, 1)],
-        classes: (3, 6),
+        weights: &[(Make, 60), (Load, 4), (Store, 10), (Copy, 4), (Clear, 4), (Same, 2), (Check, 3), (Leave, 1), (Enter, 2), (Detach, 1)],
+        classes: (3, 9),
         mutators: 2,
         bad: 4,
-        patterns: 60,
+        patterns: 300,
         rows: true,
     },
 ];
@@ -306,8 +306,11 @@ pub struct Plan {
 }
 
 impl Plan {
+    /// Draws a profile, the dense one, whose small blocks take many calls, more often, and the rest.
     pub fn draw(rng: &mut Rng, segments: u32, calls: u64, longer: bool) -> Plan {
-        let profile = &PROFILES[rng.below(PROFILES.len() as u32) as usize];
+        let dense = PROFILES.len() as u32 - 1;
+        let profile = &PROFILES[rng.below(dense + 4).min(dense) as usize];
+        let calls = if profile.rows { 3 * calls } else { calls };
         let crowded = rng.chance(250);
         let most = profile.mutators.min(if crowded { 2 * segments + 1 } else { segments });
         Plan {
@@ -340,7 +343,10 @@ fn palette(rng: &mut Rng, profile: &Profile, segments: u32) -> Vec<u32> {
         9..=40 => low.max(6).min(high),
         _ => low.max(8).max(high.saturating_sub(3)).min(12),
     };
-    let many = rng.between(1, segments.min(4));
+    if profile.rows && segments <= 8 && rng.chance(600) {
+        return vec![rng.between(3, 5)];
+    }
+    let many = if profile.rows { 1 } else { rng.between(1, segments.min(4)) };
     (0..many).map(|_| rng.between(low.min(high.max(low)), high.max(low))).collect()
 }
 
