@@ -30,7 +30,7 @@ impl Blocks {
         let size = (1usize << class) / 4;
         let within = word % layout::SEGMENT_WORDS;
         let [state, of_class, ..] = layout::segment(memory, self.segments, segment);
-        if within % size != 0 || of_class != class || !matches!(state, 2 | 3) {
+        if within & (size - 1) != 0 || of_class != class || !matches!(state, 2 | 3) {
             return Err(format!("make of class {class} took word {within} of segment {segment}, state {state}, class {of_class}"));
         }
         let block = (within / size) as u32;
@@ -52,7 +52,7 @@ impl Blocks {
             return None;
         }
         let class = layout::segment(memory, self.segments, segment as u32)[1];
-        let block = word % layout::SEGMENT_WORDS * 4 >> class;
+        let block = (word % layout::SEGMENT_WORDS * 4) >> class;
         self.records(segment, class).get(block).copied()
     }
 

@@ -27,7 +27,8 @@ pub struct Campaign {
 /// Segment counts, the small ones often: there, a list meets every situation within a short time.
 const USUAL: [u32; 28] = [1, 1, 1, 2, 2, 2, 3, 3, 3, 4, 4, 5, 5, 6, 7, 8, 8, 9, 12, 16, 20, 32, 33, 64, 100, 128, 255, 256];
 /// For torn memory, where each call is compared word by word, larger counts are rare.
-const USUAL_TORN: [u32; 20] = [1, 1, 1, 1, 1, 1, 1, 2, 2, 2, 2, 2, 3, 3, 3, 4, 4, 5, 8, 33];
+const USUAL_TORN: [u32; 40] =
+    [1, 1, 1, 1, 1, 1, 1, 1, 1, 1, 1, 1, 1, 1, 2, 2, 2, 2, 2, 2, 2, 2, 2, 2, 3, 3, 3, 3, 3, 3, 4, 4, 4, 4, 5, 8, 16, 33, 100, 256];
 
 /// Checks that both implementations say the lengths that the header says.
 pub fn lengths_agree() -> Result<(), String> {
@@ -149,7 +150,11 @@ impl Campaign {
         let longer = self.options.guard > 0;
         let lent = &mut self.pairs.get_mut(&count).expect("its list was played").verified;
         let base = lent.memory.words().to_vec();
-        let times = if count > 8 { 8 } else { 100 };
+        let times = match count {
+            0..=8 => 100,
+            9..=64 => 8,
+            _ => 2,
+        };
         for _ in 0..times {
             let calls = rng.pick(&[10, 40, 40, 120]);
             let case = Rng::new(rng.next());

@@ -10,35 +10,12 @@ pub struct Chooser {
     pub plan: Plan,
     pub rng: Rng,
     /// Calls of a pattern that are still to come.
-    queue: VecDeque<Call>,
+    pub queue: VecDeque<Call>,
     /// Steps of a run that are still to come.
     run: u32,
     /// Calls during which room is sought, after a make that found none.
     starved: u32,
 }
-
-const FAR: [u32; 7] = [16, 17, 31, 32, 33, 0x8000_0000, u32::MAX];
-/// Counts of pointers and values at the bound of 1,023, beyond it, and with sums that wrap.
-const SIZES: [(u32, u32); 18] = [
-    (1022, 0),
-    (0, 1022),
-    (1023, 0),
-    (0, 1023),
-    (511, 512),
-    (512, 511),
-    (1024, 0),
-    (0, 1024),
-    (512, 512),
-    (1, 1023),
-    (1023, 1),
-    (1025, 0),
-    (u32::MAX, 1),
-    (1, u32::MAX),
-    (0x8000_0000, 0x8000_0000),
-    (u32::MAX, u32::MAX),
-    (65536, 0),
-    (0, 65536),
-];
 
 impl Chooser {
     pub fn new(plan: Plan, rng: Rng) -> Chooser {
@@ -187,13 +164,9 @@ impl Chooser {
                 let (root, field) = self.field(heap, mutator, true);
                 [mutator, root, field, self.lit(heap, mutator)]
             }
-            Put => {
+            Put | Get => {
                 let (root, field) = self.field(heap, mutator, false);
                 [mutator, root, field, self.rng.word()]
-            }
-            Get => {
-                let (root, field) = self.field(heap, mutator, false);
-                [mutator, root, field, 0]
             }
             Copy | Same => [mutator, self.root(), self.root(), 0],
             Clear => [mutator, self.root(), 0, 0],
@@ -203,214 +176,5 @@ impl Chooser {
         let mut call = self.call(kind, args);
         call.args[kind.arguments()..].fill(0);
         call
-    }
-
-    fn bad(&mut self) -> bool {
-        self.rng.chance(self.plan.bad)
-    }
-
-    /// Mostly one of the mutators in the mask.
-    fn mutator(&mut self, mask: u32) -> u32 {
-        if self.bad() {
-            return match self.rng.below(3) {
-                0 => self.rng.pick(&[31, 32, 33, 63, 64, u32::MAX]),
-                1 => self.rng.below(32),
-                _ => self.rng.word(),
-            };
-        }
-        self.rng.bit(mask).unwrap_or(0)
-    }
-
-    fn root(&mut self) -> u32 {
-        if self.bad() {
-            return match self.rng.below(3) {
-                0 => 15,
-                1 => self.rng.pick(&FAR),
-                _ => self.rng.word(),
-            };
-        }
-        // Where rows are made, their heads stand in the upper roots and stay a while.
-        let keep = self.plan.profile.rows && self.rng.chance(1010);
-        self.rng.below(if keep { 8 } else { 16 })
-    }
-
-    /// Mostly a root with a record.
-    fn lit(&mut self, heap: &UnboundedHeap, mutator: u32) -> u32 {
-        let root = self.root();
-        match mutator {
-            0..32 if root < 16 && self.rng.chance(800) => self.rng.bit(heap.lit(mutator)).unwrap_or(root),
-            _ => root,
-        }
-    }
-
-    /// A root, most often one with a record that has such a field, and the number of a pointer (true) or a value (false) of it.
-    fn field(&mut self, heap: &UnboundedHeap, mutator: u32, pointer: bool) -> (u32, u32) {
-        let mut root = self.root();
-        let mut count = 0;
-        for _ in 0..4 {
-            let record = (mutator < 32 && root < 16).then(|| heap.record(mutator, root)).flatten();
-            count = record.map_or(0, |record| if pointer { record.pointers } else { record.values });
-            if count > 0 || mutator > 31 || self.rng.chance(40) {
-                break;
-            }
-            root = self.rng.bit(heap.lit(mutator)).unwrap_or(root);
-        }
-        if count == 0 || self.bad() {
-            let far = [count, count.wrapping_sub(1), count + 1, 0, 1023, 65536, u32::MAX];
-            return (root, self.rng.pick(&far));
-        }
-        let field = match self.rng.below(8) {
-            0..=4 => self.rng.below(count.min(3)),
-            5 => count - 1 - self.rng.below(count.min(3)),
-            _ => self.rng.below(count),
-        };
-        (root, field)
-    }
-
-    fn shape(&mut self) -> (u32, u32) {
-        if self.bad() {
-            return self.rng.pick(&SIZES);
-        }
-        let class = match self.rng.below(40) {
-            0 => self.rng.between(3, 12),
-            _ => self.rng.pick(&self.plan.palette),
-        };
-        let most = (1 << class) / 4 - 1;
-        let least = if class == 3 { 0 } else { (1 << class) / 8 };
-        let fields = match self.rng.below(4) {
-            0 => most,
-            1 => least,
-            _ => self.rng.between(least, most),
-        };
-        let pointers = match self.rng.below(4) {
-            0 => fields,
-            1 => fields.min(2),
-            _ => self.rng.between(0, fields),
-        };
-        (pointers, fields - pointers)
-    }
-
-    /// A count or a length that is not the right one, on any call.
-    fn wrong(&mut self, heap: &UnboundedHeap) -> Call {
-        let all = [Open, Attach, Spawn, Detach, Make, Load, Store, Put, Copy, Clear, Check];
-        let more = [Leave, Enter, Start, Step, Get, Same, Shape, Phase, States, Examine];
-        let kind = if self.rng.chance(512) { self.rng.pick(&all) } else { self.rng.pick(&more) };
-        let mut call = self.of_kind(kind, heap);
-        let n = self.plan.segments;
-        match self.rng.below(4) {
-            0 => call.segments = self.other_count(),
-            1 if call.has_extra() => call.extra = self.wrong_length(),
-            2 => {
-                call.segments = self.other_count();
-                call.length = self.wrong_length();
-                if call.length == Length::Of(call.segments) || call.segments == n {
-                    call.length = Length::Shorter(1);
-                }
-            }
-            _ => call.length = self.wrong_length(),
-        }
-        call
-    }
-
-    fn other_count(&mut self) -> u32 {
-        let n = self.plan.segments;
-        let count = self.rng.pick(&[0, n - 1, n + 1, 256, 257, 512, u32::MAX, 1, 65537]);
-        if count == n {
-            0
-        } else {
-            count
-        }
-    }
-
-    fn wrong_length(&mut self) -> Length {
-        match self.rng.below(5) {
-            0 => Length::Zero,
-            1 => Length::Of(self.rng.below(self.plan.segments)),
-            2 if self.plan.longer => Length::Longer(self.rng.between(1, 16)),
-            3 => Length::Shorter(self.rng.between(1, 5000)),
-            _ => Length::Shorter(1),
-        }
-    }
-
-    /// The first call of a pattern; the others are queued.
-    fn pattern(&mut self, heap: &UnboundedHeap) -> Option<Call> {
-        let m = self.rng.bit(heap.inside)?;
-        match self.rng.below(8) {
-            4..=7 if self.plan.profile.rows => self.row(m),
-            0 | 1 => self.hide(heap, m),
-            2 | 3 => self.walk(heap, m),
-            _ => self.push(m),
-        }
-        self.queue.pop_front()
-    }
-
-    /// A new record whose last pointer is the head of a chain becomes the chain's head.
-    fn push(&mut self, m: u32) {
-        let (pointers, values) = self.shape();
-        if pointers == 0 || pointers + values > 1023 {
-            return;
-        }
-        let (new, head) = (self.rng.below(8), 8 + self.rng.below(8));
-        let calls = [(Make, [m, new, pointers, values]), (Store, [m, new, pointers - 1, head]), (Copy, [m, head, new, 0])];
-        self.queue.extend(calls.map(|(kind, args)| Call::new(kind, self.plan.segments, args)));
-    }
-
-    /// Many records that live, one block after the other, then some that die: bitmaps with long runs of ones.
-    fn row(&mut self, m: u32) {
-        let class = self.rng.pick(&self.plan.palette);
-        let (blocks, pointers) = (16384 >> class, (1 << class) / 4 - 1);
-        let live = match self.rng.below(4) {
-            0 => self.rng.between(1, 2 * blocks),
-            1 => self.rng.between(1, blocks / 4 + 1),
-            _ => self.rng.between(1, 100),
-        };
-        let (mut new, mut head) = (8 + self.rng.below(8), 8 + self.rng.below(8));
-        for _ in 0..live.min(3000) {
-            let calls = [(Make, [m, new, pointers, 0]), (Store, [m, new, 0, head])];
-            self.queue.extend(calls.map(|(kind, args)| Call::new(kind, self.plan.segments, args)));
-            (new, head) = (head, new);
-        }
-        let dead = if self.rng.chance(512) { self.rng.below(blocks / 8 + 2) } else { 0 };
-        for _ in 0..dead {
-            self.queue.push_back(Call::new(Make, self.plan.segments, [m, new, pointers, 0]));
-        }
-    }
-
-    /// Some steps along a chain.
-    fn walk(&mut self, heap: &UnboundedHeap, m: u32) {
-        let root = self.rng.below(16);
-        let Some(record) = heap.record(m, root) else { return };
-        if record.pointers == 0 {
-            return;
-        }
-        let field = record.pointers - 1;
-        let to = self.rng.below(8);
-        let first = Call::new(Load, self.plan.segments, [m, to, root, field]);
-        self.queue.push_back(first);
-        for _ in 0..self.rng.below(6) {
-            self.queue.push_back(Call::new(Load, self.plan.segments, [m, to, to, field]));
-        }
-    }
-
-    /// The only way to a record is cut off behind one pointer and laid behind another: what a barrier must see.
-    fn hide(&mut self, heap: &UnboundedHeap, m: u32) {
-        let (from, to) = (self.rng.below(16), self.rng.below(16));
-        let (Some(first), Some(second)) = (heap.record(m, from), heap.record(m, to)) else {
-            return;
-        };
-        if first.pointers == 0 || second.pointers == 0 {
-            return;
-        }
-        let out = self.rng.below(first.pointers);
-        let into = self.rng.below(second.pointers);
-        let (held, nil) = (self.rng.below(16), self.rng.below(16));
-        let calls = [
-            (Load, [m, held, from, out]),
-            (Clear, [m, nil, 0, 0]),
-            (Store, [m, from, out, nil]),
-            (Store, [m, to, into, held]),
-            (Clear, [m, held, 0, 0]),
-        ];
-        self.queue.extend(calls.map(|(kind, args)| Call::new(kind, self.plan.segments, args)));
     }
 }

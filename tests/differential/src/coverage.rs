@@ -161,7 +161,7 @@ impl Coverage {
     }
 
     pub fn print(&self, title: &str) {
-        println!("{title}: {} calls in {} lists", self.calls, self.lists);
+        println!("{title}: {} calls", self.calls);
         let numbers: Vec<String> = (1..14).map(|number| format!("{number:>9}")).collect();
         println!("  {:<9}{:>11}{}", "refused:", "no", numbers.join(""));
         for kind in ALL_KINDS {
@@ -179,8 +179,8 @@ impl Coverage {
     /// The lines that only lists on consistent memory have.
     pub fn print_lists(&self) {
         println!(
-            "  {} cycles, {} segments swept, {} blocks freed, of them {} unreached when the cycle began",
-            self.cycles, self.swept, self.freed, self.unreached
+            "  {} lists, {} cycles, {} segments swept, {} blocks freed, of them {} unreached when the cycle began",
+            self.lists, self.cycles, self.swept, self.freed, self.unreached
         );
         println!(
             "  {} looks at the states compared, {} examinations, {} calls watched to change no word",

@@ -12,6 +12,12 @@ pub fn tear(rng: &mut Rng, memory: &mut [u32], base: &[u32], segments: u32) {
             memory.fill_with(|| rng.below(bound));
         }
         2 => memory.fill(rng.pick(&[0, 1, u32::MAX, 0x0001_0001])),
+        3 => {
+            let most = memory.len() as u32 - 1;
+            let by = rng.between(1, most.min(5000)) as usize;
+            memory.copy_from_slice(base);
+            memory.rotate_right(by);
+        }
         _ => {
             memory.copy_from_slice(base);
             for _ in 0..rng.pick(&[0, 1, 1, 1, 2, 3, 6, 40]) {
@@ -70,46 +76,19 @@ fn run(rng: &mut Rng, memory: &[u32], at: usize) -> usize {
     (rng.between(1, 64) as usize).min(memory.len() - at)
 }
 
+/// Numbers at the bounds of phases, classes, states, mutators, roots, fields, blocks, words and the 32 bits.
+const BOUNDS: [u32; 26] = [
+    0, 1, 2, 3, 4, 5, 11, 12, 13, 15, 16, 31, 32, 33, 1023, 1024, 2047, 2048, 2049, 4095, 4096, 4097, 0x7fff_ffff, 0x8000_0000, 0xffff_fffe,
+    0xffff_ffff,
+];
+
 /// A word that may lead a call astray: a number at a bound, a reference, a header, or a word from elsewhere.
 fn value(rng: &mut Rng, memory: &[u32], segments: u32) -> u32 {
     let heap = layout::SEGMENT_WORDS as u32 * segments;
-    let bounds = [
-        0,
-        1,
-        2,
-        3,
-        4,
-        5,
-        11,
-        12,
-        13,
-        15,
-        16,
-        31,
-        32,
-        33,
-        1023,
-        1024,
-        2047,
-        2048,
-        2049,
-        4095,
-        4096,
-        4097,
-        segments - 1,
-        segments,
-        segments + 1,
-        2048 * segments,
-        heap - 1,
-        heap,
-        heap + 1,
-        0x7fff_ffff,
-        0x8000_0000,
-        u32::MAX - 1,
-        u32::MAX,
-    ];
+    let bounds = [segments - 1, segments, segments + 1, 2048 * segments, heap - 1, heap, heap + 1];
     match rng.below(6) {
-        0 | 1 => rng.pick(&bounds),
+        0 => rng.pick(&bounds),
+        1 => rng.pick(&BOUNDS),
         2 => 1 + (rng.below(heap) & !((1 << rng.below(11)) - 1)),
         3 => rng.below(1100) << 16 | rng.below(1100),
         4 => memory[rng.below(memory.len() as u32) as usize],

@@ -12,7 +12,7 @@ pub fn blocks(class: u32) -> u32 {
 
 /// The smallest class whose block holds a header and `fields` words.
 pub fn class_of(fields: u32) -> u32 {
-    (3..12).find(|class| 1 + fields <= (1 << class) / 4).unwrap_or(12)
+    (3..12).find(|class| fields < (1 << class) / 4).unwrap_or(12)
 }
 
 /// The regions in order: where each begins for n segments, and behind the last one the end.

@@ -21,14 +21,7 @@ impl Progress {
             return;
         }
         self.said = Instant::now();
-        eprintln!(
-            "{:>5} s  {what}: {:.1} million calls, {} lists, {} cycles, {} examinations",
-            self.began.elapsed().as_secs(),
-            coverage.calls as f64 / 1e6,
-            coverage.lists,
-            coverage.cycles,
-            coverage.examined
-        );
+        eprintln!("{:>5} s  {what}: {:.1} million calls, {} begun anew", self.began.elapsed().as_secs(), coverage.calls as f64 / 1e6, coverage.lists);
         let _ = std::io::stderr().flush();
     }
 }
