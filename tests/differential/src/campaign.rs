@@ -91,6 +91,7 @@ impl Campaign {
     fn count(&self, rng: &mut Rng, usual: &[u32]) -> u32 {
         match self.options.segments.as_slice() {
             [] if rng.chance(100) => rng.between(1, 16),
+            [] if rng.chance(40) => rng.between(17, 256),
             [] => rng.pick(usual),
             counts => rng.pick(counts),
         }

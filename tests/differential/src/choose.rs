@@ -162,7 +162,7 @@ impl Chooser {
             }
             Store => {
                 let (root, field) = self.field(heap, mutator, true);
-                [mutator, root, field, self.lit(heap, mutator)]
+                [mutator, root, field, self.filled(heap, mutator)]
             }
             Put | Get => {
                 let (root, field) = self.field(heap, mutator, false);
@@ -170,7 +170,7 @@ impl Chooser {
             }
             Copy | Same => [mutator, self.root(), self.root(), 0],
             Clear => [mutator, self.root(), 0, 0],
-            Shape => [mutator, self.lit(heap, mutator), 0, 0],
+            Shape => [mutator, self.filled(heap, mutator), 0, 0],
             _ => [mutator, 0, 0, 0],
         };
         let mut call = self.call(kind, args);

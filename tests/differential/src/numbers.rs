@@ -57,10 +57,10 @@ impl Chooser {
     }
 
     /// Mostly a root with a record.
-    pub fn lit(&mut self, heap: &UnboundedHeap, mutator: u32) -> u32 {
+    pub fn filled(&mut self, heap: &UnboundedHeap, mutator: u32) -> u32 {
         let root = self.root();
         match mutator {
-            0..32 if root < 16 && self.rng.chance(800) => self.rng.bit(heap.lit(mutator)).unwrap_or(root),
+            0..32 if root < 16 && self.rng.chance(800) => self.rng.bit(heap.filled(mutator)).unwrap_or(root),
             _ => root,
         }
     }
@@ -75,7 +75,7 @@ impl Chooser {
             if count > 0 || mutator > 31 || self.rng.chance(40) {
                 break;
             }
-            root = self.rng.bit(heap.lit(mutator)).unwrap_or(root);
+            root = self.rng.bit(heap.filled(mutator)).unwrap_or(root);
         }
         if count == 0 || self.bad() {
             let far = [count, count.wrapping_sub(1), count + 1, 0, 1023, 65536, u32::MAX];

@@ -181,11 +181,11 @@ impl<'a> Torn<'a> {
                 args[3] = self.size();
             }
             Load => {
-                args[2] = self.lit(mutator);
+                args[2] = self.filled(mutator);
                 args[3] = self.size();
             }
             Store | Put | Get | Shape => {
-                args[1] = self.lit(mutator);
+                args[1] = self.filled(mutator);
                 args[2] = self.size();
             }
             Spawn => {
@@ -208,13 +208,13 @@ impl<'a> Torn<'a> {
     }
 
     /// Mostly a root of the mutator that is not nil.
-    fn lit(&mut self, mutator: u32) -> u32 {
+    fn filled(&mut self, mutator: u32) -> u32 {
         if mutator > 31 || self.rng.chance(100) {
             return self.small(16);
         }
         let turn = self.rng.below(16);
-        let lit = |root: &u32| layout::root(&self.memory, mutator, *root) != 0;
-        (0..16).map(|root| (root + turn) % 16).find(lit).unwrap_or(turn)
+        let filled = |root: &u32| layout::root(&self.memory, mutator, *root) != 0;
+        (0..16).map(|root| (root + turn) % 16).find(filled).unwrap_or(turn)
     }
 
     fn small(&mut self, bound: u32) -> u32 {

@@ -60,7 +60,7 @@ impl UnboundedHeap {
     }
 
     /// Bit r: root r of the mutator has a record.
-    pub fn lit(&self, mutator: u32) -> u32 {
+    pub fn filled(&self, mutator: u32) -> u32 {
         let roots = self.mutators[mutator as usize].roots.iter().enumerate();
         roots.map(|(root, &reference)| u32::from(reference != 0) << root).sum()
     }
