@@ -20,6 +20,11 @@ impl Blocks {
         Blocks { segments, held: vec![0; words], dead: vec![false; words] }
     }
 
+    /// The block is found to have the record.
+    pub fn adopt(&mut self, segment: u32, block: u32, record: Reference) {
+        self.held[segment as usize * PER_SEGMENT + block as usize] = record;
+    }
+
     /// A make that was not refused put record `record` into the block that its root now names. Answers the segment.
     pub fn put(&mut self, memory: &[u32], class: u32, root: u32, record: Reference) -> Result<u32, String> {
         if root == 0 || root as usize > self.segments as usize * layout::SEGMENT_WORDS {

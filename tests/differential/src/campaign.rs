@@ -1,8 +1,10 @@
 //! The campaign: lists until the calls are played, then torn memory. Each list and each case has a seed of its own, derived from the
 //! campaign's seed and its number, and can be played alone.
 
+use crate::calls::{Call, Examine};
 use crate::choose::Chooser;
 use crate::coverage::Coverage;
+use crate::damage;
 use crate::interface::{independent, verified};
 use crate::lent::Lent;
 use crate::list::{List, Pair};
@@ -19,6 +21,8 @@ pub struct Campaign {
     pairs: BTreeMap<u32, Pair>,
     pub lists: Coverage,
     pub torn: Coverage,
+    /// Lists that go on from memory that passes the examination after it was changed.
+    pub adopted: Coverage,
     pub counts: TornCounts,
     pub by_count: BTreeMap<u32, u64>,
     progress: Progress,
@@ -51,10 +55,15 @@ impl Campaign {
             pairs: BTreeMap::new(),
             lists: Coverage::new(),
             torn: Coverage::new(),
+            adopted: Coverage::new(),
             counts: TornCounts::default(),
             by_count: BTreeMap::new(),
             progress,
         }
+    }
+
+    pub fn calls(&self) -> u64 {
+        self.lists.calls + self.torn.calls + self.adopted.calls
     }
 
     pub fn play(&mut self) -> Result<(), String> {
@@ -162,6 +171,21 @@ impl Campaign {
             let mut torn = Torn::new(count, lent, &mut self.torn, &mut self.counts, case, longer);
             torn.play(&base, calls)?;
         }
-        Ok(())
+        (0..times).try_for_each(|_| self.play_adopted(count, &base, &mut rng))
+    }
+
+    /// Changes the memory and, where it still passes the examination, goes on with a list from there.
+    fn play_adopted(&mut self, count: u32, base: &[u32], rng: &mut Rng) -> Result<(), String> {
+        let pair = self.pairs.get_mut(&count).expect("its list was played");
+        damage::tweak(rng, pair.verified.memory.words_mut(), base, count);
+        if pair.verified.play(&Call::new(Examine, count, [0; 4])) != 1 << 32 {
+            return Ok(());
+        }
+        let calls = rng.pick(&[20, 100, 100, 400]);
+        let seed = rng.next();
+        let mut list_rng = Rng::new(seed);
+        let plan = Plan::draw(&mut list_rng, count, calls, self.options.guard > 0);
+        let list = List::new(pair, &mut self.adopted, Chooser::new(plan, list_rng), seed, 64);
+        list.adopt().play().map_err(|fault| format!("gone on from changed memory, {fault}"))
     }
 }

@@ -44,7 +44,7 @@ impl List<'_> {
     pub fn compare_phase(&mut self) -> Result<(), String> {
         let call = self.right(Phase);
         let first = self.pair.verified.play(&call);
-        let second = self.pair.independent.play(&call);
+        let second = if self.alone { first } else { self.pair.independent.play(&call) };
         if first != second || refusal(first) != 0 {
             return Err(format!("phase: verified {first:#x}, independent {second:#x}"));
         }
@@ -54,7 +54,8 @@ impl List<'_> {
 
     pub fn compare_states(&mut self) -> Result<(), String> {
         let call = self.right(States);
-        let answers = (self.pair.verified.play(&call), self.pair.independent.play(&call));
+        let first = self.pair.verified.play(&call);
+        let answers = (first, if self.alone { first } else { self.pair.independent.play(&call) });
         if answers != (0, 0) {
             return Err(format!("states: answers {answers:?}"));
         }
@@ -65,7 +66,7 @@ impl List<'_> {
     pub fn same_states(&mut self) -> Result<(), String> {
         self.coverage.compared_states += 1;
         let first = self.pair.verified.output.words();
-        let second = self.pair.independent.output.words();
+        let second = if self.alone { first } else { self.pair.independent.output.words() };
         if first != second {
             let at = first.iter().zip(second).take_while(|(a, b)| a == b).count() / 4;
             let (first, second) = (&first[4 * at..4 * at + 4], &second[4 * at..4 * at + 4]);

@@ -176,8 +176,7 @@ impl Coverage {
         println!("  steps: {}", steps.join(", "));
     }
 
-    /// The lines that only lists on consistent memory have.
-    pub fn print_lists(&self) {
+    pub fn print_cycles(&self) {
         println!(
             "  {} lists, {} cycles, {} segments swept, {} blocks freed, of them {} unreached when the cycle began",
             self.lists, self.cycles, self.swept, self.freed, self.unreached
@@ -186,6 +185,11 @@ impl Coverage {
             "  {} looks at the states compared, {} examinations, {} calls watched to change no word",
             self.compared_states, self.examined, self.watched
         );
+    }
+
+    /// The lines that only lists from an opening on have.
+    pub fn print_lists(&self) {
+        self.print_cycles();
         println!("  {} trace stacks compared, the longest of {} entries", self.compared_stacks, self.longest_stack);
         let classes: Vec<String> = (3..).zip(self.by_class).map(|(class, [free, part, full])| format!("{class}: {free}/{part}/{full}")).collect();
         println!("  swept to free/part/full by class: {}", classes.join(", "));

@@ -20,6 +20,17 @@ impl Cycle {
         Cycle { phase: IDLE, acknowledged: [0; 32], stack: Vec::new(), entered: Vec::new(), number: 0 }
     }
 
+    /// A record that is found in memory, entered or marked in the cycle that runs, or not.
+    pub fn adopt_record(&mut self, entered: bool) {
+        self.number = 1;
+        self.entered.push(u32::from(entered));
+    }
+
+    pub fn adopt(&mut self, phase: u32, acknowledged: [u32; 32], stack: Vec<Reference>) {
+        self.number = 1;
+        (self.phase, self.acknowledged, self.stack) = (phase, acknowledged, stack);
+    }
+
     fn enter(&mut self, reference: Reference) {
         if reference != 0 && self.entered[reference as usize - 1] != self.number {
             self.entered[reference as usize - 1] = self.number;

@@ -27,6 +27,65 @@ pub fn tear(rng: &mut Rng, memory: &mut [u32], base: &[u32], segments: u32) {
     }
 }
 
+/// Fills the memory with a used heap that is changed where the examination may let it pass.
+pub fn tweak(rng: &mut Rng, memory: &mut [u32], base: &[u32], segments: u32) {
+    memory.copy_from_slice(base);
+    for _ in 0..rng.pick(&[1, 1, 2, 4]) {
+        match rng.below(8) {
+            0 => damage(rng, memory, segments),
+            1 => acknowledge(rng, memory),
+            2 => exchange(rng, memory, 1, layout::regions(segments)[8]),
+            3 => {
+                let stack = layout::regions(segments)[4] + rng.below(11) as usize * (1 + segments as usize);
+                exchange(rng, memory, stack, stack + 1);
+            }
+            4 => set_bits(rng, memory, layout::regions(segments)[6], segments),
+            5 => set_bits(rng, memory, layout::regions(segments)[7], segments),
+            6 => segment_word(rng, memory, segments),
+            _ => bitmap_bit(rng, memory, segments),
+        }
+    }
+}
+
+/// Another number of acknowledgements for an attached mutator.
+fn acknowledge(rng: &mut Rng, memory: &mut [u32]) {
+    for m in (0..32).filter(|&m| layout::side(memory, m) != 0).collect::<Vec<_>>() {
+        memory[layout::MUTATORS + 32 * m as usize + 17] = rng.below(3);
+    }
+}
+
+/// Two entries of a stack change places; `count` is where its count stands.
+fn exchange(rng: &mut Rng, memory: &mut [u32], count: usize, entries: usize) {
+    let many = memory[count].min(2048);
+    if many > 1 {
+        memory.swap(entries + rng.below(many) as usize, entries + rng.below(many) as usize);
+    }
+}
+
+/// Some of 64 bits to a segment, in the marks or the queued bits.
+fn set_bits(rng: &mut Rng, memory: &mut [u32], region: usize, segments: u32) {
+    let at = region + 64 * rng.below(segments) as usize;
+    for _ in 0..rng.between(1, 40) {
+        memory[at + rng.below(64).min(rng.below(64)) as usize] |= 1 << rng.below(32);
+    }
+}
+
+/// A segment's place moves, or its state changes.
+fn segment_word(rng: &mut Rng, memory: &mut [u32], segments: u32) {
+    let at = layout::regions(segments)[3] + 4 * rng.below(segments) as usize;
+    match rng.below(3) {
+        0 => memory[at] = rng.below(5),
+        _ => memory[at + 2] = memory[at + 2].wrapping_sub(rng.below(9)).wrapping_add(4),
+    }
+}
+
+/// A block's bit at level 0 of a bitmap.
+fn bitmap_bit(rng: &mut Rng, memory: &mut [u32], segments: u32) {
+    let at = layout::regions(segments)[5] + 67 * rng.below(segments) as usize;
+    let most = rng.pick(&[1, 2, 8, 64]);
+    memory[at + rng.below(most) as usize] |= 1 << rng.below(32);
+}
+
 /// A region, most often one of the small ones: begin and end.
 fn region(rng: &mut Rng, memory: &[u32], segments: u32) -> (usize, usize) {
     let starts = layout::regions(segments);

@@ -34,6 +34,22 @@ pub fn held(memory: &[u32], mutator: u32, class: u32) -> u32 {
     memory[MUTATORS + 32 * mutator as usize + 15 + class as usize]
 }
 
+pub fn phase(memory: &[u32]) -> u32 {
+    memory[0]
+}
+
+/// 0 absent, 1 inside, 2 outside.
+pub fn side(memory: &[u32], mutator: u32) -> u32 {
+    memory[MUTATORS + 32 * mutator as usize + 16]
+}
+
+/// Whether the block is marked or on the trace stack.
+pub fn marked_or_queued(memory: &[u32], segments: u32, segment: u32, block: u32) -> bool {
+    let regions = regions(segments);
+    let word = 64 * segment as usize + block as usize / 32;
+    (memory[regions[6] + word] | memory[regions[7] + word]) >> (block % 32) & 1 == 1
+}
+
 /// How many entries the trace stack has.
 pub fn trace_count(memory: &[u32]) -> usize {
     memory[1] as usize

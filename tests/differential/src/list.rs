@@ -1,6 +1,7 @@
 //! One list of calls from an opening on: every call is played on the verified library, on the independent implementation and, where it is
 //! a mutator's, on the unbounded heap; answers and looks are compared.
 
+use crate::adopt::{adopt, Adopted};
 use crate::blocks::Blocks;
 use crate::calls::*;
 use crate::choose::Chooser;
@@ -39,6 +40,8 @@ pub struct List<'a> {
     pub unexamined: u32,
     /// The list may end early, in this phase; in idle, with a full segment.
     pub until: Option<u32>,
+    /// The list goes on from memory that is found: there is no opening, and the independent implementation stands aside.
+    pub alone: bool,
     pub calls: u64,
 }
 
@@ -66,6 +69,7 @@ impl<'a> List<'a> {
             examine_every,
             unexamined: 0,
             until: None,
+            alone: false,
             calls: 0,
         }
     }
@@ -73,6 +77,14 @@ impl<'a> List<'a> {
     /// The list is to end early in this phase.
     pub fn until(mut self, phase: Option<u32>) -> List<'a> {
         self.until = phase;
+        self
+    }
+
+    /// The list goes on from the memory as it is, which passes the examination.
+    pub fn adopt(mut self) -> List<'a> {
+        let Adopted { heap, blocks, cycle } = adopt(self.pair.verified.memory.words(), self.n);
+        (self.heap, self.blocks, self.cycle) = (heap, blocks, cycle);
+        self.alone = true;
         self
     }
 
@@ -88,7 +100,12 @@ impl<'a> List<'a> {
     }
 
     fn play_calls(&mut self) -> Result<(), String> {
-        self.open()?;
+        if self.alone {
+            self.compare_phase()?;
+            self.compare_states()?;
+        } else {
+            self.open()?;
+        }
         while self.calls < self.chooser.plan.calls && self.heap.words() < most_words(self.n) {
             let full = self.phase != IDLE || self.some_full();
             if self.may_end(full) {
@@ -147,7 +164,7 @@ impl<'a> List<'a> {
     /// Plays a call on both and compares the answers.
     pub fn both(&mut self, call: &Call) -> Result<u64, String> {
         let first = self.pair.verified.play(call);
-        let second = self.pair.independent.play(call);
+        let second = if self.alone { first } else { self.pair.independent.play(call) };
         self.recent.push(call, first);
         self.coverage.count(call.kind, first);
         if first != second {

@@ -1,5 +1,6 @@
 //! The differential test of the verified library: see README.md beside this package.
 
+mod adopt;
 mod blocks;
 mod calls;
 mod campaign;
@@ -42,7 +43,9 @@ fn summary(campaign: &Campaign, seconds: f64) {
         "  {} cases; the examination said yes {} times and no {} times; {} calls on memory that passed it; {} refused calls that changed no word",
         torn.cases, torn.said_yes, torn.said_no, torn.consistent_calls, torn.refused_unchanged
     );
-    let calls = campaign.lists.calls + campaign.torn.calls;
+    campaign.adopted.print("lists gone on from changed memory that passes the examination");
+    campaign.adopted.print_cycles();
+    let calls = campaign.calls();
     println!("{calls} calls in {seconds:.1} s ({:.2} million a second)", calls as f64 / seconds / 1e6);
 }
 
@@ -57,6 +60,9 @@ fn missing(campaign: &Campaign) -> Vec<String> {
             missing.push(format!("{kind:?} refused 13 on torn memory"));
         }
     }
+    for (name, _) in STEP_KINDS.iter().zip(campaign.adopted.steps).filter(|(_, count)| *count == 0) {
+        missing.push(format!("Step answered {name} on changed memory"));
+    }
     missing
 }
 
@@ -67,7 +73,7 @@ fn run(options: Options) -> ExitCode {
     let began = Instant::now();
     let mut campaign = Campaign::new(options);
     if let Err(fault) = campaign.play() {
-        println!("DIFFERENCE after {} calls: {fault}", campaign.lists.calls + campaign.torn.calls);
+        println!("DIFFERENCE after {} calls: {fault}", campaign.calls());
         return ExitCode::FAILURE;
     }
     summary(&campaign, began.elapsed().as_secs_f64());

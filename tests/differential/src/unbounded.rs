@@ -257,6 +257,29 @@ impl UnboundedHeap {
         self.records.push(Record { pointers, values, fields });
     }
 
+    /// A record as it is found in memory, the fields from the first one on; answers its reference. `rename` is still to come.
+    pub fn adopt_record(&mut self, pointers: u32, values: u32, fields: &[u32]) -> Reference {
+        self.add_record(pointers, values);
+        let record = &self.records[self.records.len() - 1];
+        let count = (pointers + values) as usize;
+        self.fields[record.fields..].copy_from_slice(&fields[..count]);
+        self.records.len() as Reference
+    }
+
+    /// Every pointer becomes what `name` says of it.
+    pub fn rename(&mut self, name: impl Fn(u32) -> Reference) {
+        for record in &self.records {
+            for pointer in &mut self.fields[record.fields..record.fields + record.pointers as usize] {
+                *pointer = name(*pointer);
+            }
+        }
+    }
+
+    pub fn adopt_mutator(&mut self, mutator: u32, side: Side, roots: [Reference; 16]) {
+        self.put_side(mutator, side);
+        self.mutators[mutator as usize].roots = roots;
+    }
+
     /// Finds the records that are reached: named by a root of a mutator inside or outside, or by a pointer of a reached record.
     pub fn search(&mut self) {
         self.searches += 1;
