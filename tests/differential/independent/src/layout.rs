@@ -18,12 +18,12 @@ pub const SIDE: usize = 16;
 pub const ACKNOWLEDGED: usize = 17;
 const HELD_BY_CLASS: usize = 16;
 
-/// The control words. Each stack of segments is named by the descriptor on its top, 0 where it is empty.
+/// The control words. Each stack of segments is named by the descriptor on its top, 0 where it is empty; the part stacks by their class.
 pub const PHASE: usize = 1024;
 pub const TRACE_HEIGHT: usize = 1025;
 pub const FREE_TOP: usize = 1026;
-pub const CONDEMNED_TOP: usize = 1027;
-pub const PART_TOP: usize = 1028;
+const PART_BY_CLASS: usize = 1024;
+pub const CONDEMNED_TOP: usize = 1037;
 
 /// The first block of segment 0.
 pub const BLOCKS: usize = 1040;
@@ -57,6 +57,12 @@ pub const fn held_of(own: usize, class: u32) -> usize {
 #[inline(always)]
 const fn is_count(segments: u32) -> bool {
     segments.wrapping_sub(1) < MOST_SEGMENTS
+}
+
+/// The control word of the part stack of a class.
+#[inline(always)]
+pub const fn part_top(class: u32) -> usize {
+    PART_BY_CLASS + (class & 15) as usize
 }
 
 /// Is this the length of the lent slice for the count?

@@ -4,8 +4,8 @@ use core::ops::{Deref, DerefMut};
 
 use crate::answers::{refuse, Answer, Refusal, MARK, SYNC1, SYNC2};
 use crate::classes;
-use crate::layout::{held_of, Heap, ACKNOWLEDGED, MUTATORS, MUTATOR_WORDS, PHASE, ROOTS, SIDE, STATE};
-use crate::segments::{self, part_top};
+use crate::layout::{held_of, part_top, Heap, ACKNOWLEDGED, MUTATORS, MUTATOR_WORDS, PHASE, ROOTS, SIDE, STATE};
+use crate::segments;
 
 /// Sides.
 pub const ABSENT: u32 = 0;
