@@ -3,7 +3,7 @@
 use core::ops::{Deref, DerefMut};
 
 use crate::answers::{refuse, Answer, Refusal, Shape, MARK, SYNC1, SYNC2};
-use crate::classes::class_of;
+use crate::classes::{block_start, class_of};
 use crate::layout::{held_of, Heap, ACKNOWLEDGED};
 use crate::mutators::{check_roots, words_of};
 
@@ -95,9 +95,18 @@ impl<M: DerefMut<Target = [u32]>> Heap<M> {
             _ => self.write_block::<32>(at, header),
         }
     }
+
+    /// The same for a block of a larger class, by pieces of 64 words.
+    #[inline(always)]
+    fn write_large(&mut self, at: usize, class: u32, header: u32) -> Answer<()> {
+        for piece in 0..block_start(class, 1) as usize / 64 {
+            self.write_block::<64>(at + piece * 64, 0)?;
+        }
+        self.set(at, header)
+    }
 }
 
-/// The highest class whose blocks are written whole.
+/// The highest class whose blocks are written at once.
 const SMALL: u32 = 7;
 
 /// A new record into root `to`.
@@ -124,8 +133,7 @@ pub fn make(segments: u32, mem: &mut [u32], mutator: u32, to: u32, pointers: u32
 fn make_slowly(segments: u32, mem: &mut [u32], mutator: u32, to: u32, header: u32) -> Answer<()> {
     let mut heap = Heap { mem, segments: segments as usize };
     let own = words_of(mutator)?;
-    let fields = (header >> 16) + (header & 0xffff);
-    let class = class_of(fields.into())?;
+    let class = class_of(u64::from(header >> 16) + u64::from(header & 0xffff))?;
     let held = held_of(own, class);
     let descriptor = match heap.word(held)? {
         0 => heap.take(mutator, held, class)?,
@@ -135,8 +143,7 @@ fn make_slowly(segments: u32, mem: &mut [u32], mutator: u32, to: u32, header: u3
     if class <= SMALL {
         heap.write_small(at, class, header)?;
     } else {
-        heap.set(at, header)?;
-        heap.fill(at + 1, fields as usize)?;
+        heap.write_large(at, class, header)?;
     }
     heap.birth(own, at)?;
     heap.set(own + to as usize, at as u32)?;

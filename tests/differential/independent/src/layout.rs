@@ -168,18 +168,21 @@ impl<M: DerefMut<Target = [u32]>> Heap<M> {
         or_torn(words.first_chunk_mut())
     }
 
+    /// The words of a mutator, or as many others, become 0.
     #[inline(always)]
-    pub fn fill(&mut self, from: usize, words: usize) -> Answer<()> {
-        let end = from.wrapping_add(words);
-        or_torn(self.mem.get_mut(from..end))?.fill(0);
+    pub fn empty(&mut self, at: usize) -> Answer<()> {
+        *self.array_mut(at)? = [0; MUTATOR_WORDS];
         Ok(())
     }
 }
 
-/// An empty heap in memory of any content; refused 1 only.
+/// An empty heap in memory of any content; refused 1 only. Blocks, bitmaps and the trace stack are written before they are read.
 pub fn open(segments: u32, mem: &mut [u32]) -> Answer<()> {
     let mut heap = Heap::over(segments, mem)?;
-    heap.mem.fill(0);
+    for mutator in 0..MUTATORS as usize {
+        heap.empty(mutator * MUTATOR_WORDS)?;
+    }
+    *heap.array_mut(PHASE)? = [0; BLOCKS - PHASE];
     heap.set(PHASE, IDLE)?;
     for segment in (0..heap.segments).rev() {
         let descriptor = heap.descriptor(segment);
