@@ -36,6 +36,22 @@ impl Refusal {
     }
 }
 
+/// A call refused. It marks the way to it as seldom taken.
+#[inline(always)]
+pub fn refuse<T>(refusal: Refusal) -> Answer<T> {
+    core::hint::cold_path();
+    Err(refusal)
+}
+
+/// What was found, or refused 13.
+#[inline(always)]
+pub fn or_torn<T>(found: Option<T>) -> Answer<T> {
+    match found {
+        Some(found) => Ok(found),
+        None => refuse(Refusal::TORN),
+    }
+}
+
 /// Phases, as the look answers them and as the control word holds them.
 pub const IDLE: u32 = 0;
 pub const SYNC1: u32 = 1;

@@ -2,10 +2,10 @@
 
 use core::ops::{Deref, DerefMut};
 
-use crate::answers::{Answer, Refusal, Shape, MARK, SYNC1, SYNC2};
-use crate::classes::{self, class_of};
-use crate::layout::{Heap, ACKNOWLEDGED, HELD_OF};
-use crate::mutators::check_roots;
+use crate::answers::{refuse, Answer, Refusal, Shape, MARK, SYNC1, SYNC2};
+use crate::classes::{block_start, class_of};
+use crate::layout::{held_of, Heap, ACKNOWLEDGED};
+use crate::mutators::{check_roots, words_of};
 
 /// A record that a root names: where its header is, and its counts.
 struct Record {
@@ -18,7 +18,7 @@ impl Record {
     #[inline(always)]
     fn pointer(&self, field: u32) -> Answer<usize> {
         if field >= self.shape.pointers {
-            return Err(Refusal::FIELD);
+            return refuse(Refusal::FIELD);
         }
         Ok(self.at + 1 + field as usize)
     }
@@ -27,7 +27,7 @@ impl Record {
     #[inline(always)]
     fn value(&self, field: u32) -> Answer<usize> {
         if field >= self.shape.values {
-            return Err(Refusal::FIELD);
+            return refuse(Refusal::FIELD);
         }
         Ok(self.at + 1 + self.shape.pointers as usize + field as usize)
     }
@@ -39,7 +39,7 @@ impl<M: Deref<Target = [u32]>> Heap<M> {
     fn record(&self, own: usize, root: u32) -> Answer<Record> {
         let at = self.word(own + root as usize)? as usize;
         if at == 0 {
-            return Err(Refusal::DARK);
+            return refuse(Refusal::DARK);
         }
         let header = self.word(at)?;
         Ok(Record { at, shape: Shape { pointers: header >> 16, values: header & 0xffff } })
@@ -54,9 +54,9 @@ fn may_have_duty(phase: u32) -> bool {
 
 impl<M: DerefMut<Target = [u32]>> Heap<M> {
     /// The write barrier: between the mutator's first acknowledgement and mark the new value, then the old; in mark the old.
-    #[inline(never)]
-    fn barrier(&mut self, own: usize, phase: u32, new: u32, old: u32) -> Answer<()> {
-        if phase == MARK {
+    #[inline(always)]
+    fn barrier(&mut self, own: usize, new: u32, old: u32) -> Answer<()> {
+        if self.phase()? == MARK {
             return self.queue(old);
         }
         if self.word(own + ACKNOWLEDGED)? != 0 {
@@ -66,30 +66,49 @@ impl<M: DerefMut<Target = [u32]>> Heap<M> {
         Ok(())
     }
 
-    /// A record made after the mutator's second acknowledgement and before sweep is born marked.
-    #[inline(never)]
-    fn birth(&mut self, own: usize, phase: u32, reference: usize) -> Answer<()> {
-        if phase >= SYNC2 && self.word(own + ACKNOWLEDGED)? == SYNC2 {
+    /// A record made after the mutator's second acknowledgement and before sweep is born marked. The acknowledgements are counted by the
+    /// phase in which they are given.
+    #[inline(always)]
+    fn birth(&mut self, own: usize, reference: usize) -> Answer<()> {
+        if matches!(self.phase()?, SYNC2 | MARK) && self.word(own + ACKNOWLEDGED)? == SYNC2 {
             self.mark_at_birth(reference as u32)?;
         }
         Ok(())
     }
 
-    /// The header, then nil and 0 in every field. Small blocks are written whole.
+    /// The header, then nil and 0 in every word of a block of this many.
     #[inline(always)]
-    fn write_record(&mut self, at: usize, class: u32, header: u32, fields: usize) -> Answer<()> {
-        match class {
-            3 => *self.array_mut(at)? = [header, 0],
-            4 => *self.array_mut(at)? = [header, 0, 0, 0],
-            5 => *self.array_mut(at)? = [header, 0, 0, 0, 0, 0, 0, 0],
-            _ => {
-                self.set(at, header)?;
-                self.fill(at + 1, fields)?;
-            }
-        }
+    fn write_block<const N: usize>(&mut self, at: usize, header: u32) -> Answer<()> {
+        let block: &mut [u32; N] = self.array_mut(at)?;
+        *block = [0; N];
+        block[0] = header;
         Ok(())
     }
+
+    /// The same for a block of a small class.
+    #[inline(always)]
+    fn write_small(&mut self, at: usize, class: u32, header: u32) -> Answer<()> {
+        match class {
+            3 => self.write_block::<2>(at, header),
+            4 => self.write_block::<4>(at, header),
+            5 => self.write_block::<8>(at, header),
+            6 => self.write_block::<16>(at, header),
+            _ => self.write_block::<32>(at, header),
+        }
+    }
+
+    /// The same for a block of a larger class, by pieces of 64 words.
+    #[inline(always)]
+    fn write_large(&mut self, at: usize, class: u32, header: u32) -> Answer<()> {
+        for piece in 0..block_start(class, 1) as usize / 64 {
+            self.write_block::<64>(at + piece * 64, 0)?;
+        }
+        self.set(at, header)
+    }
 }
+
+/// The highest class whose blocks are written at once.
+const SMALL: u32 = 7;
 
 /// A new record into root `to`.
 #[inline]
@@ -97,20 +116,52 @@ pub fn make(segments: u32, mem: &mut [u32], mutator: u32, to: u32, pointers: u32
     let mut heap = Heap::over(segments, mem)?;
     let own = heap.inside(mutator)?;
     check_roots(to)?;
-    let fields = u64::from(pointers) + u64::from(values);
-    let class = class_of(fields)?;
-    let held = own + HELD_OF + (class - classes::LOWEST) as usize;
+    let class = class_of(u64::from(pointers) + u64::from(values))?;
+    let header = pointers << 16 | values;
+    let held = held_of(own, class);
+    let descriptor = heap.word(held)? as usize;
+    if descriptor == 0 || class > SMALL {
+        return make_slowly(segments, heap.mem, mutator, to, header);
+    }
+    let at = heap.next_block(descriptor, class)?;
+    heap.write_small(at, class, header)?;
+    heap.set(own + to as usize, at as u32)?;
+    if may_have_duty(heap.phase()?) {
+        return make_ends_with_duty(heap.segments, heap.mem, own, at, class);
+    }
+    heap.advance(descriptor, held, class)
+}
+
+/// The end of a make between start and sweep.
+#[inline(never)]
+fn make_ends_with_duty(segments: usize, mem: &mut [u32], own: usize, at: usize, class: u32) -> Answer<()> {
+    let mut heap = Heap { mem, segments };
+    heap.birth(own, at)?;
+    let held = held_of(own, class);
+    let descriptor = heap.word(held)? as usize;
+    heap.advance(descriptor, held, class)
+}
+
+/// A make of a record of any class, where the mutator may hold no segment of it.
+#[inline(never)]
+fn make_slowly(segments: u32, mem: &mut [u32], mutator: u32, to: u32, header: u32) -> Answer<()> {
+    let mut heap = Heap { mem, segments: segments as usize };
+    let own = words_of(mutator)?;
+    let class = class_of(u64::from(header >> 16) + u64::from(header & 0xffff))?;
+    let held = held_of(own, class);
     let descriptor = match heap.word(held)? {
         0 => heap.take(mutator, held, class)?,
         descriptor => descriptor as usize,
     };
-    let at = heap.next_block(descriptor, held, class)?;
-    heap.write_record(at, class, pointers << 16 | values, fields as usize)?;
-    let phase = heap.phase()?;
-    if may_have_duty(phase) {
-        heap.birth(own, phase, at)?;
+    let at = heap.next_block(descriptor, class)?;
+    if class <= SMALL {
+        heap.write_small(at, class, header)?;
+    } else {
+        heap.write_large(at, class, header)?;
     }
-    heap.set(own + to as usize, at as u32)
+    heap.birth(own, at)?;
+    heap.set(own + to as usize, at as u32)?;
+    heap.advance(descriptor, held, class)
 }
 
 /// A pointer of the record in a root into root `to`.
@@ -132,11 +183,18 @@ pub fn store(segments: u32, mem: &mut [u32], mutator: u32, root: u32, field: u32
     check_roots(root | from)?;
     let pointer = heap.record(own, root)?.pointer(field)?;
     let new = heap.word(own + from as usize)?;
-    let phase = heap.phase()?;
-    if may_have_duty(phase) {
-        let old = heap.word(pointer)?;
-        heap.barrier(own, phase, new, old)?;
+    if may_have_duty(heap.phase()?) {
+        return store_with_duty(heap.segments, heap.mem, own, pointer, new);
     }
+    heap.set(pointer, new)
+}
+
+/// The same between start and sweep.
+#[inline(never)]
+fn store_with_duty(segments: usize, mem: &mut [u32], own: usize, pointer: usize, new: u32) -> Answer<()> {
+    let mut heap = Heap { mem, segments };
+    let old = heap.word(pointer)?;
+    heap.barrier(own, new, old)?;
     heap.set(pointer, new)
 }
 

@@ -1,10 +1,9 @@
 //! Size classes 3 to 12: which class a record has, how many blocks a segment of it has, and how many words of level 0 they take.
 
-use crate::answers::{Answer, Refusal};
+use crate::answers::{refuse, Answer, Refusal};
 
 pub const LOWEST: u32 = 3;
 pub const HIGHEST: u32 = 12;
-pub const CLASSES: usize = 10;
 
 /// The most pointers and values together.
 pub const MOST_FIELDS: u64 = 1023;
@@ -36,7 +35,7 @@ const fn class_table() -> [u32; 1024] {
 pub fn class_of(fields: u64) -> Answer<u32> {
     match CLASS_OF.get(fields as usize) {
         Some(&class) if fields <= MOST_FIELDS => Ok(class),
-        _ => Err(Refusal::TOO_BIG),
+        _ => refuse(Refusal::TOO_BIG),
     }
 }
 
@@ -45,16 +44,22 @@ pub fn is_class(class: u32) -> bool {
     (LOWEST..=HIGHEST).contains(&class)
 }
 
-/// A block of the class has 2^shift words.
+/// The first word of a block of the class, from its segment's first.
 #[inline(always)]
-pub fn shift(class: u32) -> u32 {
-    class.wrapping_sub(2) & 15
+pub fn block_start(class: u32, block: u32) -> u32 {
+    block.wrapping_shl(class) / 4
+}
+
+/// The block of the class in which a word lies, counted from its segment's first.
+#[inline(always)]
+pub fn block_at(class: u32, word: u32) -> u32 {
+    (word * 4).wrapping_shr(class)
 }
 
 /// The blocks of a segment of the class.
 #[inline(always)]
 pub fn blocks(class: u32) -> u32 {
-    4096 >> shift(class)
+    16384_u32.wrapping_shr(class)
 }
 
 /// The words that level 0 of the class has.

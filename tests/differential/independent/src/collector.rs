@@ -2,14 +2,14 @@
 
 use core::ops::DerefMut;
 
-use crate::answers::{Answer, Refusal, Step, IDLE, MARK, SWEEP, SYNC1, SYNC2};
-use crate::bitmap::{self, LEVEL_WORDS};
+use crate::answers::{or_torn, refuse, Answer, Refusal, Step, IDLE, MARK, SWEEP, SYNC1, SYNC2};
+use crate::bitmap::{self, Moved, FOUR, LEVEL_WORDS};
 use crate::classes;
 use crate::layout::{
-    Heap, ACKNOWLEDGED, BITMAP_WORDS, CLASS, CONDEMNED_TOP, FREE_TOP, LEVEL0, MUTATORS, MUTATOR_WORDS, NEXT, NUMBER, PHASE, PLACE, SIDE, STATE,
+    part_top, Heap, ACKNOWLEDGED, CLASS, CONDEMNED_TOP, FREE_TOP, LEVEL0, MARKS, MUTATORS, MUTATOR_WORDS, NEXT, NUMBER, PHASE, PLACE, SIDE, STATE,
 };
 use crate::mutators::{ABSENT, OUTSIDE};
-use crate::segments::{self, fill_up, part_top, set_summary, Descriptor};
+use crate::segments::{self, fill_up, set_summary, Descriptor};
 
 impl<M: DerefMut<Target = [u32]>> Heap<M> {
     /// Every full segment is condemned, stacked so that the lowest comes off first; refused 12 where there is none.
@@ -22,7 +22,7 @@ impl<M: DerefMut<Target = [u32]>> Heap<M> {
             }
         }
         match self.word(CONDEMNED_TOP)? {
-            0 => Err(Refusal::NONE_FULL),
+            0 => refuse(Refusal::NONE_FULL),
             _ => Ok(()),
         }
     }
@@ -51,16 +51,11 @@ impl<M: DerefMut<Target = [u32]>> Heap<M> {
     /// Marking: one record, or the next phase.
     #[inline(always)]
     fn mark_step(&mut self) -> Answer<Step> {
-        match self.unqueue()? {
-            Some(reference) => {
-                self.trace(reference)?;
-                Ok(Step::Traced)
-            }
-            None => {
-                self.set(PHASE, SWEEP)?;
-                Ok(Step::Moved)
-            }
+        if self.trace()? {
+            return Ok(Step::Traced);
         }
+        self.set(PHASE, SWEEP)?;
+        Ok(Step::Moved)
     }
 
     /// Sweeping: the lowest condemned segment, or the end of the cycle.
@@ -78,40 +73,36 @@ impl<M: DerefMut<Target = [u32]>> Heap<M> {
     fn sweep(&mut self, descriptor: usize) -> Answer<Step> {
         let segment = self.word(descriptor + NUMBER)?;
         let class = self.word(descriptor + CLASS)?;
-        let marks = self.mark_bits() + segment as usize * BITMAP_WORDS;
-        let marks: [u32; LEVEL_WORDS] = *self.array(marks)?;
         let words: &mut Descriptor = self.array_mut(descriptor)?;
-        let marked = marks.iter().map(|word| word.count_ones()).sum::<u32>();
-        let freed = classes::blocks(class).wrapping_sub(marked);
-        if marked == 0 {
-            words[STATE] = segments::FREE;
+        let (head, marks) = words.split_at_mut(MARKS);
+        let marks = or_torn(marks.get(..classes::level_words(class).max(FOUR)))?;
+        let blocks = classes::blocks(class);
+        if marks.iter().fold(0, |any, word| any | word) == 0 {
+            head[STATE] = segments::FREE;
             self.push(FREE_TOP, descriptor)?;
-        } else if take_marks(words, &marks, class) {
+            return Ok(Step::Swept { segment, freed: blocks });
+        }
+        let Moved { marked, summary } = bitmap::move_marks(&mut head[LEVEL0..], marks, class);
+        let freed = blocks.wrapping_sub(marked);
+        head[LEVEL0] |= classes::padding(class);
+        set_summary(words, if freed == 0 { u64::MAX } else { summary });
+        if freed == 0 {
+            fill_up(words, class);
+        } else {
+            set_part(words, summary);
             self.push(part_top(class), descriptor)?;
         }
         Ok(Step::Swept { segment, freed })
     }
 }
 
-/// Level 0 becomes the marks of a segment that is not free, and the summary is rebuilt. Is the segment part?
+/// The segment becomes part, place 0; its next block is the lowest free one.
 #[inline(always)]
-fn take_marks(words: &mut Descriptor, marks: &[u32; LEVEL_WORDS], class: u32) -> bool {
-    words[LEVEL0..].copy_from_slice(marks);
-    words[LEVEL0] |= classes::padding(class);
-    let summary = match words.last_chunk() {
-        Some(level0) => bitmap::summarize(level0, class),
-        None => u64::MAX,
-    };
-    set_summary(words, summary);
-    if summary == u64::MAX {
-        fill_up(words, class);
-        return false;
-    }
+fn set_part(words: &mut Descriptor, summary: u64) {
     let index = summary.trailing_ones();
     words[STATE] = segments::PART;
     words[PLACE] = 0;
     words[NEXT] = index * 32 + words[LEVEL0 + index as usize % LEVEL_WORDS].trailing_ones();
-    true
 }
 
 /// A cycle begins: every full segment is condemned; refused 11 outside idle, 12 with none full.
@@ -119,7 +110,7 @@ fn take_marks(words: &mut Descriptor, marks: &[u32; LEVEL_WORDS], class: u32) ->
 pub fn start(segments: u32, mem: &mut [u32]) -> Answer<()> {
     let mut heap = Heap::over(segments, mem)?;
     if heap.phase()? != IDLE {
-        return Err(Refusal::NOT_NOW);
+        return refuse(Refusal::NOT_NOW);
     }
     heap.condemn()?;
     heap.clear_marks()?;
@@ -133,11 +124,20 @@ pub fn start(segments: u32, mem: &mut [u32]) -> Answer<()> {
 #[inline]
 pub fn step(segments: u32, mem: &mut [u32]) -> Answer<Step> {
     let mut heap = Heap::over(segments, mem)?;
+    if heap.phase()? == MARK {
+        return heap.mark_step();
+    }
+    step_elsewhere(heap.segments, heap.mem)
+}
+
+/// The same in the other phases.
+#[inline(never)]
+fn step_elsewhere(segments: usize, mem: &mut [u32]) -> Answer<Step> {
+    let mut heap = Heap { mem, segments };
     match heap.phase()? {
         IDLE => Ok(Step::Idle),
-        MARK => heap.mark_step(),
         SWEEP => heap.sweep_step(),
         phase @ (SYNC1 | SYNC2) => heap.handshake(phase),
-        _ => Err(Refusal::TORN),
+        _ => refuse(Refusal::TORN),
     }
 }

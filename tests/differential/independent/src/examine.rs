@@ -3,15 +3,15 @@
 //! Beside the layout's own invariants it checks the collector's promise: in mark, each reached record of a condemned segment is marked
 //! or is reached from the trace stack over records not yet marked; in sweep, it is marked.
 
-use crate::answers::{Answer, Refusal, IDLE, MARK, SWEEP, SYNC1, SYNC2};
+use crate::answers::{refuse, Answer, Refusal, IDLE, MARK, SWEEP, SYNC1, SYNC2};
 use crate::bitmap::summarize;
-use crate::classes::{self, class_of, CLASSES};
+use crate::classes::{self, class_of};
 use crate::layout::{
-    scratch_length, Heap, ACKNOWLEDGED, BITMAP_WORDS, BLOCKS, CLASS, CONDEMNED_TOP, DESCRIPTOR_WORDS, FREE_TOP, HELD_OF, LEVEL0, MOST_BLOCKS,
-    MUTATORS, MUTATOR_WORDS, NEXT, NUMBER, PLACE, ROOTS, SEGMENT_WORDS, SIDE, STATE, TIE, TRACE_HEIGHT,
+    held_of, part_top, scratch_length, Heap, ACKNOWLEDGED, BITMAP_WORDS, BLOCKS, CLASS, CONDEMNED_TOP, DESCRIPTOR_WORDS, FREE_TOP, LEVEL0, MARKS,
+    MOST_BLOCKS, MUTATORS, MUTATOR_WORDS, NEXT, NUMBER, PLACE, ROOTS, SEGMENT_WORDS, SIDE, STATE, TIE, TRACE_HEIGHT,
 };
 use crate::mutators::{in_handshake, ABSENT, OUTSIDE};
-use crate::segments::{part_top, tree, Descriptor, CONDEMNED, FREE, FULL, HELD, PART};
+use crate::segments::{tree, Descriptor, CONDEMNED, FREE, FULL, HELD, PART};
 use crate::trace::Bit;
 
 /// A condition that holds, or nothing.
@@ -132,7 +132,7 @@ impl Examination<'_> {
     fn holds(&self, mutator: u32, segment: usize, class: u32) -> Option<bool> {
         must(mutator < MUTATORS)?;
         let own = mutator as usize * MUTATOR_WORDS;
-        let held = self.word(own + HELD_OF + (class - classes::LOWEST) as usize)?;
+        let held = self.word(held_of(own, class))?;
         Some(self.word(own + SIDE)? != ABSENT && held as usize == self.heap.descriptor(segment))
     }
 
@@ -168,16 +168,17 @@ impl Examination<'_> {
         if words[SIDE] == ABSENT {
             return must(words.iter().all(|word| *word == 0));
         }
-        must(words[SIDE] <= OUTSIDE && words[ACKNOWLEDGED + 1..].iter().all(|word| *word == 0))?;
+        must(words[SIDE] <= OUTSIDE)?;
         must(match self.phase {
             SYNC1 => words[ACKNOWLEDGED] <= 1,
             SYNC2 => words[ACKNOWLEDGED] == 1 || words[ACKNOWLEDGED] == 2,
             MARK => words[ACKNOWLEDGED] == 2,
             _ => words[ACKNOWLEDGED] <= 2,
         })?;
-        for (class, held) in (classes::LOWEST..).zip(&words[HELD_OF..HELD_OF + CLASSES]) {
-            if *held != 0 {
-                let segment = self.named(*held)?;
+        for class in classes::LOWEST..=classes::HIGHEST {
+            let held = words[held_of(0, class)];
+            if held != 0 {
+                let segment = self.named(held)?;
                 must(segment[STATE] == HELD && segment[CLASS] == class && segment[TIE] == mutator)?;
             }
         }
@@ -193,7 +194,7 @@ impl Examination<'_> {
             }
             let class = words[CLASS];
             for block in 0..classes::blocks(class) {
-                let at = BLOCKS + SEGMENT_WORDS * segment + ((block as usize) << classes::shift(class));
+                let at = BLOCKS + SEGMENT_WORDS * segment + classes::block_start(class, block) as usize;
                 must(!in_use(words, block)? || self.has_class(at, class)?)?;
             }
         }
@@ -213,9 +214,9 @@ impl Examination<'_> {
         let offset = (reference as usize).checked_sub(BLOCKS)?;
         let words = self.segment(offset / SEGMENT_WORDS)?;
         must(words[STATE] != FREE)?;
-        let (within, shift) = (offset % SEGMENT_WORDS, classes::shift(words[CLASS]));
-        let block = within >> shift;
-        must(block << shift == within && in_use(words, block as u32)?)
+        let (within, class) = ((offset % SEGMENT_WORDS) as u32, words[CLASS]);
+        let block = classes::block_at(class, within);
+        must(classes::block_start(class, block) == within && in_use(words, block)?)
     }
 
     /// Before sweep: marks are of blocks in use; what is queued is exactly what is marked or on the trace stack, each once, never both.
@@ -225,21 +226,21 @@ impl Examination<'_> {
             marked += self.marks_of(segment)?;
         }
         let height = self.trace_height()?;
-        for entry in 0..height {
-            let reference = self.word(self.heap.trace_stack() + entry)?;
+        for entry in 1..=height {
+            let reference = self.word(self.heap.trace_top(entry))?;
             must(reference != 0)?;
             self.is_reference(reference)?;
             must(self.bit(self.heap.queued_bit(reference))? && !self.is_marked(reference)?)?;
             must(add(self.grey, reference)?)?;
         }
-        let queued = self.heap.mem.get(self.heap.queued_bits()..self.heap.mark_bits())?;
+        let queued = self.heap.mem.get(self.heap.queued_bits()..self.heap.descriptors())?;
         must(queued.iter().map(|word| word.count_ones() as usize).sum::<usize>() == height + marked)
     }
 
     /// The count of a segment's marks, each of a block in use whose queued bit is set.
     fn marks_of(&self, segment: usize) -> Option<usize> {
-        let marks: &[u32; BITMAP_WORDS] = self.heap.array(self.heap.mark_bits() + segment * BITMAP_WORDS).ok()?;
         let words = self.segment(segment)?;
+        let marks = &words[MARKS..];
         let mut marked = 0;
         for block in 0..MOST_BLOCKS {
             if marks[block / 32] >> (block % 32) & 1 == 0 {
@@ -247,7 +248,7 @@ impl Examination<'_> {
             }
             let class = words[CLASS];
             must(words[STATE] != FREE && block < classes::blocks(class) as usize && in_use(words, block as u32)?)?;
-            let reference = BLOCKS + SEGMENT_WORDS * segment + (block << classes::shift(class));
+            let reference = BLOCKS + SEGMENT_WORDS * segment + classes::block_start(class, block as u32) as usize;
             must(self.bit(self.heap.queued_bit(reference as u32))?)?;
             marked += 1;
         }
@@ -272,8 +273,8 @@ impl Examination<'_> {
 
     /// What the trace stack reaches over unmarked records.
     fn grey_records(&mut self) -> Option<()> {
-        for entry in 0..self.trace_height()? {
-            let reference = self.word(self.heap.trace_stack() + entry)?;
+        for entry in 1..=self.trace_height()? {
+            let reference = self.word(self.heap.trace_top(entry))?;
             self.await_record(reference)?;
         }
         while let Some(record) = self.next_record() {
@@ -296,8 +297,8 @@ impl Examination<'_> {
                 self.reach(self.word(mutator * MUTATOR_WORDS + root)?)?;
             }
         }
-        for entry in 0..self.trace_height()? {
-            self.reach(self.word(self.heap.trace_stack() + entry)?)?;
+        for entry in 1..=self.trace_height()? {
+            self.reach(self.word(self.heap.trace_top(entry))?)?;
         }
         while let Some(record) = self.next_record() {
             for at in self.pointers_of(record)? {
@@ -330,7 +331,7 @@ impl Examination<'_> {
 pub fn examine(segments: u32, mem: &[u32], scratch: &mut [u32]) -> Answer<bool> {
     let heap = Heap::over(segments, mem)?;
     if scratch.len() != scratch_length(segments) {
-        return Err(Refusal::SIZE);
+        return refuse(Refusal::SIZE);
     }
     scratch.fill(0);
     let phase = heap.phase()?;

@@ -5,13 +5,8 @@
 use core::slice::{from_raw_parts, from_raw_parts_mut};
 
 use crate::answers::{pack, pack_result, Refusal};
-use crate::{layout, looks};
-
-/// Is the length of the lent slice right for the count?
-#[inline(always)]
-fn fits(segments: u32, length: usize) -> bool {
-    length != 0 && length == layout::length(segments)
-}
+use crate::layout::{self, fits};
+use crate::looks;
 
 /// Calls that change the heap.
 macro_rules! changing {

@@ -1,29 +1,29 @@
 //! Where everything lies in the lent slice, the lengths, and `Heap`: the slice once its length is known to be right.
 //!
 //! First the mutators, 32 words each, then the control words, then the segments' blocks, so that a reference is the index of its header
-//! in the slice and 0 is nil. After the blocks: the trace stack, the queued bits, the mark bitmaps and the segments' descriptors.
+//! in the slice and 0 is nil. After the blocks: the queued bits and the segments' descriptors. The trace stack grows down from the end.
 
 use core::ops::{Deref, DerefMut};
 
-use crate::answers::{Answer, Refusal, IDLE};
+use crate::answers::{or_torn, refuse, Answer, Refusal, IDLE};
 use crate::segments;
 
 pub const MOST_SEGMENTS: u32 = 256;
 
-/// A mutator: 16 roots, the descriptor of the segment held of each class (0: none), its side and its acknowledgements.
+/// A mutator: 16 roots, its side, its acknowledgements, and by class the descriptor of the segment that it holds (0: none).
 pub const MUTATORS: u32 = 32;
 pub const ROOTS: u32 = 16;
 pub const MUTATOR_WORDS: usize = 32;
-pub const HELD_OF: usize = 16;
-pub const SIDE: usize = 26;
-pub const ACKNOWLEDGED: usize = 27;
+pub const SIDE: usize = 16;
+pub const ACKNOWLEDGED: usize = 17;
+const HELD_BY_CLASS: usize = 16;
 
-/// The control words. Each stack of segments is named by the descriptor on its top, 0 where it is empty.
+/// The control words. Each stack of segments is named by the descriptor on its top, 0 where it is empty; the part stacks by their class.
 pub const PHASE: usize = 1024;
 pub const TRACE_HEIGHT: usize = 1025;
 pub const FREE_TOP: usize = 1026;
-pub const CONDEMNED_TOP: usize = 1027;
-pub const PART_TOP: usize = 1028;
+const PART_BY_CLASS: usize = 1024;
+pub const CONDEMNED_TOP: usize = 1037;
 
 /// The first block of segment 0.
 pub const BLOCKS: usize = 1040;
@@ -33,9 +33,9 @@ pub const SEGMENT_WORDS: usize = 4096;
 pub const MOST_BLOCKS: usize = 2048;
 pub const BITMAP_WORDS: usize = 64;
 
-/// A descriptor: these words, then level 0 of the bitmap tree. The tie is the mutator that holds the segment, or the descriptor below it
-/// on its stack. The summary has two words, the lower half first.
-pub const DESCRIPTOR_WORDS: usize = 72;
+/// A descriptor: these words, then level 0 of the bitmap tree, then the mark bitmap. The tie is the mutator that holds the segment, or the
+/// descriptor below it on its stack. The summary has two words, the lower half first.
+pub const DESCRIPTOR_WORDS: usize = 136;
 pub const STATE: usize = 0;
 pub const CLASS: usize = 1;
 pub const PLACE: usize = 2;
@@ -44,12 +44,31 @@ pub const TIE: usize = 4;
 pub const NUMBER: usize = 5;
 pub const SUMMARY: usize = 6;
 pub const LEVEL0: usize = 8;
+pub const MARKS: usize = 72;
 
-const WORDS_PER_SEGMENT: usize = SEGMENT_WORDS + MOST_BLOCKS + 2 * BITMAP_WORDS + DESCRIPTOR_WORDS;
+const WORDS_PER_SEGMENT: usize = SEGMENT_WORDS + BITMAP_WORDS + DESCRIPTOR_WORDS + MOST_BLOCKS;
+
+/// The word of a mutator that names the segment which it holds of a class.
+#[inline(always)]
+pub const fn held_of(own: usize, class: u32) -> usize {
+    own + HELD_BY_CLASS + (class & 15) as usize
+}
 
 #[inline(always)]
 const fn is_count(segments: u32) -> bool {
     segments.wrapping_sub(1) < MOST_SEGMENTS
+}
+
+/// The control word of the part stack of a class.
+#[inline(always)]
+pub const fn part_top(class: u32) -> usize {
+    PART_BY_CLASS + (class & 15) as usize
+}
+
+/// Is this the length of the lent slice for the count?
+#[inline(always)]
+pub const fn fits(segments: u32, length: usize) -> bool {
+    is_count(segments) && length == WORDS_PER_SEGMENT * segments as usize + BLOCKS
 }
 
 /// The words of the lent slice: 6344 n + 1040, or 0 for a count not 1 to 256.
@@ -92,48 +111,42 @@ impl<M: Deref<Target = [u32]>> Heap<M> {
     /// Refused 1 where the count or the length is wrong.
     #[inline(always)]
     pub fn over(segments: u32, mem: M) -> Answer<Heap<M>> {
-        let count = segments as usize;
-        let right = is_count(segments) && mem.len() == WORDS_PER_SEGMENT * count + BLOCKS;
-        if !right || mem.len() < BLOCKS {
-            return Err(Refusal::SIZE);
+        if !fits(segments, mem.len()) {
+            return refuse(Refusal::SIZE);
         }
-        Ok(Heap { mem, segments: count })
+        Ok(Heap { mem, segments: segments as usize })
     }
 
     #[inline(always)]
     pub fn word(&self, at: usize) -> Answer<u32> {
-        self.mem.get(at).copied().ok_or(Refusal::TORN)
+        or_torn(self.mem.get(at).copied())
     }
 
     #[inline(always)]
     pub fn array<const N: usize>(&self, at: usize) -> Answer<&[u32; N]> {
-        let from = self.mem.get(at..).ok_or(Refusal::TORN)?;
-        from.first_chunk().ok_or(Refusal::TORN)
-    }
-
-    #[inline(always)]
-    pub fn trace_stack(&self) -> usize {
-        BLOCKS + SEGMENT_WORDS * self.segments
+        let words = or_torn(self.mem.get(at..at.wrapping_add(N)))?;
+        or_torn(words.first_chunk())
     }
 
     #[inline(always)]
     pub fn queued_bits(&self) -> usize {
-        self.trace_stack() + MOST_BLOCKS * self.segments
-    }
-
-    #[inline(always)]
-    pub fn mark_bits(&self) -> usize {
-        self.queued_bits() + BITMAP_WORDS * self.segments
+        BLOCKS + SEGMENT_WORDS * self.segments
     }
 
     #[inline(always)]
     pub fn descriptors(&self) -> usize {
-        self.mark_bits() + BITMAP_WORDS * self.segments
+        BLOCKS + (SEGMENT_WORDS + BITMAP_WORDS) * self.segments
     }
 
     #[inline(always)]
     pub fn descriptor(&self, segment: usize) -> usize {
         self.descriptors() + DESCRIPTOR_WORDS * segment
+    }
+
+    /// The word of the trace stack that is its top at this height, which is not 0.
+    #[inline(always)]
+    pub fn trace_top(&self, height: usize) -> usize {
+        self.mem.len().wrapping_sub(height)
     }
 }
 
@@ -146,27 +159,30 @@ impl<M: DerefMut<Target = [u32]>> Heap<M> {
 
     #[inline(always)]
     pub fn word_mut(&mut self, at: usize) -> Answer<&mut u32> {
-        self.mem.get_mut(at).ok_or(Refusal::TORN)
+        or_torn(self.mem.get_mut(at))
     }
 
     #[inline(always)]
     pub fn array_mut<const N: usize>(&mut self, at: usize) -> Answer<&mut [u32; N]> {
-        let from = self.mem.get_mut(at..).ok_or(Refusal::TORN)?;
-        from.first_chunk_mut().ok_or(Refusal::TORN)
+        let words = or_torn(self.mem.get_mut(at..at.wrapping_add(N)))?;
+        or_torn(words.first_chunk_mut())
     }
 
+    /// The words of a mutator, or as many others, become 0.
     #[inline(always)]
-    pub fn fill(&mut self, from: usize, words: usize) -> Answer<()> {
-        let end = from.wrapping_add(words);
-        self.mem.get_mut(from..end).ok_or(Refusal::TORN)?.fill(0);
+    pub fn empty(&mut self, at: usize) -> Answer<()> {
+        *self.array_mut(at)? = [0; MUTATOR_WORDS];
         Ok(())
     }
 }
 
-/// An empty heap in memory of any content; refused 1 only.
+/// An empty heap in memory of any content; refused 1 only. Blocks, bitmaps and the trace stack are written before they are read.
 pub fn open(segments: u32, mem: &mut [u32]) -> Answer<()> {
     let mut heap = Heap::over(segments, mem)?;
-    heap.mem.fill(0);
+    for mutator in 0..MUTATORS as usize {
+        heap.empty(mutator * MUTATOR_WORDS)?;
+    }
+    *heap.array_mut(PHASE)? = [0; BLOCKS - PHASE];
     heap.set(PHASE, IDLE)?;
     for segment in (0..heap.segments).rev() {
         let descriptor = heap.descriptor(segment);

@@ -2,7 +2,7 @@
 
 use core::ops::Deref;
 
-use crate::answers::{Answer, Refusal, SWEEP};
+use crate::answers::{refuse, Answer, Refusal, SWEEP};
 use crate::layout::{states_length, Heap, CLASS, PLACE, STATE, TIE};
 use crate::segments::{CONDEMNED, FREE, HELD};
 
@@ -11,7 +11,7 @@ use crate::segments::{CONDEMNED, FREE, HELD};
 pub fn phase(segments: u32, mem: &[u32]) -> Answer<u32> {
     match Heap::over(segments, mem)?.phase()? {
         phase if phase <= SWEEP => Ok(phase),
-        _ => Err(Refusal::TORN),
+        _ => refuse(Refusal::TORN),
     }
 }
 
@@ -23,7 +23,7 @@ impl<M: Deref<Target = [u32]>> Heap<M> {
             FREE => Ok([FREE, 0, 0, 0]),
             HELD => Ok([HELD, descriptor[CLASS], descriptor[PLACE], descriptor[TIE]]),
             state if state <= CONDEMNED => Ok([state, descriptor[CLASS], descriptor[PLACE], 0]),
-            _ => Err(Refusal::TORN),
+            _ => refuse(Refusal::TORN),
         }
     }
 }
@@ -32,7 +32,7 @@ impl<M: Deref<Target = [u32]>> Heap<M> {
 pub fn states(segments: u32, mem: &[u32], output: &mut [u32]) -> Answer<()> {
     let heap = Heap::over(segments, mem)?;
     if output.len() != states_length(segments) {
-        return Err(Refusal::SIZE);
+        return refuse(Refusal::SIZE);
     }
     for segment in 0..heap.segments {
         heap.state(segment)?;

@@ -2,10 +2,10 @@
 
 use core::ops::{Deref, DerefMut};
 
-use crate::answers::{Answer, Refusal, MARK, SYNC1, SYNC2};
-use crate::classes::CLASSES;
-use crate::layout::{Heap, ACKNOWLEDGED, CLASS, HELD_OF, MUTATORS, MUTATOR_WORDS, PHASE, ROOTS, SIDE, STATE};
-use crate::segments::{self, part_top};
+use crate::answers::{refuse, Answer, Refusal, MARK, SYNC1, SYNC2};
+use crate::classes;
+use crate::layout::{held_of, part_top, Heap, ACKNOWLEDGED, MUTATORS, MUTATOR_WORDS, PHASE, ROOTS, SIDE, STATE};
+use crate::segments;
 
 /// Sides.
 pub const ABSENT: u32 = 0;
@@ -16,7 +16,7 @@ pub const OUTSIDE: u32 = 2;
 #[inline(always)]
 pub fn words_of(mutator: u32) -> Answer<usize> {
     if mutator >= MUTATORS {
-        return Err(Refusal::SCRIPT);
+        return refuse(Refusal::SCRIPT);
     }
     Ok(mutator as usize * MUTATOR_WORDS)
 }
@@ -25,7 +25,7 @@ pub fn words_of(mutator: u32) -> Answer<usize> {
 #[inline(always)]
 pub fn check_roots(joined: u32) -> Answer<()> {
     if joined >= ROOTS {
-        return Err(Refusal::SLOT);
+        return refuse(Refusal::SLOT);
     }
     Ok(())
 }
@@ -51,15 +51,15 @@ impl<M: Deref<Target = [u32]>> Heap<M> {
     fn on_side(&self, own: usize, side: u32) -> Answer<usize> {
         match self.word(own + SIDE)? {
             found if found == side => Ok(own),
-            ABSENT => Err(Refusal::ABSENT),
-            _ => Err(Refusal::SIDE),
+            ABSENT => refuse(Refusal::ABSENT),
+            _ => refuse(Refusal::SIDE),
         }
     }
 
     /// Refused 11 in a handshake.
     fn outside_handshake(&self) -> Answer<u32> {
         match self.phase()? {
-            phase if in_handshake(phase) => Err(Refusal::NOT_NOW),
+            phase if in_handshake(phase) => refuse(Refusal::NOT_NOW),
             phase => Ok(phase),
         }
     }
@@ -68,7 +68,7 @@ impl<M: Deref<Target = [u32]>> Heap<M> {
     fn unused(&self, own: usize) -> Answer<()> {
         match self.word(own + SIDE)? {
             ABSENT => Ok(()),
-            _ => Err(Refusal::TAKEN),
+            _ => refuse(Refusal::TAKEN),
         }
     }
 
@@ -82,7 +82,7 @@ impl<M: Deref<Target = [u32]>> Heap<M> {
 impl<M: DerefMut<Target = [u32]>> Heap<M> {
     /// The mutator comes in, its first root given and the others nil. In mark it counts as having acknowledged twice.
     fn come_in(&mut self, own: usize, root0: u32, phase: u32) -> Answer<()> {
-        self.fill(own, MUTATOR_WORDS)?;
+        self.empty(own)?;
         self.set(own, root0)?;
         self.set(own + SIDE, INSIDE)?;
         self.set(own + ACKNOWLEDGED, if phase == MARK { 2 } else { 0 })
@@ -92,7 +92,9 @@ impl<M: DerefMut<Target = [u32]>> Heap<M> {
     pub fn acknowledge(&mut self, own: usize, phase: u32) -> Answer<()> {
         self.set(own + ACKNOWLEDGED, phase)?;
         if phase == SYNC2 {
-            self.queue_fields(own, ROOTS as usize)?;
+            for root in own..own + ROOTS as usize {
+                self.queue(self.word(root)?)?;
+            }
         }
         Ok(())
     }
@@ -107,10 +109,9 @@ impl<M: DerefMut<Target = [u32]>> Heap<M> {
 
     /// The segments that the mutator holds become part, in class order, their places kept.
     fn release_segments(&mut self, own: usize) -> Answer<()> {
-        for held in own + HELD_OF..own + HELD_OF + CLASSES {
-            let descriptor = self.word(held)? as usize;
+        for class in classes::LOWEST..=classes::HIGHEST {
+            let descriptor = self.word(held_of(own, class))? as usize;
             if descriptor != 0 {
-                let class = self.word(descriptor + CLASS)?;
                 self.set(descriptor + STATE, segments::PART)?;
                 self.push(part_top(class), descriptor)?;
             }
@@ -150,7 +151,7 @@ pub fn detach(segments: u32, mem: &mut [u32], mutator: u32) -> Answer<()> {
     let own = heap.inside(mutator)?;
     heap.outside_handshake()?;
     heap.release_segments(own)?;
-    heap.fill(own, MUTATOR_WORDS)
+    heap.empty(own)
 }
 
 /// Gives the acknowledgement that the mutator owes, if it does.

@@ -2,10 +2,12 @@
 
 use core::ops::{Deref, DerefMut};
 
-use crate::answers::{Answer, Refusal};
+use crate::answers::{or_torn, Answer, Refusal};
 use crate::bitmap::{self, Tree};
 use crate::classes;
-use crate::layout::{Heap, BLOCKS, CLASS, DESCRIPTOR_WORDS, FREE_TOP, LEVEL0, NEXT, NUMBER, PART_TOP, PLACE, STATE, SUMMARY, TIE};
+use crate::layout::{
+    part_top, Heap, BITMAP_WORDS, BLOCKS, CLASS, DESCRIPTOR_WORDS, FREE_TOP, LEVEL0, MARKS, NEXT, NUMBER, PLACE, SEGMENT_WORDS, STATE, SUMMARY, TIE,
+};
 
 /// States, as the look gives them.
 pub const FREE: u32 = 0;
@@ -19,21 +21,22 @@ pub type Descriptor = [u32; DESCRIPTOR_WORDS];
 /// The bitmap tree of a descriptor.
 #[inline(always)]
 pub fn tree(descriptor: &Descriptor) -> Answer<Tree<'_>> {
-    let level0 = descriptor.last_chunk().ok_or(Refusal::TORN)?;
+    let level0 = or_torn(descriptor[LEVEL0..].first_chunk())?;
     let summary = u64::from(descriptor[SUMMARY]) | u64::from(descriptor[SUMMARY + 1]) << 32;
     Ok(Tree { level0, summary })
-}
-
-/// The control word of the part stack of a class.
-#[inline(always)]
-pub fn part_top(class: u32) -> usize {
-    PART_TOP + class.wrapping_sub(classes::LOWEST) as usize % classes::CLASSES
 }
 
 impl<M: Deref<Target = [u32]>> Heap<M> {
     #[inline(always)]
     pub fn described(&self, at: usize) -> Answer<&Descriptor> {
         self.array(at)
+    }
+
+    /// The first word of the block that the next make of a held segment takes.
+    #[inline(always)]
+    pub fn next_block(&self, descriptor: usize, class: u32) -> Answer<usize> {
+        let words = self.described(descriptor)?;
+        Ok(BLOCKS + words[NUMBER] as usize * SEGMENT_WORDS + classes::block_start(class, words[NEXT]) as usize)
     }
 }
 
@@ -75,25 +78,38 @@ impl<M: DerefMut<Target = [u32]>> Heap<M> {
         Ok(descriptor)
     }
 
-    /// The next free block of a held segment of the class, as the index of its first word. The place moves just past it; where no free
-    /// block remains the segment is full and no longer held. The one search is for the block after it.
+    /// The place moves just past the block just taken; where no free block remains the segment is full and no longer held. The one search is
+    /// for the block that the next make takes.
     #[inline(always)]
-    pub fn next_block(&mut self, descriptor: usize, held: usize, class: u32) -> Answer<usize> {
+    pub fn advance(&mut self, descriptor: usize, held: usize, class: u32) -> Answer<()> {
         let words: &mut Descriptor = self.array_mut(descriptor)?;
         let block = words[NEXT];
-        let place = block.wrapping_add(1);
-        let at = BLOCKS + ((words[NUMBER] as usize) << 12) + ((block as usize) << classes::shift(class));
-        match tree(words)?.next_free(classes::blocks(class), place) {
-            Some(next) => {
-                words[PLACE] = place;
-                words[NEXT] = next;
-            }
-            None => {
-                fill_up(words, class);
-                self.set(held, 0)?;
-            }
+        let word = words[LEVEL0 + block as usize / 32 % BITMAP_WORDS];
+        if let Some(next) = bitmap::next_in_word(word, block) {
+            words[PLACE] = block.wrapping_add(1);
+            words[NEXT] = next;
+            return Ok(());
         }
-        Ok(at)
+        advance_further(self.segments, &mut self.mem, descriptor, held, class)
+    }
+}
+
+/// The same where the next free block is in another word, if there is one.
+#[inline(never)]
+fn advance_further(segments: usize, mem: &mut [u32], descriptor: usize, held: usize, class: u32) -> Answer<()> {
+    let mut heap = Heap { mem, segments };
+    let words: &mut Descriptor = heap.array_mut(descriptor)?;
+    let place = words[NEXT].wrapping_add(1);
+    match tree(words)?.next_free(classes::blocks(class), place) {
+        Some(next) => {
+            words[PLACE] = place;
+            words[NEXT] = next;
+            Ok(())
+        }
+        None => {
+            fill_up(words, class);
+            heap.set(held, 0)
+        }
     }
 }
 
@@ -102,7 +118,7 @@ fn empty(descriptor: &mut Descriptor, class: u32) {
     descriptor[CLASS] = class;
     descriptor[PLACE] = 0;
     descriptor[NEXT] = 0;
-    descriptor[LEVEL0..].fill(0);
+    descriptor[LEVEL0..MARKS].fill(0);
     descriptor[LEVEL0] = classes::padding(class);
     set_summary(descriptor, bitmap::empty_summary(class));
 }

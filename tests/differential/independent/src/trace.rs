@@ -5,9 +5,9 @@
 
 use core::ops::{Deref, DerefMut};
 
-use crate::answers::{Answer, Refusal};
+use crate::answers::{or_torn, Answer};
 use crate::classes;
-use crate::layout::{Heap, BITMAP_WORDS, BLOCKS, CLASS, TRACE_HEIGHT};
+use crate::layout::{Heap, BITMAP_WORDS, BLOCKS, CLASS, MARKS, SEGMENT_WORDS, TRACE_HEIGHT};
 
 /// A word of a bitmap and the one bit in it.
 #[derive(Clone, Copy)]
@@ -27,60 +27,22 @@ impl<M: Deref<Target = [u32]>> Heap<M> {
     /// The mark bit of a record.
     #[inline(always)]
     pub fn mark_bit(&self, reference: u32) -> Answer<Bit> {
-        let offset = reference.wrapping_sub(BLOCKS as u32) as usize;
-        let segment = offset / 4096;
-        let class = self.word(self.descriptor(segment) + CLASS)?;
-        let block = (offset % 4096) >> classes::shift(class);
-        Ok(Bit { at: self.mark_bits() + segment * BITMAP_WORDS + block / 32, mask: 1 << (block % 32) })
+        let offset = reference.wrapping_sub(BLOCKS as u32);
+        let descriptor = self.descriptor(offset as usize / SEGMENT_WORDS);
+        let class = self.word(descriptor + CLASS)?;
+        let block = classes::block_at(class, offset % SEGMENT_WORDS as u32);
+        Ok(Bit { at: descriptor + MARKS + (block / 32) as usize, mask: 1 << (block % 32) })
     }
 }
 
 impl<M: DerefMut<Target = [u32]>> Heap<M> {
-    /// Enters so many references, from this word on, on the trace stack: each but nil, a marked record and one that is on it.
-    #[inline(always)]
-    pub fn queue_fields(&mut self, from: usize, count: usize) -> Answer<()> {
-        let before = self.word(TRACE_HEIGHT)? as usize;
-        let mut height = before;
-        for at in from..from + count {
-            height += self.queue_at(self.word(at)?, height)?;
-        }
-        self.set(TRACE_HEIGHT, height as u32)
-    }
-
-    /// Enters one reference.
+    /// Enters one reference on the trace stack.
     #[inline(always)]
     pub fn queue(&mut self, reference: u32) -> Answer<()> {
-        let height = self.word(TRACE_HEIGHT)? as usize;
-        let more = self.queue_at(reference, height)?;
-        self.set(TRACE_HEIGHT, (height + more) as u32)
-    }
-
-    /// Enters a reference at this height of the trace stack; how many were entered, 0 or 1.
-    #[inline(always)]
-    fn queue_at(&mut self, reference: u32, height: usize) -> Answer<usize> {
-        if reference == 0 {
-            return Ok(0);
-        }
-        let bit = self.queued_bit(reference);
-        let word = self.word_mut(bit.at)?;
-        if *word & bit.mask != 0 {
-            return Ok(0);
-        }
-        *word |= bit.mask;
-        let top = self.trace_stack() + height;
-        self.set(top, reference)?;
-        Ok(1)
-    }
-
-    /// Takes the last entered record from the trace stack.
-    #[inline(always)]
-    pub fn unqueue(&mut self) -> Answer<Option<u32>> {
-        let height = self.word(TRACE_HEIGHT)?;
-        if height == 0 {
-            return Ok(None);
-        }
-        self.set(TRACE_HEIGHT, height - 1)?;
-        self.word(self.trace_stack() + height as usize - 1).map(Some)
+        let mut height = self.word(TRACE_HEIGHT)? as usize;
+        let from = self.queued_bits();
+        queue_in(or_torn(self.mem.get_mut(from..))?, reference, &mut height)?;
+        self.set(TRACE_HEIGHT, height as u32)
     }
 
     #[inline(always)]
@@ -98,18 +60,52 @@ impl<M: DerefMut<Target = [u32]>> Heap<M> {
         self.mark(reference)
     }
 
-    /// Marks a record and enters its pointers in order.
+    /// Takes the last entered record, marks it and enters its pointers in order. Was there one?
     #[inline(always)]
-    pub fn trace(&mut self, reference: u32) -> Answer<()> {
+    pub fn trace(&mut self) -> Answer<bool> {
+        let mut height = self.word(TRACE_HEIGHT)? as usize;
+        if height == 0 {
+            return Ok(false);
+        }
+        let reference = self.word(self.trace_top(height))?;
+        height -= 1;
         self.mark(reference)?;
-        let header = self.word(reference as usize)?;
-        self.queue_fields(reference as usize + 1, (header >> 16) as usize)
+        let pointers = (self.word(reference as usize)? >> 16) as usize;
+        let first = reference as usize + 1;
+        let (blocks, rest) = or_torn(self.mem.split_at_mut_checked(BLOCKS + SEGMENT_WORDS * self.segments))?;
+        for reference in or_torn(blocks.get(first..first.wrapping_add(pointers)))? {
+            queue_in(rest, *reference, &mut height)?;
+        }
+        self.set(TRACE_HEIGHT, height as u32)?;
+        Ok(true)
     }
 
     /// No mark, and nothing queued.
     pub fn clear_marks(&mut self) -> Answer<()> {
-        let (from, to) = (self.queued_bits(), self.descriptors());
-        self.mem.get_mut(from..to).ok_or(Refusal::TORN)?.fill(0);
+        for segment in 0..self.segments {
+            *self.array_mut(self.queued_bits() + segment * BITMAP_WORDS)? = [0; BITMAP_WORDS];
+            *self.array_mut(self.descriptor(segment) + MARKS)? = [0; BITMAP_WORDS];
+        }
         Ok(())
     }
+}
+
+/// Enters a reference at this height of the trace stack, with which `rest` ends; the queued bits begin it. Nothing is entered for nil, a
+/// marked record or one that is on the stack.
+#[inline(always)]
+fn queue_in(rest: &mut [u32], reference: u32, height: &mut usize) -> Answer<()> {
+    if reference == 0 {
+        return Ok(());
+    }
+    let offset = reference.wrapping_sub(BLOCKS as u32);
+    let mask = 1 << (offset / 2 % 32);
+    let word = or_torn(rest.get_mut((offset / 64) as usize))?;
+    if *word & mask != 0 {
+        return Ok(());
+    }
+    *word |= mask;
+    *height += 1;
+    let top = rest.len().wrapping_sub(*height);
+    *or_torn(rest.get_mut(top))? = reference;
+    Ok(())
 }

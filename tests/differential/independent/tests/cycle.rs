@@ -47,7 +47,7 @@ fn all_dead_is_free() {
     let mut world = world();
     clear_all(&mut world, 0);
     assert_eq!(world.start(), Ok(()));
-    world.to_mark(&[0]);
+    world.play_to_mark(&[0]);
     assert_eq!(world.trace_all(), 0);
     assert_eq!(world.step(), Ok(Step::Swept { segment: 0, freed: 4 }));
     assert_eq!(world.state(0), [FREE, 0, 0, 0]);
@@ -93,7 +93,7 @@ fn outside_mutators() {
     assert_eq!(world.step(), Ok(Step::Swept { segment: 0, freed: 3 }));
 }
 
-/// Between first acknowledgement and mark both values are entered, the new first: the old is then the first traced.
+/// Between first acknowledgement and mark both values are entered.
 #[test]
 fn barrier_before_mark() {
     let mut world = world();
@@ -115,6 +115,22 @@ fn barrier_before_mark() {
     assert_eq!(world.state(0), [FULL, 12, 4, 0]);
 }
 
+/// The new value is entered before the old, as the trace stack shows: it grows down from the end of the memory.
+#[test]
+fn barrier_enters_the_new_value_first() {
+    let mut world = World::new(3);
+    assert_eq!(world.attach(0), Ok(()));
+    world.fill_segment(0);
+    assert_eq!(world.make(0, 4, 1, 600), Ok(()));
+    assert_eq!(world.store(0, 0, 0, 1), Ok(()));
+    assert_eq!(world.store(0, 1, 0, 3), Ok(()));
+    assert_eq!(world.start(), Ok(()));
+    assert_eq!(world.check(0), Ok(()));
+    assert_eq!(world.store(0, 0, 0, 2), Ok(()));
+    let entered: Vec<u32> = world.mem.iter().rev().take(2).copied().collect();
+    assert_eq!(entered, [world.mem[2], world.mem[1]]);
+}
+
 /// No duty before the first acknowledgement.
 #[test]
 fn no_barrier_before_the_first_acknowledgement() {
@@ -123,7 +139,7 @@ fn no_barrier_before_the_first_acknowledgement() {
     assert_eq!(world.start(), Ok(()));
     assert_eq!(world.store(0, 0, 0, 2), Ok(()));
     clear_all(&mut world, 0);
-    world.to_mark(&[0]);
+    world.play_to_mark(&[0]);
     assert_eq!(world.trace_all(), 0);
     assert_eq!(world.step(), Ok(Step::Swept { segment: 0, freed: 4 }));
 }
@@ -138,7 +154,7 @@ fn barrier_in_mark() {
         assert_eq!(world.clear(0, root), Ok(()));
     }
     assert_eq!(world.start(), Ok(()));
-    world.to_mark(&[0]);
+    world.play_to_mark(&[0]);
     assert_eq!(world.load(0, 1, 0, 0), Ok(()));
     assert_eq!(world.load(0, 2, 1, 0), Ok(()));
     assert_eq!(world.store(0, 1, 0, 9), Ok(()));
@@ -163,7 +179,7 @@ fn trace_order() {
         assert_eq!(world.clear(0, root), Ok(()));
     }
     assert_eq!(world.start(), Ok(()));
-    world.to_mark(&[0]);
+    world.play_to_mark(&[0]);
     assert_eq!(world.step(), Ok(Step::Traced));
     assert_eq!(world.load(0, 1, 0, 0), Ok(()));
     assert_eq!(world.load(0, 2, 0, 1), Ok(()));
@@ -202,7 +218,7 @@ fn born_marked() {
 fn attach_and_spawn_in_mark() {
     let mut world = world();
     assert_eq!(world.start(), Ok(()));
-    world.to_mark(&[0]);
+    world.play_to_mark(&[0]);
     assert_eq!(world.attach(4), Ok(()));
     assert_eq!(world.spawn(5, 0, 2), Ok(()));
     for mutator in [4, 5] {
@@ -227,12 +243,12 @@ fn full_during_the_cycle() {
     world.fill_segment(0);
     clear_all(&mut world, 0);
     assert_eq!(world.state(1), [FULL, 12, 4, 0]);
-    world.to_mark(&[0]);
+    world.play_to_mark(&[0]);
     assert_eq!(world.trace_all(), 0);
     assert_eq!(world.step(), Ok(Step::Swept { segment: 0, freed: 4 }));
     assert_eq!(world.step(), Ok(Step::Done));
     assert_eq!(world.start(), Ok(()));
-    world.to_mark(&[0]);
+    world.play_to_mark(&[0]);
     assert_eq!(world.trace_all(), 0);
     assert_eq!(world.step(), Ok(Step::Swept { segment: 1, freed: 4 }));
 }
@@ -247,7 +263,7 @@ fn sweep_order() {
     }
     clear_all(&mut world, 0);
     assert_eq!(world.start(), Ok(()));
-    world.to_mark(&[0]);
+    world.play_to_mark(&[0]);
     assert_eq!(world.trace_all(), 0);
     for segment in 0..5 {
         assert_eq!(world.step(), Ok(Step::Swept { segment, freed: 4 }));
@@ -273,7 +289,7 @@ fn sparse_survivors() {
     assert_eq!(world.clear(0, 1), Ok(()));
     assert_eq!(world.state(0), [FULL, 3, 2048, 0]);
     assert_eq!(world.start(), Ok(()));
-    world.to_mark(&[0]);
+    world.play_to_mark(&[0]);
     assert_eq!(world.trace_all(), 293);
     assert_eq!(world.step(), Ok(Step::Swept { segment: 0, freed: 2048 - 293 }));
     assert_eq!(world.step(), Ok(Step::Done));

@@ -43,7 +43,7 @@ fn after_the_whole_case() {
     world.fill_segment(0);
     assert_eq!(world.clear(0, 2), Ok(()));
     assert_eq!(world.start(), Ok(()));
-    world.to_mark(&[0]);
+    world.play_to_mark(&[0]);
     assert_eq!(world.trace_all(), 3);
     assert_eq!(world.step(), Ok(Step::Swept { segment: 0, freed: 1 }));
     assert_eq!(world.step(), Ok(Step::Done));

@@ -96,7 +96,7 @@ impl World {
     }
 
     /// Plays the cycle from the first handshake to the phase mark, all mutators inside checking.
-    pub fn to_mark(&mut self, mutators: &[u32]) {
+    pub fn play_to_mark(&mut self, mutators: &[u32]) {
         for _ in 0..2 {
             for mutator in mutators {
                 assert_eq!(self.check(*mutator), Ok(()));
