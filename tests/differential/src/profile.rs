@@ -162,7 +162,8 @@ impl Plan {
             calls,
             palette: palette(rng, profile, segments),
             mutators: if rng.chance(400) { most } else { rng.between(1, most) },
-            pace: rng.pick(&[8, 40, 40, 150, 150, 400, 700]),
+            // Rows are long to trace: many steps, or no cycle ends.
+            pace: rng.pick(if profile.rows { &[40, 150, 400, 700, 700, 900, 900] } else { &[8, 40, 40, 150, 150, 400, 700] }),
             bursts: rng.chance(300),
             checks: rng.pick(&[10, 60, 60, 150, 400]),
             bad: profile.bad,
