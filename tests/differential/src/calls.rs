@@ -155,9 +155,9 @@ impl std::fmt::Display for Call {
     fn fmt(&self, out: &mut std::fmt::Formatter<'_>) -> std::fmt::Result {
         let name = format!("{:?}", self.kind).to_lowercase();
         let args: Vec<String> = self.args[..self.kind.arguments()].iter().map(u32::to_string).collect();
-        write!(out, "{name}({})", args.join(", "))?;
+        write!(out, "{name}({}) n={}", args.join(", "), self.segments)?;
         if self.length != Length::Right || self.extra != Length::Right {
-            write!(out, " over {:?}, extra {:?}, segments {}", self.length, self.extra, self.segments)?;
+            write!(out, " length {:?} extra {:?}", self.length, self.extra)?;
         }
         Ok(())
     }

@@ -32,11 +32,18 @@ use options::{Options, HELP};
 use std::process::ExitCode;
 use std::time::{Duration, Instant};
 
+/// Calls by segment count, the counts in groups.
+fn print_counts(campaign: &Campaign) {
+    let groups = [1..=1, 2..=2, 3..=3, 4..=4, 5..=8, 9..=16, 17..=64, 65..=128, 129..=255, 256..=256];
+    let calls = |group: &std::ops::RangeInclusive<u32>| campaign.by_count.range(group.clone()).map(|(_, calls)| calls).sum::<u64>();
+    let said: Vec<String> = groups.iter().map(|group| format!("{}-{}: {}", group.start(), group.end(), calls(group))).collect();
+    println!("  {} segment counts, calls by count: {}", campaign.by_count.len(), said.join(", "));
+}
+
 fn summary(campaign: &Campaign, seconds: f64) {
     campaign.lists.print("lists on consistent memory");
     campaign.lists.print_lists();
-    let counts: Vec<String> = campaign.by_count.iter().map(|(count, calls)| format!("{count}: {calls}")).collect();
-    println!("  calls by segment count: {}", counts.join(", "));
+    print_counts(campaign);
     campaign.torn.print("torn memory");
     let torn = &campaign.counts;
     println!(
