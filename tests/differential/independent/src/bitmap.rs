@@ -48,18 +48,57 @@ impl Tree<'_> {
     }
 }
 
+/// Words are taken by fours, so that a compiler may take four at once.
+pub const FOUR: usize = 4;
+
+/// By lane, a bit where the word is all ones.
+#[inline(always)]
+fn full_of(four: &[u32]) -> u64 {
+    four.iter().enumerate().fold(0, |full, (lane, word)| full | u64::from(*word == u32::MAX) << lane)
+}
+
 /// The summary of a level 0 of the class.
 #[inline]
 pub fn summarize(level0: &[u32; LEVEL_WORDS], class: u32) -> u64 {
-    let words = classes::level_words(class).min(LEVEL_WORDS);
+    let fours = level0.chunks_exact(FOUR).take(classes::level_words(class).div_ceil(FOUR));
+    let summary = fours.enumerate().fold(0, |summary, (index, four)| summary | full_of(four) << (index * FOUR));
+    summary | empty_summary(class)
+}
+
+/// What a sweep learns of the marks that it moves.
+pub struct Moved {
+    pub marked: u32,
+    pub summary: u64,
+}
+
+/// Level 0 becomes the marks, given by fours, at most 64: their count, and the summary. Counts are kept in the bytes of four words until the
+/// end.
+#[inline(always)]
+pub fn move_marks(level0: &mut [u32], marks: &[u32], class: u32) -> Moved {
+    let mut counts = [0; FOUR];
     let mut summary = empty_summary(class);
-    if !level0[..words].contains(&u32::MAX) {
-        return summary;
+    for (index, (to, from)) in level0.chunks_exact_mut(FOUR).zip(marks.chunks_exact(FOUR)).enumerate() {
+        to.copy_from_slice(from);
+        summary |= full_of(from) << (index * FOUR % 64);
+        for (count, word) in counts.iter_mut().zip(from) {
+            *count += ones_by_byte(*word);
+        }
     }
-    for (index, word) in level0[..words].iter().enumerate() {
-        summary |= u64::from(*word == u32::MAX) << index;
-    }
-    summary
+    Moved { marked: sum_of_bytes(counts), summary }
+}
+
+/// In each byte of the answer the count of ones of that byte.
+#[inline(always)]
+fn ones_by_byte(word: u32) -> u32 {
+    let pairs = word - (word >> 1 & 0x5555_5555);
+    let nibbles = (pairs & 0x3333_3333) + (pairs >> 2 & 0x3333_3333);
+    (nibbles + (nibbles >> 4)) & 0x0f0f_0f0f
+}
+
+#[inline(always)]
+fn sum_of_bytes(words: [u32; FOUR]) -> u32 {
+    let halves: u32 = words.into_iter().map(|word| (word & 0x00ff_00ff) + (word >> 8 & 0x00ff_00ff)).sum();
+    (halves & 0xffff) + (halves >> 16)
 }
 
 /// The summary of a segment of the class whose blocks' bits are all 0.
@@ -82,6 +121,22 @@ mod tests {
 
     fn scan(class: u32, level0: [u32; 64], place: u32) -> Option<u32> {
         (place..classes::blocks(class)).find(|block| level0[*block as usize / 32] >> (block % 32) & 1 == 0)
+    }
+
+    #[test]
+    fn marks_are_moved() {
+        for class in 3..=12 {
+            let words = classes::level_words(class).max(FOUR);
+            for factor in [0, 1, 0x9e37_79b9, 0xffff_fff1] {
+                let marks: Vec<u32> = (0..words as u32).map(|index| if index % 5 == 0 { u32::MAX } else { index.wrapping_mul(factor) }).collect();
+                let mut level0 = [7; 64];
+                let moved = move_marks(&mut level0, &marks, class);
+                assert_eq!(level0[..words], marks);
+                assert_eq!(moved.marked, marks.iter().map(|word| word.count_ones()).sum());
+                assert_eq!(moved.summary, summarize(&level0, class));
+            }
+        }
+        assert_eq!(move_marks(&mut [0; 64], &[u32::MAX; 64], 3).marked, 2048);
     }
 
     fn empty(class: u32) -> [u32; 64] {

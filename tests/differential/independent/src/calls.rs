@@ -3,7 +3,7 @@
 use core::ops::{Deref, DerefMut};
 
 use crate::answers::{refuse, Answer, Refusal, Shape, MARK, SYNC1, SYNC2};
-use crate::classes::class_of;
+use crate::classes::{block_start, class_of};
 use crate::layout::{held_of, Heap, ACKNOWLEDGED};
 use crate::mutators::{check_roots, words_of};
 
@@ -66,10 +66,11 @@ impl<M: DerefMut<Target = [u32]>> Heap<M> {
         Ok(())
     }
 
-    /// A record made after the mutator's second acknowledgement and before sweep is born marked.
+    /// A record made after the mutator's second acknowledgement and before sweep is born marked. The acknowledgements are counted by the
+    /// phase in which they are given.
     #[inline(always)]
     fn birth(&mut self, own: usize, reference: usize) -> Answer<()> {
-        if self.phase()? >= SYNC2 && self.word(own + ACKNOWLEDGED)? == SYNC2 {
+        if matches!(self.phase()?, SYNC2 | MARK) && self.word(own + ACKNOWLEDGED)? == SYNC2 {
             self.mark_at_birth(reference as u32)?;
         }
         Ok(())
@@ -95,9 +96,18 @@ impl<M: DerefMut<Target = [u32]>> Heap<M> {
             _ => self.write_block::<32>(at, header),
         }
     }
+
+    /// The same for a block of a larger class, by pieces of 64 words.
+    #[inline(always)]
+    fn write_large(&mut self, at: usize, class: u32, header: u32) -> Answer<()> {
+        for piece in 0..block_start(class, 1) as usize / 64 {
+            self.write_block::<64>(at + piece * 64, 0)?;
+        }
+        self.set(at, header)
+    }
 }
 
-/// The highest class whose blocks are written whole.
+/// The highest class whose blocks are written at once.
 const SMALL: u32 = 7;
 
 /// A new record into root `to`.
@@ -110,22 +120,34 @@ pub fn make(segments: u32, mem: &mut [u32], mutator: u32, to: u32, pointers: u32
     let header = pointers << 16 | values;
     let held = held_of(own, class);
     let descriptor = heap.word(held)? as usize;
-    if descriptor == 0 || class > SMALL || may_have_duty(heap.phase()?) {
+    if descriptor == 0 || class > SMALL {
         return make_slowly(segments, heap.mem, mutator, to, header);
     }
     let at = heap.next_block(descriptor, class)?;
     heap.write_small(at, class, header)?;
     heap.set(own + to as usize, at as u32)?;
+    if may_have_duty(heap.phase()?) {
+        return make_ends_with_duty(heap.segments, heap.mem, own, at, class);
+    }
     heap.advance(descriptor, held, class)
 }
 
-/// The same for a record of any class, where the mutator may hold no segment of it and the record may be born marked.
+/// The end of a make between start and sweep.
+#[inline(never)]
+fn make_ends_with_duty(segments: usize, mem: &mut [u32], own: usize, at: usize, class: u32) -> Answer<()> {
+    let mut heap = Heap { mem, segments };
+    heap.birth(own, at)?;
+    let held = held_of(own, class);
+    let descriptor = heap.word(held)? as usize;
+    heap.advance(descriptor, held, class)
+}
+
+/// A make of a record of any class, where the mutator may hold no segment of it.
 #[inline(never)]
 fn make_slowly(segments: u32, mem: &mut [u32], mutator: u32, to: u32, header: u32) -> Answer<()> {
     let mut heap = Heap { mem, segments: segments as usize };
     let own = words_of(mutator)?;
-    let fields = (header >> 16) + (header & 0xffff);
-    let class = class_of(fields.into())?;
+    let class = class_of(u64::from(header >> 16) + u64::from(header & 0xffff))?;
     let held = held_of(own, class);
     let descriptor = match heap.word(held)? {
         0 => heap.take(mutator, held, class)?,
@@ -135,8 +157,7 @@ fn make_slowly(segments: u32, mem: &mut [u32], mutator: u32, to: u32, header: u3
     if class <= SMALL {
         heap.write_small(at, class, header)?;
     } else {
-        heap.set(at, header)?;
-        heap.fill(at + 1, fields as usize)?;
+        heap.write_large(at, class, header)?;
     }
     heap.birth(own, at)?;
     heap.set(own + to as usize, at as u32)?;

@@ -4,7 +4,6 @@ use crate::answers::{refuse, Answer, Refusal};
 
 pub const LOWEST: u32 = 3;
 pub const HIGHEST: u32 = 12;
-pub const CLASSES: usize = 10;
 
 /// The most pointers and values together.
 pub const MOST_FIELDS: u64 = 1023;

@@ -3,13 +3,13 @@
 use core::ops::DerefMut;
 
 use crate::answers::{or_torn, refuse, Answer, Refusal, Step, IDLE, MARK, SWEEP, SYNC1, SYNC2};
-use crate::bitmap::{self, LEVEL_WORDS};
+use crate::bitmap::{self, Moved, FOUR, LEVEL_WORDS};
 use crate::classes;
 use crate::layout::{
-    Heap, ACKNOWLEDGED, CLASS, CONDEMNED_TOP, FREE_TOP, LEVEL0, MARKS, MUTATORS, MUTATOR_WORDS, NEXT, NUMBER, PHASE, PLACE, SIDE, STATE,
+    part_top, Heap, ACKNOWLEDGED, CLASS, CONDEMNED_TOP, FREE_TOP, LEVEL0, MARKS, MUTATORS, MUTATOR_WORDS, NEXT, NUMBER, PHASE, PLACE, SIDE, STATE,
 };
 use crate::mutators::{ABSENT, OUTSIDE};
-use crate::segments::{self, fill_up, part_top, set_summary, Descriptor};
+use crate::segments::{self, fill_up, set_summary, Descriptor};
 
 impl<M: DerefMut<Target = [u32]>> Heap<M> {
     /// Every full segment is condemned, stacked so that the lowest comes off first; refused 12 where there is none.
@@ -75,40 +75,34 @@ impl<M: DerefMut<Target = [u32]>> Heap<M> {
         let class = self.word(descriptor + CLASS)?;
         let words: &mut Descriptor = self.array_mut(descriptor)?;
         let (head, marks) = words.split_at_mut(MARKS);
-        let marks = or_torn(marks.get(..classes::level_words(class)))?;
+        let marks = or_torn(marks.get(..classes::level_words(class).max(FOUR)))?;
         let blocks = classes::blocks(class);
         if marks.iter().fold(0, |any, word| any | word) == 0 {
             head[STATE] = segments::FREE;
             self.push(FREE_TOP, descriptor)?;
             return Ok(Step::Swept { segment, freed: blocks });
         }
-        let marked: u32 = marks.iter().map(|word| word.count_ones()).sum();
-        or_torn(head[LEVEL0..].get_mut(..marks.len()))?.copy_from_slice(marks);
-        rebuild(words, class)?;
-        if words[STATE] == segments::PART {
+        let Moved { marked, summary } = bitmap::move_marks(&mut head[LEVEL0..], marks, class);
+        let freed = blocks.wrapping_sub(marked);
+        head[LEVEL0] |= classes::padding(class);
+        set_summary(words, if freed == 0 { u64::MAX } else { summary });
+        if freed == 0 {
+            fill_up(words, class);
+        } else {
+            set_part(words, summary);
             self.push(part_top(class), descriptor)?;
         }
-        Ok(Step::Swept { segment, freed: blocks.wrapping_sub(marked) })
+        Ok(Step::Swept { segment, freed })
     }
 }
 
-/// Level 0 has become the marks of a segment that is not free: the summary is rebuilt, and the segment is part, or full.
+/// The segment becomes part, place 0; its next block is the lowest free one.
 #[inline(always)]
-fn rebuild(words: &mut Descriptor, class: u32) -> Answer<()> {
-    let level0: &mut [u32; LEVEL_WORDS] = or_torn(words[LEVEL0..].first_chunk_mut())?;
-    level0[0] |= classes::padding(class);
-    let summary = bitmap::summarize(level0, class);
+fn set_part(words: &mut Descriptor, summary: u64) {
     let index = summary.trailing_ones();
-    let next = index * 32 + level0[index as usize % LEVEL_WORDS].trailing_ones();
-    set_summary(words, summary);
-    if summary == u64::MAX {
-        fill_up(words, class);
-        return Ok(());
-    }
     words[STATE] = segments::PART;
     words[PLACE] = 0;
-    words[NEXT] = next;
-    Ok(())
+    words[NEXT] = index * 32 + words[LEVEL0 + index as usize % LEVEL_WORDS].trailing_ones();
 }
 
 /// A cycle begins: every full segment is condemned; refused 11 outside idle, 12 with none full.

@@ -7,11 +7,11 @@ use crate::answers::{refuse, Answer, Refusal, IDLE, MARK, SWEEP, SYNC1, SYNC2};
 use crate::bitmap::summarize;
 use crate::classes::{self, class_of};
 use crate::layout::{
-    held_of, scratch_length, Heap, ACKNOWLEDGED, BITMAP_WORDS, BLOCKS, CLASS, CONDEMNED_TOP, DESCRIPTOR_WORDS, FREE_TOP, LEVEL0, MARKS, MOST_BLOCKS,
-    MUTATORS, MUTATOR_WORDS, NEXT, NUMBER, PLACE, ROOTS, SEGMENT_WORDS, SIDE, STATE, TIE, TRACE_HEIGHT,
+    held_of, part_top, scratch_length, Heap, ACKNOWLEDGED, BITMAP_WORDS, BLOCKS, CLASS, CONDEMNED_TOP, DESCRIPTOR_WORDS, FREE_TOP, LEVEL0, MARKS,
+    MOST_BLOCKS, MUTATORS, MUTATOR_WORDS, NEXT, NUMBER, PLACE, ROOTS, SEGMENT_WORDS, SIDE, STATE, TIE, TRACE_HEIGHT,
 };
 use crate::mutators::{in_handshake, ABSENT, OUTSIDE};
-use crate::segments::{part_top, tree, Descriptor, CONDEMNED, FREE, FULL, HELD, PART};
+use crate::segments::{tree, Descriptor, CONDEMNED, FREE, FULL, HELD, PART};
 use crate::trace::Bit;
 
 /// A condition that holds, or nothing.

@@ -18,12 +18,12 @@ pub const SIDE: usize = 16;
 pub const ACKNOWLEDGED: usize = 17;
 const HELD_BY_CLASS: usize = 16;
 
-/// The control words. Each stack of segments is named by the descriptor on its top, 0 where it is empty.
+/// The control words. Each stack of segments is named by the descriptor on its top, 0 where it is empty; the part stacks by their class.
 pub const PHASE: usize = 1024;
 pub const TRACE_HEIGHT: usize = 1025;
 pub const FREE_TOP: usize = 1026;
-pub const CONDEMNED_TOP: usize = 1027;
-pub const PART_TOP: usize = 1028;
+const PART_BY_CLASS: usize = 1024;
+pub const CONDEMNED_TOP: usize = 1037;
 
 /// The first block of segment 0.
 pub const BLOCKS: usize = 1040;
@@ -57,6 +57,12 @@ pub const fn held_of(own: usize, class: u32) -> usize {
 #[inline(always)]
 const fn is_count(segments: u32) -> bool {
     segments.wrapping_sub(1) < MOST_SEGMENTS
+}
+
+/// The control word of the part stack of a class.
+#[inline(always)]
+pub const fn part_top(class: u32) -> usize {
+    PART_BY_CLASS + (class & 15) as usize
 }
 
 /// Is this the length of the lent slice for the count?
@@ -162,18 +168,21 @@ impl<M: DerefMut<Target = [u32]>> Heap<M> {
         or_torn(words.first_chunk_mut())
     }
 
+    /// The words of a mutator, or as many others, become 0.
     #[inline(always)]
-    pub fn fill(&mut self, from: usize, words: usize) -> Answer<()> {
-        let end = from.wrapping_add(words);
-        or_torn(self.mem.get_mut(from..end))?.fill(0);
+    pub fn empty(&mut self, at: usize) -> Answer<()> {
+        *self.array_mut(at)? = [0; MUTATOR_WORDS];
         Ok(())
     }
 }
 
-/// An empty heap in memory of any content; refused 1 only.
+/// An empty heap in memory of any content; refused 1 only. Blocks, bitmaps and the trace stack are written before they are read.
 pub fn open(segments: u32, mem: &mut [u32]) -> Answer<()> {
     let mut heap = Heap::over(segments, mem)?;
-    heap.mem.fill(0);
+    for mutator in 0..MUTATORS as usize {
+        heap.empty(mutator * MUTATOR_WORDS)?;
+    }
+    *heap.array_mut(PHASE)? = [0; BLOCKS - PHASE];
     heap.set(PHASE, IDLE)?;
     for segment in (0..heap.segments).rev() {
         let descriptor = heap.descriptor(segment);

@@ -4,8 +4,8 @@ use core::ops::{Deref, DerefMut};
 
 use crate::answers::{refuse, Answer, Refusal, MARK, SYNC1, SYNC2};
 use crate::classes;
-use crate::layout::{held_of, Heap, ACKNOWLEDGED, MUTATORS, MUTATOR_WORDS, PHASE, ROOTS, SIDE, STATE};
-use crate::segments::{self, part_top};
+use crate::layout::{held_of, part_top, Heap, ACKNOWLEDGED, MUTATORS, MUTATOR_WORDS, PHASE, ROOTS, SIDE, STATE};
+use crate::segments;
 
 /// Sides.
 pub const ABSENT: u32 = 0;
@@ -82,7 +82,7 @@ impl<M: Deref<Target = [u32]>> Heap<M> {
 impl<M: DerefMut<Target = [u32]>> Heap<M> {
     /// The mutator comes in, its first root given and the others nil. In mark it counts as having acknowledged twice.
     fn come_in(&mut self, own: usize, root0: u32, phase: u32) -> Answer<()> {
-        self.fill(own, MUTATOR_WORDS)?;
+        self.empty(own)?;
         self.set(own, root0)?;
         self.set(own + SIDE, INSIDE)?;
         self.set(own + ACKNOWLEDGED, if phase == MARK { 2 } else { 0 })
@@ -151,7 +151,7 @@ pub fn detach(segments: u32, mem: &mut [u32], mutator: u32) -> Answer<()> {
     let own = heap.inside(mutator)?;
     heap.outside_handshake()?;
     heap.release_segments(own)?;
-    heap.fill(own, MUTATOR_WORDS)
+    heap.empty(own)
 }
 
 /// Gives the acknowledgement that the mutator owes, if it does.

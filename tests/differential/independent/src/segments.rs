@@ -6,7 +6,7 @@ use crate::answers::{or_torn, Answer, Refusal};
 use crate::bitmap::{self, Tree};
 use crate::classes;
 use crate::layout::{
-    Heap, BITMAP_WORDS, BLOCKS, CLASS, DESCRIPTOR_WORDS, FREE_TOP, LEVEL0, MARKS, NEXT, NUMBER, PART_TOP, PLACE, SEGMENT_WORDS, STATE, SUMMARY, TIE,
+    part_top, Heap, BITMAP_WORDS, BLOCKS, CLASS, DESCRIPTOR_WORDS, FREE_TOP, LEVEL0, MARKS, NEXT, NUMBER, PLACE, SEGMENT_WORDS, STATE, SUMMARY, TIE,
 };
 
 /// States, as the look gives them.
@@ -24,12 +24,6 @@ pub fn tree(descriptor: &Descriptor) -> Answer<Tree<'_>> {
     let level0 = or_torn(descriptor[LEVEL0..].first_chunk())?;
     let summary = u64::from(descriptor[SUMMARY]) | u64::from(descriptor[SUMMARY + 1]) << 32;
     Ok(Tree { level0, summary })
-}
-
-/// The control word of the part stack of a class.
-#[inline(always)]
-pub fn part_top(class: u32) -> usize {
-    PART_TOP + class.wrapping_sub(classes::LOWEST) as usize % classes::CLASSES
 }
 
 impl<M: Deref<Target = [u32]>> Heap<M> {

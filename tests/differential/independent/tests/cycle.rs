@@ -93,7 +93,7 @@ fn outside_mutators() {
     assert_eq!(world.step(), Ok(Step::Swept { segment: 0, freed: 3 }));
 }
 
-/// Between first acknowledgement and mark both values are entered, the new first: the old is then the first traced.
+/// Between first acknowledgement and mark both values are entered.
 #[test]
 fn barrier_before_mark() {
     let mut world = world();
@@ -113,6 +113,22 @@ fn barrier_before_mark() {
     assert_eq!(world.state(0), [HELD, 12, 1, 0]);
     assert_eq!(world.make(0, 5, 0, 600), Ok(()));
     assert_eq!(world.state(0), [FULL, 12, 4, 0]);
+}
+
+/// The new value is entered before the old, as the trace stack shows: it grows down from the end of the memory.
+#[test]
+fn barrier_enters_the_new_value_first() {
+    let mut world = World::new(3);
+    assert_eq!(world.attach(0), Ok(()));
+    world.fill_segment(0);
+    assert_eq!(world.make(0, 4, 1, 600), Ok(()));
+    assert_eq!(world.store(0, 0, 0, 1), Ok(()));
+    assert_eq!(world.store(0, 1, 0, 3), Ok(()));
+    assert_eq!(world.start(), Ok(()));
+    assert_eq!(world.check(0), Ok(()));
+    assert_eq!(world.store(0, 0, 0, 2), Ok(()));
+    let entered: Vec<u32> = world.mem.iter().rev().take(2).copied().collect();
+    assert_eq!(entered, [world.mem[2], world.mem[1]]);
 }
 
 /// No duty before the first acknowledgement.

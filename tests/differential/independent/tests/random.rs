@@ -135,6 +135,13 @@ impl Play {
         }
     }
 
+    /// A mutator takes a pointer out of a record into a root and puts another in its place: what a collector without barrier loses.
+    fn hide(&mut self, random: &mut Random, mutators: u32) {
+        let (mutator, to, root, field, from) = (random.below(mutators), random.below(15), random.below(16), random.below(4), random.below(16));
+        self.play(Call::Load(mutator, to, root, field));
+        self.play(Call::Store(mutator, root, field, from));
+    }
+
     fn start(&mut self) {
         let reached = self.model.reached();
         if independent::start(self.segments, &mut self.mem).is_ok() {
@@ -174,13 +181,15 @@ fn has_room(states: &[u32], mutator: u32, fields: u32) -> bool {
     })
 }
 
-fn long_list(seed: u64, segments: u32, mutators: u32, largest: u32, calls: u32) -> (u32, u32) {
+/// The pace is how many of a hundred calls are steps.
+fn long_list(seed: u64, segments: u32, mutators: u32, largest: u32, pace: u32, calls: u32) -> (u32, u32) {
     let mut random = Random(seed);
     let mut play = Play::new(segments);
     for number in 0..calls {
         match random.below(100) {
             0 => play.start(),
-            1..=40 => play.step(),
+            chance if chance <= pace => play.step(),
+            chance if chance <= pace + 20 => play.hide(&mut random, mutators),
             _ => play.play(random.call(mutators, largest)),
         }
         if number % 61 == 0 {
@@ -194,8 +203,9 @@ fn long_list(seed: u64, segments: u32, mutators: u32, largest: u32, calls: u32) 
 fn many_lists(seeds: std::ops::Range<u64>, calls: u32) {
     let (mut no_room, mut freed) = (0, 0);
     for seed in seeds {
-        let (segments, largest) = ([1, 2, 5, 12][seed as usize % 4], [6, 40, 120, 400][seed as usize / 4 % 4]);
-        let answer = long_list(seed, segments, 1 + (seed / 16) as u32 % 6, largest, calls);
+        let choice = seed as usize;
+        let (segments, largest, pace) = ([1, 2, 5, 12][choice % 4], [6, 40, 120, 400][choice / 4 % 4], [40, 12, 5][choice % 3]);
+        let answer = long_list(seed, segments, 1 + (seed / 5) as u32 % 6, largest, pace, calls);
         no_room += answer.0;
         freed += answer.1;
     }

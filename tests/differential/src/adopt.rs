@@ -1,0 +1,82 @@
+//! Memory that passes the examination although no list of calls led to it: the unbounded heap, the blocks and the cycle that it stands
+//! for, read where docs/LAYOUT.md says, so that a list can go on from there.
+
+use crate::blocks::Blocks;
+use crate::calls::*;
+use crate::cycle::Cycle;
+use crate::layout;
+use crate::unbounded::{Reference, Side, UnboundedHeap};
+
+pub struct Adopted {
+    pub heap: UnboundedHeap,
+    pub blocks: Blocks,
+    pub cycle: Cycle,
+}
+
+/// The roots of the mutators and the entries of the trace stack.
+fn starts(memory: &[u32], segments: u32) -> Vec<u32> {
+    let roots = (0..32).flat_map(|m| (0..16).map(move |root| layout::root(memory, m, root)));
+    let entries = (0..layout::trace_count(memory)).map(|number| layout::trace_entry(memory, segments, number));
+    roots.chain(entries).filter(|&reference| reference != 0).collect()
+}
+
+/// For each word of the heap, whether a live record begins there.
+fn live(memory: &[u32], segments: u32) -> Vec<bool> {
+    let mut live = vec![false; layout::SEGMENT_WORDS * segments as usize];
+    let mut open = starts(memory, segments);
+    while let Some(reference) = open.pop() {
+        let at = reference as usize - 1;
+        if !live[at] {
+            live[at] = true;
+            let pointers = memory[layout::HEAP + at] as usize >> 16;
+            let fields = &memory[layout::HEAP + at + 1..layout::HEAP + at + 1 + pointers];
+            open.extend(fields.iter().filter(|&&pointer| pointer != 0));
+        }
+    }
+    live
+}
+
+fn in_use(memory: &[u32], segments: u32, segment: u32, block: u32, place: u32) -> bool {
+    block < place || layout::block_bit(memory, segments, segment, block)
+}
+
+/// A record for every block in use, those of dead ones without fields. Answers for each word of the heap the record that begins there.
+fn records(memory: &[u32], segments: u32, adopted: &mut Adopted) -> Vec<Reference> {
+    let live = live(memory, segments);
+    let mut names = vec![0; live.len()];
+    for segment in 0..segments {
+        let [state, class, place, _] = layout::segment(memory, segments, segment);
+        let blocks = if state == 0 { 0 } else { layout::blocks(class) };
+        for block in (0..blocks).filter(|&block| in_use(memory, segments, segment, block, place)) {
+            let at = segment as usize * layout::SEGMENT_WORDS + ((block as usize) << class) / 4;
+            let header = if live[at] { memory[layout::HEAP + at] } else { 0 };
+            let (pointers, values) = (header >> 16, header & 0xffff);
+            let fields = &memory[layout::HEAP + at + 1..];
+            names[at] = adopted.heap.adopt_record(pointers, values, fields);
+            adopted.blocks.adopt(segment, block, names[at]);
+            adopted.cycle.adopt_record(layout::marked_or_queued(memory, segments, segment, block));
+        }
+    }
+    names
+}
+
+/// What the memory, which passes the examination, stands for.
+pub fn adopt(memory: &[u32], segments: u32) -> Adopted {
+    let mut adopted = Adopted { heap: UnboundedHeap::new(), blocks: Blocks::new(segments), cycle: Cycle::new() };
+    let names = records(memory, segments, &mut adopted);
+    let name = |reference: u32| if reference == 0 { 0 } else { names[reference as usize - 1] };
+    adopted.heap.rename(name);
+    for m in 0..32 {
+        let side = match layout::side(memory, m) {
+            0 => continue,
+            1 => Side::Inside,
+            _ => Side::Outside,
+        };
+        let roots = std::array::from_fn(|root| name(layout::root(memory, m, root as u32)));
+        adopted.heap.adopt_mutator(m, side, roots);
+    }
+    let entries = (0..layout::trace_count(memory)).map(|number| name(layout::trace_entry(memory, segments, number)));
+    let acknowledged = std::array::from_fn(|m| layout::acknowledgements(memory, m as u32));
+    adopted.cycle.adopt(layout::phase(memory).min(SWEEP), acknowledged, entries.collect());
+    adopted
+}

@@ -1,0 +1,101 @@
+//! The second half of demand 3: a block of a segment that was full when a cycle began, and that no mutator could then reach, is free
+//! once that segment is swept. Which record a block holds is seen from the root that a make fills (docs/LAYOUT.md).
+
+use crate::layout;
+use crate::unbounded::{Reference, UnboundedHeap};
+
+const PER_SEGMENT: usize = 2048;
+
+pub struct Blocks {
+    segments: u32,
+    /// The record last put into each block, 0 for none: 2048 to a segment.
+    held: Vec<Reference>,
+    /// Of the cycle that runs: for each block, whether it was full and unreached when the cycle began.
+    dead: Vec<bool>,
+}
+
+impl Blocks {
+    pub fn new(segments: u32) -> Blocks {
+        let words = segments as usize * PER_SEGMENT;
+        Blocks { segments, held: vec![0; words], dead: vec![false; words] }
+    }
+
+    /// The block is found to have the record.
+    pub fn adopt(&mut self, segment: u32, block: u32, record: Reference) {
+        self.held[segment as usize * PER_SEGMENT + block as usize] = record;
+    }
+
+    /// A make that was not refused put record `record` into the block that its root now names. Answers the segment.
+    pub fn put(&mut self, memory: &[u32], class: u32, root: u32, record: Reference) -> Result<u32, String> {
+        if root == 0 || root as usize > self.segments as usize * layout::SEGMENT_WORDS {
+            return Err(format!("make left reference {root} in its root"));
+        }
+        let word = root as usize - 1;
+        let segment = (word / layout::SEGMENT_WORDS) as u32;
+        let size = (1usize << class) / 4;
+        let within = word % layout::SEGMENT_WORDS;
+        let [state, of_class, ..] = layout::segment(memory, self.segments, segment);
+        if within & (size - 1) != 0 || of_class != class || !matches!(state, 2 | 3) {
+            return Err(format!("make of class {class} took word {within} of segment {segment}, state {state}, class {of_class}"));
+        }
+        let block = (within / size) as u32;
+        self.held[segment as usize * PER_SEGMENT + block as usize] = record;
+        Ok(segment)
+    }
+
+    /// The records last put into the blocks of a segment of the class.
+    pub fn records(&self, segment: usize, class: u32) -> &[Reference] {
+        let at = segment * PER_SEGMENT;
+        &self.held[at..at + layout::blocks(class) as usize]
+    }
+
+    /// The record in the block that a reference in the verified library's memory names.
+    pub fn named(&self, memory: &[u32], reference: u32) -> Option<Reference> {
+        let word = (reference as usize).checked_sub(1)?;
+        let segment = word / layout::SEGMENT_WORDS;
+        if segment >= self.segments as usize {
+            return None;
+        }
+        let class = layout::segment(memory, self.segments, segment as u32)[1];
+        let block = (word % layout::SEGMENT_WORDS * 4) >> class;
+        self.records(segment, class).get(block).copied()
+    }
+
+    /// A cycle begins; `states` is the look at the states just before.
+    pub fn start(&mut self, states: &[u32], heap: &mut UnboundedHeap) {
+        heap.search();
+        self.dead.fill(false);
+        for (segment, state) in states.chunks_exact(4).enumerate() {
+            if state[0] != 3 {
+                continue;
+            }
+            for block in 0..layout::blocks(state[1]) as usize {
+                let at = segment * PER_SEGMENT + block;
+                let record = self.held[at];
+                self.dead[at] = record == 0 || !heap.was_reached(record);
+            }
+        }
+    }
+
+    /// A step answered Swept; `before` is the segment's state before it. Answers how many blocks it had to free.
+    pub fn swept(&self, memory: &[u32], segment: u32, before: &[u32], freed: u32) -> Result<u32, String> {
+        let blocks = layout::blocks(before[1]);
+        let [state, _, place, _] = layout::segment(memory, self.segments, segment);
+        let mut due = 0;
+        let mut used = 0;
+        for block in 0..blocks {
+            let bit = layout::block_bit(memory, self.segments, segment, block);
+            let in_use = state != 0 && (block < place || bit);
+            let dead = self.dead[segment as usize * PER_SEGMENT + block as usize];
+            used += u32::from(in_use);
+            due += u32::from(dead);
+            if dead && in_use {
+                return Err(format!("block {block} of segment {segment} was unreached and is still in use"));
+            }
+        }
+        if blocks - used != freed || freed < due {
+            return Err(format!("segment {segment}: {freed} said to be freed, {} became free, {due} were unreached", blocks - used));
+        }
+        Ok(due)
+    }
+}

@@ -1,0 +1,156 @@
+//! Memory of any content: words at random, or a used heap with words changed, region by region of docs/LAYOUT.md.
+
+use crate::layout;
+use crate::rng::Rng;
+
+/// Fills the memory anew: from `base`, a used heap, then damaged, or with words that no heap has.
+pub fn tear(rng: &mut Rng, memory: &mut [u32], base: &[u32], segments: u32) {
+    match rng.below(16) {
+        0 => memory.fill_with(|| rng.word()),
+        1 => {
+            let bound = rng.pick(&[2, 5, 14, 64, 4096]);
+            memory.fill_with(|| rng.below(bound));
+        }
+        2 => memory.fill(rng.pick(&[0, 1, u32::MAX, 0x0001_0001])),
+        3 => {
+            let most = memory.len() as u32 - 1;
+            let by = rng.between(1, most.min(5000)) as usize;
+            memory.copy_from_slice(base);
+            memory.rotate_right(by);
+        }
+        _ => {
+            memory.copy_from_slice(base);
+            for _ in 0..rng.pick(&[0, 1, 1, 1, 2, 3, 6, 40]) {
+                damage(rng, memory, segments);
+            }
+        }
+    }
+}
+
+/// Fills the memory with a used heap that is changed where the examination may let it pass.
+pub fn tweak(rng: &mut Rng, memory: &mut [u32], base: &[u32], segments: u32) {
+    memory.copy_from_slice(base);
+    for _ in 0..rng.pick(&[1, 1, 2, 4]) {
+        match rng.below(8) {
+            0 => damage(rng, memory, segments),
+            1 => acknowledge(rng, memory),
+            2 => exchange(rng, memory, 1, layout::regions(segments)[8]),
+            3 => {
+                let stack = layout::regions(segments)[4] + rng.below(11) as usize * (1 + segments as usize);
+                exchange(rng, memory, stack, stack + 1);
+            }
+            4 => set_bits(rng, memory, layout::regions(segments)[6], segments),
+            5 => set_bits(rng, memory, layout::regions(segments)[7], segments),
+            6 => segment_word(rng, memory, segments),
+            _ => bitmap_bit(rng, memory, segments),
+        }
+    }
+}
+
+/// Another number of acknowledgements for an attached mutator.
+fn acknowledge(rng: &mut Rng, memory: &mut [u32]) {
+    for m in (0..32).filter(|&m| layout::side(memory, m) != 0).collect::<Vec<_>>() {
+        memory[layout::MUTATORS + 32 * m as usize + 17] = rng.below(3);
+    }
+}
+
+/// Two entries of a stack change places; `count` is where its count stands.
+fn exchange(rng: &mut Rng, memory: &mut [u32], count: usize, entries: usize) {
+    let many = memory[count].min(2048);
+    if many > 1 {
+        memory.swap(entries + rng.below(many) as usize, entries + rng.below(many) as usize);
+    }
+}
+
+/// Some of 64 bits to a segment, in the marks or the queued bits.
+fn set_bits(rng: &mut Rng, memory: &mut [u32], region: usize, segments: u32) {
+    let at = region + 64 * rng.below(segments) as usize;
+    for _ in 0..rng.between(1, 40) {
+        memory[at + rng.below(64).min(rng.below(64)) as usize] |= 1 << rng.below(32);
+    }
+}
+
+/// A segment's place moves, or its state changes.
+fn segment_word(rng: &mut Rng, memory: &mut [u32], segments: u32) {
+    let at = layout::regions(segments)[3] + 4 * rng.below(segments) as usize;
+    match rng.below(3) {
+        0 => memory[at] = rng.below(5),
+        _ => memory[at + 2] = memory[at + 2].wrapping_sub(rng.below(9)).wrapping_add(4),
+    }
+}
+
+/// A block's bit at level 0 of a bitmap.
+fn bitmap_bit(rng: &mut Rng, memory: &mut [u32], segments: u32) {
+    let at = layout::regions(segments)[5] + 67 * rng.below(segments) as usize;
+    let most = rng.pick(&[1, 2, 8, 64]);
+    memory[at + rng.below(most) as usize] |= 1 << rng.below(32);
+}
+
+/// A region, most often one of the small ones: begin and end.
+fn region(rng: &mut Rng, memory: &[u32], segments: u32) -> (usize, usize) {
+    let starts = layout::regions(segments);
+    let number = rng.pick(&[0, 1, 1, 1, 2, 2, 3, 3, 4, 4, 5, 6, 7, 8]);
+    (starts[number].min(memory.len() - 1), starts[number + 1].min(memory.len()))
+}
+
+/// A place in a region; in the trace entries, the stacks and the heap the first words are those in use.
+fn place(rng: &mut Rng, memory: &[u32], segments: u32) -> usize {
+    let (begin, end) = region(rng, memory, segments);
+    let length = ((end - begin) as u32).max(1);
+    let length = match rng.below(3) {
+        0 => length.min(64),
+        1 => length.min(1024),
+        _ => length,
+    };
+    begin + rng.below(length) as usize
+}
+
+/// One change: a bit, a word, a run of words copied, exchanged or filled.
+pub fn damage(rng: &mut Rng, memory: &mut [u32], segments: u32) {
+    let at = place(rng, memory, segments);
+    match rng.below(8) {
+        0 | 1 => memory[at] ^= 1 << rng.below(32),
+        2..=4 => memory[at] = value(rng, memory, segments),
+        5 => {
+            let from = place(rng, memory, segments);
+            let length = run(rng, memory, at.max(from));
+            memory.copy_within(from..from + length, at);
+        }
+        6 => {
+            let (begin, end) = region(rng, memory, segments);
+            for _ in 0..rng.between(1, 32) {
+                let span = (end - begin).max(1) as u32;
+                memory.swap(begin + rng.below(span) as usize, begin + rng.below(span) as usize);
+            }
+        }
+        _ => {
+            let length = run(rng, memory, at);
+            let word = value(rng, memory, segments);
+            memory[at..at + length].fill(word);
+        }
+    }
+}
+
+fn run(rng: &mut Rng, memory: &[u32], at: usize) -> usize {
+    (rng.between(1, 64) as usize).min(memory.len() - at)
+}
+
+/// Numbers at the bounds of phases, classes, states, mutators, roots, fields, blocks, words and the 32 bits.
+const BOUNDS: [u32; 26] = [
+    0, 1, 2, 3, 4, 5, 11, 12, 13, 15, 16, 31, 32, 33, 1023, 1024, 2047, 2048, 2049, 4095, 4096, 4097, 0x7fff_ffff, 0x8000_0000, 0xffff_fffe,
+    0xffff_ffff,
+];
+
+/// A word that may lead a call astray: a number at a bound, a reference, a header, or a word from elsewhere.
+fn value(rng: &mut Rng, memory: &[u32], segments: u32) -> u32 {
+    let heap = layout::SEGMENT_WORDS as u32 * segments;
+    let bounds = [segments - 1, segments, segments + 1, 2048 * segments, heap - 1, heap, heap + 1];
+    match rng.below(6) {
+        0 => rng.pick(&bounds),
+        1 => rng.pick(&BOUNDS),
+        2 => 1 + (rng.below(heap) & !((1 << rng.below(11)) - 1)),
+        3 => rng.below(1100) << 16 | rng.below(1100),
+        4 => memory[rng.below(memory.len() as u32) as usize],
+        _ => rng.word(),
+    }
+}

@@ -1,0 +1,73 @@
+//! Where docs/LAYOUT.md puts the verified library's words: for damage to torn memory, for coverage counters, and to see which block a
+//! make handed out.
+
+pub const MUTATORS: usize = 2;
+pub const HEAP: usize = 1026;
+pub const SEGMENT_WORDS: usize = 4096;
+
+/// The number of blocks in a segment of the class.
+pub fn blocks(class: u32) -> u32 {
+    16384 >> class
+}
+
+/// The smallest class whose block holds a header and `fields` words.
+pub fn class_of(fields: u32) -> u32 {
+    (3..12).find(|class| fields < (1 << class) / 4).unwrap_or(12)
+}
+
+/// The regions in order: where each begins for n segments, and behind the last one the end.
+pub fn regions(segments: u32) -> [usize; 10] {
+    let n = segments as usize;
+    [0, MUTATORS, HEAP, 1026 + 4096 * n, 1026 + 4100 * n, 1037 + 4111 * n, 1037 + 4178 * n, 1037 + 4242 * n, 1037 + 4306 * n, 1037 + 6354 * n]
+}
+
+pub fn acknowledgements(memory: &[u32], mutator: u32) -> u32 {
+    memory[MUTATORS + 32 * mutator as usize + 17]
+}
+
+pub fn root(memory: &[u32], mutator: u32, root: u32) -> u32 {
+    memory[MUTATORS + 32 * mutator as usize + root as usize]
+}
+
+/// 0, or 1 + the segment that the mutator holds of the class.
+pub fn held(memory: &[u32], mutator: u32, class: u32) -> u32 {
+    memory[MUTATORS + 32 * mutator as usize + 15 + class as usize]
+}
+
+pub fn phase(memory: &[u32]) -> u32 {
+    memory[0]
+}
+
+/// 0 absent, 1 inside, 2 outside.
+pub fn side(memory: &[u32], mutator: u32) -> u32 {
+    memory[MUTATORS + 32 * mutator as usize + 16]
+}
+
+/// Whether the block is marked or on the trace stack.
+pub fn marked_or_queued(memory: &[u32], segments: u32, segment: u32, block: u32) -> bool {
+    let regions = regions(segments);
+    let word = 64 * segment as usize + block as usize / 32;
+    (memory[regions[6] + word] | memory[regions[7] + word]) >> (block % 32) & 1 == 1
+}
+
+/// How many entries the trace stack has.
+pub fn trace_count(memory: &[u32]) -> usize {
+    memory[1] as usize
+}
+
+/// An entry of the trace stack, the first entered first.
+pub fn trace_entry(memory: &[u32], segments: u32, number: usize) -> u32 {
+    memory[regions(segments)[8] + number]
+}
+
+/// The four words of a segment's record: state, class, place, mutator.
+pub fn segment(memory: &[u32], segments: u32, number: u32) -> [u32; 4] {
+    let at = regions(segments)[3] + 4 * number as usize;
+    [memory[at], memory[at + 1], memory[at + 2], memory[at + 3]]
+}
+
+/// Whether the block's bit at level 0 of its segment's bitmap is 1.
+pub fn block_bit(memory: &[u32], segments: u32, segment: u32, block: u32) -> bool {
+    let at = regions(segments)[5] + 67 * segment as usize + block as usize / 32;
+    memory[at] >> (block % 32) & 1 == 1
+}

@@ -1,0 +1,355 @@
+//! One list of calls from an opening on: every call is played on the verified library, on the independent implementation and, where it is
+//! a mutator's, on the unbounded heap; answers and looks are compared.
+
+use crate::adopt::{adopt, Adopted};
+use crate::blocks::Blocks;
+use crate::calls::*;
+use crate::choose::Chooser;
+use crate::coverage::{Coverage, Situation};
+use crate::cycle::Cycle;
+use crate::layout;
+use crate::lent::Lent;
+use crate::recent::Recent;
+use crate::rng::Rng;
+use crate::situations::Facts;
+use crate::unbounded::UnboundedHeap;
+
+/// What both implementations are lent; it is kept from list to list, so that an opening meets used memory.
+pub struct Pair {
+    pub verified: Lent,
+    pub independent: Lent,
+}
+
+pub struct List<'a> {
+    pub n: u32,
+    pub pair: &'a mut Pair,
+    pub coverage: &'a mut Coverage,
+    pub chooser: Chooser,
+    pub heap: UnboundedHeap,
+    pub blocks: Blocks,
+    pub cycle: Cycle,
+    pub phase: u32,
+    /// The segments' states at the last comparison.
+    pub states: Vec<u32>,
+    /// The verified library's memory before a call that may change no word.
+    pub shadow: Vec<u32>,
+    pub recent: Recent,
+    pub rng: Rng,
+    pub examine_every: u32,
+    /// Calls since the last examination.
+    pub unexamined: u32,
+    /// The list may end early, in this phase; in idle, with a full segment.
+    pub until: Option<u32>,
+    /// The list goes on from memory that is found: there is no opening, and the independent implementation stands aside.
+    pub alone: bool,
+    pub calls: u64,
+}
+
+/// The records of one list take no more than this many words, and not less than eight heaps.
+fn most_words(segments: u32) -> usize {
+    (4 << 20).max(8 * layout::SEGMENT_WORDS * segments as usize)
+}
+
+impl<'a> List<'a> {
+    pub fn new(pair: &'a mut Pair, coverage: &'a mut Coverage, chooser: Chooser, seed: u64, examine_every: u32) -> List<'a> {
+        let n = chooser.plan.segments;
+        List {
+            n,
+            pair,
+            coverage,
+            chooser,
+            heap: UnboundedHeap::new(),
+            blocks: Blocks::new(n),
+            cycle: Cycle::new(),
+            phase: IDLE,
+            states: vec![0; 4 * n as usize],
+            shadow: Vec::new(),
+            recent: Recent::new(),
+            rng: Rng::new(!seed),
+            examine_every,
+            unexamined: 0,
+            until: None,
+            alone: false,
+            calls: 0,
+        }
+    }
+
+    /// The list is to end early in this phase.
+    pub fn until(mut self, phase: Option<u32>) -> List<'a> {
+        self.until = phase;
+        self
+    }
+
+    /// The list goes on from the memory as it is, which passes the examination.
+    pub fn adopt(mut self) -> List<'a> {
+        let Adopted { heap, blocks, cycle } = adopt(self.pair.verified.memory.words(), self.n);
+        (self.heap, self.blocks, self.cycle) = (heap, blocks, cycle);
+        self.alone = true;
+        self
+    }
+
+    fn may_end(&self, full: bool) -> bool {
+        self.until == Some(self.phase) && full && 4 * self.calls > self.chooser.plan.calls
+    }
+
+    /// Plays the whole list; where something differs, says what and lists the last calls.
+    pub fn play(&mut self) -> Result<(), String> {
+        let outcome = self.play_calls();
+        self.coverage.lists += 1;
+        outcome.map_err(|fault| format!("call {}: {fault}\nthe last calls:\n{}", self.calls, self.recent))
+    }
+
+    fn play_calls(&mut self) -> Result<(), String> {
+        if self.alone {
+            self.compare_phase()?;
+            self.compare_states()?;
+        } else {
+            self.open()?;
+        }
+        while self.calls < self.chooser.plan.calls && self.heap.words() < most_words(self.n) {
+            let full = self.phase != IDLE || self.some_full();
+            if self.may_end(full) {
+                break;
+            }
+            let call = self.chooser.next(&self.heap, self.phase, full);
+            self.calls += 1;
+            crate::watchdog::beat();
+            if call.wrong_size(self.n) {
+                self.play_wrong(&call)?;
+            } else {
+                self.play_one(&call)?;
+            }
+            self.unexamined += 1;
+            if self.unexamined == self.examine_every {
+                self.examine()?;
+            }
+        }
+        self.compare_states()?;
+        self.examine()
+    }
+
+    /// Whether a segment was full at the last look; with many segments only eight of them are asked.
+    fn some_full(&mut self) -> bool {
+        let from = if self.n > 8 { self.rng.below(self.n - 7) as usize } else { 0 };
+        self.states.chunks_exact(4).skip(from).take(8).any(|state| state[0] == 3)
+    }
+
+    pub fn right(&self, kind: Kind) -> Call {
+        Call::new(kind, self.n, [0; 4])
+    }
+
+    /// An opening over random words, or over what the last list left.
+    fn open(&mut self) -> Result<(), String> {
+        let random = self.rng.chance(600);
+        if random {
+            let mask = self.rng.pick(&[u32::MAX, u32::MAX, 0, 0xf, 0xfff]);
+            let Pair { verified, independent } = &mut *self.pair;
+            for word in verified.memory.words_mut().iter_mut().chain(independent.memory.words_mut()) {
+                *word = self.rng.word() & mask;
+            }
+        }
+        let answer = self.both(&self.right(Open))?;
+        if answer != 0 {
+            return Err(format!("open: {}", answer_words(Open, answer)));
+        }
+        self.coverage.met(if random { Situation::OpenOverRandom } else { Situation::OpenOverUsed });
+        self.compare_phase()?;
+        self.compare_states()?;
+        if self.states.iter().any(|&word| word != 0) || self.phase != IDLE {
+            return Err("an opening left a segment that is not free, or a phase that is not idle".into());
+        }
+        self.examine()
+    }
+
+    /// Plays a call on both and compares the answers.
+    pub fn both(&mut self, call: &Call) -> Result<u64, String> {
+        let first = self.pair.verified.play(call);
+        let second = if self.alone { first } else { self.pair.independent.play(call) };
+        self.recent.push(call, first);
+        self.coverage.count(call.kind, first);
+        if first != second {
+            let (first, second) = (answer_words(call.kind, first), answer_words(call.kind, second));
+            return Err(format!("{call}: verified {first}, independent {second}"));
+        }
+        Ok(first)
+    }
+
+    fn play_one(&mut self, call: &Call) -> Result<(), String> {
+        let expected = call.kind.is_mutators().then(|| self.heap.answer(call));
+        if call.kind == Start || (call.kind == Step && self.phase == SWEEP) {
+            self.compare_states()?;
+        }
+        let watched = self.watch(call, expected);
+        let facts = Facts::see(self.pair.verified.memory.words(), self.phase, call, &self.heap);
+        let answer = self.both(call)?;
+        self.chooser.heard(call, answer);
+        if let Some(expected) = expected {
+            self.compare_unbounded(call, expected, answer)?;
+        }
+        if watched && (refusal(answer) != 0 || call.kind.only_reads()) {
+            self.unchanged(call)?;
+        }
+        self.refused_rightly(call, answer, &facts)?;
+        if refusal(answer) == 0 {
+            facts.note(self.pair.verified.memory.words(), call, answer, self.coverage);
+            self.performed(call, answer)?;
+        }
+        self.compare_top()?;
+        if self.n <= 4 || self.rng.below(self.n) == 0 {
+            self.compare_states()?;
+        }
+        Ok(())
+    }
+
+    /// A call with a wrong count or length: refused 1 and nothing changes.
+    fn play_wrong(&mut self, call: &Call) -> Result<(), String> {
+        let watched = self.rng.below(2 * self.n) == 0;
+        let extra = |lent: &Lent| (lent.output.words().to_vec(), lent.scratch.words().to_vec());
+        let before = (watched && call.has_extra()).then(|| extra(&self.pair.verified));
+        if watched {
+            self.remember();
+        }
+        let answer = self.both(call)?;
+        if answer != u64::from(SIZE) {
+            return Err(format!("{call}: {}, not refused 1", answer_words(call.kind, answer)));
+        }
+        if watched {
+            self.unchanged(call)?;
+        }
+        if before.is_some_and(|before| before != extra(&self.pair.verified)) {
+            return Err(format!("{call}: refused 1, and its output or scratch changed"));
+        }
+        Ok(())
+    }
+
+    /// The unbounded heap's answer, unless the call is struck out; and its change.
+    fn compare_unbounded(&mut self, call: &Call, expected: u64, answer: u64) -> Result<(), String> {
+        let struck = matches!(refusal(answer), NO_ROOM | NOT_NOW) && refusal(expected) == 0;
+        if struck {
+            return Ok(());
+        }
+        if answer != expected {
+            let (answer, expected) = (answer_words(call.kind, answer), answer_words(call.kind, expected));
+            return Err(format!("{call}: verified {answer}, unbounded heap {expected}"));
+        }
+        if refusal(answer) == 0 {
+            self.cycle.perform(call, &self.heap);
+            self.heap.perform(call);
+        }
+        Ok(())
+    }
+
+    /// Refusals 10 to 12 come exactly when document 01's condition holds, as far as phase and states tell; 13 never.
+    fn refused_rightly(&mut self, call: &Call, answer: u64, facts: &Facts) -> Result<(), String> {
+        let handshake = matches!(self.phase, SYNC1 | SYNC2);
+        let right = match (call.kind, refusal(answer)) {
+            (_, TORN) => false,
+            (Attach | Spawn | Detach, 0) => !handshake,
+            (Attach | Spawn | Detach, NOT_NOW) => handshake,
+            (Start, NOT_NOW) => {
+                facts.start_refused(self.coverage);
+                self.phase != IDLE
+            }
+            (Start, number) => {
+                let full = self.states.chunks_exact(4).any(|state| state[0] == 3);
+                self.phase == IDLE && full == (number == 0)
+            }
+            (Make, NO_ROOM) => {
+                self.compare_states()?;
+                let (m, class) = (call.args[0], layout::class_of(call.args[2] + call.args[3]));
+                let room = |state: &[u32]| state[0] == 0 || state[..2] == [1, class] || (state[..2] == [2, class] && state[3] == m);
+                !self.states.chunks_exact(4).any(room)
+            }
+            _ => true,
+        };
+        match right {
+            true => Ok(()),
+            false => Err(format!("{call}: {} in phase {}", answer_words(call.kind, answer), self.phase)),
+        }
+    }
+
+    /// What follows from a call that was not refused.
+    fn performed(&mut self, call: &Call, answer: u64) -> Result<(), String> {
+        match call.kind {
+            Make => self.made(call),
+            Detach => self.compare_states(),
+            States => self.same_states(),
+            Start => {
+                self.coverage.cycles += 1;
+                let full = self.states.chunks_exact(4).filter(|state| state[0] == 3).count();
+                if full > 1 {
+                    self.coverage.met(Situation::CycleOverManySegments);
+                }
+                self.blocks.start(&self.states, &mut self.heap);
+                self.cycle.start();
+                self.moved_to(SYNC1)?;
+                self.compare_states()
+            }
+            Step => self.stepped(answer),
+            _ => Ok(()),
+        }
+    }
+
+    fn made(&mut self, call: &Call) -> Result<(), String> {
+        let [m, to, pointers, values] = call.args;
+        let class = layout::class_of(pointers + values);
+        let memory = self.pair.verified.memory.words();
+        let root = layout::root(memory, m, to);
+        let segment = self.blocks.put(memory, class, root, self.heap.records.len() as u32)?;
+        let state = layout::segment(memory, self.n, segment);
+        let at = 4 * segment as usize;
+        if state[0] != self.states[at] || state[3] != self.states[at + 3] {
+            self.compare_states()?;
+        }
+        Ok(())
+    }
+
+    fn stepped(&mut self, answer: u64) -> Result<(), String> {
+        let expected = self.cycle.step(&self.heap, &self.blocks, &self.states);
+        if answer != expected {
+            let (answer, expected) = (answer_words(Step, answer), answer_words(Step, expected));
+            return Err(format!("step: verified {answer}, by document 01 {expected}"));
+        }
+        match step_kind(answer) {
+            MOVED => self.moved_to(self.phase + 1),
+            DONE => {
+                self.moved_to(IDLE)?;
+                self.compare_states()
+            }
+            SWEPT => {
+                self.swept(step_number(answer), step_freed(answer))?;
+                self.moved_to(SWEEP)
+            }
+            _ => self.moved_to(self.phase),
+        }
+    }
+
+    fn swept(&mut self, segment: u32, freed: u32) -> Result<(), String> {
+        let condemned = self.states.chunks_exact(4).position(|state| state[0] == 4);
+        if condemned != Some(segment as usize) {
+            return Err(format!("segment {segment} swept, the lowest condemned one is {condemned:?}"));
+        }
+        let at = 4 * segment as usize;
+        let before: Vec<u32> = self.states[at..at + 4].to_vec();
+        let memory = self.pair.verified.memory.words();
+        let due = self.blocks.swept(memory, segment, &before, freed)?;
+        self.coverage.swept += 1;
+        self.coverage.freed += u64::from(freed);
+        self.coverage.unreached += u64::from(due);
+        if due > 0 {
+            self.coverage.met(Situation::SweepFreesUnreached);
+        }
+        if freed < layout::blocks(before[1]) {
+            self.coverage.met(Situation::ReachedSurvives);
+        }
+        self.compare_states()?;
+        let became = [0, 1, 2, 2, 2][self.states[at] as usize];
+        self.coverage.by_class[before[1] as usize - 3][became] += 1;
+        self.coverage.met(match self.states[at] {
+            0 => Situation::SweptToFree,
+            1 => Situation::SweptToPart,
+            _ => Situation::SweptToFull,
+        });
+        Ok(())
+    }
+}

@@ -1,0 +1,109 @@
+//! The differential test of the verified library: see README.md beside this package.
+
+mod adopt;
+mod blocks;
+mod calls;
+mod campaign;
+mod choose;
+mod compare;
+mod coverage;
+mod cycle;
+mod damage;
+mod interface;
+mod layout;
+mod lent;
+mod list;
+mod numbers;
+mod options;
+mod patterns;
+mod profile;
+mod progress;
+mod recent;
+mod rng;
+mod situations;
+mod sizes;
+mod torn;
+mod unbounded;
+mod watchdog;
+
+use calls::*;
+use campaign::Campaign;
+use options::{Options, HELP};
+use std::process::ExitCode;
+use std::time::{Duration, Instant};
+
+/// Calls by segment count, the counts in groups.
+fn print_counts(campaign: &Campaign) {
+    let groups = [1..=1, 2..=2, 3..=3, 4..=4, 5..=8, 9..=16, 17..=64, 65..=128, 129..=255, 256..=256];
+    let calls = |group: &std::ops::RangeInclusive<u32>| campaign.by_count.range(group.clone()).map(|(_, calls)| calls).sum::<u64>();
+    let said: Vec<String> = groups.iter().map(|group| format!("{}-{}: {}", group.start(), group.end(), calls(group))).collect();
+    println!("  {} segment counts, calls by count: {}", campaign.by_count.len(), said.join(", "));
+}
+
+fn summary(campaign: &Campaign, seconds: f64) {
+    campaign.lists.print("lists on consistent memory");
+    campaign.lists.print_lists();
+    print_counts(campaign);
+    campaign.torn.print("torn memory");
+    let torn = &campaign.counts;
+    println!(
+        "  {} cases; the examination said yes {} times and no {} times; {} calls on memory that passed it; {} refused calls that changed no word",
+        torn.cases, torn.said_yes, torn.said_no, torn.consistent_calls, torn.refused_unchanged
+    );
+    campaign.adopted.print("lists gone on from changed memory that passes the examination");
+    campaign.adopted.print_cycles();
+    let calls = campaign.calls();
+    println!("{calls} calls in {seconds:.1} s ({:.2} million a second)", calls as f64 / seconds / 1e6);
+}
+
+/// The calls that docs/PROMISES.md says may meet 13: the others read nothing that could lead them astray.
+const LED_ASTRAY: [Kind; 12] = [Detach, Make, Load, Store, Put, Get, Shape, Check, Leave, Step, Phase, States];
+
+/// What a whole campaign must have met: everything on consistent memory, and 13 on torn memory.
+fn missing(campaign: &Campaign) -> Vec<String> {
+    let mut missing = campaign.lists.missing();
+    for kind in LED_ASTRAY {
+        if campaign.torn.by_kind[kind as usize][13] == 0 {
+            missing.push(format!("{kind:?} refused 13 on torn memory"));
+        }
+    }
+    for (name, _) in STEP_KINDS.iter().zip(campaign.adopted.steps).filter(|(_, count)| *count == 0) {
+        missing.push(format!("Step answered {name} on changed memory"));
+    }
+    missing
+}
+
+fn run(options: Options) -> ExitCode {
+    let complete = options.complete;
+    println!("seed {}: {} calls, {} on torn memory", options.seed, options.calls, options.torn);
+    watchdog::watch(options.seed, Duration::from_secs(60));
+    let began = Instant::now();
+    let mut campaign = Campaign::new(options);
+    if let Err(fault) = campaign.play() {
+        println!("DIFFERENCE after {} calls: {fault}", campaign.calls());
+        return ExitCode::FAILURE;
+    }
+    summary(&campaign, began.elapsed().as_secs_f64());
+    let missing = missing(&campaign);
+    if complete && !missing.is_empty() {
+        println!("NEVER MET: {}", missing.join(", "));
+        return ExitCode::FAILURE;
+    }
+    println!("differences: 0");
+    ExitCode::SUCCESS
+}
+
+fn main() -> ExitCode {
+    let mut args = std::env::args().skip(1).peekable();
+    if args.peek().is_some_and(|arg| arg == "--help") {
+        println!("{HELP}");
+        return ExitCode::SUCCESS;
+    }
+    match Options::parse(args) {
+        Ok(options) => run(options),
+        Err(message) => {
+            eprintln!("{message}");
+            ExitCode::from(2)
+        }
+    }
+}

@@ -1,0 +1,270 @@
+//! Torn memory: every call over memory of any content ends with its kind of result or a refusal that it may give; refused 1 changes
+//! nothing; looks keep the memory. Where the examination says yes, no call is refused 13 and no refusal changes a word.
+
+use crate::calls::*;
+use crate::coverage::Coverage;
+use crate::damage;
+use crate::layout;
+use crate::lent::Lent;
+use crate::recent::Recent;
+use crate::rng::Rng;
+
+/// Counters beside those by kind and answer.
+#[derive(Default)]
+pub struct TornCounts {
+    pub cases: u64,
+    pub said_yes: u64,
+    pub said_no: u64,
+    pub consistent_calls: u64,
+    pub refused_unchanged: u64,
+}
+
+pub struct Torn<'a> {
+    n: u32,
+    lent: &'a mut Lent,
+    coverage: &'a mut Coverage,
+    counts: &'a mut TornCounts,
+    rng: Rng,
+    /// Memory, output and scratch as they were before the call.
+    memory: Vec<u32>,
+    output: Vec<u32>,
+    scratch: Vec<u32>,
+    /// The last examination said yes, and every call since keeps that.
+    consistent: bool,
+    longer: bool,
+    recent: Recent,
+}
+
+impl<'a> Torn<'a> {
+    pub fn new(n: u32, lent: &'a mut Lent, coverage: &'a mut Coverage, counts: &'a mut TornCounts, rng: Rng, longer: bool) -> Torn<'a> {
+        let scratch = vec![0; lent.scratch.len()];
+        lent.scratch.words_mut().fill(0);
+        Torn { n, lent, coverage, counts, rng, memory: Vec::new(), output: Vec::new(), scratch, consistent: false, longer, recent: Recent::new() }
+    }
+
+    /// One case: the memory is torn, then `calls` calls are played.
+    pub fn play(&mut self, base: &[u32], calls: u32) -> Result<(), String> {
+        self.counts.cases += 1;
+        self.coverage.lists += 1;
+        damage::tear(&mut self.rng, self.lent.memory.words_mut(), base, self.n);
+        self.lent.output.words_mut().fill_with(|| self.rng.word());
+        self.remember();
+        self.play_calls(calls).map_err(|fault| format!("{fault}\nthe last calls:\n{}", self.recent))
+    }
+
+    fn play_calls(&mut self, calls: u32) -> Result<(), String> {
+        self.play_one(&Call::new(Examine, self.n, [0; 4]))?;
+        for _ in 0..calls {
+            if self.rng.chance(8) {
+                damage::damage(&mut self.rng, self.lent.memory.words_mut(), self.n);
+                self.consistent = false;
+                self.remember();
+            }
+            let call = self.choose();
+            self.play_one(&call)?;
+            if self.consistent && self.rng.chance(100) {
+                self.play_one(&Call::new(Examine, self.n, [0; 4]))?;
+            }
+        }
+        self.play_one(&Call::new(Examine, self.n, [0; 4]))?;
+        match self.lent.guards_hold() {
+            true => Ok(()),
+            false => Err("a guard word changed".into()),
+        }
+    }
+
+    fn remember(&mut self) {
+        self.memory.clear();
+        self.memory.extend_from_slice(self.lent.memory.words());
+        self.output.clear();
+        self.output.extend_from_slice(self.lent.output.words());
+    }
+
+    fn play_one(&mut self, call: &Call) -> Result<(), String> {
+        crate::watchdog::beat();
+        if call.kind == Examine && self.rng.chance(64) {
+            let word = self.rng.word();
+            self.lent.scratch.words_mut().fill(word);
+            self.scratch.fill(word);
+        }
+        let answer = self.lent.play(call);
+        self.recent.push(call, answer);
+        self.coverage.count(call.kind, answer);
+        let fault = |what: &str| Err(format!("{call}: {}: {what}", answer_words(call.kind, answer)));
+        if !plausible(call, self.n, answer) {
+            return fault("an answer that the call may not give");
+        }
+        if call.wrong_size(self.n) != (refusal(answer) == SIZE) {
+            return fault("refused 1 is given exactly for a wrong count or length");
+        }
+        if !self.kept(call, answer) {
+            return fault("memory, output or scratch changed, or a state that is none");
+        }
+        if self.consistent && refusal(answer) == TORN {
+            return fault("the memory passes the examination");
+        }
+        if call.kind == Examine && refusal(answer) == 0 {
+            return self.examined(result(answer) == 1);
+        }
+        self.counts.consistent_calls += u64::from(self.consistent);
+        self.consistent |= call.kind == Open && answer == 0;
+        Ok(())
+    }
+
+    /// What the call may not change is unchanged; what it may change is remembered.
+    fn kept(&mut self, call: &Call, answer: u64) -> bool {
+        let refused = refusal(answer);
+        let no_word = call.kind.only_reads() || refused == SIZE || (self.consistent && refused != 0);
+        if no_word && self.lent.memory.words() != self.memory {
+            return false;
+        }
+        self.counts.refused_unchanged += u64::from(no_word && refused != 0);
+        let shows = call.kind == States && refused == 0;
+        let state = |words: &[u32]| words[0] == 0 || words[0] <= 4 && (3..=12).contains(&words[1]);
+        if shows && !self.lent.output.words().chunks_exact(4).all(state) {
+            return false;
+        }
+        if !shows && self.lent.output.words() != self.output {
+            return false;
+        }
+        let examines = call.kind == Examine && refused == 0;
+        let scratch = self.lent.scratch.words();
+        if call.kind == Examine && (if examines { scratch.iter().any(|&word| word != 0) } else { scratch != self.scratch }) {
+            return false;
+        }
+        if examines {
+            self.scratch.fill(0);
+        }
+        if shows {
+            self.output.copy_from_slice(self.lent.output.words());
+        }
+        if !no_word {
+            self.memory.copy_from_slice(self.lent.memory.words());
+        }
+        true
+    }
+
+    fn examined(&mut self, yes: bool) -> Result<(), String> {
+        if self.consistent && !yes {
+            return Err("the examination says no after calls on memory that passed it".into());
+        }
+        self.consistent = yes;
+        self.counts.said_yes += u64::from(yes);
+        self.counts.said_no += u64::from(!yes);
+        Ok(())
+    }
+
+    fn choose(&mut self) -> Call {
+        let kind = match self.rng.below(64) {
+            0 if self.rng.chance(100) => Open,
+            1 => Examine,
+            2..=11 => Step,
+            12..=17 => Make,
+            18 | 19 => Start,
+            20..=23 => Store,
+            _ => self.rng.pick(&ALL_KINDS[1..20]),
+        };
+        let mut call = Call::new(kind, self.n, self.numbers(kind));
+        call.args[kind.arguments()..].fill(0);
+        if self.rng.chance(60) {
+            self.wrong(&mut call);
+        }
+        call
+    }
+
+    fn numbers(&mut self, kind: Kind) -> [u32; 4] {
+        let mutator = self.mutator();
+        let mut args = [mutator, self.small(16), self.small(16), self.small(16)];
+        match kind {
+            Make => {
+                args[2] = self.size();
+                args[3] = self.size();
+            }
+            Load => {
+                args[2] = self.filled(mutator);
+                args[3] = self.size();
+            }
+            Store | Put | Get | Shape => {
+                args[1] = self.filled(mutator);
+                args[2] = self.size();
+            }
+            Spawn => {
+                args[0] = self.small(33);
+                args[1] = mutator;
+            }
+            _ => {}
+        }
+        args
+    }
+
+    /// Mostly a mutator whose entry says that it is inside.
+    fn mutator(&mut self) -> u32 {
+        if self.rng.chance(100) {
+            return self.small(33);
+        }
+        let turn = self.rng.below(32);
+        let inside = |m: &u32| self.memory[layout::MUTATORS + 32 * *m as usize + 16] == 1;
+        (0..32).map(|m| (m + turn) % 32).find(inside).unwrap_or(turn)
+    }
+
+    /// Mostly a root of the mutator that is not nil.
+    fn filled(&mut self, mutator: u32) -> u32 {
+        if mutator > 31 || self.rng.chance(100) {
+            return self.small(16);
+        }
+        let turn = self.rng.below(16);
+        let filled = |root: &u32| layout::root(&self.memory, mutator, *root) != 0;
+        (0..16).map(|root| (root + turn) % 16).find(filled).unwrap_or(turn)
+    }
+
+    fn small(&mut self, bound: u32) -> u32 {
+        match self.rng.below(40) {
+            0 => self.rng.pick(&[15, 16, 31, 32, u32::MAX]),
+            1 => self.rng.word(),
+            _ => self.rng.below(bound),
+        }
+    }
+
+    fn size(&mut self) -> u32 {
+        match self.rng.below(8) {
+            0 => self.rng.below(1025),
+            1 => self.rng.pick(&[511, 512, 1022, 1023, 1024, 65535, 65536, u32::MAX]),
+            2 => self.rng.below(64),
+            _ => self.rng.below(6),
+        }
+    }
+
+    fn wrong(&mut self, call: &mut Call) {
+        let n = self.n;
+        let length = match self.rng.below(4) {
+            0 => Length::Zero,
+            1 => Length::Of(self.rng.below(n)),
+            2 if self.longer => Length::Longer(self.rng.between(1, 16)),
+            _ => Length::Shorter(self.rng.between(1, 40)),
+        };
+        match self.rng.below(3) {
+            0 => call.segments = self.rng.pick(&[0, n + 1, 257, u32::MAX, n | 0x100]),
+            1 if call.has_extra() => call.extra = length,
+            _ => call.length = length,
+        }
+    }
+}
+
+/// The answer is a result of the call's kind, or a refusal that the header lists for it.
+fn plausible(call: &Call, segments: u32, answer: u64) -> bool {
+    let (refused, result) = (refusal(answer), result(answer));
+    if refused != 0 {
+        return result == 0 && call.kind.may_refuse().contains(&refused);
+    }
+    match call.kind {
+        Get | Shape => true,
+        Same | Examine => result <= 1,
+        Phase => result <= SWEEP,
+        Step => match (step_kind(answer), step_number(answer), step_freed(answer)) {
+            (WAITING, number, 0) => (1..=32).contains(&number),
+            (SWEPT, segment, freed) => segment < segments && freed <= 2048,
+            (kind, number, freed) => kind <= DONE && number == 0 && freed == 0,
+        },
+        _ => result == 0,
+    }
+}
