@@ -17,7 +17,7 @@ use Rattle.bitmap_search.proofs.Scan.{IsNext}
 
 module _ (ws : List ℕ) (n : ℕ) (lv : Level n ws) where
   -- a free bit of the level's words is one of its n
-  within : (k : ℕ) → k < wordsFor n * 32 → bitAt ws k ≡ 0 → k < n
+  pub within : (k : ℕ) → k < wordsFor n * 32 → bitAt ws k ≡ 0 → k < n
   within k h z = lt-of-not-le (λ l. let e = lv .past k l h in omega arith)
 
   -- the pointer stands past the level's words

@@ -4,7 +4,7 @@ use mathlib.Core.Path.{_≡_, refl, sym, ap, _∙_, subst}
 use mathlib.Core.Bool.{true}
 use mathlib.Core.Logic.{_⊎_, inl, inr, ⊎-elim}
 use mathlib.Core.List.{List}
-use Prim.Native.Nat.{ℕ, _+_, _*_, _/_, _%_, _^_, _≤_, _<_}
+use Prim.Native.Nat.{ℕ, _+_, _/_, _%_, _^_, _≤_, _<_}
 use native.Mathlib.Omega.{arith}
 use lib.ListN.{getD}
 use borrow.Author.Tests.{lt-ltb, le-ltb, ltb-true}
@@ -21,8 +21,7 @@ use Rattle.bitmap_search.specs.declared.BitPtr.{BitPtr}
 use Rattle.bitmap_search.specs.Scan.{nextFree}
 use Rattle.bitmap_search.specs.declared.Found.the-variants.{Block, Nothing, Torn}
 use Rattle.bitmap_search.proofs.Moves.{ahead-at}
-use Rattle.bitmap_search.specs.declared.BitPos.{BitPos}
-use Rattle.bitmap_search.specs.Twice.{remains, andAfter, nextTwo, reached, searchedTwo, TwoBelow, TwoPromise}
+use Rattle.bitmap_search.specs.Twice.{remains, andAfter, nextTwo, reached, TwoBelow, TwoPromise}
 use Rattle.bitmap_search.proofs.Scan.{IsNext, next-is, is-next}
 use Rattle.bitmap_search.specs.Search.{forwarded, foundAt, blockAt, searched, BlockBelow}
 use Rattle.bitmap_search.specs.declared.Next.the-variants as moved
@@ -45,20 +44,6 @@ module _ (a : ℕ) (ws : List ℕ) (n : ℕ) where
       let c : clearFrom (getD ws ((b + 1) / 32) 0) ((b + 1) % 32) < 32 = rw (d, m) (ltb-true (clearFrom (getD ws (b / 32) 0) (b % 32 + 1)) 32 (sym e)) in
       rw (← in-own (b + 1) (omega arith) c)
 
-  -- two clear bits in the place's own word, the first of them block b
-  own : (p b : ℕ) → p < n → true ≡ someClear (getD ws (p / 32) 0) (clearFrom (getD ws (p / 32) 0) (p % 32) + 1)
-      → b ≡ p / 32 * 32 + clearFrom (getD ws (p / 32) 0) (p % 32) → b < n → two.More b ≡ searchedTwo a ws n p
-  unfolding searchedTwo searched
-  own p b h e f l =
-      let t : clearFrom (getD ws (p / 32) 0) (p % 32) + 1 < 32 = some-below (getD ws (p / 32) 0) (clearFrom (getD ws (p / 32) 0) (p % 32) + 1) (sym e) in
-      let d : b / 32 ≡ p / 32 = omega arith in
-      let m : b % 32 ≡ clearFrom (getD ws (p / 32) 0) (p % 32) = omega arith in
-      rw (← in-own p (omega arith) (omega arith), ← f, lt-ltb b n l) (more-own b l (rw (d, m) e))
-
-  pub two-own : (p b : ℕ) (x : BitPos) → x ≡ posOf p → p < n → true ≡ someClear (getD ws (x .word) 0) (clearFrom (getD ws (x .word) 0) (x .bit) + 1)
-      → b ≡ x .word * 32 + clearFrom (getD ws (x .word) 0) (x .bit) → b < n → two.More b ≡ searchedTwo a ws n p
-  two-own p b x e h f g l = own p b h (rw e at f) (rw e at g) l
-
 -- ---- by the values that the code has in hand
 
 module _ (a : ℕ) (ws : List ℕ) (n b : ℕ) where
@@ -75,8 +60,9 @@ module _ (a : ℕ) (ws : List ℕ) (n b : ℕ) where
   from-after p x y e f g = rw (← e, ← f, g)
 
 -- where the pointer to the place led
-pub searched-two : (a : ℕ) (ws : List ℕ) (n p : ℕ) (q : BitPtr) → q ≡ ptrTo p → andAfter (reached a ws n) (blockAt n (forwarded a ws n q 0)) ≡ searchedTwo a ws n p
-unfolding searchedTwo searched
+pub searched-two : (a : ℕ) (ws : List ℕ) (n p : ℕ) (q : BitPtr) → q ≡ ptrTo p
+    → andAfter (reached a ws n) (blockAt n (forwarded a ws n q 0)) ≡ andAfter (reached a ws n) (searched a ws n p)
+unfolding searched
 searched-two a ws n p q e = rw e
 
 pub from-place : (a : ℕ) (ws : List ℕ) (n : ℕ) (p : BitPtr) (x y : Next) → x ≡ forwarded a ws n p 0 → x ≡ y
@@ -106,10 +92,8 @@ reached-scan a ws n p fits tree =
     let i : indexOf (posOf p) ≡ p = omega arith in
     is-next (bitAt ws) n p (reached a ws n p) (rw i at (right a ws n fits (ptrTo p) 0 (omega arith) tree))
 
-pub promised-two : (a : ℕ) (ws : List ℕ) (n p : ℕ) (r : Two) → ((i : ℕ) → getD ws i 0 < 2 ^ 32) → r ≡ searchedTwo a ws n p → TwoPromise a ws n p r
-unfolding searchedTwo
+pub promised-two : (a : ℕ) (ws : List ℕ) (n p : ℕ) (r : Two) → ((i : ℕ) → getD ws i 0 < 2 ^ 32) → r ≡ andAfter (reached a ws n) (searched a ws n p) → TwoPromise a ws n p r
 promised-two a ws n p r fits e = record {
-  moves = e;
   within = rw e (after-below (reached a ws n) n (searched a ws n p) (searched-within a ws n p));
   scan = λ tree.
       e

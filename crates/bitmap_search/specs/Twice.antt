@@ -4,14 +4,16 @@ use mathlib.Core.Path.{_≡_}
 use mathlib.Core.List.{List}
 use Prim.Native.Nat.{ℕ, _+_, _<_}
 use Rattle.words.specs.Bits.{bitAt}
-use Rattle.words.specs.Tree.{Tree}
+use Rattle.words.specs.Tree.{Level, Tree}
 use Rattle.bitmap_search.specs.Scan.{nextFree}
 use Rattle.bitmap_search.specs.Pointer.{ptrTo}
-use Rattle.bitmap_search.specs.Search.{forwarded, foundAt, searched}
+use Rattle.bitmap_search.specs.Search.{forwarded, foundAt}
 use Rattle.bitmap_search.specs.declared.Found.{Found}
 use Rattle.bitmap_search.specs.declared.Found.the-variants.{Block, Nothing, Torn}
 use Rattle.bitmap_search.specs.declared.Two.{Two}
+use Rattle.bitmap_search.specs.declared.Near.{Near}
 use Rattle.bitmap_search.specs.declared.Two.the-variants as two
+use Rattle.bitmap_search.specs.declared.Near.the-variants as near
 
 -- block b was found, and from just after it another, none, or torn words
 abbrev pub remains : ℕ → Found → Two
@@ -33,10 +35,6 @@ nextTwo bit n place = andAfter (nextFree bit n) (nextFree bit n place)
 abbrev pub reached : ℕ → List ℕ → ℕ → ℕ → Found
 reached above ws n place = foundAt 0 (forwarded above ws n (ptrTo place) 0)
 
--- by the search, over words of any content: of what remains, only that there is a bit is asked
-unfoldable pub searchedTwo : ℕ → List ℕ → ℕ → ℕ → Two
-searchedTwo above ws n place = andAfter (reached above ws n) (searched above ws n place)
-
 -- a block that was found is one of n
 abbrev pub TwoBelow : ℕ → Two → Type 0
 TwoBelow n (two.More b) = b < n
@@ -46,6 +44,11 @@ TwoBelow n two.Torn = Unit
 
 -- what is promised of the answer, over any words and in a consistent tree
 pub record TwoPromise (above : ℕ) (ws : List ℕ) (n place : ℕ) (r : Two) : Type 0 where
-  pub moves : r ≡ searchedTwo above ws n place
   pub within : TwoBelow n r
   pub scan : Tree above n ws → r ≡ nextTwo (bitAt ws) n place
+
+-- what is promised where only words at the place were asked: a block is one of n, over any words; it is the scan's, and another remains, in a level
+-- of n bits
+abbrev pub NearPromise : List ℕ → ℕ → ℕ → Near → Type 0
+NearPromise ws n place (near.More b) = (b < n) × (Level n ws → two.More b ≡ nextTwo (bitAt ws) n place)
+NearPromise ws n place near.Far = Unit

@@ -7,10 +7,10 @@ use words::words_for;
 ghost use mathlib.Core.Path.{_≡_};
 ghost use Prim.Native.Nat.{_+_, _-_, _^_, _≤_, _<_};
 ghost use lib.ListN.{length};
-ghost use Rattle.words.specs.Levels.{treeWords};
+ghost use Rattle.words.specs.Levels.{wordsFor, treeWords};
 ghost use Rattle.bitmap_search.specs.Pointer.{posAt, withPos, aimed, indexOf, posOf, ptrTo};
 ghost use Rattle.bitmap_search.specs.Search.{climbed, lowered, forwarded, blockAt, SearchPromise};
-ghost use Rattle.bitmap_search.specs.Twice.{andAfter, reached, TwoPromise};
+ghost use Rattle.bitmap_search.specs.Twice.{andAfter, reached, NearPromise, TwoPromise};
 ghost use Rattle.bitmap_search.specs.declared.Next.the-variants.{At};
 
 // What a search for a free block finds.
@@ -26,6 +26,12 @@ pub enum Two {
     Last(u32),
     Nothing,
     Torn,
+}
+
+// What the words at a place tell of the next free block: the block, where another remains after it. Far: they do not tell.
+pub enum Near {
+    More(u32),
+    Far,
 }
 
 // A bit of one level: its word, and which bit of the word it is.
@@ -256,23 +262,52 @@ pub fn next_free(s: &[u32], n: u32, above: u32, place: u32) -> Found
     }
 }
 
-// The next free block of n at or after a place, and whether another remains after it. Two clear bits in the place's own word
-// answer both; else the search goes on from there.
+// The next free block of n at or after a place, where the place's own word has it and another clear bit after it.
+pub fn more_in_word(s: &[u32], n: u32, place: u32) -> Near
+    requires { ⌜ wordsFor n ≤ length (now s) ⌝ }
+    ensures { λ r. ⌜ NearPromise (now (s .entry)) n place r ⌝ }
+{
+    if place < n {
+        let i = (place / 32) as usize;
+        let w = s[i];
+        if two_clear(w, place % 32) {
+            let b = place / 32 * 32 + clear_from(w, place % 32);
+            if b < n {
+                return Near::More(b);
+            }
+        }
+    }
+    Near::Far
+}
+
+// The next free block of n at or after a place, where the place's own word has it and the next word is not all ones.
+fn more_in_next(s: &[u32], n: u32, place: u32) -> Near
+    requires { ⌜ wordsFor n ≤ length (now s) ⌝ }
+    ensures { λ r. ⌜ NearPromise (now (s .entry)) n place r ⌝ }
+{
+    if place < n {
+        let word = place / 32;
+        if word < (n - 1) / 32 {
+            let i = word as usize;
+            let bit = clear_from(s[i], place % 32);
+            if bit < 32 {
+                if s[i + 1] != 4294967295 {
+                    return Near::More(word * 32 + bit);
+                }
+            }
+        }
+    }
+    Near::Far
+}
+
+// The next free block of n at or after a place, and whether another remains after it: by the place's word and the next where they
+// tell, else by the search.
 pub fn next_two(s: &[u32], n: u32, above: u32, place: u32) -> Two
     requires { ⌜ treeWords above n ≤ length (now s) ⌝ }
     ensures { λ r. ⌜ TwoPromise above (now (s .entry)) n place r ⌝ }
 {
-    let p = BitPtr::to(place);
-    if place < n {
-        let at = p.low;
-        let i = at.word as usize;
-        let w = s[i];
-        if two_clear(w, at.bit) {
-            let b = at.word * 32 + clear_from(w, at.bit);
-            if b < n {
-                return Two::More(b);
-            }
-        }
+    match more_in_next(s, n, place) {
+        Near::More(b) => Two::More(b),
+        Near::Far => BitPtr::to(place).search_two(s, n, above),
     }
-    p.search_two(s, n, above)
 }

@@ -1,5 +1,6 @@
 // A segment's bitmap tree and its marks in the lent slice: a fresh tree, the next free block and whether another remains, the tree whose level 0
 // becomes the marks, and how many blocks are in use and how many are marked.
+use bitmap_search::Near;
 use bitmap_search::Two;
 use layout::Geometry;
 ghost use mathlib.Core.Path.{_≡_};
@@ -27,8 +28,16 @@ pub fn fresh(g: Geometry, mem: &mut [u32], s: usize, class: u32)
     bitmap_write::make_fresh(&mut mem[a..b], shape.blocks, shape.levels - 1);
 }
 
-// The next free block of segment s at or after a place, and whether another remains after it.
-pub fn next_two(g: Geometry, mem: &[u32], s: usize, class: u32, place: u32) -> Two
+// The blocks of a segment of a class. A class is below 32: the remainder tells the compiler so, and the test for it in `blocks_in` folds.
+fn blocks_of(g: Geometry, class: u32) -> u32
+    requires { ⌜ IsClass class ⌝ }
+    ensures { λ r. ⌜ r ≡ blocksIn g class ⌝ }
+{
+    layout::blocks_in(g, class % 32)
+}
+
+// The next free block of segment s at or after a place, and whether another remains after it, by the tree: its shape is read.
+fn search_two(g: Geometry, mem: &[u32], s: usize, class: u32, place: u32) -> Two
     requires { ⌜ (Sized g (length (now mem))) × (s < g .segments) ⌝ }
     requires { ⌜ IsClass class ⌝ }
     ensures { λ r. ⌜ TwoPromise (above g class) (bitmap g (memOf g (now (mem .entry))) s) (blocksIn g class) place r ⌝ }
@@ -37,6 +46,22 @@ pub fn next_two(g: Geometry, mem: &[u32], s: usize, class: u32, place: u32) -> T
     let a = layout::bitmap_from(g, s);
     let b = layout::bitmap_from(g, s + 1);
     bitmap_search::next_two(&mem[a..b], shape.blocks, shape.levels - 1, place)
+}
+
+// The next free block of segment s at or after a place, and whether another remains after it. The place's own word is asked first: where it tells
+// both, no shape is read.
+pub fn next_two(g: Geometry, mem: &[u32], s: usize, class: u32, place: u32) -> Two
+    requires { ⌜ (Sized g (length (now mem))) × (s < g .segments) ⌝ }
+    requires { ⌜ IsClass class ⌝ }
+    ensures { λ r. ⌜ TwoPromise (above g class) (bitmap g (memOf g (now (mem .entry))) s) (blocksIn g class) place r ⌝ }
+{
+    let blocks = blocks_of(g, class);
+    let a = layout::bitmap_from(g, s);
+    let b = layout::bitmap_from(g, s + 1);
+    match bitmap_search::more_in_word(&mem[a..b], blocks, place) {
+        Near::More(x) => Two::More(x),
+        Near::Far => search_two(g, mem, s, class, place),
+    }
 }
 
 // Level 0 of segment s becomes its marks, and the levels above it are rebuilt.

@@ -1,12 +1,17 @@
 -- `bitmaps::next_two` meets its contract. Assumes nothing.
+use mathlib.Core.Path.{subst}
 use Prim.Native.Nat.{_-_}
 use native.Mathlib.Omega.{arith}
 use borrow.Author.Needs.{needs}
-use Rattle.classes.proofs.Shapes.{shape-levels-pos}
+use Rattle.words.proofs.Trees.{words-in}
+use Rattle.bitmap_search.specs.Twice.{NearPromise}
+use Rattle.bitmap_search.proofs.AtPlace.{near-two}
 use Rattle.layout.specs.Geometry.{blocksIn}
+use Rattle.layout.specs.Mem.{memOf}
+use Rattle.model.specs.Segments.{above, bitmap}
 use Rattle.bitmaps.proofs.Lent.{TreePart, tree-at}
-use Rattle.bitmaps.proofs.next_two.Tie as tie
 use Rattle.bitmaps.proofs.next_two.Statement.{statement}
+use Rattle.bitmaps.proofs.next_two.Tie as tie
 
 -- the part that is lent
 tree : (c : tie.After-bitmap-from2) → TreePart (c .before .before .before .before .args .g) (c .before .before .before .before .args .mem .now) (c .before .before .before .before .args .s) (c .before .before .before .before .args .class) (c .before .bitmap-from .result) (c .bitmap-from2 .result)
@@ -14,8 +19,8 @@ tree c =
     let x = c .before .before .before .before in
     tree-at (x .args .g) (x .args .mem .now) (x .pre .0 .0) (x .args .s) (x .pre .0 .1) (c .before .bitmap-from .result) (c .bitmap-from2 .result) (c .before .bitmap-from .ensures) (c .bitmap-from2 .ensures) (x .args .class) (x .pre .1)
 
-shape-in-requires : tie.Need-shape-in-requires
-shape-in-requires c κs = search needs
+blocks-of-requires : tie.Need-blocks-of-requires
+blocks-of-requires c κs = search needs
 
 bitmap-from-requires : tie.Need-bitmap-from-requires
 bitmap-from-requires c κs = search needs
@@ -26,39 +31,56 @@ add-bitmap-from c = search needs
 bitmap-from-requires-2 : tie.Need-bitmap-from-requires-2
 bitmap-from-requires-2 c κs = search needs
 
-mul-next-two : tie.Need-mul-next-two
-mul-next-two c = omega (arith, tree c .ends, tree c .within, c .before .before .before .before .good .0 .1)
+mul-more-in-word : tie.Need-mul-more-in-word
+mul-more-in-word c = omega (arith, tree c .ends, tree c .within, c .before .before .before .before .good .0 .1)
 
-sub-next-two : tie.Need-sub-next-two
-sub-next-two c = search needs
+sub-more-in-word : tie.Need-sub-more-in-word
+sub-more-in-word c = search needs
 
-part-next-two-start : tie.Need-part-next-two-start
-part-next-two-start c = search needs
+part-more-in-word-start : tie.Need-part-more-in-word-start
+part-more-in-word-start c = search needs
 
-part-next-two-end : tie.Need-part-next-two-end
-part-next-two-end c = tree c .within
+part-more-in-word-end : tie.Need-part-more-in-word-end
+part-more-in-word-end c = tree c .within
 
-sub-next-two-2 : tie.Need-sub-next-two-2
-sub-next-two-2 c = rw (c .before .before .before .before .shape-in .ensures) (shape-levels-pos (blocksIn (c .before .before .before .before .before .before .args .g) (c .before .before .before .before .before .before .args .class)))
+more-in-word-requires : tie.Need-more-in-word-requires
+more-in-word-requires c κs =
+    let x = c .before .before .before .before .before .args in
+    rw (c .before .before .before .blocks-of .ensures) (omega (arith, tree (c .before) .fits, words-in (above (x .g) (x .class)) (blocksIn (x .g) (x .class))))
 
-next-two-requires : tie.Need-next-two-requires
-next-two-requires c κs = rw (c .before .before .before .before .shape-in .ensures) (tree (c .before .before) .fits)
+enum-known-x : tie.Need-enum-known-x
+enum-known-x c = search needs
+
+enum-told : tie.Need-enum-told
+enum-told c = search needs
+
+search-two-requires : tie.Need-search-two-requires
+search-two-requires c κs = search needs
 
 returns : tie.Need-returns
-returns c = rw (c .before .before .before .before .before .shape-in .ensures, tree (c .before .before .before) .is) at (c .next-two .ensures)
+returns c =
+    let x = c .before .before .before .before .before .before .before .before .before .args in
+    near-two (above (x .g) (x .class)) (subst (NearPromise (bitmap (x .g) (memOf (x .g) (x .mem .now)) (x .s)) (blocksIn (x .g) (x .class)) (x .place)) (c .before .x .given .1)
+    (rw (c .before .before .before .before .before .before .before .blocks-of .ensures, tree (c .before .before .before .before .before) .is) at (c .before .before .before .more-in-word .ensures)))
+
+returns-2 : tie.Need-returns-2
+returns-2 c = search needs
 
 pub next-two-spec : {M : Type 1} → statement M
 next-two-spec =
     tie.close
     (tie.spec
-    shape-in-requires
+    blocks-of-requires
     bitmap-from-requires
     add-bitmap-from
     bitmap-from-requires-2
-    mul-next-two
-    sub-next-two
-    part-next-two-start
-    part-next-two-end
-    sub-next-two-2
-    next-two-requires
-    returns)
+    mul-more-in-word
+    sub-more-in-word
+    part-more-in-word-start
+    part-more-in-word-end
+    more-in-word-requires
+    enum-known-x
+    enum-told
+    search-two-requires
+    returns
+    returns-2)
