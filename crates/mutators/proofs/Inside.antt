@@ -1,11 +1,15 @@
 -- The refusal of a mutator that must be inside, from its state word, and a call that it and the call's roots pass or refuse. Assumes nothing.
-use mathlib.Core.Path.{_≡_, sym, _∙_, subst}
+use mathlib.Core.Path.{_≡_, sym, _∙_, ap, subst}
 use mathlib.Core.Bool.{false}
 use mathlib.Core.Logic.{_⊎_, ⊎-elim}
 use mathlib.Core.List.{List}
 use Prim.Native.Nat.{ℕ, _≤_, _<_}
+use native.Mathlib.Omega.{arith}
+use lib.Dec.{eqb}
 use lib.ListN.{length}
-use borrow.Author.Tests.{lt-ltb, le-ltb, eq-eqb, ne-eqb}
+use borrow.Author.Tests.{lt-ltb, le-ltb, eq-eqb, ne-eqb, eqb-true}
+use Rattle.rules.specs.Decides.{Decides}
+use Rattle.rules.proofs.Deciding.{fails}
 use Rattle.classes.specs.declared.RecordShape.{RecordShape}
 use Rattle.layout.specs.declared.Geometry.{Geometry}
 use Rattle.layout.specs.Geometry.{mutatorCount, rootCount, wrongSize}
@@ -38,24 +42,33 @@ module _ (m : Mem) (k rest : ℕ) where
   unfolding require insideThen
   inside-rest l e = rw (lt-ltb _ _ l, e)
 
+-- ---- whether it is inside, x being its state
+
+module _ (k x : ℕ) where
+  pub unknown-no : mutatorCount ≤ k → Decides false ((k < mutatorCount) × (x ≡ inside))
+  unknown-no l = fails (λ q. let h = q .0 in omega arith)
+
+  pub state-says : k < mutatorCount → (s : ℕ) → s ≡ x → Decides (eqb s inside) ((k < mutatorCount) × (x ≡ inside))
+  state-says l s e = record { sound = λ t. (l, sym e ∙ eqb-true s inside t); complete = λ q. eq-eqb s inside (e ∙ q .1) }
+
+-- ---- roots' indices
+
 pub root-6 : (i rest : ℕ) → rootCount ≤ i → 6 ≡ ifRoot i rest
 unfolding require
 root-6 i rest l = rw (le-ltb _ _ l)
 
--- ---- n is the refusal of the mutator: what becomes of it where more follows
+-- 0 is one
+pub one-root : (m : Mem) (k i : ℕ) → insideThen m k (ifRoot i (ifRoot 0 0)) ≡ insideThen m k (ifRoot i 0)
+one-root m k i = ap (λ x. insideThen m k (ifRoot i x)) (sym (root-rest 0 0 (omega arith)))
 
-module _ (m : Mem) (k n rest : ℕ) where
-  pub then-rest : n ≡ insideThen m k 0 → n ≡ 0 → rest ≡ insideThen m k rest
-  unfolding insideThen
-  then-rest e z = let p = by-ok (observe m) k 0 (sym e ∙ z) in refusals.inside-rest (observe m) k rest (p .0) (p .1) (p .2)
+pub no-root : (m : Mem) (k : ℕ) → insideThen m k (ifRoot 0 (ifRoot 0 0)) ≡ insideThen m k 0
+no-root m k = one-root m k 0 ∙ ap (insideThen m k) (sym (root-rest 0 0 (omega arith)))
 
-  pub then-known : n ≡ insideThen m k rest → n ≡ 0 → k < mutatorCount
-  unfolding insideThen
-  then-known e z = by-ok (observe m) k rest (sym e ∙ z) .0
+-- ---- n is the refusal of the mutator
 
-  pub then-refused : n ≡ insideThen m k 0 → (n ≡ 0 → ⊥) → n ≡ insideThen m k rest
-  unfolding insideThen
-  then-refused e f = inside-on n 0 rest (λ z. absurd (f z)) (observe m) k e
+pub then-known : (m : Mem) (k n rest : ℕ) → n ≡ insideThen m k rest → n ≡ 0 → k < mutatorCount
+unfolding insideThen
+then-known m k n rest e z = by-ok (observe m) k rest (sym e ∙ z) .0
 
 -- ---- a call of a mutator inside with one root, n being the refusal of both
 

@@ -5,11 +5,12 @@ use model::Phase;
 ghost use mathlib.Core.Path.{_≡_};
 ghost use Prim.Native.Nat.{_<_};
 ghost use lib.ListN.{length};
+ghost use Rattle.rules.specs.Decides.{Decides};
 ghost use Rattle.classes.specs.Class.{IsClass};
 ghost use Rattle.layout.specs.Geometry.{Sized, mutatorCount, rootCount};
 ghost use Rattle.layout.specs.Mem.{memOf, controlWord, setControl};
 ghost use Rattle.theory.specs.Calls.{ifRoot};
-ghost use Rattle.model.specs.Fields.{root, setRoot, state, setMutatorState, acks, setAcks, holding, setHolding};
+ghost use Rattle.model.specs.Fields.{inside, root, setRoot, state, setMutatorState, acks, setAcks, holding, setHolding};
 ghost use Rattle.model.specs.Mutators.{setEntry};
 ghost use Rattle.mutators.specs.Inside.{insideThen};
 ghost use Rattle.mutators.specs.Entry.{entryOf};
@@ -110,10 +111,10 @@ pub fn set_holding(g: Geometry, mem: &mut [u32], k: u32, class: u32, v: u32)
     );
 }
 
-// The refusal 2, 4 or 5 of a call by a mutator that must be inside, or 0 for none.
-pub fn inside_refusal(g: Geometry, mem: &[u32], k: u32) -> u32
+// The lowest refusal, 2, 4, 5 or 6, of a call by a mutator that must be inside with two roots, or 0 for none.
+fn lowest_refusal(g: Geometry, mem: &[u32], k: u32, i: u32, j: u32) -> u32
     requires { ⌜ Sized g (length (now mem)) ⌝ }
-    ensures { λ r. ⌜ r ≡ insideThen (memOf g (now (mem .entry))) k 0 ⌝ }
+    ensures { λ r. ⌜ r ≡ insideThen (memOf g (now (mem .entry))) k (ifRoot i (ifRoot j 0)) ⌝ }
 {
     if layout::MUTATORS <= k {
         return 2;
@@ -125,33 +126,6 @@ pub fn inside_refusal(g: Geometry, mem: &[u32], k: u32) -> u32
     if state != INSIDE {
         return 5;
     }
-    0
-}
-
-// The same, and 6 unless i is a root's index.
-pub fn root_refusal(g: Geometry, mem: &[u32], k: u32, i: u32) -> u32
-    requires { ⌜ Sized g (length (now mem)) ⌝ }
-    ensures { λ r. ⌜ r ≡ insideThen (memOf g (now (mem .entry))) k (ifRoot i 0) ⌝ }
-{
-    let refused = inside_refusal(g, mem, k);
-    if refused != 0 {
-        return refused;
-    }
-    if layout::ROOTS <= i {
-        return 6;
-    }
-    0
-}
-
-// The same, and 6 unless i and j are roots' indices.
-pub fn roots_refusal(g: Geometry, mem: &[u32], k: u32, i: u32, j: u32) -> u32
-    requires { ⌜ Sized g (length (now mem)) ⌝ }
-    ensures { λ r. ⌜ r ≡ insideThen (memOf g (now (mem .entry))) k (ifRoot i (ifRoot j 0)) ⌝ }
-{
-    let refused = inside_refusal(g, mem, k);
-    if refused != 0 {
-        return refused;
-    }
     if layout::ROOTS <= i {
         return 6;
     }
@@ -159,6 +133,57 @@ pub fn roots_refusal(g: Geometry, mem: &[u32], k: u32, i: u32, j: u32) -> u32
         return 6;
     }
     0
+}
+
+// Whether mutator k is attached and inside.
+fn is_inside(g: Geometry, mem: &[u32], k: u32) -> bool
+    requires { ⌜ Sized g (length (now mem)) ⌝ }
+    ensures { λ r. ⌜ Decides r ((k < mutatorCount) × (state (memOf g (now (mem .entry))) k ≡ inside)) ⌝ }
+{
+    if layout::MUTATORS <= k {
+        return false;
+    }
+    state(g, mem, k) == INSIDE
+}
+
+// The refusal 2, 4 or 5 of a call by a mutator that must be inside, or 0 for none. Here and below the number is looked for only where the call does not
+// pass: that takes fewer instructions on the way of a call that does.
+pub fn inside_refusal(g: Geometry, mem: &[u32], k: u32) -> u32
+    requires { ⌜ Sized g (length (now mem)) ⌝ }
+    ensures { λ r. ⌜ r ≡ insideThen (memOf g (now (mem .entry))) k 0 ⌝ }
+{
+    if is_inside(g, mem, k) {
+        return 0;
+    }
+    lowest_refusal(g, mem, k, 0, 0)
+}
+
+// The same, and 6 unless i is a root's index.
+pub fn root_refusal(g: Geometry, mem: &[u32], k: u32, i: u32) -> u32
+    requires { ⌜ Sized g (length (now mem)) ⌝ }
+    ensures { λ r. ⌜ r ≡ insideThen (memOf g (now (mem .entry))) k (ifRoot i 0) ⌝ }
+{
+    if is_inside(g, mem, k) {
+        if i < layout::ROOTS {
+            return 0;
+        }
+    }
+    lowest_refusal(g, mem, k, i, 0)
+}
+
+// The same, and 6 unless i and j are roots' indices.
+pub fn roots_refusal(g: Geometry, mem: &[u32], k: u32, i: u32, j: u32) -> u32
+    requires { ⌜ Sized g (length (now mem)) ⌝ }
+    ensures { λ r. ⌜ r ≡ insideThen (memOf g (now (mem .entry))) k (ifRoot i (ifRoot j 0)) ⌝ }
+{
+    if is_inside(g, mem, k) {
+        if i < layout::ROOTS {
+            if j < layout::ROOTS {
+                return 0;
+            }
+        }
+    }
+    lowest_refusal(g, mem, k, i, j)
 }
 
 // Root i of mutator k.

@@ -1,22 +1,23 @@
 -- `mutators::root_refusal` meets its contract. Assumes nothing.
 use mathlib.Core.Path.{_∙_}
-use borrow.Author.Needs.{needs}
 use Rattle.theory.proofs.Refusals.{root-rest}
-use Rattle.mutators.proofs.Inside.{then-refused, then-rest, root-6}
-use Rattle.mutators.proofs.root_refusal.Tie as tie
+use Rattle.mutators.proofs.Inside.{inside-rest, one-root}
+use borrow.Author.Needs.{needs}
 use Rattle.mutators.proofs.root_refusal.Statement.{statement}
+use Rattle.mutators.proofs.root_refusal.Tie as tie
 
-inside-refusal-requires : tie.Need-inside-refusal-requires
-inside-refusal-requires c κs = search needs
+is-inside-requires : tie.Need-is-inside-requires
+is-inside-requires c κs = search needs
 
 returns : tie.Need-returns
-returns c = then-refused _ _ _ _ (c .before .inside-refusal .ensures) (c .if1 .taken)
+returns c = let p = c .before .before .is-inside .ensures .sound (c .before .if1 .taken) in root-rest _ _ (c .if2 .taken) ∙ inside-rest _ _ _ (p .0) (p .1)
+
+lowest-refusal-requires : tie.Need-lowest-refusal-requires
+lowest-refusal-requires c κs = search needs
 
 returns-2 : tie.Need-returns-2
-returns-2 c = root-6 _ _ (c .if2 .taken) ∙ then-rest _ _ _ _ (c .before .before .inside-refusal .ensures) (c .before .if1 .left)
-
-returns-3 : tie.Need-returns-3
-returns-3 c = root-rest _ _ (c .if2 .left) ∙ then-rest _ _ _ _ (c .before .before .inside-refusal .ensures) (c .before .if1 .left)
+returns-2 c = c .lowest-refusal .ensures ∙ one-root _ _ (c .before .before .before .before .args .i)
 
 pub root-refusal-spec : {M : Type 1} → statement M
-root-refusal-spec = tie.close (tie.spec inside-refusal-requires returns returns-2 returns-3)
+root-refusal-spec =
+    tie.close (tie.spec is-inside-requires returns lowest-refusal-requires returns-2)
