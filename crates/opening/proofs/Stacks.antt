@@ -2,7 +2,7 @@
 use mathlib.Core.Path.{_≡_, refl, sym, _∙_, ap}
 use mathlib.Core.Bool.{true, false, true≢false}
 use mathlib.Core.List.{List, _∷_, _++_}
-use Prim.Native.Nat.{ℕ, zero, suc, _+_, _-_, _≤_}
+use Prim.Native.Nat.{ℕ, zero, suc, _+_, _-_, _≤_, _<_}
 use native.Mathlib.Omega.{arith}
 use lib.ListN.{length, drop, set, replicate, length-replicate}
 use lib.Seq.{sets, sets-eq}
@@ -15,17 +15,35 @@ use Rattle.model.specs.Promise.{OpenPromise}
 use Rattle.opening.specs.Stacking.{stackedDown}
 use Rattle.layout.specs.Region as Region
 
-pub stacked-none : (m : Mem) (at n : ℕ) → n ≡ 0 → m ≡ stackedDown m at n
+stacked-none : (m : Mem) (at n : ℕ) → n ≡ 0 → m ≡ stackedDown m at n
 unfolding stackedDown downTo0
 stacked-none m at n e = rw e refl
 
-pub stacked-more : (m m₁ m₂ : Mem) (at n : ℕ) → (n ≡ 0 → ⊥) → m₁ ≡ setStack m at (n - 1) → m₂ ≡ stackedDown m₁ (at + 1) (n - 1) → m₂ ≡ stackedDown m at n
+stacked-more : (m m₁ m₂ : Mem) (at n : ℕ) → (n ≡ 0 → ⊥) → m₁ ≡ setStack m at (n - 1) → m₂ ≡ stackedDown m₁ (at + 1) (n - 1) → m₂ ≡ stackedDown m at n
 unfolding stackedDown downTo0 setStack
 stacked-more m m₁ m₂ at zero f e h = absurd (f refl)
 stacked-more m m₁ m₂ at (suc n) f e h =
     let p : suc n - 1 ≡ n = omega arith in
     let q : at + 1 ≡ suc at = omega arith in
     h ∙ rw (e, p, q) refl
+
+-- ---- entry by entry: after i of n entries, what is left to do comes to w, as the whole did
+
+pub left-all : (m : Mem) (at n : ℕ) → stackedDown m (at + 0) (n - 0) ≡ stackedDown m at n
+left-all m at n = let p : at + 0 ≡ at = omega arith in let q : n - 0 ≡ n = omega arith in rw (p, q)
+
+module _ (m w : Mem) (at n i : ℕ) (e : stackedDown m (at + i) (n - i) ≡ w) where
+  pub left-less : i < n → (m₁ : Mem) → m₁ ≡ setStack m (at + i) (n - 1 - i) → stackedDown m₁ (at + (i + 1)) (n - (i + 1)) ≡ w
+  left-less l m₁ f =
+      let p : n - 1 - i ≡ n - i - 1 = omega arith in
+      let q : at + (i + 1) ≡ at + i + 1 = omega arith in
+      let r : n - (i + 1) ≡ n - i - 1 = omega arith in
+      rw (q, r) (stacked-more m m₁ (stackedDown m₁ (at + i + 1) (n - i - 1)) (at + i) (n - i) (λ z. omega arith) (f ∙ ap (setStack m (at + i)) p) refl ∙ e)
+
+  pub left-none : n ≤ i → m ≡ w
+  left-none l = let z : n - i ≡ 0 = omega arith in stacked-none m (at + i) (n - i) z ∙ e
+
+-- ---- what the whole comes to
 
 length-down : (n : ℕ) → length (downTo0 n) ≡ n
 unfolding downTo0

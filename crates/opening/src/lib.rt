@@ -15,11 +15,11 @@ fn stack_down(g: Geometry, mem: &mut [u32], at: usize, n: usize)
     requires { ⌜ (Sized g (length (now mem))) × (at + n ≤ len g Region.stacks) × (n ≤ maxSegments) ⌝ }
     ensures { λ _. ⌜ memOf g (now (mem .exit)) ≡ stackedDown (memOf g (now (mem .entry))) at n ⌝ }
 {
-    if n == 0 {
-        return;
+    let mut i: usize = 0;
+    while i < n {
+        layout::set_stack(g, mem, at + i, (n - 1 - i) as u32);
+        i += 1;
     }
-    layout::set_stack(g, mem, at, (n - 1) as u32);
-    stack_down(g, mem, at + 1, n - 1);
 }
 
 pub fn open(g: Geometry, mem: &mut [u32]) -> Answer
