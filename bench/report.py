@@ -44,7 +44,7 @@ def summary_table():
             text += f"| {name} | {min(rows)[0]:.2f} to {max(rows)[0]:.2f} | {rows[0][1]} | {kept} of {len(rows)} | {'ok' if kept == len(rows) else 'MISS'} |\n"
     pauses = [1 / ratio for t, _, ratio, _ in judged if t == "pause"]
     if pauses:
-        text += f"| Boehm's longest call by the longest of any kind here | {max(pauses):.0f} to {min(pauses):.0f} | at least 50 | {sum(p >= 50 for p in pauses)} of {len(pauses)} | {'ok' if min(pauses) >= 50 else 'MISS'} |\n"
+        text += f"| Boehm's longest call by the longest call of the same workload here | {max(pauses):.0f} to {min(pauses):.0f} | at least 50 | {sum(p >= 50 for p in pauses)} of {len(pauses)} | {'ok' if min(pauses) >= 50 else 'MISS'} |\n"
     return text
 
 
