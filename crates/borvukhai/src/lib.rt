@@ -1,5 +1,5 @@
 // The heap for programs in C and Rust: every call and every look as an exported function over the lent slice, which C passes as a pointer and a length. An answer is
-// packed in a number; `unpack` and its like in specs/ say which answer a number stands for.
+// packed in a number; `unpack` and its like in packing's specs say which answer a number stands for.
 ghost use mathlib.Core.Path.{_≡_};
 ghost use Rattle.theory.specs.Calls.{c-attach, c-spawn, c-detach, c-check, c-leave, c-enter, c-make, c-load, c-store, c-copy, c-clear, c-put, c-get, c-same, c-shape};
 ghost use Rattle.layout.specs.Geometry.{total, scratchWords};

@@ -1,4 +1,5 @@
 -- Laws of packed answers.
+pub mod Halves
 pub mod Unpacked
 pub mod Lengths
 pub mod UnpackedStep

@@ -3,7 +3,7 @@ use mathlib.Core.Path.{_≡_, refl, sym, _∙_, ap, subst}
 use mathlib.Core.Bool.{Bool, true, false}
 use mathlib.Core.Option.{none, some, Option·some-injective}
 use mathlib.Core.List.{List}
-use Prim.Native.Nat.{ℕ, zero, suc, _+_, _*_, _/_, _%_, _<_}
+use Prim.Native.Nat.{ℕ, zero, suc, _+_, _*_, _%_, _<_}
 use native.Mathlib.Omega.{arith}
 use lib.ListN.{length}
 use Rattle.classes.specs.Record.{pointerCountOf, valueCountOf}
@@ -14,18 +14,23 @@ use Rattle.theory.specs.Calls.{Call}
 use Rattle.theory.proofs.Invariant.{none-some}
 use Rattle.model.specs.declared.Answer.{Answer}
 use Rattle.model.specs.declared.Answer.the-variants.{Ok, Number, Same, Shape, Refused}
-use Rattle.model.specs.Records.{halfWord, headerWord}
+use Rattle.model.specs.Records.{halfWord, headerWord, headerShape}
 use Rattle.model.specs.Answers.{answerOf, refusalIn, refusalOf, IsOk, IsNumber, IsFlag, IsRecordShape, ResultOf, among, startMayGive}
 use Rattle.model.specs.Promise.{Keeps, Promise, OpenPromise, StartPromise}
 use Rattle.model.proofs.Numbers.{OfTable, among-table, may-table}
 use Rattle.laws.proofs.Headers.{shape-halves}
 use Rattle.theory.specs.Calls as theory
-use Rattle.packing.specs.Packed.{upper, pack, packValue, unpack, unpackNumber, unpackSame, unpackShape}
+use Rattle.packing.specs.Packed.{upper, pack, packValue, flagged, unpack, unpackNumber, unpackSame, unpackShape}
+use Rattle.packing.proofs.Halves.{value-back, refused-back}
 
 -- an answer of a kind, or refused with a number of the table
 pub record Kind (Result : theory.Answer → Type 0) (a : Answer) : Type 0 where
   pub kind : refusalOf a ≡ none → Result (answerOf a)
   pub number : (n : ℕ) → refusalOf a ≡ some n → OfTable n
+
+-- a number of the table has no upper half
+pub below : (n : ℕ) → OfTable n → n < upper
+below n t = let l = t .1 in omega arith
 
 pub unpacked : (a : Answer) → Kind IsOk a → unpack (pack a) ≡ a
 unpacked Ok k = refl
@@ -37,14 +42,10 @@ unpacked (Refused (suc n)) k = refl
 
 pub unpacked-number : (a : Answer) → Kind IsNumber a → unpackNumber (packValue a) ≡ a
 unpacked-number Ok k = let e = k .kind refl .1 in cc
-unpacked-number (Number v) k =
-    let e : v * upper / upper ≡ v = omega arith in
-    let f : v * upper % upper ≡ 0 = omega arith in
-    rw (e, f) refl
+unpacked-number (Number v) k = value-back Refused Number v
 unpacked-number (Same b) k = let e = k .kind refl .1 in cc
 unpacked-number (Shape s) k = let e = k .kind refl .1 in cc
-unpacked-number (Refused zero) k = absurd (let z = k .number 0 refl .0 in omega arith)
-unpacked-number (Refused (suc n)) k = let l = k .number (suc n) refl .1 in let e : suc n / upper ≡ 0 = omega arith in let f : suc n % upper ≡ suc n = omega arith in rw (e, f) refl
+unpacked-number (Refused n) k = refused-back Refused Number n (k .number n refl .0) (below n (k .number n refl))
 
 pub unpacked-same : (a : Answer) → Kind IsFlag a → unpackSame (packValue a) ≡ a
 unpacked-same Ok k = let e = k .kind refl .1 in cc
@@ -52,8 +53,7 @@ unpacked-same (Number v) k = let e = k .kind refl .1 in cc
 unpacked-same (Same true) k = refl
 unpacked-same (Same false) k = refl
 unpacked-same (Shape s) k = let e = k .kind refl .1 in cc
-unpacked-same (Refused zero) k = absurd (let z = k .number 0 refl .0 in omega arith)
-unpacked-same (Refused (suc n)) k = let l = k .number (suc n) refl .1 in let e : suc n / upper ≡ 0 = omega arith in let f : suc n % upper ≡ suc n = omega arith in rw (e, f) refl
+unpacked-same (Refused n) k = refused-back Refused flagged n (k .number n refl .0) (below n (k .number n refl))
 
 pub unpacked-shape : (a : Answer) → Kind IsRecordShape a → unpackShape (packValue a) ≡ a
 unpacked-shape Ok k = let e = k .kind refl .1 in cc
@@ -64,11 +64,10 @@ unpacked-shape (Shape s) k =
     let z : s ≡ q .0 = cc in
     let p : pointerCountOf s < halfWord = rw z (q .2 .0) in
     let n : valueCountOf s < halfWord = rw z (q .2 .1) in
-    let e : (pointerCountOf s % halfWord * halfWord + valueCountOf s % halfWord) * upper / upper ≡ headerWord s = omega arith in
-    let f : (pointerCountOf s % halfWord * halfWord + valueCountOf s % halfWord) * upper % upper ≡ 0 = omega arith in
-    rw (e, f) (ap Shape (shape-halves s (p, n)))
-unpacked-shape (Refused zero) k = absurd (let z = k .number 0 refl .0 in omega arith)
-unpacked-shape (Refused (suc n)) k = let l = k .number (suc n) refl .1 in let e : suc n / upper ≡ 0 = omega arith in let f : suc n % upper ≡ suc n = omega arith in rw (e, f) refl
+    let e : pointerCountOf s % halfWord * halfWord + valueCountOf s % halfWord ≡ headerWord s = omega arith in
+    value-back Refused (λ v. Shape (headerShape v)) (pointerCountOf s % halfWord * halfWord + valueCountOf s % halfWord)
+    ∙ ap (λ v. Shape (headerShape v)) e ∙ ap Shape (shape-halves s (p, n))
+unpacked-shape (Refused n) k = refused-back Refused (λ v. Shape (headerShape v)) n (k .number n refl .0) (below n (k .number n refl))
 
 -- ---- the promise of what is unpacked
 

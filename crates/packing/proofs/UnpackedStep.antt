@@ -3,7 +3,7 @@ use mathlib.Core.Path.{_≡_, refl, sym, _∙_, ap, subst}
 use mathlib.Core.Bool.{Bool, true, false}
 use mathlib.Core.Option.{none, some}
 use mathlib.Core.List.{List}
-use Prim.Native.Nat.{ℕ, zero, suc, _+_, _*_, _/_, _%_, _≤_, _<_}
+use Prim.Native.Nat.{ℕ, _+_, _*_, _/_, _%_, _≤_, _<_}
 use native.Mathlib.Omega.{arith}
 use lib.ListN.{length}
 use borrow.Author.Tests.{eq-eqb}
@@ -18,6 +18,7 @@ use Rattle.model.specs.Promise.{StepPromise}
 use Rattle.model.proofs.Numbers.{OfTable, among-table}
 use Rattle.theory.specs.Calls as theory
 use Rattle.packing.specs.Packed.{upper, packStep, stepBy, unpackStep}
+use Rattle.packing.proofs.Halves.{refused-back}
 use Rattle.model.specs.declared.Step.the-variants as step
 
 -- the three numbers of an answer are small, or it is refused with a number of the table
@@ -58,12 +59,7 @@ unpacked-step (step.Swept s f) k =
     let w : (4 + s * 256 + f * 65536) / 65536 ≡ f = omega arith in
     by-parts (step.Swept s f) (4 + s * 256 + f * 65536) (ap (λ z. z * upper) e) (rw (x, y, w) refl)
 unpacked-step step.Done k = refl
-unpacked-step (step.Refused zero) k = absurd (let l = k .0 in omega arith)
-unpacked-step (step.Refused (suc n)) k =
-    let l = k .1 in
-    let e : suc n / upper ≡ 0 = omega arith in
-    let f : suc n % upper ≡ suc n = omega arith in
-    rw (e, f) refl
+unpacked-step (step.Refused n) k = refused-back step.Refused _ n (k .0) (k .1)
 
 -- ---- what step promises of its numbers over memory of any content
 
