@@ -20,16 +20,25 @@ struct mutate {
     int running;
 };
 
+/* Whether a segment is full: a cycle would have one to collect. */
+static inline int some_full(const struct heap *h) {
+    u32 states[BORVUKHAI_STATES_LENGTH(256)];
+    MUST(HEAP(states)(OVER(h), states, HEAP(states_length)(h->segments)), 0);
+    for (u32 segment = 0; segment < h->segments; segment++) {
+        if (states[4 * segment] == BORVUKHAI_SEGMENT_FULL) return 1;
+    }
+    return 0;
+}
+
 static inline void collector_turn(struct mutate *w) {
     if (w->running) {
         u64 answer = HEAP(step)(OVER(w->heap));
         w->steps++;
         if (borvukhai_refusal(answer) != 0) wrong("step", answer, 0, __FILE__, __LINE__);
         if (borvukhai_step_kind(answer) == BORVUKHAI_STEP_DONE) w->running = 0, w->cycles++;
-    } else if (w->calls % START_EVERY < w->pace) {
-        u32 refusal = HEAP(start)(OVER(w->heap));
-        if (refusal != 0 && refusal != BORVUKHAI_NONE_FULL) wrong("start", refusal, 0, __FILE__, __LINE__);
-        w->running = refusal == 0;
+    } else if (w->calls % START_EVERY < w->pace && some_full(w->heap)) {
+        MUST(HEAP(start)(OVER(w->heap)), 0);
+        w->running = 1;
     }
 }
 

@@ -38,7 +38,7 @@ enum {
     BORVUKHAI_TOO_BIG = 9,   /* make with more than 1,023 pointers and values together */
     BORVUKHAI_NO_ROOM = 10,  /* make: no segment of the class has room for this mutator, and none is free */
     BORVUKHAI_NOT_NOW = 11,  /* attach, spawn or detach in a handshake; start while a cycle runs */
-    BORVUKHAI_NONE_FULL = 12,/* start while no segment is full */
+    /* 12 is a number that no call gives: a start while no segment is full is not refused. */
     BORVUKHAI_TORN = 13      /* memory that fails the examination led the call astray */
 };
 
@@ -122,7 +122,8 @@ uint32_t borvukhai_leave(uint32_t segments, uint32_t *mem, size_t length, uint32
 /* Inside again. Refused SIZE, SCRIPT, ABSENT, SIDE (it is inside), TORN. */
 uint32_t borvukhai_enter(uint32_t segments, uint32_t *mem, size_t length, uint32_t mutator);
 
-/* A cycle begins: every full segment is condemned. Refused SIZE, NOT_NOW, NONE_FULL, TORN. */
+/* A cycle begins: every full segment is condemned. Where none is full it is a cycle over no segment: both handshakes and the marking are
+ * held as usual, the first step in sweep answers done, and nothing is freed. Refused SIZE, NOT_NOW, TORN. */
 uint32_t borvukhai_start(uint32_t segments, uint32_t *mem, size_t length);
 
 /* The segments' states, four words each, into `output` of borvukhai_states_length words; the heap is not changed. Refused, the output

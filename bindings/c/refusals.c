@@ -1,5 +1,5 @@
-/* Provokes each refusal number of include/borvukhai.h, from every call that gives it, and tries the lengths and the looks.
- * It prints a line for each part, and says on the error output what was expected where something else came. */
+/* Provokes each refusal number of include/borvukhai.h, from every call that gives it, and tries the lengths, the looks and cycles over
+ * nothing. It prints a line for each part, and says on the error output what was expected where something else came. */
 #include "borvukhai.h"
 
 #include <stdio.h>
@@ -242,13 +242,6 @@ static void not_now(void) {
     expect("not now", "start", borvukhai_start(HEAP), BORVUKHAI_NOT_NOW);
 }
 
-static void none_full(void) {
-    fresh();
-    expect("none full", "start", borvukhai_start(HEAP), BORVUKHAI_NONE_FULL);
-    ok("make", borvukhai_make(HEAP, 0, 0, 1, 600));
-    expect("none full", "start with a held segment", borvukhai_start(HEAP), BORVUKHAI_NONE_FULL);
-}
-
 /* A root that names a word off the heap: the calls that want its record. */
 static void torn_root(void) {
     static const enum call calls[] = {LOAD, STORE, PUT, GET, SHAPE};
@@ -369,6 +362,47 @@ static void states_and_phases(void) {
     step("idle", BORVUKHAI_STEP_IDLE, BORVUKHAI_IDLE);
 }
 
+/* A start with nothing full and no mutator: each phase has one step. */
+static void cycle_over_nothing(void) {
+    fresh();
+    ok("detach", borvukhai_detach(HEAP, 0));
+    ok("start", borvukhai_start(HEAP));
+    phase(BORVUKHAI_SYNC1);
+    expect("over nothing", "start again", borvukhai_start(HEAP), BORVUKHAI_NOT_NOW);
+    step("to sync 2", BORVUKHAI_STEP_MOVED, BORVUKHAI_SYNC2);
+    step("to mark", BORVUKHAI_STEP_MOVED, BORVUKHAI_MARK);
+    step("to sweep", BORVUKHAI_STEP_MOVED, BORVUKHAI_SWEEP);
+    step("done", BORVUKHAI_STEP_DONE, BORVUKHAI_IDLE);
+    step("idle", BORVUKHAI_STEP_IDLE, BORVUKHAI_IDLE);
+}
+
+/* A handshake that waits for mutator 0, which then checks. */
+static void handshake(uint32_t now, uint32_t then) {
+    expect("waiting", "for", borvukhai_step_waiting(borvukhai_step(HEAP)), 1);
+    step("waiting", BORVUKHAI_STEP_WAITING, now);
+    ok("check", borvukhai_check(HEAP, 0));
+    step("moved", BORVUKHAI_STEP_MOVED, then);
+}
+
+/* The same with one mutator inside, whose record is marked; it goes on with the segment that it holds. */
+static void cycle_over_nothing_with_a_mutator(void) {
+    fresh();
+    ok("make", borvukhai_make(HEAP, 0, 0, 1, 600));
+    ok("start", borvukhai_start(HEAP));
+    handshake(BORVUKHAI_SYNC1, BORVUKHAI_SYNC2);
+    handshake(BORVUKHAI_SYNC2, BORVUKHAI_MARK);
+    step("traced", BORVUKHAI_STEP_TRACED, BORVUKHAI_MARK);
+    step("to sweep", BORVUKHAI_STEP_MOVED, BORVUKHAI_SWEEP);
+    ok("make", borvukhai_make(HEAP, 0, 1, 1, 600));
+    step("done", BORVUKHAI_STEP_DONE, BORVUKHAI_IDLE);
+    state("held", BORVUKHAI_SEGMENT_HELD, 12, 2, 0);
+}
+
+static void over_nothing(void) {
+    cycle_over_nothing();
+    cycle_over_nothing_with_a_mutator();
+}
+
 /* The answers that carry a result: get, same, shape and a sweep's step. */
 static void results(void) {
     uint64_t answer;
@@ -434,9 +468,9 @@ int main(void) {
     } parts[] = {{"1 size", size},         {"2 script", script},        {"3 taken", taken},
                  {"4 absent", absent},     {"5 side", side},            {"6 slot", slot},
                  {"7 dark", dark},         {"8 field", field},          {"9 too big", too_big},
-                 {"10 no room", no_room},  {"11 not now", not_now},     {"12 none full", none_full},
-                 {"13 torn", torn},        {"lengths", lengths},        {"states and phases", states_and_phases},
-                 {"results", results},     {"examination", examination}};
+                 {"10 no room", no_room},  {"11 not now", not_now},     {"13 torn", torn},
+                 {"lengths", lengths},     {"results", results},        {"states and phases", states_and_phases},
+                 {"examination", examination},                          {"over nothing", over_nothing}};
     size_t i;
     for (i = 0; i < sizeof parts / sizeof parts[0]; i++) {
         int failed = failures;

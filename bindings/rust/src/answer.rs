@@ -48,8 +48,8 @@ mod tests {
     }
 
     #[test]
-    fn a_number_off_the_table_is_torn() {
-        for number in [14, 255, u32::MAX] {
+    fn a_number_that_no_call_gives_is_torn() {
+        for number in [12, 14, 255, u32::MAX] {
             assert_eq!(plain(number), Err(Refusal::Torn));
             assert_eq!(result(number.into()), Err(Refusal::Torn));
         }

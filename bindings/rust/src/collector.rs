@@ -43,7 +43,8 @@ impl Step {
 }
 
 impl<M: AsRef<[u32]> + AsMut<[u32]>> Heap<M> {
-    /// A cycle begins: every full segment is condemned. Refused NotNow while a cycle runs, and NoneFull.
+    /// A cycle begins: every full segment is condemned. Where none is full it is a cycle over no segment: both handshakes and the marking
+    /// are held as usual, the first step in sweep answers [`Step::Done`], and nothing is freed. Refused NotNow while a cycle runs.
     pub fn start(&mut self) -> Result<()> {
         raw::start(self.segments().count(), self.words())
     }

@@ -4,7 +4,8 @@ use core::fmt;
 
 /// Why a call was refused, by document 01's words and numbers. The lowest number that applies is given.
 ///
-/// On memory that passes the examination a refused call changes no word, and [`Torn`](Refusal::Torn) does not come.
+/// On memory that passes the examination a refused call changes no word, and [`Torn`](Refusal::Torn) does not come. 12 is a number that
+/// no call gives: a start while no segment is full is not refused.
 #[derive(Clone, Copy, Debug, PartialEq, Eq, PartialOrd, Ord, Hash)]
 #[repr(u32)]
 pub enum Refusal {
@@ -30,8 +31,6 @@ pub enum Refusal {
     NoRoom = 10,
     /// An attach, a spawn or a detach in a handshake, or a start while a cycle runs.
     NotNow = 11,
-    /// A start while no segment is full.
-    NoneFull = 12,
     /// Memory that fails the examination led the call astray.
     Torn = 13,
 }
@@ -41,7 +40,7 @@ pub type Result<T> = core::result::Result<T, Refusal>;
 
 impl Refusal {
     /// Every refusal, in the order of the numbers.
-    pub const ALL: [Refusal; 13] = [
+    pub const ALL: [Refusal; 12] = [
         Refusal::Size,
         Refusal::Script,
         Refusal::Taken,
@@ -53,19 +52,19 @@ impl Refusal {
         Refusal::TooBig,
         Refusal::NoRoom,
         Refusal::NotNow,
-        Refusal::NoneFull,
         Refusal::Torn,
     ];
 
-    /// The number in document 01's table, 1 to 13.
+    /// The number in document 01's table, 1 to 11 or 13.
     pub const fn number(self) -> u32 {
         self as u32
     }
 
-    /// The refusal of a number, if it is 1 to 13.
+    /// The refusal of a number, if it is 1 to 11 or 13.
     pub const fn from_number(number: u32) -> Option<Refusal> {
         match number {
-            1..=13 => Some(Refusal::ALL[number as usize - 1]),
+            1..=11 => Some(Refusal::ALL[number as usize - 1]),
+            13 => Some(Refusal::Torn),
             _ => None,
         }
     }
@@ -84,7 +83,6 @@ impl Refusal {
             Refusal::TooBig => "too big",
             Refusal::NoRoom => "no room",
             Refusal::NotNow => "not now",
-            Refusal::NoneFull => "none full",
             Refusal::Torn => "torn",
         }
     }
@@ -102,7 +100,6 @@ impl Refusal {
             Refusal::TooBig => "a record has at most 1,023 pointers and values together",
             Refusal::NoRoom => "no segment of the record's class has room for this mutator, and none is free",
             Refusal::NotNow => "a handshake runs, or a cycle that was to start runs already",
-            Refusal::NoneFull => "no segment is full, so there is nothing to collect",
             Refusal::Torn => "the memory fails the examination and led the call astray",
         }
     }
@@ -122,7 +119,7 @@ pub struct NoRefusal(pub u32);
 
 impl fmt::Display for NoRefusal {
     fn fmt(&self, f: &mut fmt::Formatter<'_>) -> fmt::Result {
-        write!(f, "{} is not the number of a refusal, 1 to 13", self.0)
+        write!(f, "{} is not the number of a refusal, 1 to 11 or 13", self.0)
     }
 }
 

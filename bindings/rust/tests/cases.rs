@@ -1,8 +1,8 @@
-//! Document 01's whole case, and the changeover of docs/CHANGEOVER.md, through the typed layer.
+//! Document 01's whole case, the changeover of docs/CHANGEOVER.md, and cycles over nothing, through the typed layer.
 
 mod common;
 
-use borvukhai::{Heap, Mutator, Refusal, Result, Root, Segments, Step};
+use borvukhai::{Heap, Mutator, Refusal, Result, Root, SegmentState, Segments, Step};
 use common::{SHAPE, id};
 
 const TWO: Segments = Segments::new(2).unwrap();
@@ -105,6 +105,36 @@ fn the_changeover() -> Result<()> {
     }
     steps(&mut heap, &[Step::Moved, Step::Moved, Step::Traced, Step::Traced, Step::Traced, Step::Moved]);
     steps(&mut heap, &[Step::Swept { segment: 0, freed: 1 }, Step::Done]);
+    Ok(())
+}
+
+/// With nothing full and no mutator, each phase has one step.
+#[test]
+fn a_cycle_over_nothing() -> Result<()> {
+    let mut heap = Heap::open(TWO, [0; TWO.length()])?;
+    heap.start()?;
+    assert_eq!(heap.start(), Err(Refusal::NotNow));
+    steps(&mut heap, &[Step::Moved, Step::Moved, Step::Moved, Step::Done, Step::Idle]);
+    Ok(())
+}
+
+/// With one mutator inside, each handshake waits for it, and its record is marked; it goes on with the segment that it holds.
+#[test]
+fn a_cycle_over_nothing_with_a_mutator() -> Result<()> {
+    let mut heap = Heap::open(TWO, [0; TWO.length()])?;
+    heap.attach(id(0))?.make(Root::R0, SHAPE)?;
+    heap.start()?;
+    for _ in 0..2 {
+        steps(&mut heap, &[Step::Waiting(1)]);
+        heap.mutator(id(0)).check()?;
+        steps(&mut heap, &[Step::Moved]);
+    }
+    steps(&mut heap, &[Step::Traced, Step::Moved]);
+    heap.mutator(id(0)).make(Root::R1, SHAPE)?;
+    steps(&mut heap, &[Step::Done, Step::Idle]);
+    let mut states = [0; TWO.states_length()];
+    let expected = [SegmentState::Held { class: 12, place: 2, mutator: id(0) }, SegmentState::Free];
+    assert!(heap.states(&mut states)?.eq(expected));
     Ok(())
 }
 

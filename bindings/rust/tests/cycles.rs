@@ -66,28 +66,55 @@ fn examined(heap: &Heap<Box<[u32]>>) -> bool {
     heap.examine(&mut vec![1; SEGMENTS.scratch_length()]) == Ok(true)
 }
 
+/// Cycles that ended, by whether they had a segment to sweep.
+#[derive(Default)]
+struct Cycles {
+    over_some: u32,
+    over_nothing: u32,
+    swept: bool,
+}
+
+impl Cycles {
+    /// Three steps, and whether a cycle ended.
+    fn run(&mut self, heap: &mut Heap<Box<[u32]>>) -> Result<()> {
+        for _ in 0..3 {
+            match heap.step()? {
+                Step::Swept { .. } => self.swept = true,
+                Step::Done => self.ended(heap),
+                _ => {}
+            }
+        }
+        Ok(())
+    }
+
+    fn ended(&mut self, heap: &Heap<Box<[u32]>>) {
+        assert!(examined(heap));
+        match self.swept {
+            true => self.over_some += 1,
+            false => self.over_nothing += 1,
+        }
+        self.swept = false;
+    }
+}
+
 #[test]
 fn lists_live_through_cycles() -> Result<()> {
     let mut heap = Heap::new(SEGMENTS);
     let mut queues = [Queue::default(), Queue::default()];
     heap.attach(id(0))?;
     heap.attach(id(1))?;
-    let (mut cycles, mut made) = (0, 0);
-    while cycles < CYCLES {
-        assert!(made < 1000 * CYCLES * SEGMENTS.count(), "{cycles} cycles only");
+    let (mut cycles, mut made) = (Cycles::default(), 0);
+    while cycles.over_some < CYCLES {
+        assert!(made < 1000 * CYCLES * SEGMENTS.count(), "{} cycles only", cycles.over_some);
         for (number, queue) in queues.iter_mut().enumerate() {
             turn(queue, &mut heap.mutator(id(number as u32)), made)?;
             made += 1;
-            let _ = heap.start(); // where a segment is full and no cycle runs
-            for _ in 0..3 {
-                if heap.step()? == Step::Done {
-                    cycles += 1;
-                    assert!(examined(&heap));
-                }
-            }
+            let _ = heap.start(); // where no cycle runs; over nothing where no segment is full
+            cycles.run(&mut heap)?;
         }
     }
-    assert!(made > 100 * LIST as u32, "{made} records in {cycles} cycles");
+    assert!(made > 100 * LIST as u32, "{made} records");
+    assert!(cycles.over_nothing > 0);
     for (number, queue) in queues.iter().enumerate() {
         queue.walk(&mut heap.mutator(id(number as u32)))?;
     }

@@ -182,12 +182,16 @@ fn number_11_not_now() {
     refused(&mut words, |n, words, _, _, _| raw::start(n, words), (0, 0, 0), Refusal::NotNow);
 }
 
+/// In idle a start is ok: with nothing full, and over words that are no heap's.
 #[test]
-fn number_12_none_full() {
-    let mut words = fresh();
-    refused(&mut words, |n, words, _, _, _| raw::start(n, words), (0, 0, 0), Refusal::NoneFull);
-    raw::make(1, &mut words, 0, 0, 1, 600).unwrap();
-    assert_eq!(raw::start(1, &mut words), Err(Refusal::NoneFull));
+fn number_12_is_never_given() {
+    let mut held = fresh();
+    raw::make(1, &mut held, 0, 0, 1, 600).unwrap();
+    let mut torn = fresh();
+    torn[at::TAG] = 5;
+    for mut words in [fresh(), held, torn, vec![0; fresh().len()]] {
+        assert_eq!(raw::start(1, &mut words), Ok(()));
+    }
 }
 
 #[test]

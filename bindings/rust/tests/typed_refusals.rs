@@ -91,9 +91,7 @@ fn too_big_and_no_room() {
 }
 
 #[test]
-fn not_now_and_none_full() {
-    let mut empty = heap(fresh());
-    assert_eq!(empty.start(), Err(Refusal::NoneFull));
+fn not_now() {
     let mut heap = heap(full());
     heap.start().unwrap();
     assert_eq!(heap.start(), Err(Refusal::NotNow));

@@ -1,6 +1,7 @@
 // Some thousand calls over random words, over small words, over an opened heap in use, which never answers 13, and over that heap with words and bits of it
-// changed; and over slices and segment counts of other sizes. Each answer is printed, and BAD with it where it is not of its call's kind and range, or a number that the call may
-// not give. The expected output is the program's own; that no BAD stands in it is what it shows.
+// changed; and over slices and segment counts of other sizes. In the end a start with each phase and each tag, over such memory. Each answer is printed, and BAD with it where it
+// is not of its call's kind and range, or a number that the call may not give (12 is given by none). The expected output is the program's own; that no BAD stands in it is what it
+// shows.
 use classes::RecordShape;
 use layout::Geometry;
 use model::Answer;
@@ -74,8 +75,6 @@ const ROOM: u32 = 1024;
 
 const NOT_NOW: u32 = 2048;
 
-const NONE_FULL: u32 = 4096;
-
 const TORN: u32 = 8192;
 
 fn number_set(kind: u32) -> u32 {
@@ -88,7 +87,7 @@ fn number_set(kind: u32) -> u32 {
         7 | 8 | 11 | 12 => SIZE + SCRIPT + SIDE + SLOT + DARK + FIELD + TORN,
         9 | 10 | 13 => SIZE + SCRIPT + SIDE + SLOT + TORN,
         14 => SIZE + SCRIPT + SIDE + SLOT + DARK + TORN,
-        15 => SIZE + NOT_NOW + NONE_FULL + TORN,
+        15 => SIZE + NOT_NOW + TORN,
         16 => SIZE,
         _ => SIZE + TORN,
     }
@@ -416,7 +415,61 @@ fn games(mem: &mut [u32]) {
     }
 }
 
+// Where the segments region of a heap of one segment begins, with the segment's tag.
+const TAG: usize = 5122;
+
+// A number below 6 as it is, any other as the largest there is.
+fn odd(n: u32) -> u32 {
+    if n < 6 {
+        return n;
+    }
+    4294967295
+}
+
+fn set(mem: &mut [u32], i: usize, w: u32) {
+    if i < mem.len() {
+        mem[i] = w;
+    }
+}
+
+// A start with a phase and a tag.
+fn start_over(mem: &mut [u32], phase: u32, tag: u32, d: Dice) {
+    set(mem, 0, phase);
+    set(mem, TAG, tag);
+    call(mem, 1, 15, true, d);
+}
+
+// New words, random or small; or the memory as it is.
+fn renew(mem: &mut [u32], d: Dice, new: bool, small: bool) {
+    if new {
+        fill(mem, d, small);
+    }
+}
+
+// A start with each phase and each tag, 0 to 5 and the largest number, on a line: over new words each, or over the memory as it is.
+fn starts(mem: &mut [u32], d: Dice, new: bool, small: bool) {
+    let mut e = d;
+    let mut i: u32 = 0;
+    while i < 49 {
+        e = e.next();
+        renew(mem, e, new, small);
+        start_over(mem, odd(i / 7), odd(i % 7), e);
+        i += 1;
+    }
+    word(b"\n");
+}
+
+// Over random words, over small words, and over a heap in use.
+fn start_games(mem: &mut [u32], d: Dice) {
+    starts(mem, d, true, false);
+    starts(mem, d, true, true);
+    settle(mem, d);
+    play(mem, d.next(), 160, false, false);
+    starts(mem, d, false, false);
+}
+
 fn main() {
     let mut mem = [0u32; 7391];
     games(&mut mem);
+    start_games(&mut mem, Dice { x: 97 });
 }

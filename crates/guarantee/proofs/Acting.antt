@@ -3,7 +3,7 @@ use mathlib.Core.Path.{_≡_, sym, _∙_, ap, subst}
 use mathlib.Core.Logic.{_⊎_, inl, inr}
 use mathlib.Core.Bool.{Bool, true}
 use mathlib.Core.List.{List}
-use Prim.Native.Nat.{ℕ, _≤_}
+use Prim.Native.Nat.{ℕ}
 use lib.ListN.{length}
 use Rattle.rules.specs.Pick.{pick}
 use Rattle.layout.specs.declared.Geometry.{Geometry}
@@ -27,11 +27,11 @@ use Rattle.guarantee.proofs.Refused.{start-either}
 start-acts : (g : Geometry) (m m′ : Mem) (r : Answer) → answerOf r ≡ startOf g m .0 → m′ ≡ startOf g m .1 → Acts g m m′ (startCall r)
 start-acts g m m′ r e h = go (start-either g m)
   where
-    go : ((phase m ≡ idle) × (startOf g m ≡ (a-ok, started g m))) ⊎ ((n : ℕ) × (n ≤ 12) × (startOf g m ≡ (a-no n, m))) → Acts g m m′ (startCall r)
+    go : ((phase m ≡ idle) × (startOf g m ≡ (a-ok, started g m))) ⊎ (startOf g m ≡ (a-no 11, m)) → Acts g m m′ (startCall r)
     go (inl x) = rw (is-ok r (e ∙ ap (λ y. y .0) (x .1))) (starts (x .0) (ap (λ y. y .0) (x .1)) (h ∙ ap (λ y. y .1) (x .1)))
     go (inr x) =
-        let n : startOf g m .0 ≡ a-no (x .0) = ap (λ y. y .0) (x .2) in
-        rw (refused-as r (x .0) (to-number r (x .0) (e ∙ n))) (startRefused n (h ∙ ap (λ y. y .1) (x .2)))
+        let n : startOf g m .0 ≡ a-no 11 = ap (λ y. y .0) x in
+        rw (refused-as r 11 (to-number r 11 (e ∙ n))) (startRefused n (h ∙ ap (λ y. y .1) x))
 
 module _ (g : Geometry) (words : List ℕ) (z : Sized g (length words)) where
   -- what it leaves has the list's length again

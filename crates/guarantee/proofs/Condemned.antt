@@ -41,7 +41,7 @@ abbrev pub isCondemned : Mem → ℕ → Bool
 isCondemned m s = eqb (tag m s) Tag.condemned
 
 -- the answer of step, from its value
-step-of : (r : Step) → declaredStep (stepAnswerOf r) ≡ r
+pub step-of : (r : Step) → declaredStep (stepAnswerOf r) ≡ r
 step-of (stepAnswer.Waiting n) = refl
 step-of stepAnswer.Moved = refl
 step-of stepAnswer.Traced = refl

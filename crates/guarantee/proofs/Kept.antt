@@ -46,13 +46,17 @@ use Rattle.theory.specs.MachineCalls as calls
 
 -- ---- make: from a held segment, or from one that is taken first
 
+pub some-of : (x : ℕ) → eqb x 0 ≡ false → 1 ≤ x
+some-of zero q = absurd (eqb-false 0 0 q refl)
+some-of (suc x) q = omega arith
+
 module _ (g : Geometry) (m : Mem) (s : Sizes g m) (c : Ordered g m) (k d cl p n : ℕ) (l : k < mutatorCount) (a : isAttached m k ≡ true) (h : d < rootCount) (e : classOfRecord (ofCounts p n) ≡ Class cl) where
   is-class : IsClass cl
   is-class = class-found (p + n) cl e
 
   -- out of a memory in which the mutator holds segment r
   module _ (m₁ : Mem) (r : ℕ) (t : Taken g m m₁ k cl r) where
-    in-order : Ordered g m₁
+    pub in-order : Ordered g m₁
     in-order = ordered-of g m₁ (t .sizes) (t .structure) (agree-inv (segmentOf g) (view g m) (view g m₁) (t .prepared) (to-inv g m s c))
 
     from-held : Kept struckOut g m (c-make k d p n) (inSegment g m m₁ k d cl r (ofCounts p n))
@@ -68,19 +72,16 @@ module _ (g : Geometry) (m : Mem) (s : Sizes g m) (c : Ordered g m) (k d cl p n 
           moves = record { structure = x .3 .structure; occupied = λ u. x .3 .occupied (t .occupied u); agree = x .3 .agree; steady = λ i q y. let z = x .3 .steady i q y in let w = t .steady i q (z .0) in (w .0, z .1 ∙ w .1) };
         }))
 
+  -- the mutator's own segment
+  pub own-taken : holding m k cl ≡ suc (holding m k cl - 1) → Taken g m m k cl (holding m k cl - 1)
+  own-taken q = record { sizes = s; structure = moves-self g m c .structure; occupied = λ u i q f. u i q; prepared = agree-self g m; shows = refl; steady = λ i q y. (y, refl); holds = q; known = a }
+
   by-source : Kept struckOut g m (c-make k d p n) (fromSource g m k d cl (ofCounts p n) (sourceOf g m k cl))
   by-source = go (eqb (holding m k cl) 0) (eqb (count g m (partStack cl)) 0) (eqb (count g m freeStack) 0) refl refl refl
     where
-      some-of : (x : ℕ) → eqb x 0 ≡ false → 1 ≤ x
-      some-of zero q = absurd (eqb-false 0 0 q refl)
-      some-of (suc x) q = omega arith
-
-      own : holding m k cl ≡ suc (holding m k cl - 1) → Taken g m m k cl (holding m k cl - 1)
-      own q = record { sizes = s; structure = moves-self g m c .structure; occupied = λ u i q f. u i q; prepared = agree-self g m; shows = refl; steady = λ i q y. (y, refl); holds = q; known = a }
-
       go : (x y z : Bool) → eqb (holding m k cl) 0 ≡ x → eqb (count g m (partStack cl)) 0 ≡ y → eqb (count g m freeStack) 0 ≡ z
           → Kept struckOut g m (c-make k d p n) (fromSource g m k d cl (ofCounts p n) (pick x (pick y (pick z noRoom (unused (top g m freeStack))) (part (top g m (partStack cl)))) (held (holding m k cl - 1))))
-      go false y z q i j = let w = some-of (holding m k cl) q in from-held m (holding m k cl - 1) (own (omega arith))
+      go false y z q i j = let w = some-of (holding m k cl) q in from-held m (holding m k cl - 1) (own-taken (omega arith))
       go true false z q i j = from-held _ _ (taken-part g m s c k cl l a is-class (eqb-true _ _ q) (some-of _ i))
       go true true false q i j = from-held _ _ (taken-free g m s c k cl l a is-class (eqb-true _ _ q) (some-of _ j))
       go true true true q i j = refusedOut 10 refl refl

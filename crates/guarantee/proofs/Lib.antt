@@ -3,6 +3,7 @@ pub mod Kept
 pub mod Numbers
 pub mod Putting
 pub mod Refused
+pub mod NotNow
 pub mod Acting
 pub mod Coupling
 pub mod Elements
@@ -15,4 +16,7 @@ pub mod Guarantee
 pub mod Keeping
 pub mod OneNumber
 pub mod SweptOnce
+pub mod Growing
+pub mod Stepping
+pub mod EmptyCycle
 pub mod Independent

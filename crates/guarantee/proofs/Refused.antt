@@ -5,7 +5,6 @@ use mathlib.Core.Bool.{Bool, true, false}
 use mathlib.Core.Option.{Option, none, some, Option·some-injective}
 use Prim.Native.Nat.{ℕ, zero, suc, _+_, _≤_}
 use native.Mathlib.Omega.{arith}
-use Rattle.rules.specs.Pick.{pick}
 use Rattle.classes.specs.Class.{classOf}
 use Rattle.classes.specs.declared.SizeClass.{SizeClass}
 use Rattle.classes.specs.declared.SizeClass.the-variants.{Class, TooBig}
@@ -23,12 +22,12 @@ use Rattle.model.specs.Segments.{free, freeStack, partStack, pop}
 use Rattle.model.specs.Records.{record?}
 use Rattle.model.specs.Making.{Source, held, part, unused, noRoom, sourceOf, takes, freshened, inBlock, fromSource, made}
 use Rattle.model.specs.Calls.{observe, act, exec, ofClass}
-use Rattle.model.specs.Collector.{startIn, startOf, started, anyFull}
+use Rattle.model.specs.Collector.{startIn, startOf, started}
 use Rattle.model.specs.Answers.{refusalIn}
 use Rattle.guarantee.proofs.Numbers.{refusal-stays}
 
 -- no result is a refusal
-result : {A : Type 0} (a : Answer) (n : ℕ) → refusalIn a ≡ none → a ≡ a-no n → A
+pub result : {A : Type 0} (a : Answer) (n : ℕ) → refusalIn a ≡ none → a ≡ a-no n → A
 result a n l e = none-some (sym l ∙ ap refusalIn e)
 
 unless-same : (b : Bool) (m m′ : Mem) (n : ℕ) → unless b 11 m m′ .0 ≡ a-no n → unless b 11 m m′ .1 ≡ m
@@ -81,32 +80,28 @@ exec-same g m c n e = go (refusal (observe m) c) e
     go zero e = act-same g m c n e
     go (suc x) e = refl
 
--- a start begins a cycle, or is refused 11 or 12
-pub start-either : (g : Geometry) (m : Mem) → ((phase m ≡ idle) × (startOf g m ≡ (a-ok, started g m))) ⊎ ((n : ℕ) × (n ≤ 12) × (startOf g m ≡ (a-no n, m)))
+-- a start begins a cycle in idle, and is refused 11 elsewhere
+pub start-either : (g : Geometry) (m : Mem) → ((phase m ≡ idle) × (startOf g m ≡ (a-ok, started g m))) ⊎ (startOf g m ≡ (a-no 11, m))
 unfolding startOf
 start-either g m = go (phase m) refl
   where
-    any : (b : Bool) → phase m ≡ idle → ((phase m ≡ idle) × (pick {A = Answer × Mem} b (a-ok, started g m) (a-no 12, m) ≡ (a-ok, started g m))) ⊎ ((n : ℕ) × (n ≤ 12) × (pick {A = Answer × Mem} b (a-ok, started g m) (a-no 12, m) ≡ (a-no n, m)))
-    any true i = inl (i, refl)
-    any false i = inr (12, omega arith, refl)
+    go : (p : Phase) → phase m ≡ p → ((phase m ≡ idle) × (startIn p g m ≡ (a-ok, started g m))) ⊎ (startIn p g m ≡ (a-no 11, m))
+    go idle i = inl (i, refl)
+    go sync1 i = inr refl
+    go sync2 i = inr refl
+    go mark i = inr refl
+    go sweep i = inr refl
 
-    go : (p : Phase) → phase m ≡ p → ((phase m ≡ idle) × (startIn p g m ≡ (a-ok, started g m))) ⊎ ((n : ℕ) × (n ≤ 12) × (startIn p g m ≡ (a-no n, m)))
-    go idle i = any (anyFull m (g .segments)) i
-    go sync1 i = inr (11, omega arith, refl)
-    go sync2 i = inr (11, omega arith, refl)
-    go mark i = inr (11, omega arith, refl)
-    go sweep i = inr (11, omega arith, refl)
-
-pub start-number : (g : Geometry) (m : Mem) (n : ℕ) → startOf g m .0 ≡ a-no n → n ≤ 12
+pub start-number : (g : Geometry) (m : Mem) (n : ℕ) → startOf g m .0 ≡ a-no n → n ≡ 11
 start-number g m n e = go (start-either g m)
   where
-    go : ((phase m ≡ idle) × (startOf g m ≡ (a-ok, started g m))) ⊎ ((x : ℕ) × (x ≤ 12) × (startOf g m ≡ (a-no x, m))) → n ≤ 12
+    go : ((phase m ≡ idle) × (startOf g m ≡ (a-ok, started g m))) ⊎ (startOf g m ≡ (a-no 11, m)) → n ≡ 11
     go (inl h) = result a-ok n refl (sym (ap (λ y. y .0) (h .1)) ∙ e)
-    go (inr h) = let z : h .0 ≡ n = Option·some-injective (h .0) n (ap refusalIn (sym (ap (λ y. y .0) (h .2)) ∙ e)) in omega (arith, h .1)
+    go (inr h) = Option·some-injective n 11 (ap refusalIn (sym e ∙ ap (λ y. y .0) h))
 
 -- ---- 10: no lower number applies, and there is no segment to take from
 
-other : {A : Type 0} (x y : ℕ) → (x ≡ y → ⊥) → a-no x ≡ a-no y → A
+pub other : {A : Type 0} (x y : ℕ) → (x ≡ y → ⊥) → a-no x ≡ a-no y → A
 other x y f e = absurd (f (Option·some-injective x y (ap refusalIn e)))
 
 pub record Roomless (g : Geometry) (m : Mem) (k d p q : ℕ) : Type 0 where

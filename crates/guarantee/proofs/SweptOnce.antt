@@ -31,7 +31,7 @@ use Rattle.model.specs.Tag as Tag
 
 -- ---- one element of a list, and the others
 
-abbrev IsSweep : ℕ → Element → Type 0
+abbrev pub IsSweep : ℕ → Element → Type 0
 IsSweep s e = (f : ℕ) × (e .event ≡ stepCall (Swept s f))
 
 -- whether an element is a step that answers swept for segment s
@@ -55,11 +55,11 @@ is-sweep s e = go (e .event)
         here (inl q) = inl (f, ap (λ x. stepCall (Swept x f)) q)
         here (inr n) = inr (λ x. let h = x .1 in n cc)
 
-never-none : (s : ℕ) → NeverSwept s []
+pub never-none : (s : ℕ) → NeverSwept s []
 never-none s [] ys e f i p = let y : _≡_ {A = ℕ} 0 1 = cc in omega arith
 never-none s (x ∷ xs) ys e f i p = let y : _≡_ {A = ℕ} 0 1 = cc in omega arith
 
-never-more : (s : ℕ) (e : Element) (ds : List Element) → (IsSweep s e → ⊥) → NeverSwept s ds → NeverSwept s (e ∷ ds)
+pub never-more : (s : ℕ) (e : Element) (ds : List Element) → (IsSweep s e → ⊥) → NeverSwept s ds → NeverSwept s (e ∷ ds)
 never-more s e ds n h [] ys x f i p = let q : e ≡ x = cc in n (f, ap (λ y. y .event) q ∙ p)
 never-more s e ds n h (z ∷ xs) ys x f i p = let q : ds ≡ xs ++ (x ∷ ys) = cc in h xs ys x f q p
 
@@ -79,13 +79,13 @@ module _ (g : Geometry) where
   walk-consistent (e ∷ xs) ys words a c = walk-consistent xs ys (onward words e) (next words e a (c .0) (c .1) (c .2) .0) (c .3)
 
   -- no start that is not refused
-  abbrev NoStart : List Element → Type 0
+  abbrev pub NoStart : List Element → Type 0
   NoStart ds = (xs ys : List Element) (u v : List ℕ) → ds ≡ xs ++ (startElement g u Ok v ∷ ys) → ⊥
 
-  no-start : (words : List ℕ) (e : Element) (ds : List Element) → NoStart (e ∷ ds) → Meets e → (wrongSized e ≡ true) ⊎ Gets g words e → e .event ≡ startCall Ok → ⊥
+  pub no-start : (words : List ℕ) (e : Element) (ds : List Element) → NoStart (e ∷ ds) → Meets e → (wrongSized e ≡ true) ⊎ Gets g words e → e .event ≡ startCall Ok → ⊥
   no-start words e ds n q h i = n [] ds words (e .after) (ap (λ x. x ∷ ds) (is-over g words e (not-refused g words e q (ap eventNumber i) h) ∙ ap (λ v. over g words v (e .after)) i))
 
-  no-later : (e : Element) (ds : List Element) → NoStart (e ∷ ds) → NoStart ds
+  pub no-later : (e : Element) (ds : List Element) → NoStart (e ∷ ds) → NoStart ds
   no-later e ds n xs ys u v i = n (e ∷ xs) ys u v (ap (λ (l : List Element). e ∷ l) i)
 
   module _ (s : ℕ) where

@@ -2,4 +2,5 @@
 pub mod Demand3
 pub mod Elements
 pub mod Keeping
+pub mod EmptyCycle
 pub mod Independent

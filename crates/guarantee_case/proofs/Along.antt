@@ -40,6 +40,13 @@ module _ (g : Geometry) (words : List ℕ) (w : Ghost) (es : List Element) (b : 
         go (inl h) = absurd (f (size-number e (rest .0) h))
         go (inr h) = subst (λ u. Applied g u e) (sym (h .memory)) (applied h)
 
+    pub chain-to : (numberOf e ≡ some 1 → ⊥) → Chain g (e .before) (e ∷ ys)
+    chain-to f = go (rest .2)
+      where
+        go : (wrongSized e ≡ true) ⊎ Gets g (wordsAfter words xs) e → Chain g (e .before) (e ∷ ys)
+        go (inl h) = absurd (f (size-number e (rest .0) h))
+        go (inr h) = subst (λ u. Chain g u (e ∷ ys)) (sym (h .memory)) rest
+
     not-torn : (wrongSized e ≡ true) ⊎ Gets g (wordsAfter words xs) e → numberOf e ≡ some 13 → ⊥
     not-torn (inl h) t = let y : _≡_ {A = ℕ} 1 13 = Option·some-injective 1 13 (sym (size-number e (rest .0) h) ∙ t) in omega arith
     not-torn (inr h) t = never-torn g (wordsAfter words xs) e (applied h) t

@@ -77,12 +77,15 @@ module _ (g : Geometry) where
   wordsAt words [] (suc n) = words
   wordsAt words (r ∷ rs) (suc n) = wordsAt (answered g words r .after) rs n
 
+  does-as : (words : List ℕ) → Sized g (length words) → (m : Mem) → m ≡ memOf g words → (r : Command) → does g m (inputOf r) .1 ≡ memOf g (answered g words r .after)
+  does-as words z m e r = ap (λ x. does g x (inputOf r) .1) e ∙ sym (memory-left g words z r ∙ same-memory (memOf g words) r)
+
   run-elements : (words : List ℕ) → Sized g (length words) → (m : Mem) → m ≡ memOf g words → (rs : List Command) → run g words rs ≡ elementsOf (wordsAt words rs) rs (replies g m (inputsOf rs))
   unfolding replies
   run-elements words z m e [] = refl
   run-elements words z m e (r ∷ rs) = λ i.
       record { geometry = g; before = words; event = (same-event (memOf g words) r ∙ ap (λ x. eventBy (memOf g words) r (does g x (inputOf r) .0)) (sym e)) i; after = answered g words r .after }
-      ∷ run-elements (answered g words r .after) (sized-left g words z r) (does g m (inputOf r) .1) (ap (λ x. does g x (inputOf r) .1) e ∙ sym (memory-left g words z r ∙ same-memory (memOf g words) r)) rs i
+      ∷ run-elements (answered g words r .after) (sized-left g words z r) (does g m (inputOf r) .1) (does-as words z m e r) rs i
 
   -- a case over memory of the right sizes that has its replies
   pub record CaseRun (rs : List Command) (bs : List Reply) : Type 0 where
@@ -91,13 +94,30 @@ module _ (g : Geometry) where
     pub opened : Opened g content (at 0)
     pub chain : Chain g (at 0) (elementsOf at rs bs)
 
-  pub case-run : 1 ≤ g .segments → g .segments ≤ maxSegments → (m : Mem) → Sizes g m → (rs : List Command) (bs : List Reply) → replies g m (input.opening ∷ inputsOf rs) ≡ ok ∷ bs → CaseRun rs bs
+  -- the memory after n commands
+  abbrev pub memoryAt : Mem → List Command → ℕ → Mem
+  memoryAt m rs zero = m
+  memoryAt m [] (suc n) = m
+  memoryAt m (r ∷ rs) (suc n) = memoryAt (does g m (inputOf r) .1) rs n
+
+  memory-at : (words : List ℕ) → Sized g (length words) → (m : Mem) → m ≡ memOf g words → (rs : List Command) (n : ℕ) → memOf g (wordsAt words rs n) ≡ memoryAt m rs n
+  memory-at words z m e rs zero = sym e
+  memory-at words z m e [] (suc n) = sym e
+  memory-at words z m e (r ∷ rs) (suc n) = memory-at (answered g words r .after) (sized-left g words z r) (does g m (inputOf r) .1) (does-as words z m e r) rs n
+
+  -- with the memory at each of its points
+  pub case-known : 1 ≤ g .segments → g .segments ≤ maxSegments → (m : Mem) → Sizes g m → (rs : List Command) (bs : List Reply) → replies g m (input.opening ∷ inputsOf rs) ≡ ok ∷ bs
+      → (p : CaseRun rs bs) × ((n : ℕ) → memOf g (p .at n) ≡ memoryAt (opening.opened g m) rs n)
   unfolding replies
-  case-run l h m z rs bs told =
+  case-known l h m z rs bs told =
       let content = flat m in
       let words = flat (opening.opened g (memOf g content)) in
       let x : Sized g (length content) = record { some = l; few = h; is = length-flat g m z } in
       let own = runs-itself g content rs (right-size g (length content) x) in
       let e : opening.opened g m ≡ memOf g words = ap (opening.opened g) (sym (memOf-flat g m z)) ∙ sym (memOf-flat g (opening.opened g (memOf g content)) (sizes-opened g (memOf g content) (sizes-of g content x))) in
-      let y = run-elements words (opened-point g content words (own .opening) .long) (opening.opened g m) e rs ∙ ap (elementsOf (wordsAt words rs) rs) (ap tail told) in
-      record { content = content; at = wordsAt words rs; opened = own .opening; chain = subst (Chain g words) y (own .chain) }
+      let s = opened-point g content words (own .opening) .long in
+      let y = run-elements words s (opening.opened g m) e rs ∙ ap (elementsOf (wordsAt words rs) rs) (ap tail told) in
+      (record { content = content; at = wordsAt words rs; opened = own .opening; chain = subst (Chain g words) y (own .chain) }, memory-at words s (opening.opened g m) e rs)
+
+  pub case-run : 1 ≤ g .segments → g .segments ≤ maxSegments → (m : Mem) → Sizes g m → (rs : List Command) (bs : List Reply) → replies g m (input.opening ∷ inputsOf rs) ≡ ok ∷ bs → CaseRun rs bs
+  case-run l h m z rs bs told = case-known l h m z rs bs told .0

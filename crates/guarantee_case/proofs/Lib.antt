@@ -5,4 +5,5 @@ pub mod GarbageFound
 pub mod Instance
 pub mod Along
 pub mod Consequences
+pub mod OverNothing
 pub mod SoundOnly

@@ -2,3 +2,4 @@
 pub mod Columns
 pub mod Instance
 pub mod Consequences
+pub mod OverNothing

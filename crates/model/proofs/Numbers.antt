@@ -1,6 +1,6 @@
--- Which numbers a call may give: the lowest of 2 to 9 that applies, 1 and 13, and none that is not of the table. Assumes nothing.
-use mathlib.Core.Path.{_≡_, refl, sym}
-use mathlib.Core.Bool.{Bool, true, false, _&&_, true≢false}
+-- Which numbers a call may give: the lowest of 2 to 9 that applies, 1 and 13, and none that is not of the table, nor 12. Assumes nothing.
+use mathlib.Core.Path.{_≡_, refl, sym, subst}
+use mathlib.Core.Bool.{Bool, true, false, not, _&&_, true≢false}
 use mathlib.Core.Option.{Option, none, some}
 use mathlib.Core.Logic.{_⊎_, inl, inr}
 use mathlib.Core.List.{List, [], _∷_}
@@ -89,43 +89,56 @@ one-of ns n f a = go (a .either)
     go (inl z) = absurd (f z)
     go (inr b) = b
 
--- ---- a number that a call may give is one of the table
+-- ---- a number that a call may give is one of the table, and not 12
 
 abbrev pub OfTable : ℕ → Type 0
 OfTable n = (1 ≤ n) × (n ≤ 13)
 
-abbrev pub allOfTable : List ℕ → Bool
-allOfTable [] = true
-allOfTable (x ∷ xs) = leb 1 x && (leb x 13 && allOfTable xs)
+abbrev pub Given : ℕ → Type 0
+Given n = OfTable n × (n ≡ 12 → ⊥)
 
-pub among-table : (n : ℕ) (xs : List ℕ) → T (allOfTable xs) → among n xs ≡ true → OfTable n
-among-table n [] t e = absurd (true≢false (sym e))
-among-table n (x ∷ xs) t e = go (eqb n x) refl e (among-table n xs (and-right (leb x 13) (allOfTable xs) (and-right (leb 1 x) _ t)))
+abbrev isGiven : ℕ → Bool
+isGiven x = leb 1 x && (leb x 13 && not (eqb x 12))
+
+abbrev pub allGiven : List ℕ → Bool
+allGiven [] = true
+allGiven (x ∷ xs) = isGiven x && allGiven xs
+
+given : (x : ℕ) → T (isGiven x) → Given x
+given x t =
+    let u = and-right (leb 1 x) (leb x 13 && not (eqb x 12)) t in
+    ((leb→le 1 x (and-left (leb 1 x) _ t), leb→le x 13 (and-left (leb x 13) _ u)), λ q. subst (λ y. T (not (eqb y 12))) q (and-right (leb x 13) _ u))
+
+pub among-given : (n : ℕ) (xs : List ℕ) → T (allGiven xs) → among n xs ≡ true → Given n
+among-given n [] t e = absurd (true≢false (sym e))
+among-given n (x ∷ xs) t e = go (eqb n x) refl e (among-given n xs (and-right (isGiven x) (allGiven xs) t))
   where
-    go : (b : Bool) → eqb n x ≡ b → pick b true (among n xs) ≡ true → (among n xs ≡ true → OfTable n) → OfTable n
-    go true q f rest =
-        let i : n ≡ x = eqb-true n x q in
-        let l = leb→le 1 x (and-left (leb 1 x) _ t) in
-        let h = leb→le x 13 (and-left (leb x 13) (allOfTable xs) (and-right (leb 1 x) _ t)) in
-        (omega arith, omega arith)
+    go : (b : Bool) → eqb n x ≡ b → pick b true (among n xs) ≡ true → (among n xs ≡ true → Given n) → Given n
+    go true q f rest = subst Given (sym (eqb-true n x q)) (given x (and-left (isGiven x) (allGiven xs) t))
     go false q f rest = rest f
 
-all-table : (c : Call) → T (allOfTable (mayGive c))
-all-table (c-attach k) = tt
-all-table (c-spawn k p i) = tt
-all-table (c-detach k) = tt
-all-table (c-check k) = tt
-all-table (c-leave k) = tt
-all-table (c-enter k) = tt
-all-table (c-make k d p n) = tt
-all-table (c-load k d i f) = tt
-all-table (c-store k i f j) = tt
-all-table (c-copy k d i) = tt
-all-table (c-clear k d) = tt
-all-table (c-put k i f v) = tt
-all-table (c-get k i f) = tt
-all-table (c-same k i j) = tt
-all-table (c-shape k i) = tt
+pub among-table : (n : ℕ) (xs : List ℕ) → T (allGiven xs) → among n xs ≡ true → OfTable n
+among-table n xs t e = among-given n xs t e .0
+
+all-given : (c : Call) → T (allGiven (mayGive c))
+all-given (c-attach k) = tt
+all-given (c-spawn k p i) = tt
+all-given (c-detach k) = tt
+all-given (c-check k) = tt
+all-given (c-leave k) = tt
+all-given (c-enter k) = tt
+all-given (c-make k d p n) = tt
+all-given (c-load k d i f) = tt
+all-given (c-store k i f j) = tt
+all-given (c-copy k d i) = tt
+all-given (c-clear k d) = tt
+all-given (c-put k i f v) = tt
+all-given (c-get k i f) = tt
+all-given (c-same k i j) = tt
+all-given (c-shape k i) = tt
+
+pub may-given : (n : ℕ) (c : Call) → among n (mayGive c) ≡ true → Given n
+may-given n c e = among-given n (mayGive c) (all-given c) e
 
 pub may-table : (n : ℕ) (c : Call) → among n (mayGive c) ≡ true → OfTable n
-may-table n c e = among-table n (mayGive c) (all-table c) e
+may-table n c e = may-given n c e .0

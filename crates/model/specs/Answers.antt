@@ -148,9 +148,9 @@ mayGive (c-get k i f) = 1 ∷ 2 ∷ 4 ∷ 5 ∷ 6 ∷ 7 ∷ 8 ∷ 13 ∷ []
 mayGive (c-same k i j) = 1 ∷ 2 ∷ 4 ∷ 5 ∷ 6 ∷ 13 ∷ []
 mayGive (c-shape k i) = 1 ∷ 2 ∷ 4 ∷ 5 ∷ 6 ∷ 7 ∷ 13 ∷ []
 
--- "11, not now", "12, none full"
+-- "11, not now". Request No. 1: "Refusal 12 never occurs any more": it stays in the table as a number that no call gives
 abbrev pub startMayGive : List ℕ
-startMayGive = 1 ∷ 11 ∷ 12 ∷ 13 ∷ []
+startMayGive = 1 ∷ 11 ∷ 13 ∷ []
 
 -- "step refuses only with 1 and 13"
 abbrev pub stepMayGive : List ℕ

@@ -1,5 +1,5 @@
 -- The collector's calls: start, and step in each of the five phases. Document 01, "The cycle".
-use mathlib.Core.Bool.{Bool, true, false, _&&_}
+use mathlib.Core.Bool.{Bool, _&&_}
 use mathlib.Core.Option.{Option, none, some}
 use Prim.Native.Nat.{ℕ, zero, suc, _+_, _-_}
 use lib.Dec.{eqb}
@@ -34,11 +34,6 @@ unfoldable pub condemned : Mem → ℕ → Mem
 condemned m zero = m
 condemned m (suc s) = pick (collects m s) (setTag (condemned m s) s Tag.condemned) (condemned m s)
 
--- whether any of the first n segments is full
-unfoldable pub anyFull : Mem → ℕ → Bool
-anyFull m zero = false
-anyFull m (suc s) = pick (isFull m s) true (anyFull m s)
-
 -- the acknowledgements of the first n mutators begin anew
 unfoldable pub acksReset : Mem → ℕ → Mem
 acksReset m zero = m
@@ -50,9 +45,9 @@ marksCleared m = withRegion m Region.marks (replicate (length (m .marks)) 0)
 unfoldable pub started : Geometry → Mem → Mem
 started g m = setPhase (marksCleared (acksReset (condemned m (g .segments)) mutatorCount)) sync1
 
--- "11, not now: start outside idle"; "12, none full: start in idle with no full segment"
+-- "11, not now: start outside idle". Request No. 1: "A start in idle with no full segment now opens a cycle over no segments."
 abbrev pub startIn : Phase → Geometry → Mem → Answer × Mem
-startIn idle g m = pick (anyFull m (g .segments)) (a-ok, started g m) (a-no 12, m)
+startIn idle g m = (a-ok, started g m)
 startIn sync1 g m = (a-no 11, m)
 startIn sync2 g m = (a-no 11, m)
 startIn mark g m = (a-no 11, m)

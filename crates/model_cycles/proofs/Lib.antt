@@ -1,2 +1,3 @@
 -- The cycles hold.
 pub mod Cycles
+pub mod EmptyCycles

@@ -1,2 +1,3 @@
 -- Whole cycles, call by call.
 pub mod Cycles
+pub mod EmptyCycles

@@ -6,7 +6,6 @@ use mathlib.Core.List.{List}
 use Prim.Native.Nat.{ℕ, zero, suc, _-_, _≤_, _<_}
 use native.Mathlib.Omega.{arith}
 use lib.Dec.{eqb}
-use Rattle.rules.specs.Pick.{pick}
 use Rattle.classes.specs.declared.SizeClass.{SizeClass}
 use Rattle.classes.specs.declared.SizeClass.the-variants.{Class, TooBig}
 use Rattle.classes.specs.Record.{ofCounts, classOfRecord}
@@ -24,7 +23,7 @@ use Rattle.model.specs.Segments.{freeStack, partStack, pop, free, inUse}
 use Rattle.model.specs.Records.{record?, value, shapeOf}
 use Rattle.model.specs.Making.{Source, held, part, unused, noRoom, sourceOf, takes, freshened, inBlock, fromSource, made}
 use Rattle.model.specs.Calls.{observe, ofClass, act}
-use Rattle.model.specs.Collector.{anyFull, started, startIn, startOf, moves, traces, lowest, swept, sweeps, waiting, outsideAnswered, stepIn, stepOf}
+use Rattle.model.specs.Collector.{startIn, startOf, moves, traces, lowest, swept, sweeps, waiting, outsideAnswered, stepIn, stepOf}
 use Rattle.model.specs.Consistent.{Consistent, SegmentOk}
 use Rattle.model.specs.Run.{declared, declaredStep}
 use Rattle.theory.proofs.Refusals.{by-ok, root-ok}
@@ -132,12 +131,8 @@ act-answers g m z (c-shape k i) e = shape-answers g m z k i e (record? (root m k
 
 -- ---- start
 
-starts-answers : (t : Bool) (g : Geometry) (m : Mem) → Answers IsOk startMayGive (pick {A = theory.Answer × Mem} t (a-ok, started g m) (a-no 12, m) .0)
-starts-answers true g m = gives _ _ a-ok refl refl refl
-starts-answers false g m = refuses _ _ 12 refl (λ q. omega arith)
-
 start-in : (p : Phase) (g : Geometry) (m : Mem) → Answers IsOk startMayGive (startIn p g m .0)
-start-in idle g m = starts-answers (anyFull m (g .segments)) g m
+start-in idle g m = gives _ _ a-ok refl refl refl
 start-in sync1 g m = refuses _ _ 11 refl (λ q. omega arith)
 start-in sync2 g m = refuses _ _ 11 refl (λ q. omega arith)
 start-in mark g m = refuses _ _ 11 refl (λ q. omega arith)

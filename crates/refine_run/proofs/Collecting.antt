@@ -1,5 +1,4 @@
 -- Start and step keep the lengths of the regions, over memory of any content. Assumes nothing.
-use mathlib.Core.Bool.{Bool, true, false}
 use mathlib.Core.Option.{Option, none, some}
 use Prim.Native.Nat.{ℕ, zero, suc, _-_, _*_}
 use lib.Dec.{eqb}
@@ -9,12 +8,11 @@ use Rattle.layout.specs.Geometry.{mutatorCount, blocksIn, bitmapWords}
 use Rattle.layout.specs.Mem.{Mem, traceWord, Sizes}
 use Rattle.bitmap_write.specs.Ready.{adopted}
 use Rattle.theory.specs.Phases.{Phase, idle, sync1, sync2, mark, sweep}
-use Rattle.theory.specs.Calls.{Answer, a-ok, a-no}
 use Rattle.model.specs.Rules.{phaseNumber}
 use Rattle.model.specs.Fields.{phase, traceCount, outside, state, class}
 use Rattle.model.specs.Segments.{setSegmentState, freeStack, partStack, stacked, above, bitmap, marksOf}
 use Rattle.model.specs.Mutators.{acknowledged}
-use Rattle.model.specs.Collector.{anyFull, started, startIn, startOf, outsideAnswered, waiting, moves, traces, lowest, keptBy, rebuiltBy, swept, sweeps, stepIn, stepOf}
+use Rattle.model.specs.Collector.{startIn, startOf, outsideAnswered, waiting, moves, traces, lowest, keptBy, rebuiltBy, swept, sweeps, stepIn, stepOf}
 use Rattle.laws.proofs.Lengths.{sizes-control, sizes-bitmap, sizes-state}
 use Rattle.laws.proofs.Operations.{sizes-pick, sizes-traced, sizes-acknowledged, sizes-stacked, sizes-started}
 use Rattle.model.specs.declared.SegmentState.the-variants as segment
@@ -22,12 +20,8 @@ use Rattle.model.specs.declared.SegmentState.the-variants as segment
 module _ (g : Geometry) where
   -- ---- start
 
-  either-start : (t : Bool) (m : Mem) → Sizes g m → Sizes g (pick {A = Answer × Mem} t (a-ok, started g m) (a-no 12, m) .1)
-  either-start true m z = sizes-started g m z
-  either-start false m z = z
-
   sizes-startIn : (p : Phase) (m : Mem) → Sizes g m → Sizes g (startIn p g m .1)
-  sizes-startIn idle m z = either-start (anyFull m (g .segments)) m z
+  sizes-startIn idle m z = sizes-started g m z
   sizes-startIn sync1 m z = z
   sizes-startIn sync2 m z = z
   sizes-startIn mark m z = z
@@ -39,7 +33,7 @@ module _ (g : Geometry) where
 
   -- ---- step
 
-  sizes-answered : (m : Mem) → Sizes g m → (n : ℕ) → Sizes g (outsideAnswered g m n)
+  pub sizes-answered : (m : Mem) → Sizes g m → (n : ℕ) → Sizes g (outsideAnswered g m n)
   unfolding outsideAnswered
   sizes-answered m z zero = z
   sizes-answered m z (suc k) =

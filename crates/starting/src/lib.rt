@@ -11,25 +11,9 @@ ghost use Rattle.rules.specs.Pick.{pick};
 ghost use Rattle.layout.specs.Geometry.{Sized, mutatorCount};
 ghost use Rattle.layout.specs.Mem.{memOf};
 ghost use Rattle.model.specs.Fields.{setTag};
-ghost use Rattle.model.specs.Collector.{collects, condemned, anyFull, acksReset, started};
+ghost use Rattle.model.specs.Collector.{collects, condemned, acksReset, started};
 ghost use Rattle.model.specs.Promise.{StartPromise};
 ghost use Rattle.model.specs.Tag as Tag;
-
-// Whether any segment is full.
-fn any_full(g: Geometry, mem: &[u32]) -> bool
-    requires { ⌜ Sized g (length (now mem)) ⌝ }
-    ensures { λ r. ⌜ r ≡ anyFull (memOf g (now (mem .entry))) (g .segments) ⌝ }
-{
-    let n = g.segments;
-    let mut s = 0;
-    while s < n {
-        if segments::tag(g, mem, s) == Segment::TAG_FULL {
-            return true;
-        }
-        s += 1;
-    }
-    false
-}
 
 // Whether a start condemns segment s.
 fn collects(g: Geometry, mem: &[u32], s: usize) -> bool
@@ -85,7 +69,7 @@ fn begin(g: Geometry, mem: &mut [u32])
     mutators::set_phase(g, mem, Phase::SYNC1);
 }
 
-// A cycle begins, unless one runs or no segment is full.
+// A cycle begins, unless one runs; where no segment is full, a cycle over none.
 pub fn start(g: Geometry, mem: &mut [u32]) -> Answer
     ensures { λ r. ⌜ StartPromise g (now (mem .entry)) r (now (mem .exit)) ⌝ }
 {
@@ -96,9 +80,6 @@ pub fn start(g: Geometry, mem: &mut [u32]) -> Answer
     if phase.number != Phase::IDLE {
         return Answer::Refused(11);
     }
-    if any_full(g, mem) {
-        begin(g, mem);
-        return Answer::Ok;
-    }
-    Answer::Refused(12)
+    begin(g, mem);
+    Answer::Ok
 }

@@ -36,18 +36,14 @@ fn live(memory: &[u32], segments: u32) -> Vec<bool> {
     live
 }
 
-fn in_use(memory: &[u32], segments: u32, segment: u32, block: u32, place: u32) -> bool {
-    block < place || layout::block_bit(memory, segments, segment, block)
-}
-
 /// A record for every block in use, those of dead ones without fields. Answers for each word of the heap the record that begins there.
 fn records(memory: &[u32], segments: u32, adopted: &mut Adopted) -> Vec<Reference> {
     let live = live(memory, segments);
     let mut names = vec![0; live.len()];
     for segment in 0..segments {
-        let [state, class, place, _] = layout::segment(memory, segments, segment);
+        let [state, class, ..] = layout::segment(memory, segments, segment);
         let blocks = if state == 0 { 0 } else { layout::blocks(class) };
-        for block in (0..blocks).filter(|&block| in_use(memory, segments, segment, block, place)) {
+        for block in (0..blocks).filter(|&block| layout::in_use(memory, segments, segment, block)) {
             let at = segment as usize * layout::SEGMENT_WORDS + ((block as usize) << class) / 4;
             let header = if live[at] { memory[layout::HEAP + at] } else { 0 };
             let (pointers, values) = (header >> 16, header & 0xffff);

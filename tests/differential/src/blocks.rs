@@ -80,12 +80,10 @@ impl Blocks {
     /// A step answered Swept; `before` is the segment's state before it. Answers how many blocks it had to free.
     pub fn swept(&self, memory: &[u32], segment: u32, before: &[u32], freed: u32) -> Result<u32, String> {
         let blocks = layout::blocks(before[1]);
-        let [state, _, place, _] = layout::segment(memory, self.segments, segment);
         let mut due = 0;
         let mut used = 0;
         for block in 0..blocks {
-            let bit = layout::block_bit(memory, self.segments, segment, block);
-            let in_use = state != 0 && (block < place || bit);
+            let in_use = layout::in_use(memory, self.segments, segment, block);
             let dead = self.dead[segment as usize * PER_SEGMENT + block as usize];
             used += u32::from(in_use);
             due += u32::from(dead);

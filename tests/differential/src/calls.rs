@@ -129,7 +129,7 @@ impl Kind {
             Copy | Clear | Same => &[1, 2, 4, 5, 6, 13],
             Shape => &[1, 2, 4, 5, 6, 7, 13],
             Check | Leave | Enter => &[1, 2, 4, 5, 13],
-            Start => &[1, 11, 12, 13],
+            Start => &[1, 11, 13],
             Step | Phase | States => &[1, 13],
         }
     }

@@ -96,7 +96,7 @@ impl Chooser {
             return Some(self.acknowledging(heap));
         }
         let pace = match phase {
-            IDLE if !full => self.plan.pace.min(10),
+            IDLE if !full => self.plan.pace.min(2),
             SYNC1 | SYNC2 => self.plan.pace.min(60),
             _ => self.plan.pace + hurry,
         };

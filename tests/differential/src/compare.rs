@@ -72,6 +72,7 @@ impl List<'_> {
             let (first, second) = (&first[4 * at..4 * at + 4], &second[4 * at..4 * at + 4]);
             return Err(format!("state of segment {at}: verified {first:?}, independent {second:?}"));
         }
+        self.nothing.looked(&self.states, first)?;
         self.states.copy_from_slice(first);
         Ok(())
     }

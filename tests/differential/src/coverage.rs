@@ -61,6 +61,12 @@ situations! {
     WaitingForOne,
     WaitingForMany,
     CycleOverManySegments,
+    StartOverNothing,
+    WaitingOverNothing,
+    TracedOverNothing,
+    FilledOverNothing,
+    NoRoomOverNothing,
+    DoneOverNothing,
     SweepFreesUnreached,
     ReachedSurvives,
     OpenOverRandom,
@@ -178,8 +184,13 @@ impl Coverage {
 
     pub fn print_cycles(&self) {
         println!(
-            "  {} lists, {} cycles, {} segments swept, {} blocks freed, of them {} unreached when the cycle began",
-            self.lists, self.cycles, self.swept, self.freed, self.unreached
+            "  {} lists, {} cycles, {} of them over nothing, {} segments swept, {} blocks freed, of them {} unreached when the cycle began",
+            self.lists,
+            self.cycles,
+            self.situations[Situation::StartOverNothing as usize],
+            self.swept,
+            self.freed,
+            self.unreached
         );
         println!(
             "  {} looks at the states compared, {} examinations, {} calls watched to change no word",

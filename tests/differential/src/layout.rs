@@ -71,3 +71,9 @@ pub fn block_bit(memory: &[u32], segments: u32, segment: u32, block: u32) -> boo
     let at = regions(segments)[5] + 67 * segment as usize + block as usize / 32;
     memory[at] >> (block % 32) & 1 == 1
 }
+
+/// Whether the block lies before its segment's place or its bit is 1, in a segment that is not free.
+pub fn in_use(memory: &[u32], segments: u32, number: u32, block: u32) -> bool {
+    let [state, _, place, _] = segment(memory, segments, number);
+    state != 0 && (block < place || block_bit(memory, segments, number, block))
+}

@@ -9,6 +9,7 @@ use crate::coverage::{Coverage, Situation};
 use crate::cycle::Cycle;
 use crate::layout;
 use crate::lent::Lent;
+use crate::nothing::OverNothing;
 use crate::recent::Recent;
 use crate::rng::Rng;
 use crate::situations::Facts;
@@ -28,6 +29,7 @@ pub struct List<'a> {
     pub heap: UnboundedHeap,
     pub blocks: Blocks,
     pub cycle: Cycle,
+    pub nothing: OverNothing,
     pub phase: u32,
     /// The segments' states at the last comparison.
     pub states: Vec<u32>,
@@ -38,7 +40,7 @@ pub struct List<'a> {
     pub examine_every: u32,
     /// Calls since the last examination.
     pub unexamined: u32,
-    /// The list may end early, in this phase; in idle, with a full segment.
+    /// The list may end early, in this phase; in idle, with a full segment, else in a cycle that began with one.
     pub until: Option<u32>,
     /// The list goes on from memory that is found: there is no opening, and the independent implementation stands aside.
     pub alone: bool,
@@ -61,6 +63,7 @@ impl<'a> List<'a> {
             heap: UnboundedHeap::new(),
             blocks: Blocks::new(n),
             cycle: Cycle::new(),
+            nothing: OverNothing::default(),
             phase: IDLE,
             states: vec![0; 4 * n as usize],
             shadow: Vec::new(),
@@ -89,7 +92,7 @@ impl<'a> List<'a> {
     }
 
     fn may_end(&self, full: bool) -> bool {
-        self.until == Some(self.phase) && full && 4 * self.calls > self.chooser.plan.calls
+        self.until == Some(self.phase) && full && !self.nothing.runs() && 4 * self.calls > self.chooser.plan.calls
     }
 
     /// Plays the whole list; where something differs, says what and lists the last calls.
@@ -190,6 +193,7 @@ impl<'a> List<'a> {
             self.unchanged(call)?;
         }
         self.refused_rightly(call, answer, &facts)?;
+        self.nothing.note(call, answer, self.coverage);
         if refusal(answer) == 0 {
             facts.note(self.pair.verified.memory.words(), call, answer, self.coverage);
             self.performed(call, answer)?;
@@ -239,21 +243,20 @@ impl<'a> List<'a> {
         Ok(())
     }
 
-    /// Refusals 10 to 12 come exactly when document 01's condition holds, as far as phase and states tell; 13 never.
+    /// Refusals 10 and 11 come exactly when document 01's condition holds, as far as phase and states tell; 13, and any that the header
+    /// does not list for the call, never.
     fn refused_rightly(&mut self, call: &Call, answer: u64, facts: &Facts) -> Result<(), String> {
         let handshake = matches!(self.phase, SYNC1 | SYNC2);
         let right = match (call.kind, refusal(answer)) {
             (_, TORN) => false,
+            (kind, number @ 1..) if !kind.may_refuse().contains(&number) => false,
             (Attach | Spawn | Detach, 0) => !handshake,
             (Attach | Spawn | Detach, NOT_NOW) => handshake,
             (Start, NOT_NOW) => {
                 facts.start_refused(self.coverage);
                 self.phase != IDLE
             }
-            (Start, number) => {
-                let full = self.states.chunks_exact(4).any(|state| state[0] == 3);
-                self.phase == IDLE && full == (number == 0)
-            }
+            (Start, 0) => self.phase == IDLE,
             (Make, NO_ROOM) => {
                 self.compare_states()?;
                 let (m, class) = (call.args[0], layout::class_of(call.args[2] + call.args[3]));
@@ -274,20 +277,25 @@ impl<'a> List<'a> {
             Make => self.made(call),
             Detach => self.compare_states(),
             States => self.same_states(),
-            Start => {
-                self.coverage.cycles += 1;
-                let full = self.states.chunks_exact(4).filter(|state| state[0] == 3).count();
-                if full > 1 {
-                    self.coverage.met(Situation::CycleOverManySegments);
-                }
-                self.blocks.start(&self.states, &mut self.heap);
-                self.cycle.start();
-                self.moved_to(SYNC1)?;
-                self.compare_states()
-            }
+            Start => self.started(),
             Step => self.stepped(answer),
             _ => Ok(()),
         }
+    }
+
+    fn started(&mut self) -> Result<(), String> {
+        self.coverage.cycles += 1;
+        let full = self.states.chunks_exact(4).filter(|state| state[0] == 3).count();
+        match full {
+            0 => self.coverage.met(Situation::StartOverNothing),
+            1 => {}
+            _ => self.coverage.met(Situation::CycleOverManySegments),
+        }
+        self.nothing = OverNothing::begin(self.pair.verified.memory.words(), self.n, full);
+        self.blocks.start(&self.states, &mut self.heap);
+        self.cycle.start();
+        self.moved_to(SYNC1)?;
+        self.compare_states()
     }
 
     fn made(&mut self, call: &Call) -> Result<(), String> {
@@ -298,6 +306,9 @@ impl<'a> List<'a> {
         let segment = self.blocks.put(memory, class, root, self.heap.records.len() as u32)?;
         let state = layout::segment(memory, self.n, segment);
         let at = 4 * segment as usize;
+        if state[0] == 3 && self.nothing.runs() {
+            self.coverage.met(Situation::FilledOverNothing);
+        }
         if state[0] != self.states[at] || state[3] != self.states[at + 3] {
             self.compare_states()?;
         }
@@ -310,11 +321,13 @@ impl<'a> List<'a> {
             let (answer, expected) = (answer_words(Step, answer), answer_words(Step, expected));
             return Err(format!("step: verified {answer}, by document 01 {expected}"));
         }
+        self.nothing.stepped(self.phase, step_kind(answer))?;
         match step_kind(answer) {
             MOVED => self.moved_to(self.phase + 1),
             DONE => {
                 self.moved_to(IDLE)?;
-                self.compare_states()
+                self.compare_states()?;
+                self.nothing.ended(self.pair.verified.memory.words(), self.n)
             }
             SWEPT => {
                 self.swept(step_number(answer), step_freed(answer))?;

@@ -13,6 +13,7 @@ mod interface;
 mod layout;
 mod lent;
 mod list;
+mod nothing;
 mod numbers;
 mod options;
 mod patterns;

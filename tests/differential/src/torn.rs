@@ -160,7 +160,7 @@ impl<'a> Torn<'a> {
             1 => Examine,
             2..=11 => Step,
             12..=17 => Make,
-            18 | 19 => Start,
+            18 | 19 => Check,
             20..=23 => Store,
             _ => self.rng.pick(&ALL_KINDS[1..20]),
         };

@@ -2,7 +2,7 @@
 use mathlib.Core.Path.{sym, _∙_}
 use borrow.Author.Needs.{needs}
 use Rattle.layout.proofs.Regions.{sized}
-use Rattle.starting.proofs.Refusing.{start-1, start-11, start-12, start-ok}
+use Rattle.starting.proofs.Refusing.{start-1, start-11, start-ok}
 use Rattle.starting.proofs.start.Statement.{statement}
 use Rattle.starting.proofs.start.Tie as tie
 
@@ -21,23 +21,14 @@ same-length c = search needs
 returns-2 : tie.Need-returns-2
 returns-2 c = start-11 _ _ (sym (c .before .before .before .before .before .wrong-size .ensures) ∙ c .before .before .before .before .if1 .left) _ (c .before .before .phase .ensures) (c .if2 .taken)
 
-any-full-requires : tie.Need-any-full-requires
-any-full-requires c κs = sized _ _ (sym (c .before .before .before .before .before .before .wrong-size .ensures) ∙ c .before .before .before .before .before .if1 .left)
-
 begin-requires : tie.Need-begin-requires
-begin-requires c κs = sized _ _ (sym (c .before .before .before .before .before .before .before .before .before .wrong-size .ensures) ∙ c .before .before .before .before .before .before .before .before .if1 .left)
+begin-requires c κs = sized _ _ (sym (c .before .before .before .before .before .before .wrong-size .ensures) ∙ c .before .before .before .before .before .if1 .left)
 
 same-length-2 : tie.Need-same-length-2
 same-length-2 c = search needs
 
 returns-3 : tie.Need-returns-3
-returns-3 c = start-ok _ _ (sym (c .before .before .before .before .before .before .before .before .before .before .before .before .wrong-size .ensures) ∙ c .before .before .before .before .before .before .before .before .before .before .before .if1 .left) _ (c .before .before .before .before .before .before .before .before .before .phase .ensures) (c .before .before .before .before .before .before .before .if2 .left) _ (c .before .before .before .before .before .any-full .ensures) (c .before .before .before .before .if3 .taken) _ (c .before .before .begin .ensures)
-
-same-length-3 : tie.Need-same-length-3
-same-length-3 c = search needs
-
-returns-4 : tie.Need-returns-4
-returns-4 c = start-12 _ _ (sym (c .before .before .before .before .before .before .before .before .wrong-size .ensures) ∙ c .before .before .before .before .before .before .before .if1 .left) _ (c .before .before .before .before .before .phase .ensures) (c .before .before .before .if2 .left) _ (c .before .any-full .ensures) (c .if3 .left)
+returns-3 c = start-ok _ _ (sym (c .before .before .before .before .before .before .before .before .before .wrong-size .ensures) ∙ c .before .before .before .before .before .before .before .before .if1 .left) _ (c .before .before .before .before .before .before .phase .ensures) (c .before .before .before .before .if2 .left) _ (c .before .before .begin .ensures)
 
 pub start-spec : {M : Type 1} → statement M
 start-spec =
@@ -48,9 +39,6 @@ start-spec =
     phase-requires
     same-length
     returns-2
-    any-full-requires
     begin-requires
     same-length-2
-    returns-3
-    same-length-3
-    returns-4)
+    returns-3)

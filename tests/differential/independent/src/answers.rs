@@ -2,7 +2,7 @@
 
 use core::num::NonZeroU32;
 
-/// A refusal's number, 1 to 13, by document 01's list.
+/// A refusal's number, 1 to 13, by document 01's list. No call gives 12.
 #[derive(Clone, Copy, Debug, PartialEq, Eq, PartialOrd, Ord)]
 pub struct Refusal(NonZeroU32);
 
@@ -20,7 +20,6 @@ impl Refusal {
     pub const TOO_BIG: Refusal = Refusal::of(9);
     pub const NO_ROOM: Refusal = Refusal::of(10);
     pub const NOT_NOW: Refusal = Refusal::of(11);
-    pub const NONE_FULL: Refusal = Refusal::of(12);
     pub const TORN: Refusal = Refusal::of(13);
 
     const fn of(number: u32) -> Refusal {

@@ -12,7 +12,7 @@ use crate::mutators::{ABSENT, OUTSIDE};
 use crate::segments::{self, fill_up, set_summary, Descriptor};
 
 impl<M: DerefMut<Target = [u32]>> Heap<M> {
-    /// Every full segment is condemned, stacked so that the lowest comes off first; refused 12 where there is none.
+    /// Every full segment, where there is one, is condemned, stacked so that the lowest comes off first.
     fn condemn(&mut self) -> Answer<()> {
         for segment in (0..self.segments).rev() {
             let descriptor = self.descriptor(segment);
@@ -21,10 +21,7 @@ impl<M: DerefMut<Target = [u32]>> Heap<M> {
                 self.push(CONDEMNED_TOP, descriptor)?;
             }
         }
-        match self.word(CONDEMNED_TOP)? {
-            0 => refuse(Refusal::NONE_FULL),
-            _ => Ok(()),
-        }
+        Ok(())
     }
 
     /// A handshake: acknowledges for the mutators outside, and moves on when none inside owes.
@@ -105,7 +102,7 @@ fn set_part(words: &mut Descriptor, summary: u64) {
     words[NEXT] = index * 32 + words[LEVEL0 + index as usize % LEVEL_WORDS].trailing_ones();
 }
 
-/// A cycle begins: every full segment is condemned; refused 11 outside idle, 12 with none full.
+/// A cycle begins: every full segment is condemned, and with none full it is a cycle over nothing; refused 11 outside idle.
 #[inline]
 pub fn start(segments: u32, mem: &mut [u32]) -> Answer<()> {
     let mut heap = Heap::over(segments, mem)?;

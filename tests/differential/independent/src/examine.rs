@@ -142,7 +142,7 @@ impl Examination<'_> {
         for class in classes::LOWEST..=classes::HIGHEST {
             self.stack(part_top(class), PART, Some(class))?;
         }
-        must(!in_handshake(self.phase) && self.phase != MARK || self.word(CONDEMNED_TOP)? != 0)
+        Some(())
     }
 
     /// A stack has each segment of the state, and of the class if one is given, once. The condemned ones lie in order.

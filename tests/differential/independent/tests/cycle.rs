@@ -68,6 +68,43 @@ fn no_mutator_at_all() {
     assert_eq!(world.step(), Ok(Step::Done));
 }
 
+/// With nothing full, a cycle over nothing: each phase has one step.
+#[test]
+fn over_nothing() {
+    let mut world = World::new(2);
+    assert_eq!(world.start(), Ok(()));
+    assert_eq!(world.phase(), SYNC1);
+    for _ in 0..3 {
+        assert_eq!(world.step(), Ok(Step::Moved));
+    }
+    assert_eq!(world.step(), Ok(Step::Done));
+    assert_eq!(world.step(), Ok(Step::Idle));
+}
+
+/// The handshakes wait for the mutator, its record is marked and its segment not swept; what becomes full is for the next cycle.
+#[test]
+fn over_nothing_with_a_mutator() {
+    let mut world = World::new(2);
+    assert_eq!(world.attach(0), Ok(()));
+    assert_eq!(world.make(0, 4, 1, 600), Ok(()));
+    assert_eq!(world.start(), Ok(()));
+    for _ in 0..2 {
+        assert_eq!(world.step(), Ok(Step::Waiting(1)));
+        assert_eq!(world.check(0), Ok(()));
+        assert_eq!(world.step(), Ok(Step::Moved));
+    }
+    assert_eq!(world.trace_all(), 1);
+    for _ in 0..3 {
+        assert_eq!(world.make(0, 5, 1, 600), Ok(()));
+    }
+    assert_eq!(world.step(), Ok(Step::Done));
+    assert_eq!(world.state(0), [FULL, 12, 4, 0]);
+    assert_eq!(world.start(), Ok(()));
+    world.play_to_mark(&[0]);
+    assert_eq!(world.trace_all(), 2);
+    assert_eq!(world.step(), Ok(Step::Swept { segment: 0, freed: 2 }));
+}
+
 /// The collector acknowledges for those outside; one that enters still owes.
 #[test]
 fn outside_mutators() {

@@ -155,14 +155,6 @@ fn not_now() {
     assert_eq!(world.start(), Err(Refusal::NOT_NOW));
 }
 
-#[test]
-fn none_full() {
-    let mut world = world();
-    assert_eq!(world.start(), Err(Refusal::NONE_FULL));
-    assert_eq!(world.make(0, 0, 0, 0), Ok(()));
-    assert_eq!(world.start(), Err(Refusal::NONE_FULL));
-}
-
 /// Memory of any content ends every call; a word that leads out of the memory gives 13.
 #[test]
 fn torn() {
