@@ -1,5 +1,5 @@
--- Which answer a step gives in which phase, where no segment is condemned: from a handshake it moves on when no mutator inside owes, from mark with an
--- empty trace stack. Assumes nothing.
+-- Which answer a step gives in which phase, where no segment is condemned: in a handshake by the mutators inside that owe, in mark by the trace stack.
+-- Assumes nothing.
 use mathlib.Core.Path.{_≡_, refl, sym, _∙_, ap, subst}
 use mathlib.Core.Logic.{_⊎_, inl, inr}
 use mathlib.Core.Bool.{Bool, true, false, _&&_}
@@ -23,6 +23,7 @@ use Rattle.laws.proofs.Bools.{and-not}
 use Rattle.laws.proofs.Acknowledgements.{acknowledged-word}
 use Rattle.words.proofs.Counts.{lt-of}
 use Rattle.refine_run.proofs.Collecting.{sizes-answered}
+use Rattle.same_heap.proofs.Cycle.{leaves-outside}
 use Rattle.same_heap.proofs.Phase.{phase-outside}
 use Rattle.guarantee.specs.EmptyCycle.{StepsIn, waits, empties, ends, rests}
 use Rattle.guarantee.specs.EmptyCycle as cycle
@@ -61,13 +62,26 @@ module _ (g : Geometry) (m : Mem) (z : Sizes g m) where
   abbrev answered : Mem
   answered = outsideAnswered g m mutatorCount
 
+  -- so as many mutators inside owe after them as before
+  term-same : (k : ℕ) → (eqb (state answered k) inside && owes (phase answered) (acks answered k)) ≡ (eqb (state m k) inside && owes (phase m) (acks m k))
+  term-same k = go (eqb (state m k) inside) refl
+    where
+      s : state answered k ≡ state m k
+      s = leaves-outside g m mutatorCount .entries k stateAt (omega arith) (λ e. omega arith)
+
+      go : (b : Bool) → eqb (state m k) inside ≡ b → (eqb (state answered k) inside && owes (phase answered) (acks answered k)) ≡ (eqb (state m k) inside && owes (phase m) (acks m k))
+      go true t =
+          let a : acks answered k ≡ acks m k = inside-word k (eqb-true _ _ t) acksAt (omega arith) mutatorCount (omega arith) in
+          λ j. eqb (s j) inside && owes (phase-outside g m mutatorCount j) (a j)
+      go false t = ap (λ b. b && owes (phase answered) (acks answered k)) (ap (λ x. eqb x inside) s ∙ t) ∙ sym (ap (λ b. b && owes (phase m) (acks m k)) t)
+
+  waiting-same : (n : ℕ) → waiting answered n ≡ waiting m n
+  unfolding waiting
+  waiting-same zero = refl
+  waiting-same (suc k) = λ j. oneIf (term-same k j) + waiting-same k j
+
   nobody-owes : waiting answered mutatorCount ≡ 0 → (k : ℕ) → k < mutatorCount → isInside m k ≡ true → owes (phase m) (acks m k) ≡ false
-  nobody-owes e k l t =
-      let i : state m k ≡ inside = eqb-true _ _ t in
-      let s : state answered k ≡ state m k = inside-word k i stateAt (omega arith) mutatorCount (omega arith) in
-      let a : acks answered k ≡ acks m k = inside-word k i acksAt (omega arith) mutatorCount (omega arith) in
-      let f = and-not (eqb (state answered k) inside) (owes (phase answered) (acks answered k)) (ap (λ x. eqb x inside) s ∙ t) (waiting-none answered mutatorCount e k l) in
-      ap (λ p. owes p (acks m k)) (sym (phase-outside g m mutatorCount)) ∙ ap (owes (phase answered)) (sym a) ∙ f
+  nobody-owes e k l t = and-not (isInside m k) (owes (phase m) (acks m k)) t (waiting-none m mutatorCount (sym (waiting-same mutatorCount) ∙ e) k l)
 
   pub step-fits : lowest m (g .segments) ≡ none → StepsIn m (phase m) (declaredStep (stepOf g m .0))
   unfolding stepOf
@@ -75,11 +89,11 @@ module _ (g : Geometry) (m : Mem) (z : Sizes g m) where
     where
       handshake : (p q : Phase) → phase m ≡ p → inHandshake p ≡ true → (n : ℕ) → waiting answered mutatorCount ≡ n → StepsIn m p (declaredStep (moves n answered q .0))
       handshake p q i t zero e = cycle.moves t (λ k l u. ap (λ x. owes x (acks m k)) (sym i) ∙ nobody-owes e k l u)
-      handshake p q i t (suc n) e = waits t
+      handshake p q i t (suc n) e = waits t (sym e ∙ waiting-same mutatorCount) (λ x. omega arith)
 
       marking : (n : ℕ) → traceCount m ≡ n → StepsIn m mark (declaredStep (traces g n m .0))
       marking zero e = empties e
-      marking (suc n) e = cycle.traces
+      marking (suc n) e = cycle.traces (λ x. omega arith)
 
       go : (p : Phase) → phase m ≡ p → StepsIn m p (declaredStep (stepIn p g m .0))
       go idle i = rests

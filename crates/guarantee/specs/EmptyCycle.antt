@@ -20,7 +20,7 @@ use Rattle.model.specs.declared.Step.the-variants.{Waiting, Moved, Traced, Swep
 use Rattle.model.specs.Answers.{refusalOf}
 use Rattle.model.specs.Fields.{phase, traceCount, acks, class}
 use Rattle.model.specs.Calls.{isInside, exec}
-use Rattle.model.specs.Collector.{collects, started}
+use Rattle.model.specs.Collector.{collects, started, waiting}
 use Rattle.model.specs.Consistent.{Consistent, BlockInUse, isFree}
 use Rattle.model.specs.Promise.{StartPromise}
 use Rattle.model.specs.Lists.{Event, mutatorCall, startCall, stepCall, openingCall, lookCall, Element, startElement, Meets, wrongSized, numberOf, Chain, wordsAfter, remainingCalls, remainingAnswers}
@@ -52,12 +52,12 @@ pub record FreesNothing (g : Geometry) (m m′ : Mem) : Type 0 where
 
 -- ---- "held as usual": which answer a step gives in which phase, and the phase by the answers alone
 
--- a step that is lent memory m: it moves on from a roll call only when no mutator inside owes an answer, and from mark only with an empty trace stack;
--- it is done in sweep alone
+-- a step that is lent memory m: in a roll call it waits for the mutators inside that owe an answer, and says how many, and moves on when none does; in mark
+-- it traces while the trace stack has an entry, and moves on when it has none; it is done in sweep alone
 pub data StepsIn (m : Mem) : Phase → Step → Type 0 where
-  waits : {p : Phase} {n : ℕ} → inHandshake p ≡ true → StepsIn m p (Waiting n)
+  waits : {p : Phase} {n : ℕ} → inHandshake p ≡ true → n ≡ waiting m mutatorCount → (n ≡ 0 → ⊥) → StepsIn m p (Waiting n)
   moves : {p : Phase} → inHandshake p ≡ true → ((k : ℕ) → k < mutatorCount → isInside m k ≡ true → owes p (acks m k) ≡ false) → StepsIn m p Moved
-  traces : StepsIn m mark Traced
+  traces : (traceCount m ≡ 0 → ⊥) → StepsIn m mark Traced
   empties : traceCount m ≡ 0 → StepsIn m mark Moved
   ends : StepsIn m sweep Done
   rests : StepsIn m idle Idle

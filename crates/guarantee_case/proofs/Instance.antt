@@ -41,17 +41,24 @@ isStart (stepCall r) = false
 isStart (openingCall r) = false
 isStart (lookCall l) = false
 
+-- whether a test holds of one of the events
+abbrev pub anyOf : (Event → Bool) → List Element → Bool
+anyOf t [] = false
+anyOf t (e ∷ es) = pick (t (e .event)) true (anyOf t es)
+
+pub has-any : (t : Event → Bool) (xs ys : List Element) (e : Element) → t (e .event) ≡ true → anyOf t (xs ++ (e ∷ ys)) ≡ true
+has-any t [] ys e h = ap (λ b. pick b true (anyOf t ys)) h
+has-any t (x ∷ xs) ys e h = go (t (x .event)) (has-any t xs ys e h)
+  where
+    go : (b : Bool) → anyOf t (xs ++ (e ∷ ys)) ≡ true → pick b true (anyOf t (xs ++ (e ∷ ys))) ≡ true
+    go true q = refl
+    go false q = q
+
 abbrev pub anyStart : List Element → Bool
-anyStart [] = false
-anyStart (e ∷ es) = pick (isStart (e .event)) true (anyStart es)
+anyStart = anyOf isStart
 
 pub has-start : (g : Geometry) (xs ys : List Element) (u v : List ℕ) → anyStart (xs ++ (startElement g u Ok v ∷ ys)) ≡ true
-has-start g [] ys u v = refl
-has-start g (x ∷ xs) ys u v = go (isStart (x .event)) (has-start g xs ys u v)
-  where
-    go : (b : Bool) → anyStart (xs ++ (startElement g u Ok v ∷ ys)) ≡ true → pick b true (anyStart (xs ++ (startElement g u Ok v ∷ ys))) ≡ true
-    go true h = refl
-    go false h = h
+has-start g xs ys u v = has-any isStart xs ys (startElement g u Ok v) refl
 
 -- a check leaves the unbounded heap as it was
 check-heap : (un : Unbounded) (k : ℕ) → uexec un (c-check k) .1 ≡ un

@@ -2,20 +2,20 @@
 -- answers swept before done, and each full segment would have been swept. Assumes nothing.
 use mathlib.Core.Path.{_≡_, refl, sym, _∙_, ap}
 use mathlib.Core.Bool.{Bool, true, false, true≢false}
-use mathlib.Core.List.{List, [], _∷_, _++_, tail}
+use mathlib.Core.List.{List, [], _∷_, tail}
 use Prim.Native.Nat.{ℕ}
 use native.Mathlib.Omega.{arith}
 use lib.ListN.{length, take, drop}
-use Rattle.rules.specs.Pick.{pick}
 use Rattle.layout.specs.declared.Geometry.{Geometry}
 use Rattle.layout.specs.Geometry.{blocksIn}
 use Rattle.layout.specs.Mem.{Mem, memOf}
 use Rattle.layout.proofs.Regions.{right-size}
+use Rattle.theory.specs.Phases.{Phase, mark, inHandshake}
 use Rattle.theory.specs.Calls.{c-attach}
 use Rattle.theory.proofs.Invariant.{none-some}
 use Rattle.model.specs.declared.Answer.the-variants.{Ok, Refused}
 use Rattle.model.specs.declared.Step.{Step}
-use Rattle.model.specs.Fields.{tag, class}
+use Rattle.model.specs.Fields.{traceCount, tag, class}
 use Rattle.model.specs.Segments.{usedBit}
 use Rattle.model.specs.Opening.{opened}
 use Rattle.model.specs.Consistent.{BlockInUse}
@@ -24,14 +24,14 @@ use Rattle.model.specs.Lists.{Event, mutatorCall, startCall, stepCall, openingC
 use Rattle.model.specs.Run.{Command}
 use Rattle.model.proofs.Collecting.{collects-full}
 use Rattle.guarantee.specs.Keeping.{Applied, EndedIn}
-use Rattle.guarantee.specs.EmptyCycle.{OverNothing}
+use Rattle.guarantee.specs.EmptyCycle.{OverNothing, StepsIn, moves, empties}
 use Rattle.guarantee.proofs.Beginning.{opened-point}
 use Rattle.guarantee.proofs.SweptOnce.{swept-once}
 use Rattle.guarantee.proofs.EmptyCycle.{empty-cycle}
 use Rattle.model_cases.specs.Replies.{Reply, replies, inputs, outputs, Holds, geometry, sevens}
 use Rattle.guarantee_case.specs.OverNothing.{overNothing, OfOverNothing}
 use Rattle.guarantee_case.proofs.CaseRun.{commandsIn, elementsOf, CaseRun, memoryAt, case-known}
-use Rattle.guarantee_case.proofs.Instance.{anyStart, has-start, sizes-sevens}
+use Rattle.guarantee_case.proofs.Instance.{anyOf, has-any, anyStart, has-start, sizes-sevens}
 use Rattle.guarantee_case.proofs.Along.{applied-to, chain-to}
 use Rattle.model.specs.declared.Step.the-variants as stepAnswer
 use Rattle.model.specs.Tag as Tag
@@ -64,17 +64,10 @@ sweepsIn (stepCall r) = isSwept r
 sweepsIn (openingCall r) = false
 sweepsIn (lookCall l) = false
 
-abbrev anySweep : List Element → Bool
-anySweep [] = false
-anySweep (e ∷ es) = pick (sweepsIn (e .event)) true (anySweep es)
-
-has-sweep : (g : Geometry) (xs ys : List Element) (u v : List ℕ) (s f : ℕ) → anySweep (xs ++ (stepElement g u (stepAnswer.Swept s f) v ∷ ys)) ≡ true
-has-sweep g [] ys u v s f = refl
-has-sweep g (x ∷ xs) ys u v s f = go (sweepsIn (x .event)) (has-sweep g xs ys u v s f)
-  where
-    go : (b : Bool) → anySweep (xs ++ (stepElement g u (stepAnswer.Swept s f) v ∷ ys)) ≡ true → pick b true (anySweep (xs ++ (stepElement g u (stepAnswer.Swept s f) v ∷ ys))) ≡ true
-    go true h = refl
-    go false h = h
+-- moved in mark: the trace stack is empty
+by-mark : (m : Mem) (p : Phase) → p ≡ mark → StepsIn m p stepAnswer.Moved → traceCount m ≡ 0
+by-mark m p e (moves t f) = absurd (true≢false (sym t ∙ ap inHandshake e))
+by-mark m mark e (empties q) = q
 
 -- ---- the case: its start (5), the attach (7), done (22)
 
@@ -90,6 +83,13 @@ module _ (g : Geometry) (p : CaseRun g asked replied) (used : BlockInUse g (memO
 
   first : Applied g (at 5) begin
   first = applied-to g (at 0) ghostStart elements (byOpening (p .opened)) (p .chain) (take 5 elements) (drop 6 elements) begin refl (λ e. none-some e)
+
+  -- the step that ends the marking (20)
+  abbrev third : Element
+  third = stepElement g (at 20) stepAnswer.Moved (at 21)
+
+  third-applied : Applied g (at 20) third
+  third-applied = applied-to g (at 0) ghostStart elements (byOpening (p .opened)) (p .chain) (take 20 elements) (drop 21 elements) third refl (λ e. none-some e)
 
   abbrev ended : EndedIn g elements
   ended = record {
@@ -108,7 +108,7 @@ module _ (g : Geometry) (p : CaseRun g asked replied) (used : BlockInUse g (memO
   none-full s t =
       let o = opened-point g (p .content) (at 0) (p .opened) in
       let x = swept-once g (at 0) elements (right-size g (length (at 0)) (o .long)) (o .consistent) (p .chain) ended s t in
-      absurd (true≢false (sym (has-sweep g (x .earlier) (x .later) (x .stepBefore) (x .stepAfter) s (x .freed)) ∙ ap anySweep (sym (x .whole))))
+      absurd (true≢false (sym (has-any sweepsIn (x .earlier) (x .later) (stepElement g (x .stepBefore) (stepAnswer.Swept s (x .freed)) (x .stepAfter)) refl) ∙ ap (anyOf sweepsIn) (sym (x .whole))))
 
   over : OverNothing g (at 5) (at 6) (drop 6 elements)
   over = record {
@@ -140,6 +140,13 @@ module _ (g : Geometry) (p : CaseRun g asked replied) (used : BlockInUse g (memO
     starts = refl;
     over = over;
     opens = c .opens .1;
+    toSweep = take 14 (drop 6 elements);
+    fromSweep = drop 21 elements;
+    moveBefore = at 20;
+    moveAfter = at 21;
+    moved = refl;
+    inMark = c .phases (take 14 (drop 6 elements)) (drop 20 elements) refl;
+    emptied = by-mark _ _ (c .phases (take 14 (drop 6 elements)) (drop 20 elements) refl) (c .steps (take 14 (drop 6 elements)) (drop 21 elements) third stepAnswer.Moved refl refl (third-applied .sized));
     toDone = take 16 (drop 6 elements);
     rest = drop 23 elements;
     stepBefore = at 22;
@@ -150,7 +157,7 @@ module _ (g : Geometry) (p : CaseRun g asked replied) (used : BlockInUse g (memO
     used = used;
     kept = c .frees [] (begin ∷ drop 6 elements) [] refl .blocks 0 1 used;
     compared = refl;
-    inCycle = refl;
+    inList = refl;
     inIdle = sym (c .asInIdle);
     early = take 1 (drop 6 elements);
     late = drop 8 elements;

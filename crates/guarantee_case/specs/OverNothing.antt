@@ -1,16 +1,16 @@
--- What the theorem of the cycle over no segments says of a case: one segment, held and not full at the start, after a root of it was cleared. The cycle
--- has a make in each phase, an attach in the first handshake, a make of another class without room, and a get at its end.
+-- What the theorem of the cycle over no segments says of a case: one segment, held and not full at the start, one of its two records dropped. The cycle has
+-- a make in each phase, an attach in the first handshake and a make of another class without room; after it comes a get.
 use mathlib.Core.Path.{_≡_}
 use mathlib.Core.Bool.{true}
 use mathlib.Core.List.{List, [], _∷_, _++_}
 use Prim.Native.Nat.{ℕ}
 use Rattle.layout.specs.declared.Geometry.{Geometry}
 use Rattle.layout.specs.Mem.{memOf}
-use Rattle.theory.specs.Phases.{sweep, inHandshake}
+use Rattle.theory.specs.Phases.{mark, sweep, inHandshake}
 use Rattle.theory.specs.Calls.{c-attach, c-check, c-clear, c-make, c-store, c-put, c-get, a-ok, a-num, a-no}
 use Rattle.model.specs.declared.Answer.the-variants.{Ok, Refused}
 use Rattle.model.specs.declared.Step.the-variants.{Waiting, Moved, Traced, Done, Idle}
-use Rattle.model.specs.Fields.{phase}
+use Rattle.model.specs.Fields.{phase, traceCount}
 use Rattle.model.specs.Collector.{started}
 use Rattle.model.specs.Consistent.{BlockInUse}
 use Rattle.model.specs.Lists.{Element, callElement, startElement, stepElement, Chain, wordsAfter, Opened, remainingCalls, remainingAnswers}
@@ -67,7 +67,14 @@ pub record OfOverNothing : Type 0 where
   pub starts : calls ≡ before ++ (startElement geometry startBefore Ok startAfter ∷ during)
   pub over : OverNothing geometry startBefore startAfter during
   pub opens : memOf geometry startAfter ≡ started geometry (memOf geometry startBefore)
-  -- the cycle comes from phase to phase to its done, without a sweep
+  -- the marking ends with an empty trace stack; the cycle comes to its done in sweep, and no segment is swept
+  pub toSweep : List Element
+  pub fromSweep : List Element
+  pub moveBefore : List ℕ
+  pub moveAfter : List ℕ
+  pub moved : during ≡ toSweep ++ (stepElement geometry moveBefore Moved moveAfter ∷ fromSweep)
+  pub inMark : phase (memOf geometry (wordsAfter startAfter toSweep)) ≡ mark
+  pub emptied : traceCount (memOf geometry (wordsAfter startAfter toSweep)) ≡ 0
   pub toDone : List Element
   pub rest : List Element
   pub stepBefore : List ℕ
@@ -78,10 +85,10 @@ pub record OfOverNothing : Type 0 where
   -- block 1, whose record the cleared root named, is in use before the start, and still at the end
   pub used : BlockInUse geometry (memOf geometry startBefore) 0 1
   pub kept : BlockInUse geometry (memOf geometry (wordsAfter startBefore (startElement geometry startBefore Ok startAfter ∷ during))) 0 1
-  -- the calls that are compared, and what they are answered, in the cycle and by the heap before the start, in idle: the make without room too
+  -- the calls that are compared, and what they are answered, after the start and by the heap before it, in idle: the make without room too
   pub compared : remainingCalls leftOut during
       ≡ c-make 0 1 1 510 ∷ c-check 0 ∷ c-make 0 2 1 510 ∷ c-store 0 0 0 1 ∷ c-check 0 ∷ c-make 0 3 1 510 ∷ c-make 0 4 0 0 ∷ c-make 0 5 1 510 ∷ c-get 0 0 0 ∷ []
-  pub inCycle : remainingAnswers leftOut during ≡ a-ok ∷ a-ok ∷ a-ok ∷ a-ok ∷ a-ok ∷ a-ok ∷ a-no 10 ∷ a-ok ∷ a-num 77 ∷ []
+  pub inList : remainingAnswers leftOut during ≡ a-ok ∷ a-ok ∷ a-ok ∷ a-ok ∷ a-ok ∷ a-ok ∷ a-no 10 ∷ a-ok ∷ a-num 77 ∷ []
   pub inIdle : heapAnswers geometry (memOf geometry startBefore) (remainingCalls leftOut during) ≡ a-ok ∷ a-ok ∷ a-ok ∷ a-ok ∷ a-ok ∷ a-ok ∷ a-no 10 ∷ a-ok ∷ a-num 77 ∷ []
   -- the attach was refused 11 in a handshake
   pub early : List Element

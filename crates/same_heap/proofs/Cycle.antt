@@ -45,7 +45,7 @@ leaves-started g m h =
 -- ---- step
 
 module _ (g : Geometry) (m : Mem) where
-  leaves-outside : (n : ℕ) → SameHeap m (outsideAnswered g m n)
+  pub leaves-outside : (n : ℕ) → SameHeap m (outsideAnswered g m n)
   unfolding outsideAnswered
   leaves-outside zero = same-self m
   leaves-outside (suc k) = go (eqb (state m k) outside) (leaves-outside k)
