@@ -39,16 +39,17 @@ pub enum ClassShape {
     NoClass,
 }
 
-// The class of a record, indexed by its number of fields.
-const CLASSES: [u32; 1024] = [
+// The class of a record, indexed by its number of fields: a byte, widened where it is read. Beside each class's last entry stands
+// the number of fields that it is for.
+const CLASSES: [u8; 1024] = [
     3,
-    3,
+    3, // 1 field
     4,
-    4,
+    4, // 3 fields
     5,
     5,
     5,
-    5,
+    5, // 7 fields
     6,
     6,
     6,
@@ -56,7 +57,7 @@ const CLASSES: [u32; 1024] = [
     6,
     6,
     6,
-    6,
+    6, // 15 fields
     7,
     7,
     7,
@@ -72,7 +73,7 @@ const CLASSES: [u32; 1024] = [
     7,
     7,
     7,
-    7,
+    7, // 31 fields
     8,
     8,
     8,
@@ -104,7 +105,7 @@ const CLASSES: [u32; 1024] = [
     8,
     8,
     8,
-    8,
+    8, // 63 fields
     9,
     9,
     9,
@@ -168,8 +169,7 @@ const CLASSES: [u32; 1024] = [
     9,
     9,
     9,
-    9,
-    10,
+    9, // 127 fields
     10,
     10,
     10,
@@ -297,6 +297,7 @@ const CLASSES: [u32; 1024] = [
     10,
     10,
     10,
+    10, // 255 fields
     11,
     11,
     11,
@@ -552,8 +553,7 @@ const CLASSES: [u32; 1024] = [
     11,
     11,
     11,
-    11,
-    12,
+    11, // 511 fields
     12,
     12,
     12,
@@ -1065,72 +1065,73 @@ const CLASSES: [u32; 1024] = [
     12,
     12,
     12,
+    12, // 1,023 fields
 ];
 
-// The table's first entries by name. A read at an index that is no literal copies the whole table to the stack; these fold.
-const CLASS_0: u32 = CLASSES[0];
+// The table's first entries by name, widened. A read at an index that is no literal copies the whole table to the stack; these fold.
+const CLASS_0: u32 = CLASSES[0] as u32;
 
-const CLASS_1: u32 = CLASSES[1];
+const CLASS_1: u32 = CLASSES[1] as u32;
 
-const CLASS_2: u32 = CLASSES[2];
+const CLASS_2: u32 = CLASSES[2] as u32;
 
-const CLASS_3: u32 = CLASSES[3];
+const CLASS_3: u32 = CLASSES[3] as u32;
 
-const CLASS_4: u32 = CLASSES[4];
+const CLASS_4: u32 = CLASSES[4] as u32;
 
-const CLASS_5: u32 = CLASSES[5];
+const CLASS_5: u32 = CLASSES[5] as u32;
 
-const CLASS_6: u32 = CLASSES[6];
+const CLASS_6: u32 = CLASSES[6] as u32;
 
-const CLASS_7: u32 = CLASSES[7];
+const CLASS_7: u32 = CLASSES[7] as u32;
 
-const CLASS_8: u32 = CLASSES[8];
+const CLASS_8: u32 = CLASSES[8] as u32;
 
-const CLASS_9: u32 = CLASSES[9];
+const CLASS_9: u32 = CLASSES[9] as u32;
 
-const CLASS_10: u32 = CLASSES[10];
+const CLASS_10: u32 = CLASSES[10] as u32;
 
-const CLASS_11: u32 = CLASSES[11];
+const CLASS_11: u32 = CLASSES[11] as u32;
 
-const CLASS_12: u32 = CLASSES[12];
+const CLASS_12: u32 = CLASSES[12] as u32;
 
-const CLASS_13: u32 = CLASSES[13];
+const CLASS_13: u32 = CLASSES[13] as u32;
 
-const CLASS_14: u32 = CLASSES[14];
+const CLASS_14: u32 = CLASSES[14] as u32;
 
-const CLASS_15: u32 = CLASSES[15];
+const CLASS_15: u32 = CLASSES[15] as u32;
 
-const CLASS_16: u32 = CLASSES[16];
+const CLASS_16: u32 = CLASSES[16] as u32;
 
-const CLASS_17: u32 = CLASSES[17];
+const CLASS_17: u32 = CLASSES[17] as u32;
 
-const CLASS_18: u32 = CLASSES[18];
+const CLASS_18: u32 = CLASSES[18] as u32;
 
-const CLASS_19: u32 = CLASSES[19];
+const CLASS_19: u32 = CLASSES[19] as u32;
 
-const CLASS_20: u32 = CLASSES[20];
+const CLASS_20: u32 = CLASSES[20] as u32;
 
-const CLASS_21: u32 = CLASSES[21];
+const CLASS_21: u32 = CLASSES[21] as u32;
 
-const CLASS_22: u32 = CLASSES[22];
+const CLASS_22: u32 = CLASSES[22] as u32;
 
-const CLASS_23: u32 = CLASSES[23];
+const CLASS_23: u32 = CLASSES[23] as u32;
 
-const CLASS_24: u32 = CLASSES[24];
+const CLASS_24: u32 = CLASSES[24] as u32;
 
-const CLASS_25: u32 = CLASSES[25];
+const CLASS_25: u32 = CLASSES[25] as u32;
 
-const CLASS_26: u32 = CLASSES[26];
+const CLASS_26: u32 = CLASSES[26] as u32;
 
-const CLASS_27: u32 = CLASSES[27];
+const CLASS_27: u32 = CLASSES[27] as u32;
 
-const CLASS_28: u32 = CLASSES[28];
+const CLASS_28: u32 = CLASSES[28] as u32;
 
-const CLASS_29: u32 = CLASSES[29];
+const CLASS_29: u32 = CLASSES[29] as u32;
 
-const CLASS_30: u32 = CLASSES[30];
+const CLASS_30: u32 = CLASSES[30] as u32;
 
-const CLASS_31: u32 = CLASSES[31];
+const CLASS_31: u32 = CLASSES[31] as u32;
 
 // The shape of a class, indexed by the class less 3.
 const SHAPES: [SegmentShape; 10] = [
@@ -1230,7 +1231,7 @@ fn class_of_many(fields: u32) -> SizeClass
 {
     if fields < 1024 {
         let i = fields as usize;
-        let class = CLASSES[i];
+        let class = CLASSES[i] as u32;
         SizeClass::Class(class)
     } else {
         SizeClass::TooBig
