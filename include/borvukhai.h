@@ -75,11 +75,11 @@ enum {
 /* ---- lengths, in words */
 
 /* As constants, for arrays, of a count that is 1 to 256. */
-#define BORVUKHAI_LENGTH(segments) (6354u * (segments) + 1037u)
+#define BORVUKHAI_LENGTH(segments) (6290u * (segments) + 1051u)
 #define BORVUKHAI_STATES_LENGTH(segments) (4u * (segments))
 #define BORVUKHAI_SCRATCH_LENGTH(segments) (2176u * (segments))
 
-/* As functions, which answer 0 for a count that is not 1 to 256. The slice that every call is lent: 6354 n + 1037 words for n segments. */
+/* As functions, which answer 0 for a count that is not 1 to 256. The slice that every call is lent: 6290 n + 1051 words for n segments. */
 size_t borvukhai_length(uint32_t segments);
 /* The output of borvukhai_states: 4 n words. */
 size_t borvukhai_states_length(uint32_t segments);

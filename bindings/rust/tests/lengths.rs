@@ -18,7 +18,7 @@ fn every_count_as_the_library_has_it() {
 fn the_formulas() {
     for n in 1..=256 {
         let count = n as u32;
-        assert_eq!(lengths_of(count), [6354 * n + 1037, 4 * n, 2176 * n]);
+        assert_eq!(lengths_of(count), [6290 * n + 1051, 4 * n, 2176 * n]);
         assert_eq!(Segments::try_from(count).map(u32::from), Ok(count));
     }
 }

@@ -5,5 +5,7 @@ pub mod Summed
 pub mod Rebuilt
 pub mod Ready
 pub mod Copied
+pub mod Gathered
+pub mod Unset
 pub mod Local
 pub mod Fresh

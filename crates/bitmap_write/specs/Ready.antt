@@ -1,13 +1,14 @@
 -- A level 0 made a tree: of free blocks, or of given marks. Document 01: of a free segment that is taken, "whose blocks' bits
 -- are all 0"; of a sweep, "its level 0 becomes the marks, upper levels rebuilt"; "Bits past a level's end are 1."
 use mathlib.Core.List.{List, _++_}
-use Prim.Native.Nat.{ℕ, _-_, _/_, _%_, _^_}
+use Prim.Native.Nat.{ℕ, _-_, _*_, _/_, _%_, _^_}
 use lib.Bits.{bitOr}
-use lib.Dec.{eqb}
+use lib.Dec.{eqb, ltb}
 use lib.ListN.{getD, set, take, drop, replicate}
 use Rattle.rules.specs.Pick.{pick}
 use Rattle.words.specs.Levels.{wordsFor}
-use Rattle.bitmap_write.specs.Rebuild.{rebuilt}
+use Rattle.words.specs.Bits.{bitAt}
+use Rattle.bitmap_write.specs.Rebuild.{packed, rebuilt}
 
 -- the bits past the end of a level of n bits are 1: those of its last word from bit n % 32 on, if it is not whole
 unfoldable pub padded : ℕ → List ℕ → List ℕ
@@ -24,6 +25,13 @@ cleared m ws = replicate m 0 ++ drop m ws
 -- the first m words are those of another list
 unfoldable pub copied : ℕ → List ℕ → List ℕ → List ℕ
 copied m vs ws = take m vs ++ drop m ws
+
+-- every step-th bit of a list of words, n of them; past them 0
+unfoldable pub gatheredBit : List ℕ → ℕ → ℕ → ℕ → ℕ
+gatheredBit ws step n b = pick (ltb b n) (bitAt ws (b * step)) 0
+
+abbrev pub gathered : List ℕ → ℕ → ℕ → List ℕ
+gathered ws step n = packed (gatheredBit ws step n) (wordsFor n) 0
 
 -- a tree of n bits that are all 0
 unfoldable pub fresh : ℕ → ℕ → List ℕ → List ℕ

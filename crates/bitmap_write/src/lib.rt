@@ -3,11 +3,14 @@
 use words::ones_from;
 use words::words_for;
 ghost use mathlib.Core.Path.{_≡_};
-ghost use Prim.Native.Nat.{_+_, _*_, _≤_, _<_};
+ghost use mathlib.Core.Logic.{_⊎_};
+ghost use mathlib.Core.Bool.{true};
+ghost use Prim.Native.Nat.{ℕ, _+_, _-_, _*_, _^_, _≤_, _<_};
 ghost use lib.ListN.{length, drop};
+ghost use Rattle.words.specs.Bits.{bitAt};
 ghost use Rattle.words.specs.Levels.{wordsFor, treeWords};
 ghost use Rattle.bitmap_write.specs.Rebuild.{fullBit, wordFrom, summed, rebuilt};
-ghost use Rattle.bitmap_write.specs.Ready.{padded, cleared, copied, completed, fresh, adopted};
+ghost use Rattle.bitmap_write.specs.Ready.{padded, cleared, copied, completed, fresh, gatheredBit, gathered, adopted};
 
 // Bit k of the level above the first m words, one of which word k is.
 fn full_bit(s: &[u32], m: u32, k: u32) -> u32
@@ -18,14 +21,11 @@ fn full_bit(s: &[u32], m: u32, k: u32) -> u32
     if s[i] == 4294967295 { 1 } else { 0 }
 }
 
-// Word j of the level above the first m words: all ones, less a bit for each word that there is and is not full.
-fn full_word(s: &[u32], m: u32, j: u32) -> u32
-    requires { ⌜ (m ≤ length (now s)) × (j < wordsFor m) ⌝ }
-    ensures { λ r. ⌜ r ≡ wordFrom (fullBit (now (s .entry)) m) 32 (j * 32) ⌝ }
+// The word from bit `from` on of the level above the first m words, of which it has `count`: all ones, less a bit for each that is not full.
+fn counted_word(s: &[u32], m: u32, from: u32, count: u32) -> u32
+    requires { ⌜ (m ≤ length (now s)) × (count ≤ 32) × (from + count ≤ m) × ((from + count ≡ m) ⊎ (from + 32 ≤ from + count)) ⌝ }
+    ensures { λ r. ⌜ r ≡ wordFrom (fullBit (now (s .entry)) m) 32 from ⌝ }
 {
-    let from = j * 32;
-    let most = m - from;
-    let count = if most < 32 { most } else { 32 };
     let mut w: u32 = 4294967295;
     let mut i: u32 = 0;
     while i < count {
@@ -35,6 +35,19 @@ fn full_word(s: &[u32], m: u32, j: u32) -> u32
         i += 1;
     }
     w
+}
+
+// Word j of the level above the first m words. Where it has all 32 of them the loop's count is a constant, so that it is unrolled.
+fn full_word(s: &[u32], m: u32, j: u32) -> u32
+    requires { ⌜ (m ≤ length (now s)) × (j < wordsFor m) ⌝ }
+    ensures { λ r. ⌜ r ≡ wordFrom (fullBit (now (s .entry)) m) 32 (j * 32) ⌝ }
+{
+    let from = j * 32;
+    let most = m - from;
+    if most < 32 {
+        return counted_word(s, m, from, most);
+    }
+    counted_word(s, m, from, 32)
 }
 
 // The level above the first m words, written behind them.
@@ -102,21 +115,6 @@ pub fn clear_words(s: &mut [u32], m: u32)
     }
 }
 
-// The m words from an index on become the first m words too.
-fn copy_words(s: &mut [u32], from: usize, m: u32)
-    requires { ⌜ (m ≤ from) × (from + m ≤ length (now s)) ⌝ }
-    ensures { λ _. ⌜ now (s .exit) ≡ copied m (drop from (now (s .entry))) (now (s .entry)) ⌝ }
-{
-    let n = m as usize;
-    let mut i: usize = 0;
-    while i < n {
-        let k = from + i;
-        let w = s[k];
-        s[i] = w;
-        i += 1;
-    }
-}
-
 // A tree of n free blocks: every level cleared, and its bits past the end set.
 pub fn make_fresh(s: &mut [u32], n: u32, above: u32)
     requires { ⌜ treeWords above n ≤ length (now s) ⌝ }
@@ -131,12 +129,71 @@ pub fn make_fresh(s: &mut [u32], n: u32, above: u32)
     }
 }
 
-// A tree whose level 0 is the n mark bits that stand in the same slice behind the tree, from a word of it on.
-pub fn adopt(s: &mut [u32], marks_at: usize, n: u32, above: u32)
-    requires { ⌜ (treeWords above n ≤ «marks_at») × («marks_at» + wordsFor n ≤ length (now s)) ⌝ }
-    ensures { λ _. ⌜ now (s .exit) ≡ adopted above n (drop «marks_at» (now (s .entry))) (now (s .entry)) ⌝ }
+// Word j of n bits: every step-th bit from a word on.
+fn gathered_word(s: &[u32], from: usize, n: u32, step: u32, j: u32) -> u32
+    requires { ⌜ (j < wordsFor n) × (from ≤ length (now s)) × (n * step ≤ (length (now s) - from) * 32) × (n * step ≤ 2 ^ 20) × (1 ≤ step) ⌝ }
+    ensures { λ r. ⌜ r ≡ wordFrom (gatheredBit (drop from (now (s .entry))) step n) 32 (j * 32) ⌝ }
+{
+    let first = j * 32;
+    let most = n - first;
+    let count = if most < 32 { most } else { 32 };
+    let mut w: u32 = 0;
+    let mut i: u32 = 0;
+    while i < count {
+        let k = (first + i) * step;
+        if words::bit_at(&s[from..], k) == 1 {
+            w += 1u32 << i;
+        }
+        i += 1;
+    }
+    w
+}
+
+// The n bits that stand from a word on, one for each step bits, side by side from the first word on.
+fn gather(s: &mut [u32], from: usize, n: u32, step: u32)
+    requires { ⌜ (wordsFor n ≤ from) × (from ≤ length (now s)) × (n * step ≤ (length (now s) - from) * 32) × (n * step ≤ 2 ^ 20) × (1 ≤ step) ⌝ }
+    ensures { λ _. ⌜ now (s .exit) ≡ copied (wordsFor n) (gathered (drop from (now (s .entry))) step n) (now (s .entry)) ⌝ }
 {
     let words = words_for(n);
-    copy_words(s, marks_at, words);
+    let mut j: u32 = 0;
+    while j < words {
+        let w = gathered_word(&s[..], from, n, step, j);
+        let i = j as usize;
+        s[i] = w;
+        j += 1;
+    }
+}
+
+// Whether none of the bits is 1. The loop has no branch, so that it goes by more than one word at a time.
+pub fn none_set(s: &[u32]) -> bool
+    ensures { λ r. ⌜ (r ≡ true → (k : ℕ) → bitAt (now (s .entry)) k ≡ 0) ⌝ }
+{
+    let mut any: u32 = 0;
+    let mut i = 0;
+    while i < s.len() {
+        any |= s[i];
+        i += 1;
+    }
+    any == 0
+}
+
+// The same, where often none of them is 1: then no bit is looked at by itself.
+fn gather_some(s: &mut [u32], from: usize, n: u32, step: u32)
+    requires { ⌜ (wordsFor n ≤ from) × (from ≤ length (now s)) × (n * step ≤ (length (now s) - from) * 32) × (n * step ≤ 2 ^ 20) × (1 ≤ step) ⌝ }
+    ensures { λ _. ⌜ now (s .exit) ≡ copied (wordsFor n) (gathered (drop from (now (s .entry))) step n) (now (s .entry)) ⌝ }
+{
+    if none_set(&s[from..]) {
+        clear_words(s, words_for(n));
+    } else {
+        gather(s, from, n, step);
+    }
+}
+
+// A tree whose level 0 is the n mark bits that stand in the same slice behind the tree, from a word of it on, one for each step bits.
+pub fn adopt(s: &mut [u32], marks_at: usize, n: u32, step: u32, above: u32)
+    requires { ⌜ (treeWords above n ≤ «marks_at») × («marks_at» ≤ length (now s)) × (n * step ≤ (length (now s) - «marks_at») * 32) × (n * step ≤ 2 ^ 20) × (1 ≤ step) ⌝ }
+    ensures { λ _. ⌜ now (s .exit) ≡ adopted above n (gathered (drop «marks_at» (now (s .entry))) step n) (now (s .entry)) ⌝ }
+{
+    gather_some(s, marks_at, n, step);
     complete(s, n, above);
 }

@@ -7,11 +7,11 @@ use Rattle.bitmap_write.specs.Ready.{adopted}
 use Rattle.layout.specs.declared.Geometry.{Geometry}
 use Rattle.layout.specs.Geometry.{blocksIn}
 use Rattle.layout.specs.Mem.{Mem}
-use Rattle.model.specs.Segments.{above, bitmap, setBitmap, marksOf}
+use Rattle.model.specs.Segments.{above, bitmap, setBitmap, marksIn}
 
 -- "its level 0 becomes the marks, upper levels rebuilt": `rebuiltBy` is that of the segment's class
 abbrev pub adoptedAs : Geometry → Mem → ℕ → ℕ → Mem
-adoptedAs g m s c = setBitmap g m s (adopted (above g c) (blocksIn g c) (marksOf g m s) (bitmap g m s))
+adoptedAs g m s c = setBitmap g m s (adopted (above g c) (blocksIn g c) (marksIn g m s c) (bitmap g m s))
 
 -- "A block is in use when it lies before the place or its bit is 1.": `usedBit` is that of the bitmap's bits and the segment's place
 abbrev pub usedBits : (ℕ → ℕ) → ℕ → ℕ → ℕ

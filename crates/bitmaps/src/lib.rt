@@ -13,7 +13,7 @@ ghost use Rattle.bitmap_search.specs.Twice.{TwoPromise};
 ghost use Rattle.layout.specs.Geometry.{Sized, blocksIn};
 ghost use Rattle.layout.specs.Mem.{memOf};
 ghost use Rattle.model.specs.Making.{freshened};
-ghost use Rattle.model.specs.Segments.{above, bitmap, marksOf};
+ghost use Rattle.model.specs.Segments.{above, bitmap};
 ghost use Rattle.bitmaps.specs.Given.{adoptedAs, usedBits};
 
 // Segment s gets a tree of free blocks of a class.
@@ -71,10 +71,17 @@ pub fn adopt(g: Geometry, mem: &mut [u32], s: usize, class: u32)
     ensures { λ _. ⌜ memOf g (now (mem .exit)) ≡ adoptedAs g (memOf g (now (mem .entry))) s class ⌝ }
 {
     let shape = layout::shape_in(g, class);
+    let step = layout::mark_bit(classes::block_words(class)) as u32;
     let a = layout::bitmap_from(g, s);
     let marks = layout::marks_from(g, s);
     let b = layout::marks_from(g, s + 1);
-    bitmap_write::adopt(&mut mem[a..b], marks - a, shape.blocks, shape.levels - 1);
+    bitmap_write::adopt(
+        &mut mem[a..b],
+        marks - a,
+        shape.blocks,
+        step,
+        shape.levels - 1,
+    );
 }
 
 // How many of the first n bits are 1, where those before a place count as 1.
@@ -102,14 +109,25 @@ pub fn in_use(g: Geometry, mem: &[u32], s: usize, class: u32, place: u32) -> u32
     used_among(&mem[a..b], blocks, place)
 }
 
-// How many blocks of segment s are marked.
+// How many of the first n bits are 1; often none of them is.
+fn marked_among(s: &[u32], n: u32) -> u32
+    requires { ⌜ wordsFor n ≤ length (now s) ⌝ }
+    ensures { λ r. ⌜ r ≡ onesAmong (bitAt (now (s .entry))) n ⌝ }
+{
+    if bitmap_write::none_set(s) {
+        return 0;
+    }
+    words::ones_among(s, n)
+}
+
+// How many blocks of segment s have their bit.
 pub fn kept(g: Geometry, mem: &[u32], s: usize, class: u32) -> u32
     requires { ⌜ (Sized g (length (now mem))) × (s < g .segments) ⌝ }
     requires { ⌜ IsClass class ⌝ }
-    ensures { λ r. ⌜ r ≡ onesAmong (bitAt (marksOf g (memOf g (now (mem .entry))) s)) (blocksIn g class) ⌝ }
+    ensures { λ r. ⌜ r ≡ onesAmong (bitAt (bitmap g (memOf g (now (mem .entry))) s)) (blocksIn g class) ⌝ }
 {
     let blocks = layout::blocks_in(g, class);
-    let a = layout::marks_from(g, s);
-    let b = layout::marks_from(g, s + 1);
-    words::ones_among(&mem[a..b], blocks)
+    let a = layout::bitmap_from(g, s);
+    let b = layout::bitmap_from(g, s + 1);
+    marked_among(&mem[a..b], blocks)
 }

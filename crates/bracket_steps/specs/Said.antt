@@ -40,7 +40,7 @@ heap n = record { segments = n }
 
 -- the lent words are as many as two segments need (proofs/Carrying.antt)
 abbrev pub roomWords : ℕ
-roomWords = 13745
+roomWords = 13631
 
 -- the memory of a heap among the lent words, and the words with another memory in its place
 abbrev pub memoryIn : Geometry → List ℕ → Mem

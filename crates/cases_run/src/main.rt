@@ -123,7 +123,7 @@ fn adopt(s: &mut [u32], class: u32)
     requires { ⌜ longestOf segmentSize + longestOf segmentSize ≤ length (now s) ⌝ }
 {
     let space = space_of(class);
-    bitmap_write::adopt(s, MARKS as usize, space.blocks, space.above);
+    bitmap_write::adopt(s, MARKS as usize, space.blocks, 1, space.above);
 }
 
 // The class of the smallest and the largest record of each class, and none past the last.

@@ -119,7 +119,7 @@ fn hold(mem: &mut [u32]) {
     make(mem, 5, 1, 1);
 }
 
-// Where the regions of a heap of two segments begin: mutators 2, heap 1026, segments 9218, stacks 9226, bitmaps 9259, marks 9393, queued 9521, trace 9649.
+// Where the regions of a heap of two segments begin: mutators 16, heap 1040, segments 9232, stacks 9240, bitmaps 9273, marks 9407, trace 9535.
 
 // The phase, and the bitmap trees.
 fn tree_cases(mem: &mut [u32], scratch: &mut [u32]) {
@@ -128,14 +128,14 @@ fn tree_cases(mem: &mut [u32], scratch: &mut [u32]) {
     broken(
         mem,
         scratch,
-        9259,
+        9273,
         4294967294,
         b"a full segment's bit, which binds nothing but its tree",
     );
     broken(
         mem,
         scratch,
-        9326,
+        9340,
         4294967295,
         b"a held segment's word full and its summary bit 0",
     );
@@ -143,38 +143,50 @@ fn tree_cases(mem: &mut [u32], scratch: &mut [u32]) {
 
 // Segment records and stacks.
 fn segment_cases(mem: &mut [u32], scratch: &mut [u32]) {
-    broken(mem, scratch, 9220, 3, b"a full segment's place");
+    broken(mem, scratch, 9234, 3, b"a full segment's place");
     broken(
         mem,
         scratch,
-        9224,
+        9238,
         1025,
         b"a held segment's place past its blocks",
     );
-    broken(mem, scratch, 9224, 0, b"a held segment with nothing in use");
-    broken(mem, scratch, 9226, 1, b"a count of the free stack");
+    broken(mem, scratch, 9238, 0, b"a held segment with nothing in use");
+    broken(mem, scratch, 9240, 1, b"a count of the free stack");
 }
 
 // What mutators hold, and what an absent one keeps.
 fn mutator_cases(mem: &mut [u32], scratch: &mut [u32]) {
-    broken(mem, scratch, 9225, 1, b"a held segment's mutator");
-    broken(mem, scratch, 21, 0, b"the table of held segments");
-    broken(mem, scratch, 18, 3, b"a state over outside");
-    broken(mem, scratch, 66, 1, b"a root of an absent mutator");
+    broken(mem, scratch, 9239, 1, b"a held segment's mutator");
+    broken(mem, scratch, 35, 0, b"the table of held segments");
+    broken(mem, scratch, 32, 3, b"a state over outside");
+    broken(mem, scratch, 80, 1, b"a root of an absent mutator");
 }
 
 // Live records, and the trace stack in idle.
 fn record_cases(mem: &mut [u32], scratch: &mut [u32]) {
-    broken(mem, scratch, 2, 2, b"a root that names no record's head");
+    broken(mem, scratch, 16, 2, b"a root that names no record's head");
     broken(
         mem,
         scratch,
-        1026,
+        1040,
         65636,
         b"a live record's header of another class",
     );
-    broken(mem, scratch, 1027, 5000, b"a live record's pointer");
+    broken(mem, scratch, 1041, 5000, b"a live record's pointer");
     broken(mem, scratch, 1, 1, b"an entry of the trace stack in idle");
+}
+
+// The spare words of the control bind nothing, nor does the sweep's cursor in idle.
+fn free_control(mem: &mut [u32], scratch: &mut [u32]) {
+    broken(
+        mem,
+        scratch,
+        15,
+        4294967295,
+        b"junk in the spare words of the control",
+    );
+    broken(mem, scratch, 2, 4294967295, b"the sweep's cursor in idle");
 }
 
 // Words that bind nothing.
@@ -182,15 +194,15 @@ fn free_words(mem: &mut [u32], scratch: &mut [u32]) {
     broken(
         mem,
         scratch,
-        30,
+        44,
         4294967295,
         b"junk in the spare words of an entry",
     );
-    broken(mem, scratch, 9227, 4294967295, b"junk past a stack's count");
+    broken(mem, scratch, 9241, 4294967295, b"junk past a stack's count");
     broken(
         mem,
         scratch,
-        9649,
+        9535,
         4294967295,
         b"junk past the trace stack's count",
     );
@@ -198,11 +210,11 @@ fn free_words(mem: &mut [u32], scratch: &mut [u32]) {
 
 // Marks in idle and blocks without a record bind nothing.
 fn free_blocks(mem: &mut [u32], scratch: &mut [u32]) {
-    broken(mem, scratch, 9393, 4294967295, b"junk in the marks in idle");
+    broken(mem, scratch, 9407, 4294967295, b"junk in the marks in idle");
     broken(
         mem,
         scratch,
-        9217,
+        9231,
         4294967295,
         b"junk in a block that holds no record",
     );
@@ -218,16 +230,16 @@ fn dead_cases(mem: &mut [u32], scratch: &mut [u32]) {
         },
     );
     say(mem, scratch, b"a record dropped");
-    broken(mem, scratch, 3075, 4294967295, b"a dead record's pointer");
-    broken(mem, scratch, 3074, 4294967295, b"a dead record's header");
+    broken(mem, scratch, 3089, 4294967295, b"a dead record's pointer");
+    broken(mem, scratch, 3088, 4294967295, b"a dead record's header");
 }
 
-// No mark, and at most one acknowledgement.
+// A bit among the marks is of an entry only, and at most one acknowledgement.
 fn first_handshake(mem: &mut [u32], scratch: &mut [u32]) {
     begin(mem);
     say(mem, scratch, b"in handshake 1");
-    broken(mem, scratch, 19, 2, b"two acknowledgements in handshake 1");
-    broken(mem, scratch, 9393, 1, b"a mark in handshake 1");
+    broken(mem, scratch, 33, 2, b"two acknowledgements in handshake 1");
+    broken(mem, scratch, 9407, 1, b"a mark in handshake 1");
 }
 
 // One acknowledgement at least.
@@ -235,20 +247,27 @@ fn second_handshake(mem: &mut [u32], scratch: &mut [u32]) {
     check(mem);
     step(mem);
     say(mem, scratch, b"in handshake 2");
-    broken(mem, scratch, 19, 0, b"no acknowledgement in handshake 2");
+    broken(mem, scratch, 33, 0, b"no acknowledgement in handshake 2");
 }
 
-// The trace stack, its queued bits, and covered roots.
+// The trace stack, its bits, and covered roots.
 fn trace_cases(mem: &mut [u32], scratch: &mut [u32]) {
     check(mem);
     say(mem, scratch, b"with its roots on the trace stack");
-    broken(mem, scratch, 9521, 0, b"a queued bit");
-    broken(mem, scratch, 1, 1, b"a covered root off the trace stack");
+    broken(mem, scratch, 9407, 0, b"an entry's bit");
+    broken(mem, scratch, 18, 2049, b"a root that is not covered");
+    broken(
+        mem,
+        scratch,
+        1,
+        1,
+        b"entries taken off, which are marked then",
+    );
 }
 
 // No entry twice; then the phase is mark, and two records are traced.
 fn entry_cases(mem: &mut [u32], scratch: &mut [u32]) {
-    broken(mem, scratch, 9650, 1, b"an entry twice");
+    broken(mem, scratch, 9536, 1, b"an entry twice");
     step(mem);
     step(mem);
     step(mem);
@@ -262,7 +281,7 @@ fn mark_cases(mem: &mut [u32], scratch: &mut [u32]) {
     broken(
         mem,
         scratch,
-        9394,
+        9408,
         4294967295,
         b"marks of blocks not in use",
     );
@@ -273,7 +292,7 @@ fn covered_cases(mem: &mut [u32], scratch: &mut [u32]) {
     broken(
         mem,
         scratch,
-        9457,
+        9471,
         0,
         b"marks of traced records with covered roots",
     );
@@ -284,17 +303,18 @@ fn covered_cases(mem: &mut [u32], scratch: &mut [u32]) {
 // In sweep the marks of the collect set bind.
 fn sweep_cases(mem: &mut [u32], scratch: &mut [u32]) {
     say(mem, scratch, b"in sweep");
+    broken(mem, scratch, 2, 1, b"a condemned segment before the cursor");
     broken(
         mem,
         scratch,
-        9393,
+        9407,
         0,
         b"marks of reached records in the collect set",
     );
     broken(
         mem,
         scratch,
-        9457,
+        9471,
         0,
         b"marks outside the collect set, which bind nothing",
     );
@@ -308,6 +328,7 @@ fn idle(mem: &mut [u32], scratch: &mut [u32]) {
 }
 
 fn unbound(mem: &mut [u32], scratch: &mut [u32]) {
+    free_control(mem, scratch);
     free_words(mem, scratch);
     free_blocks(mem, scratch);
     dead_cases(mem, scratch);
@@ -334,7 +355,7 @@ fn cases(mem: &mut [u32], scratch: &mut [u32]) {
 }
 
 fn main() {
-    let mut mem = [3735928559u32; 13745];
+    let mut mem = [3735928559u32; 13631];
     let mut scratch = [7u32; 4352];
     fill(&mut mem);
     fill_further(&mut mem);

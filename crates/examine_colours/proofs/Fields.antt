@@ -88,10 +88,10 @@ module _ (g : Geometry) (memory : List ℕ) (n : ℕ) (s : List ℕ) (r : Room g
   pub lent : Lent g memory (midOf n (length s - n) s)
   lent = record { sized = r .sized; room = part-size }
 
-  pub behind-room : len g Region.queued ≤ length (drop n s)
+  pub behind-room : len g Region.marks ≤ length (drop n s)
   behind-room = let a = behind-size in omega arith
 
-  pub front-room : len g Region.queued ≤ length (take n s)
+  pub front-room : len g Region.marks ≤ length (take n s)
   front-room = let a = r .field in let b = length-take-le n s within in omega arith
 
   pub resize : (t : List ℕ) → length t ≡ length s → Room g memory n t

@@ -6,25 +6,26 @@ use mathlib.Core.List.{List}
 use Prim.Native.Nat.{ℕ, suc, _+_, _*_, _≤_, _<_}
 use native.Mathlib.Omega.{arith}
 use lib.ListN.{length, take, drop}
-use borrow.Author.Tests.{eq-eqb, eqb-true}
 use Rattle.rules.specs.Decides.{Decides}
 use Rattle.rules.proofs.Deciding.{holds, fails, via, refuted}
 use Rattle.words.specs.Bits.{bitAt}
 use Rattle.classes.specs.Class.{IsClass}
 use Rattle.layout.specs.declared.Geometry.{Geometry}
-use Rattle.layout.specs.Geometry.{len, mostBlocks, blocksIn, segmentOf, bitIn, mutatorCount}
+use Rattle.layout.specs.Geometry.{len, mostBlocks, blocksIn, segmentOf, markBit, mutatorCount}
 use Rattle.layout.specs.Mem.{Mem}
 use Rattle.layout.proofs.Sizes.{segment-below}
-use Rattle.theory.specs.Reach.{Reach, root, next, WhiteEdge}
+use Rattle.theory.specs.Reach.{root, next}
 use Rattle.theory.proofs.Graph.{reach-map}
 use Rattle.model.specs.Fields.{tag, class}
-use Rattle.model.specs.Records.{recordBit, marked, blockOf, headerOf}
-use Rattle.model.specs.Reaching.{IsRoot, IsEntry, PointsTo, Live, Reached, Covered, isMarked}
+use Rattle.model.specs.Records.{recordBit, entered, blockOf, headerOf}
+use Rattle.model.specs.Reaching.{IsRoot, PointsTo, Live, Reached, Covered}
 use Rattle.model.specs.Consistent.{RecordOk}
 use Rattle.laws.proofs.Apart.{class-of}
-use Rattle.laws.proofs.Blocks.{of-block, is-header, header-segment, header-bit}
+use Rattle.laws.proofs.Blocks.{of-block, is-header, header-segment}
 use Rattle.searching.specs.Found.{BitsOf, Finds, ByEntries}
+use Rattle.searching.specs.Graph.{ByEntry}
 use Rattle.searching.proofs.Steps.{placed}
+use Rattle.searching.proofs.Covering.{covered-bits, bits-covered, edges-bits, bits-edges}
 use Rattle.examine_cycle.specs.declared.Asked.{Asked}
 use Rattle.examine_cycle.specs.declared.Asked.the-variants.{Pointers, Marks}
 use Rattle.examine_cycle.specs.Judged.{Known, Fine, RootsFine, RecordFine, Judged}
@@ -40,7 +41,7 @@ module _ (g : Geometry) (m : Mem) (Set : ℕ → Type 0) where
   finds-decides true bits f = holds (f .good refl .passes)
   finds-decides false bits f = fails (λ h. let b = f .bad refl in b .fails (h (b .at) (b .member)))
 
-  pub known-of : (bits : List ℕ) → BitsOf g m Set bits → len g Region.queued ≤ length bits → Known g m bits
+  pub known-of : (bits : List ℕ) → BitsOf g m Set bits → len g Region.marks ≤ length bits → Known g m bits
   known-of bits b l = record { room = l; records = b .records }
 
   -- the same bits elsewhere
@@ -59,12 +60,12 @@ module _ (g : Geometry) (m : Mem) (Set : ℕ → Type 0) where
         let ok = b .passes x q in
         let k = class-of g m x ok in
         let e = is-header g m x k (ok .aligned) in
-        subst (λ (z : ℕ). RecordFine asked g m cover (segmentOf g x) z (recordBit g m x)) (sym e) (j (segmentOf g x) (segment-below g x (ok .inside)) k (blockOf g m x) (of-block g m x k) (b .found x q))
+        subst (λ (z : ℕ). RecordFine asked g m cover (segmentOf g x) z (markBit z)) (sym e) (j (segmentOf g x) (segment-below g x (ok .inside)) k (blockOf g m x) (of-block g m x k) (subst (λ (z : ℕ). bitAt bits (markBit z) ≡ 1) e (b .found x q)))
 
   -- and back
-  module _ (asked : Asked) (bits cover : List ℕ) (b : BitsOf g m Set bits) (room : len g Region.queued ≤ length bits) (h : (x : ℕ) → Set x → RecordFine asked g m cover (segmentOf g x) x (recordBit g m x)) where
+  module _ (asked : Asked) (bits cover : List ℕ) (b : BitsOf g m Set bits) (room : len g Region.marks ≤ length bits) (h : (x : ℕ) → Set x → RecordFine asked g m cover (segmentOf g x) x (recordBit g m x)) where
     pub judged-all : Judged asked g m bits cover
-    judged-all s l k i w e = subst (λ (z : ℕ). RecordFine asked g m cover z at (bitIn g s i)) here (subst (λ (z : ℕ). RecordFine asked g m cover (segmentOf g at) at z) bit (h at (b .only at ok (ap (bitAt bits) bit ∙ e))))
+    judged-all s l k i w e = subst (λ (z : ℕ). RecordFine asked g m cover z at (markBit at)) here (h at (b .only at ok e))
       where
         at : ℕ
         at = headerOf g s (class m s) i
@@ -75,9 +76,6 @@ module _ (g : Geometry) (m : Mem) (Set : ℕ → Type 0) where
         here : segmentOf g at ≡ s
         here = header-segment g (class m s) k s i w
 
-        bit : recordBit g m at ≡ bitIn g s i
-        bit = header-bit g (class m s) k s i w m refl
-
 -- ---- in front
 
 pub bits-front : (g : Geometry) (m : Mem) (Set : ℕ → Type 0) (memory : List ℕ) (n : ℕ) (s : List ℕ) → Room g memory n s → (t u : List ℕ) → take n u ≡ take n t → BitsOf g m Set t → BitsOf g m Set (take n u)
@@ -87,19 +85,22 @@ bits-front g m Set memory n s r t u e b = bits-as g m Set t (take n u) (λ k l. 
 
 module _ (g : Geometry) (m : Mem) where
   covered-live : {x : ℕ} → ByEntries g m x → Live m x
-  covered-live p = reach-map (λ x q. root (inr q)) (λ x y r q. inl (q .1)) p
+  covered-live p = reach-map first (λ x y r q. inl (q .1)) p
+    where
+      first : (x : ℕ) → ByEntry m x → Live m x
+      first x (inl q) = root (inr q)
+      first x (inr q) = next (root (inr (q .1))) (q .2)
 
   pub cover-fails : (r : Bool) (bits : List ℕ) → Finds g m (ByEntries g m) r bits → r ≡ false → Coloured g m → ⊥
   cover-fails r bits f e c = let b = f .bad e in b .fails (c .records (b .at) (covered-live (b .member)))
 
-  module _ (live cover : List ℕ) (a : BitsOf g m (Live m) live) (b : BitsOf g m (ByEntries g m) cover) (room : len g Region.queued ≤ length live) where
+  module _ (live cover : List ℕ) (a : BitsOf g m (Live m) live) (b : BitsOf g m (ByEntries g m) cover) (room : len g Region.marks ≤ length live) where
     covered-of : (x : ℕ) → Fine g m cover x → Covered g m x
-    covered-of x (ok, inl q) = inl (eq-eqb _ 1 q)
-    covered-of x (ok, inr q) = inr (b .only x ok q)
+    covered-of x (ok, inl q) = bits-covered g m x (inl q)
+    covered-of x (ok, inr q) = bits-covered g m x (inr (b .only x ok q))
 
     fine-of : (x : ℕ) → RecordOk g m x → Covered g m x → Fine g m cover x
-    fine-of x ok (inl q) = (ok, inl (eqb-true _ 1 q))
-    fine-of x ok (inr q) = (ok, inr (b .found x q))
+    fine-of x ok c = (ok, ⊎-elim inl (λ q. inr (b .found x q)) (covered-bits g m x c))
 
     pub roots-of : Coloured g m → (k : ℕ) → k < mutatorCount → RootsFine g m cover k
     roots-of c k l d n x q =
@@ -107,14 +108,14 @@ module _ (g : Geometry) (m : Mem) where
         fine-of x (a .passes x (root (inl r))) (c .tricolour .roots x r n)
 
     pub pointers-of : Coloured g m → Judged Pointers g m live cover
-    pointers-of c = judged-all g m (Live m) Pointers live cover a room (λ x p k y q. let e : PointsTo m x y = record { field = q .index; within = q .within; names = q .names } in fine-of y (a .passes y (next p e)) (c .tricolour .edges x y p k e))
+    pointers-of c = judged-all g m (Live m) Pointers live cover a room (λ x p k y q. let e : PointsTo m x y = record { field = q .index; within = q .within; names = q .names } in fine-of y (a .passes y (next p e)) (edges-bits g m (c .tricolour .edges) x y p k e))
 
     meant : ((k : ℕ) → k < mutatorCount → RootsFine g m cover k) → Judged Pointers g m live cover → Coloured g m
     meant h j = record {
       records = a .passes;
       tricolour = record {
         roots = λ x r n. covered-of x (h (r .mutator) (r .few) (r .attached) n x (record { index = r .index; within = r .within; names = r .names }));
-        edges = λ x y p k e. covered-of y (judged-at g m (Live m) Pointers live cover a j x p k y (record { index = e .field; within = e .within; names = e .names }));
+        edges = bits-edges g m (λ x y p k e. covered-of y (judged-at g m (Live m) Pointers live cover a j x p k y (record { index = e .field; within = e .within; names = e .names })));
       };
     }
 
@@ -123,10 +124,10 @@ module _ (g : Geometry) (m : Mem) where
 
   -- ---- sweep
 
-  pub sweep-meaning : (bits cover : List ℕ) → BitsOf g m (Reached m) bits → len g Region.queued ≤ length bits → (r : Bool) → Decides r (Judged Marks g m bits cover) → Decides r (SweptOk g m)
+  pub sweep-meaning : (bits cover : List ℕ) → BitsOf g m (Reached m) bits → len g Region.marks ≤ length bits → (r : Bool) → Decides r (Judged Marks g m bits cover) → Decides r (SweptOk g m)
   sweep-meaning bits cover a room r d = via
-      (λ j. record { records = a .passes; marked = λ at p t. judged-at g m (Reached m) Marks bits cover a j at p t })
-      (λ c. judged-all g m (Reached m) Marks bits cover a room (λ x p t. c .marked x p t))
+      (λ j. record { records = a .passes; entered = λ at p t. judged-at g m (Reached m) Marks bits cover a j at p t })
+      (λ c. judged-all g m (Reached m) Marks bits cover a room (λ x p t. c .entered x p t))
       d
 
 -- ---- the second search, beside the live bits in front

@@ -7,7 +7,7 @@ use Rattle.layout.specs.declared.Geometry.{Geometry}
 use Rattle.layout.specs.Geometry.{Sized, len, segmentOf, scratchWords}
 use Rattle.layout.specs.Mem.{Mem}
 use Rattle.model.specs.Fields.{tag}
-use Rattle.model.specs.Records.{marked}
+use Rattle.model.specs.Records.{entered}
 use Rattle.model.specs.Reaching.{Live, Reached}
 use Rattle.model.specs.Consistent.{RecordOk, Tricolour}
 use Rattle.layout.specs.Region as Region
@@ -27,6 +27,7 @@ pub record Coloured (g : Geometry) (m : Mem) : Type 0 where
   pub records : LiveOk g m
   pub tricolour : Tricolour g m
 
+-- in sweep nothing is on the trace stack, and a bit says that its record is marked
 pub record SweptOk (g : Geometry) (m : Mem) : Type 0 where
   pub records : (at : ℕ) → Reached m at → RecordOk g m at
-  pub marked : (at : ℕ) → Reached m at → tag m (segmentOf g at) ≡ Tag.condemned → marked g m at ≡ 1
+  pub entered : (at : ℕ) → Reached m at → tag m (segmentOf g at) ≡ Tag.condemned → entered g m at ≡ 1

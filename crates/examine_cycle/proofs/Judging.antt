@@ -16,14 +16,14 @@ use Rattle.words.specs.Bits.{bitAt}
 use Rattle.words.proofs.Counts.{lt-of}
 use Rattle.classes.specs.Class.{IsClass, blockWords, classTest}
 use Rattle.layout.specs.declared.Geometry.{Geometry}
-use Rattle.layout.specs.Geometry.{len, segmentWords, mostBlocks, blocksIn, segmentOf, bitIn}
+use Rattle.layout.specs.Geometry.{len, segmentWords, mostBlocks, blocksIn, markBit}
 use Rattle.layout.specs.Mem.{Mem}
-use Rattle.layout.proofs.Sizes.{one-way, within, bytes-are, mark-word}
+use Rattle.layout.proofs.Sizes.{marks-words, bytes-are, mark-word}
 use Rattle.model.specs.Fields.{class}
-use Rattle.model.specs.Records.{recordBit, marked, blockOf, headerOf, pointerCount}
+use Rattle.model.specs.Records.{recordBit, entered, headerOf, pointerCount}
 use Rattle.model.specs.Consistent.{RecordOk}
 use Rattle.laws.proofs.Apart.{class-of, field-inside}
-use Rattle.laws.proofs.Blocks.{blocks-most, of-block, is-header, block-within}
+use Rattle.laws.proofs.Blocks.{block-within, header-inside, header-is-class, header-head, same-bit}
 use Rattle.classes.proofs.Filling.{two-words}
 use Rattle.classes.proofs.Every.{class-passes}
 use Rattle.searching.specs.Graph.{InRun}
@@ -62,25 +62,18 @@ module _ (g : Geometry) (m : Mem) (cover ws : List ℕ) (from f w : ℕ) (ew : w
 -- ---- one block
 
 module _ (g : Geometry) (m : Mem) (s c b : ℕ) (ec : c ≡ class m s) (kc : IsClass c) (l : b < blocksIn g c) where
-  pub bit-small : s < g .segments → (b < mostBlocks g) × (bitIn g s b < g .segments * mostBlocks g)
-  bit-small h = let q = blocks-most g c kc in (omega arith, within (mostBlocks g) s (g .segments) b h (omega arith))
+  pub bit-small : s < g .segments → markBit (headerOf g s c b) < g .segments * mostBlocks g
+  bit-small h = let i = header-inside g c kc s b l h in let p = two-words c kc in let w = marks-words g (g .segments) in omega arith
 
   pub offset-small : b * blockWords c < segmentWords g
   offset-small = let h = block-within g c kc b l in let p = two-words c kc in omega arith
 
   -- the record of its bit
-  pub record-of : (x : ℕ) → RecordOk g m x → recordBit g m x ≡ bitIn g s b → x ≡ headerOf g s c b
-  record-of x ok e =
-      let k = class-of g m x ok in
-      let p = of-block g m x k in
-      let u = blocks-most g (class m (segmentOf g x)) k in
-      let v = blocks-most g c kc in
-      let w = one-way (mostBlocks g) (segmentOf g x) (blockOf g m x) s b (omega arith) (omega arith) e in
-      let es : segmentOf g x ≡ s = w .0 in
-      is-header g m x k (ok .aligned) ∙ ap (λ z. headerOf g z (class m z) (blockOf g m x)) es ∙ ap (headerOf g s (class m s)) (w .1) ∙ ap (λ z. headerOf g s z b) (sym ec)
+  pub record-of : (x : ℕ) → RecordOk g m x → recordBit g m x ≡ markBit (headerOf g s c b) → x ≡ headerOf g s c b
+  record-of x ok e = same-bit g m x (headerOf g s c b) (class-of g m x ok) (header-is-class g c kc s b l m (sym ec)) (ok .aligned) (header-head g c kc s b l m (sym ec)) e
 
-  pub known-record : (bits : List ℕ) → Known g m bits → s < g .segments → bitAt bits (bitIn g s b) ≡ 1 → RecordOk g m (headerOf g s c b)
-  known-record bits k h e = let q = k .records (bitIn g s b) (bit-small h .1) e in subst (RecordOk g m) (record-of (q .node) (q .ok) (q .here)) (q .ok)
+  pub known-record : (bits : List ℕ) → Known g m bits → s < g .segments → bitAt bits (markBit (headerOf g s c b)) ≡ 1 → RecordOk g m (headerOf g s c b)
+  known-record bits k h e = let q = k .records (markBit (headerOf g s c b)) (bit-small h) e in subst (RecordOk g m) (record-of (q .node) (q .ok) (q .here)) (q .ok)
 
 -- the pointers of a record lie in the heap
 pub pointers-inside : (g : Geometry) (m : Mem) (at : ℕ) → RecordOk g m at → at + 1 + pointerCount m at ≤ len g Region.heap
@@ -95,12 +88,12 @@ module _ (g : Geometry) (m : Mem) (s c b : ℕ) (ec : c ≡ class m s) (kc : IsC
   pub offset-room : (w : ℕ) → w ≡ blockWords c → (b * w < segmentWords g) × (b * w < 2 ^ 20)
   offset-room w e = let n = bytes-are g in let n1 = n .1 in let n3 = n .3 in let h : b * w < segmentWords g = subst (λ z. b * z < segmentWords g) (sym e) (offset-small g m s c b ec kc l) in (h, omega arith)
 
-  pub bit-room : s < g .segments → (k x : ℕ) → k ≡ bitIn g s b → len g Region.queued ≤ x → k / 32 < x
-  bit-room h k x e r = let q = mark-word g (bitIn g s b) (bit-small g m s c b ec kc l h .1) in subst (λ z. z / 32 < x) (sym e) (omega arith)
+  pub bit-room : s < g .segments → (k x : ℕ) → k ≡ markBit (headerOf g s c b) → len g Region.marks ≤ x → k / 32 < x
+  bit-room h k x e r = let q = mark-word g (markBit (headerOf g s c b)) (bit-small g m s c b ec kc l h) in subst (λ z. z / 32 < x) (sym e) (omega arith)
 
-  pub block-by : (asked : Asked) (bits cover : List ℕ) (at k : ℕ) → k ≡ bitIn g s b → at ≡ headerOf g s c b → bitAt bits k ≡ 1 → (r : Bool) → Decides r (RecordFine asked g m cover s at k) → Decides r (BlockJudged asked g m bits cover s c b)
+  pub block-by : (asked : Asked) (bits cover : List ℕ) (at k : ℕ) → k ≡ markBit (headerOf g s c b) → at ≡ headerOf g s c b → bitAt bits k ≡ 1 → (r : Bool) → Decides r (RecordFine asked g m cover s at k) → Decides r (BlockJudged asked g m bits cover s c b)
   block-by asked bits cover at k ek ea one r d =
-      via (λ h e. h) (λ q. q (ap (bitAt bits) (sym ek) ∙ one)) (subst (λ (z : ℕ). Decides r (RecordFine asked g m cover s z (bitIn g s b))) ea (subst (λ (z : ℕ). Decides r (RecordFine asked g m cover s at z)) ek d))
+      via (λ h e. h) (λ q. q (ap (bitAt bits) (sym ek) ∙ one)) (subst (λ (z : ℕ). Decides r (RecordFine asked g m cover s z (markBit (headerOf g s c b)))) ea (subst (λ (z : ℕ). Decides r (RecordFine asked g m cover s at z)) ek d))
 
 pub any-by : (g : Geometry) (m : Mem) (asked : Asked) (bits cover : List ℕ) (s c : ℕ) → c ≡ class m s → IsClass c → (r : Bool) → Decides r ((b : ℕ) → b < blocksIn g c → BlockJudged asked g m bits cover s c b) → Decides r (SegmentJudged asked g m bits cover s)
 any-by g m asked bits cover s c ec kc r d = via (λ h k. h) (λ q. q (subst IsClass ec kc)) (subst (λ (z : ℕ). Decides r ((b : ℕ) → b < blocksIn g z → BlockJudged asked g m bits cover s z b)) ec d)

@@ -7,10 +7,10 @@ use lib.ListN.{length}
 use Rattle.words.specs.Bits.{bitAt}
 use Rattle.classes.specs.Class.{IsClass}
 use Rattle.layout.specs.declared.Geometry.{Geometry}
-use Rattle.layout.specs.Geometry.{len, mostBlocks, blocksIn, bitIn, mutatorCount, mutatorWords, rootCount}
+use Rattle.layout.specs.Geometry.{len, mostBlocks, blocksIn, markBit, mutatorCount, mutatorWords, rootCount}
 use Rattle.layout.specs.Mem.{Mem}
 use Rattle.model.specs.Fields.{absent, state, acks, tag, class}
-use Rattle.model.specs.Records.{recordBit, marked, headerOf, pointerCount}
+use Rattle.model.specs.Records.{recordBit, entered, headerOf, pointerCount}
 use Rattle.model.specs.Consistent.{RecordOk}
 use Rattle.walk.specs.Walk.{At}
 use Rattle.searching.specs.Graph.{recordsOf, InRun}
@@ -21,16 +21,16 @@ use Rattle.model.specs.Tag as Tag
 
 -- bits of records that pass the test
 pub record Known (g : Geometry) (m : Mem) (bits : List ℕ) : Type 0 where
-  pub room : len g Region.queued ≤ length bits
+  pub room : len g Region.marks ≤ length bits
   pub records : (k : ℕ) → k < g .segments * mostBlocks g → bitAt bits k ≡ 1 → At (recordsOf g m) k
 
 -- segment s is of class c
 abbrev pub OfClass : Mem → ℕ → ℕ → Type 0
 OfClass m s c = (c ≡ class m s) × IsClass c
 
--- a record that passes the test and is covered: marked, or its cover bit is 1
+-- a record that passes the test and is covered: its bit is 1, or its cover bit
 abbrev pub Fine : Geometry → Mem → List ℕ → ℕ → Type 0
-Fine g m cover x = RecordOk g m x × ((marked g m x ≡ 1) ⊎ (bitAt cover (recordBit g m x) ≡ 1))
+Fine g m cover x = RecordOk g m x × ((entered g m x ≡ 1) ⊎ (bitAt cover (recordBit g m x) ≡ 1))
 
 abbrev pub FineRun : Geometry → Mem → List ℕ → List ℕ → ℕ → ℕ → Type 0
 FineRun g m cover ws from count = (x : ℕ) → InRun ws from count x → Fine g m cover x
@@ -39,13 +39,13 @@ FineRun g m cover ws from count = (x : ℕ) → InRun ws from count x → Fine g
 abbrev pub RootsFine : Geometry → Mem → List ℕ → ℕ → Type 0
 RootsFine g m cover k = (state m k ≡ absent → ⊥) → 2 ≤ acks m k → FineRun g m cover (m .mutators) (k * mutatorWords) rootCount
 
--- what is asked of the record at a word of segment s, whose bit is k: that its pointers are covered, if it is marked; or that it is marked, in the collect set
+-- what is asked of the record at a word of segment s, whose bit is k: that its pointers are covered, if its bit is 1; or that it is marked, in the collect set
 abbrev pub RecordFine : Asked → Geometry → Mem → List ℕ → ℕ → ℕ → ℕ → Type 0
 RecordFine Pointers g m cover s at k = bitAt (m .marks) k ≡ 1 → FineRun g m cover (m .heap) (at + 1) (pointerCount m at)
 RecordFine Marks g m cover s at k = tag m s ≡ Tag.condemned → bitAt (m .marks) k ≡ 1
 
 abbrev pub BlockJudged : Asked → Geometry → Mem → List ℕ → List ℕ → ℕ → ℕ → ℕ → Type 0
-BlockJudged asked g m bits cover s c b = bitAt bits (bitIn g s b) ≡ 1 → RecordFine asked g m cover s (headerOf g s c b) (bitIn g s b)
+BlockJudged asked g m bits cover s c b = bitAt bits (markBit (headerOf g s c b)) ≡ 1 → RecordFine asked g m cover s (headerOf g s c b) (markBit (headerOf g s c b))
 
 abbrev pub SegmentJudged : Asked → Geometry → Mem → List ℕ → List ℕ → ℕ → Type 0
 SegmentJudged asked g m bits cover s = IsClass (class m s) → (b : ℕ) → b < blocksIn g (class m s) → BlockJudged asked g m bits cover s (class m s) b

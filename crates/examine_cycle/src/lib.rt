@@ -27,7 +27,7 @@ pub enum Asked {
 
 // Whether a bit is marked or covered.
 fn fine_bit(g: Geometry, mem: &[u32], cover: &[u32], k: usize) -> bool
-    requires { ⌜ (Sized g (length (now mem))) × (len g Region.queued ≤ length (now cover)) × (k < g .segments * mostBlocks g) ⌝ }
+    requires { ⌜ (Sized g (length (now mem))) × (len g Region.marks ≤ length (now cover)) × (k < g .segments * mostBlocks g) ⌝ }
     ensures { λ r. ⌜ Decides r ((bitAt (memOf g (now (mem .entry)) .marks) k ≡ 1) ⊎ (bitAt (now (cover .entry)) k ≡ 1)) ⌝ }
 {
     if examine_trace::mark_bit(g, mem, k) {
@@ -38,7 +38,7 @@ fn fine_bit(g: Geometry, mem: &[u32], cover: &[u32], k: usize) -> bool
 
 // Whether a word is nil or names a record that passes the test and is covered.
 fn fine(g: Geometry, mem: &[u32], cover: &[u32], w: u32) -> bool
-    requires { ⌜ (Sized g (length (now mem))) × (len g Region.queued ≤ length (now cover)) ⌝ }
+    requires { ⌜ (Sized g (length (now mem))) × (len g Region.marks ≤ length (now cover)) ⌝ }
     ensures { λ r. ⌜ Decides r ((x : ℕ) → w ≡ suc x → Fine g (memOf g (now (mem .entry))) (now (cover .entry)) x) ⌝ }
 {
     if w == 0 {
@@ -60,7 +60,7 @@ fn fine_run(
     from: usize,
     count: usize,
 ) -> bool
-    requires { ⌜ (Sized g (length (now mem))) × (len g Region.queued ≤ length (now cover)) × (from + count ≤ lengthOf source g) ⌝ }
+    requires { ⌜ (Sized g (length (now mem))) × (len g Region.marks ≤ length (now cover)) × (from + count ≤ lengthOf source g) ⌝ }
     ensures { λ r. ⌜ Decides r (FineRun g (memOf g (now (mem .entry))) (now (cover .entry)) (wordsOf source (memOf g (now (mem .entry)))) from count) ⌝ }
 {
     let mut f: usize = 0;
@@ -77,7 +77,7 @@ fn fine_run(
 
 // The roots of mutator k.
 fn mutator_fine(g: Geometry, mem: &[u32], cover: &[u32], k: u32) -> bool
-    requires { ⌜ (Sized g (length (now mem))) × (len g Region.queued ≤ length (now cover)) × (k < mutatorCount) ⌝ }
+    requires { ⌜ (Sized g (length (now mem))) × (len g Region.marks ≤ length (now cover)) × (k < mutatorCount) ⌝ }
     ensures { λ r. ⌜ Decides r (RootsFine g (memOf g (now (mem .entry))) (now (cover .entry)) k) ⌝ }
 {
     if mutators::state(g, mem, k) == 0 {
@@ -92,7 +92,7 @@ fn mutator_fine(g: Geometry, mem: &[u32], cover: &[u32], k: u32) -> bool
 
 // Of every mutator.
 pub fn mutators_fine(g: Geometry, mem: &[u32], cover: &[u32]) -> bool
-    requires { ⌜ (Sized g (length (now mem))) × (len g Region.queued ≤ length (now cover)) ⌝ }
+    requires { ⌜ (Sized g (length (now mem))) × (len g Region.marks ≤ length (now cover)) ⌝ }
     ensures { λ r. ⌜ Decides r ((k : ℕ) → k < mutatorCount → RootsFine g (memOf g (now (mem .entry))) (now (cover .entry)) k) ⌝ }
 {
     let mut k: u32 = 0;
@@ -108,7 +108,7 @@ pub fn mutators_fine(g: Geometry, mem: &[u32], cover: &[u32]) -> bool
 
 // The pointers of the record at a word.
 fn pointers_fine(g: Geometry, mem: &[u32], cover: &[u32], at: usize) -> bool
-    requires { ⌜ (Sized g (length (now mem))) × (len g Region.queued ≤ length (now cover)) × RecordOk g (memOf g (now mem)) at ⌝ }
+    requires { ⌜ (Sized g (length (now mem))) × (len g Region.marks ≤ length (now cover)) × RecordOk g (memOf g (now mem)) at ⌝ }
     ensures { λ r. ⌜ Decides r (FineRun g (memOf g (now (mem .entry))) (now (cover .entry)) (memOf g (now (mem .entry)) .heap) (at + 1) (pointerCount (memOf g (now (mem .entry))) at)) ⌝ }
 {
     let count = searching::pointers(g, mem, Edges::All, at);
@@ -125,7 +125,7 @@ fn record_fine(
     at: usize,
     k: usize,
 ) -> bool
-    requires { ⌜ (Sized g (length (now mem))) × (len g Region.queued ≤ length (now cover)) × (s < g .segments) × (k < g .segments * mostBlocks g) × RecordOk g (memOf g (now mem)) at ⌝ }
+    requires { ⌜ (Sized g (length (now mem))) × (len g Region.marks ≤ length (now cover)) × (s < g .segments) × (k < g .segments * mostBlocks g) × RecordOk g (memOf g (now mem)) at ⌝ }
     ensures { λ r. ⌜ Decides r (RecordFine asked g (memOf g (now (mem .entry))) (now (cover .entry)) s at k) ⌝ }
 {
     let marked = examine_trace::mark_bit(g, mem, k);
@@ -156,16 +156,16 @@ fn block_judged(
     class: u32,
     b: usize,
 ) -> bool
-    requires { ⌜ (Sized g (length (now mem))) × (len g Region.queued ≤ length (now cover)) × Known g (memOf g (now mem)) (now bits) ⌝ }
+    requires { ⌜ (Sized g (length (now mem))) × (len g Region.marks ≤ length (now cover)) × Known g (memOf g (now mem)) (now bits) ⌝ }
     requires { ⌜ (s < g .segments) × OfClass (memOf g (now mem)) s class × (b < blocksIn g class) ⌝ }
     ensures { λ r. ⌜ Decides r (BlockJudged asked g (memOf g (now (mem .entry))) (now (bits .entry)) (now (cover .entry)) s class b) ⌝ }
 {
-    let k = layout::bit_in(g, s, b);
+    let offset = b * classes::block_words(class);
+    let at = layout::word_in(g, s, offset);
+    let k = layout::mark_bit(at);
     if words::bit_at(bits, k as u32) != 1 {
         return true;
     }
-    let offset = b * classes::block_words(class);
-    let at = layout::word_in(g, s, offset);
     record_fine(g, mem, asked, cover, s, at, k)
 }
 
@@ -179,7 +179,7 @@ fn segment_judged(
     s: usize,
     class: u32,
 ) -> bool
-    requires { ⌜ (Sized g (length (now mem))) × (len g Region.queued ≤ length (now cover)) × Known g (memOf g (now mem)) (now bits) ⌝ }
+    requires { ⌜ (Sized g (length (now mem))) × (len g Region.marks ≤ length (now cover)) × Known g (memOf g (now mem)) (now bits) ⌝ }
     requires { ⌜ (s < g .segments) × OfClass (memOf g (now mem)) s class ⌝ }
     ensures { λ r. ⌜ Decides r ((b : ℕ) → b < blocksIn g class → BlockJudged asked g (memOf g (now (mem .entry))) (now (bits .entry)) (now (cover .entry)) s class b) ⌝ }
 {
@@ -197,7 +197,7 @@ fn segment_judged(
 
 // Segment s, whatever its class; one without a class has no records.
 fn any_judged(g: Geometry, mem: &[u32], asked: Asked, bits: &[u32], cover: &[u32], s: usize) -> bool
-    requires { ⌜ (Sized g (length (now mem))) × (len g Region.queued ≤ length (now cover)) × Known g (memOf g (now mem)) (now bits) × (s < g .segments) ⌝ }
+    requires { ⌜ (Sized g (length (now mem))) × (len g Region.marks ≤ length (now cover)) × Known g (memOf g (now mem)) (now bits) × (s < g .segments) ⌝ }
     ensures { λ r. ⌜ Decides r (SegmentJudged asked g (memOf g (now (mem .entry))) (now (bits .entry)) (now (cover .entry)) s) ⌝ }
 {
     let class = segments::class(g, mem, s);
@@ -209,7 +209,7 @@ fn any_judged(g: Geometry, mem: &[u32], asked: Asked, bits: &[u32], cover: &[u32
 
 // Every segment.
 pub fn judged(g: Geometry, mem: &[u32], asked: Asked, bits: &[u32], cover: &[u32]) -> bool
-    requires { ⌜ (Sized g (length (now mem))) × (len g Region.queued ≤ length (now cover)) × Known g (memOf g (now mem)) (now bits) ⌝ }
+    requires { ⌜ (Sized g (length (now mem))) × (len g Region.marks ≤ length (now cover)) × Known g (memOf g (now mem)) (now bits) ⌝ }
     ensures { λ r. ⌜ Decides r (Judged asked g (memOf g (now (mem .entry))) (now (bits .entry)) (now (cover .entry))) ⌝ }
 {
     let n = g.segments;

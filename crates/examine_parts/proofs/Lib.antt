@@ -2,4 +2,3 @@
 pub mod Tests
 pub mod Records
 pub mod Tables
-pub mod Marked

@@ -12,8 +12,8 @@ use Rattle.layout.specs.Geometry.{mutatorCount}
 use Rattle.layout.specs.Mem.{Mem, controlWord}
 use Rattle.theory.specs.Phases.{sweep}
 use Rattle.model.specs.Rules.{phaseOf, phaseNumber}
-use Rattle.model.specs.Fields.{absent, outside, state, acks, holding, tag, class, owner}
-use Rattle.model.specs.Consistent.{AcksIn}
+use Rattle.model.specs.Fields.{absent, outside, state, acks, holding, tag, class, owner, cursor}
+use Rattle.model.specs.Consistent.{AcksIn, Behind}
 use Rattle.examine_parts.specs.Parts.{Parts, SegmentParts, Gone, HeldBy, Holds, Entry, Acknowledged, MutatorParts}
 use Rattle.examine_parts.proofs.Tests.{eq-decides, le-decides}
 use Rattle.model.specs.Tag as Tag
@@ -108,7 +108,19 @@ module _ (g : Geometry) (m : Mem) (p : ℕ) (x : p ≡ controlWord m 0) where
   pub parts-segment : (r : Bool) → Decides r ((s : ℕ) → s < g .segments → SegmentParts g m s) → r ≡ false → Decides false (Parts g m)
   parts-segment r d e = fails (λ q. refuted d e (λ s l. (q .segments s l, q .occupied s l)))
 
-  pub parts-all : p ≤ phaseNumber sweep → (r : Bool) → Decides r ((s : ℕ) → s < g .segments → SegmentParts g m s) → r ≡ true → (b : Bool) → Decides b ((k : ℕ) → k < mutatorCount → MutatorParts g m k) → Decides b (Parts g m)
-  parts-all l r d e b o =
+  pub parts-behind : (r : Bool) → Decides r (Behind g m) → r ≡ false → Decides false (Parts g m)
+  parts-behind r d e = fails (λ q. refuted d e (q .behind))
+
+  pub parts-all : p ≤ phaseNumber sweep → (r : Bool) → Decides r ((s : ℕ) → s < g .segments → SegmentParts g m s) → r ≡ true → (v : Bool) → Decides v (Behind g m) → v ≡ true → (b : Bool) → Decides b ((k : ℕ) → k < mutatorCount → MutatorParts g m k) → Decides b (Parts g m)
+  parts-all l r d e v u f b o =
       let w = d .sound e in
-      via (λ q. record { phases = omega arith; segments = λ s h. w s h .0; occupied = λ s h. w s h .1; mutators = λ k h. q k h .0; acknowledgements = λ k h. q k h .1 }) (λ q k h. (q .mutators k h, q .acknowledgements k h)) o
+      via (λ q. record { phases = omega arith; segments = λ s h. w s h .0; occupied = λ s h. w s h .1; behind = u .sound f; mutators = λ k h. q k h .0; acknowledgements = λ k h. q k h .1 }) (λ q k h. (q .mutators k h, q .acknowledgements k h)) o
+
+-- ---- the cursor, c, which may stand past the last segment
+
+module _ (g : Geometry) (m : Mem) (c : ℕ) (x : c ≡ cursor m) (r : Bool) where
+  pub behind-within : c < g .segments → Decides r ((s : ℕ) → s < c → tag m s ≡ Tag.condemned → ⊥) → Decides r (Behind g m)
+  behind-within l d = via (λ q s h b. q s (omega arith)) (λ q s h. q s (omega arith) (omega arith)) d
+
+  pub behind-past : g .segments ≤ c → Decides r ((s : ℕ) → s < g .segments → tag m s ≡ Tag.condemned → ⊥) → Decides r (Behind g m)
+  behind-past l d = via (λ q s h b. q s h) (λ q s h. q s h (omega arith)) d

@@ -1,23 +1,23 @@
 -- The part of `Sound` that is decided segment by segment and mutator by mutator, and its pieces as the examination goes through them.
 use mathlib.Core.Path.{_≡_}
-use mathlib.Core.Bool.{Bool, true, false}
 use Prim.Native.Nat.{ℕ, suc, _+_, _*_, _≤_, _<_}
 use Rattle.words.specs.Bits.{bitAt}
 use Rattle.layout.specs.declared.Geometry.{Geometry}
-use Rattle.layout.specs.Geometry.{mutatorCount, mutatorWords, entryWords, mostBlocks, blocksIn, bitIn}
+use Rattle.layout.specs.Geometry.{mutatorCount, mutatorWords, entryWords, blocksIn}
 use Rattle.layout.specs.Mem.{Mem, controlWord, mutatorWord}
 use Rattle.theory.specs.Phases.{sweep}
 use Rattle.model.specs.Rules.{phaseNumber}
 use Rattle.model.specs.Fields.{phase, absent, outside, state, acks, holding, tag, class, place, owner}
-use Rattle.model.specs.Segments.{bitmap, marksOf, usedBit}
-use Rattle.model.specs.Consistent.{SegmentOk, Occupied, MutatorOk, AcksIn, BlockInUse, MarksOf}
+use Rattle.model.specs.Segments.{bitmap, usedBit}
+use Rattle.model.specs.Consistent.{SegmentOk, Occupied, Behind, MutatorOk, AcksIn}
 use Rattle.model.specs.Tag as Tag
 
--- the fields of `Sound` that speak of one segment or of one mutator, and the phase's number
+-- the fields of `Sound` that speak of one segment or of one mutator, the phase's number and the cursor
 pub record Parts (g : Geometry) (m : Mem) : Type 0 where
   pub phases : controlWord m 0 ≤ phaseNumber sweep
   pub segments : (s : ℕ) → s < g .segments → SegmentOk g m s
   pub occupied : (s : ℕ) → s < g .segments → Occupied g m s
+  pub behind : Behind g m
   pub mutators : (k : ℕ) → k < mutatorCount → MutatorOk g m k
   pub acknowledgements : (k : ℕ) → k < mutatorCount → (state m k ≡ absent → ⊥) → AcksIn (phase m) (acks m k)
 
@@ -73,26 +73,3 @@ Acknowledged m k = (state m k ≡ absent → ⊥) → AcksIn (phase m) (acks m k
 
 abbrev pub MutatorParts : Geometry → Mem → ℕ → Type 0
 MutatorParts g m k = MutatorOk g m k × Acknowledged m k
-
--- ---- marks
-
--- the marks of segment s are of its blocks in use
-abbrev pub SegmentMarks : Geometry → Mem → ℕ → Type 0
-SegmentMarks g m s = (b : ℕ) → b < mostBlocks g → bitAt (m .marks) (bitIn g s b) ≡ 1 → BlockInUse g m s b
-
--- a mark of block b is of a block whose bit is 1
-abbrev pub BlockMark : Geometry → Mem → ℕ → ℕ → Type 0
-BlockMark g m s b = bitAt (m .marks) (bitIn g s b) ≡ 1 → bitAt (bitmap g m s) b ≡ 1
-
--- no bit past the last block of class c has a mark
-abbrev pub NoneBeyond : Geometry → Mem → ℕ → ℕ → Type 0
-NoneBeyond g m s c = (b : ℕ) → blocksIn g c ≤ b → b < mostBlocks g → bitAt (marksOf g m s) b ≡ 0
-
--- of all segments, or of the condemned ones only
-abbrev pub Asked : Bool → Mem → ℕ → Type 0
-Asked false m s = Unit {0}
-Asked true m s = tag m s ≡ Tag.condemned
-
-abbrev pub MarksIn : Bool → Geometry → Mem → Type 0
-MarksIn false g m = MarksOf g m (λ s. Unit {0})
-MarksIn true g m = MarksOf g m (λ s. tag m s ≡ Tag.condemned)

@@ -1,5 +1,5 @@
 // The part of the examination's second half that needs no scratch, decided both ways over memory of any content: segment records, mutators' entries,
-// acknowledgements and the phase's number; and of the marks what a phase asks, once segments that are not free have classes.
+// acknowledgements and the phase's number.
 use layout::Geometry;
 use model::Phase;
 use model::Segment;
@@ -7,16 +7,14 @@ ghost use mathlib.Core.Path.{_≡_};
 ghost use Prim.Native.Nat.{ℕ, _+_, _*_, _≤_, _<_};
 ghost use lib.ListN.{length};
 ghost use Rattle.rules.specs.Decides.{Decides};
-ghost use Rattle.words.specs.Bits.{bitAt};
 ghost use Rattle.classes.specs.Class.{IsClass, firstClass, classCount};
-ghost use Rattle.layout.specs.Geometry.{Sized, mutatorCount, mostBlocks, bitIn};
+ghost use Rattle.layout.specs.Geometry.{Sized, mutatorCount};
 ghost use Rattle.layout.specs.Mem.{memOf};
 ghost use Rattle.model.specs.Rules.{phaseOf};
-ghost use Rattle.model.specs.Fields.{tag, class};
-ghost use Rattle.model.specs.Segments.{bitmap};
+ghost use Rattle.model.specs.Fields.{tag};
 ghost use Rattle.model.specs.Tag as Tag;
-ghost use Rattle.model.specs.Consistent.{AcksIn};
-ghost use Rattle.examine_parts.specs.Parts.{Parts, Cleared, Open, Owned, Used, SegmentParts, Gone, HeldBy, Holds, Entry, Acknowledged, MutatorParts, SegmentMarks, BlockMark, NoneBeyond, Asked, MarksIn};
+ghost use Rattle.model.specs.Consistent.{AcksIn, Behind};
+ghost use Rattle.examine_parts.specs.Parts.{Parts, Cleared, Open, Owned, Used, SegmentParts, Gone, HeldBy, Holds, Entry, Acknowledged, MutatorParts};
 
 // The words of a mutator's entry that are in use.
 const ENTRY_WORDS: usize = layout::HELD_FROM + classes::CLASS_COUNT as usize;
@@ -293,7 +291,36 @@ fn mutators(g: Geometry, mem: &[u32]) -> bool
     true
 }
 
-// Whether the phase, the segments and the mutators are in order.
+// Whether none of the first n segments is condemned.
+fn none_before(g: Geometry, mem: &[u32], n: usize) -> bool
+    requires { ⌜ (Sized g (length (now mem))) × (n ≤ g .segments) ⌝ }
+    ensures { λ r. ⌜ Decides r ((s : ℕ) → s < n → tag (memOf g (now (mem .entry))) s ≡ Tag.condemned → ⊥) ⌝ }
+{
+    let mut s = 0;
+    while s < n {
+        let tag = segments::tag(g, mem, s);
+        if tag == Segment::TAG_CONDEMNED {
+            return false;
+        }
+        s += 1;
+    }
+    true
+}
+
+// Whether no condemned segment stands before the sweep's cursor.
+fn behind(g: Geometry, mem: &[u32]) -> bool
+    requires { ⌜ Sized g (length (now mem)) ⌝ }
+    ensures { λ r. ⌜ Decides r (Behind g (memOf g (now (mem .entry)))) ⌝ }
+{
+    let n = g.segments;
+    let cursor = layout::control(g, mem, 2) as usize;
+    if cursor < n {
+        return none_before(g, mem, cursor);
+    }
+    none_before(g, mem, n)
+}
+
+// Whether the phase, the segments, the sweep's cursor and the mutators are in order.
 pub fn parts(g: Geometry, mem: &[u32]) -> bool
     requires { ⌜ Sized g (length (now mem)) ⌝ }
     ensures { λ r. ⌜ Decides r (Parts g (memOf g (now (mem .entry)))) ⌝ }
@@ -306,6 +333,10 @@ pub fn parts(g: Geometry, mem: &[u32]) -> bool
     if !ok {
         return false;
     }
+    let passed = behind(g, mem);
+    if !passed {
+        return false;
+    }
     mutators(g, mem)
 }
 
@@ -314,158 +345,5 @@ pub fn none_condemned(g: Geometry, mem: &[u32]) -> bool
     requires { ⌜ Sized g (length (now mem)) ⌝ }
     ensures { λ r. ⌜ Decides r ((s : ℕ) → s < g .segments → tag (memOf g (now (mem .entry))) s ≡ Tag.condemned → ⊥) ⌝ }
 {
-    let n = g.segments;
-    let mut s = 0;
-    while s < n {
-        let tag = segments::tag(g, mem, s);
-        if tag == Segment::TAG_CONDEMNED {
-            return false;
-        }
-        s += 1;
-    }
-    true
-}
-
-// Whether no block has a mark.
-pub fn no_marks(g: Geometry, mem: &[u32]) -> bool
-    requires { ⌜ Sized g (length (now mem)) ⌝ }
-    ensures { λ r. ⌜ Decides r ((k : ℕ) → k < g .segments * mostBlocks g → bitAt (memOf g (now (mem .entry)) .marks) k ≡ 0) ⌝ }
-{
-    let n = g.segments;
-    let mut s = 0;
-    while s < n {
-        let kept = bitmaps::kept(g, mem, s, classes::FIRST_CLASS);
-        if kept != 0 {
-            return false;
-        }
-        s += 1;
-    }
-    true
-}
-
-// The bit of block b of segment s.
-fn block_bit(g: Geometry, mem: &[u32], s: usize, b: u32) -> u32
-    requires { ⌜ (Sized g (length (now mem))) × (s < g .segments) ⌝ }
-    requires { ⌜ b < mostBlocks g ⌝ }
-    ensures { λ r. ⌜ r ≡ bitAt (bitmap g (memOf g (now (mem .entry))) s) b ⌝ }
-{
-    let from = layout::bitmap_from(g, s);
-    let end = layout::bitmap_from(g, s + 1);
-    words::bit_at(&mem[from..end], b)
-}
-
-// Its mark.
-fn mark_bit(g: Geometry, mem: &[u32], s: usize, b: u32) -> u32
-    requires { ⌜ (Sized g (length (now mem))) × (s < g .segments) ⌝ }
-    requires { ⌜ b < mostBlocks g ⌝ }
-    ensures { λ r. ⌜ r ≡ bitAt (memOf g (now (mem .entry)) .marks) (bitIn g s b) ⌝ }
-{
-    let k = layout::bit_in(g, s, b as usize);
-    let word = layout::mark(g, mem, k / 32);
-    words::bit_of(word, (k % 32) as u32)
-}
-
-// Whether the bit of block b is 1 where it is marked.
-fn block_mark(g: Geometry, mem: &[u32], s: usize, b: u32) -> bool
-    requires { ⌜ (Sized g (length (now mem))) × (s < g .segments) ⌝ }
-    requires { ⌜ b < mostBlocks g ⌝ }
-    ensures { λ r. ⌜ Decides r (BlockMark g (memOf g (now (mem .entry))) s b) ⌝ }
-{
-    let mark = mark_bit(g, mem, s, b);
-    if mark == 0 {
-        return true;
-    }
-    let bit = block_bit(g, mem, s, b);
-    bit == 1
-}
-
-// Whether that is so of every block from a place up to n.
-fn block_marks(g: Geometry, mem: &[u32], s: usize, place: u32, n: u32) -> bool
-    requires { ⌜ (Sized g (length (now mem))) × (s < g .segments) ⌝ }
-    requires { ⌜ n ≤ mostBlocks g ⌝ }
-    ensures { λ r. ⌜ Decides r ((b : ℕ) → b < n → place ≤ b → BlockMark g (memOf g (now (mem .entry))) s b) ⌝ }
-{
-    let mut b = place;
-    while b < n {
-        let ok = block_mark(g, mem, s, b);
-        if !ok {
-            return false;
-        }
-        b += 1;
-    }
-    true
-}
-
-// Whether no mark lies past the blocks of a class: as many marks as among those blocks.
-fn none_beyond(g: Geometry, mem: &[u32], s: usize, class: u32) -> bool
-    requires { ⌜ (Sized g (length (now mem))) × (s < g .segments) ⌝ }
-    requires { ⌜ IsClass class ⌝ }
-    ensures { λ r. ⌜ Decides r (NoneBeyond g (memOf g (now (mem .entry))) s class) ⌝ }
-{
-    let all = bitmaps::kept(g, mem, s, classes::FIRST_CLASS);
-    let kept = bitmaps::kept(g, mem, s, class);
-    all == kept
-}
-
-// Whether the marks of a segment of a class are of blocks in use.
-fn used_marks(g: Geometry, mem: &[u32], s: usize, of: u32) -> bool
-    requires { ⌜ (Sized g (length (now mem))) × (s < g .segments) ⌝ }
-    requires { ⌜ (IsClass of) × (of ≡ class (memOf g (now mem)) s) × (tag (memOf g (now mem)) s ≡ Tag.free → ⊥) ⌝ }
-    ensures { λ r. ⌜ Decides r (SegmentMarks g (memOf g (now (mem .entry))) s) ⌝ }
-{
-    let ok = none_beyond(g, mem, s, of);
-    if !ok {
-        return false;
-    }
-    let place = segments::place(g, mem, s);
-    let n = layout::blocks_in(g, of);
-    block_marks(g, mem, s, place, n)
-}
-
-// Whether the marks of segment s are.
-fn segment_marks(g: Geometry, mem: &[u32], s: usize) -> bool
-    requires { ⌜ (Sized g (length (now mem))) × (s < g .segments) ⌝ }
-    requires { ⌜ ((tag (memOf g (now mem)) s ≡ Tag.free → ⊥) → IsClass (class (memOf g (now mem)) s)) ⌝ }
-    ensures { λ r. ⌜ Decides r (SegmentMarks g (memOf g (now (mem .entry))) s) ⌝ }
-{
-    let tag = segments::tag(g, mem, s);
-    if tag == Segment::TAG_FREE {
-        return bitmaps::kept(g, mem, s, classes::FIRST_CLASS) == 0;
-    }
-    let class = segments::class(g, mem, s);
-    used_marks(g, mem, s, class)
-}
-
-// The same, where it is asked of segment s.
-fn asked_marks(g: Geometry, mem: &[u32], s: usize, condemned_only: bool) -> bool
-    requires { ⌜ (Sized g (length (now mem))) × (s < g .segments) ⌝ }
-    requires { ⌜ ((tag (memOf g (now mem)) s ≡ Tag.free → ⊥) → IsClass (class (memOf g (now mem)) s)) ⌝ }
-    ensures { λ r. ⌜ Decides r (Asked «condemned_only» (memOf g (now (mem .entry))) s → SegmentMarks g (memOf g (now (mem .entry))) s) ⌝ }
-{
-    if !condemned_only {
-        return segment_marks(g, mem, s);
-    }
-    let tag = segments::tag(g, mem, s);
-    if tag != Segment::TAG_CONDEMNED {
-        return true;
-    }
-    segment_marks(g, mem, s)
-}
-
-// Whether all marks are of blocks in use: those of every segment, or of the condemned ones only.
-pub fn marks(g: Geometry, mem: &[u32], condemned_only: bool) -> bool
-    requires { ⌜ Sized g (length (now mem)) ⌝ }
-    requires { ⌜ ((s : ℕ) → s < g .segments → (tag (memOf g (now mem)) s ≡ Tag.free → ⊥) → IsClass (class (memOf g (now mem)) s)) ⌝ }
-    ensures { λ r. ⌜ Decides r (MarksIn «condemned_only» g (memOf g (now (mem .entry)))) ⌝ }
-{
-    let n = g.segments;
-    let mut s = 0;
-    while s < n {
-        let ok = asked_marks(g, mem, s, condemned_only);
-        if !ok {
-            return false;
-        }
-        s += 1;
-    }
-    true
+    none_before(g, mem, g.segments)
 }

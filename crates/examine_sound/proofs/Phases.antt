@@ -13,11 +13,14 @@ use Rattle.theory.specs.Reach.{root}
 use Rattle.theory.proofs.Graph.{reach-map}
 use Rattle.model.specs.Rules.{phaseOf, phaseNumber}
 use Rattle.model.specs.Fields.{phase, traceCount}
+use Rattle.model.specs.Records.{entered, marked}
 use Rattle.model.specs.Reaching.{IsRoot, IsEntry, Live, Reached}
 use Rattle.model.specs.Consistent.{Sound}
+use Rattle.laws.proofs.Marked.{entered-as, marked-entered}
 use Rattle.examine_parts.specs.Parts.{Parts}
 use Rattle.examine_trace.specs.Traced.{Traced}
-use Rattle.examine_sound.specs.Cycle.{Classes, Rest, IdleRest, SyncRest, MarkRest, SweepRest}
+use Rattle.examine_marks.specs.Heads.{Classes}
+use Rattle.examine_sound.specs.Cycle.{Rest, IdleRest, SyncRest, MarkRest, SweepRest}
 
 module _ (g : Geometry) (m : Mem) where
   -- with nothing on the trace stack, what is live is reached
@@ -31,6 +34,14 @@ module _ (g : Geometry) (m : Mem) where
   reached-live : {x : ℕ} → Reached m x → Live m x
   reached-live p = reach-map (λ x q. root (inl q)) (λ x y r q. inl q) p
 
+  -- and what has a bit is marked
+  bit-marked : traceCount m ≡ 0 → (x : ℕ) → entered g m x ≡ 1 → marked g m x ≡ 1
+  bit-marked e x b = go (entered-as g m x b)
+    where
+      go : IsEntry m x ⊎ (marked g m x ≡ 1) → marked g m x ≡ 1
+      go (inl q) = absurd (let l = q .within in omega arith)
+      go (inr q) = q
+
   module _ (n : ℕ) (en : n ≡ controlWord m 0) (r : Bool) where
     is : (k : ℕ) → n ≡ k → phase m ≡ phaseOf k
     is k e = ap phaseOf (sym en ∙ e)
@@ -42,7 +53,7 @@ module _ (g : Geometry) (m : Mem) where
     in-idle e d = to idle (is 0 e) (via (λ q. record { records = q .records; cycle = (q .empty, q .none) }) (λ q. record { empty = q .cycle .0; none = q .cycle .1; records = q .records }) d)
 
     pub in-sync : n ≡ 1 → Decides r (SyncRest g m) → Decides r (Rest (phase m) g m)
-    in-sync e d = to sync1 (is 1 e) (via (λ q. record { records = q .records; cycle = q .none }) (λ q. record { none = q .cycle; records = q .records }) d)
+    in-sync e d = to sync1 (is 1 e) (via (λ q. record { records = q .records; cycle = q .only }) (λ q. record { only = q .cycle; records = q .records }) d)
 
     pub in-mark : (n ≡ 0 → ⊥) → (n ≡ 1 → ⊥) → n < 4 → Decides r (MarkRest g m) → Decides r (Rest (phase m) g m)
     in-mark a b l d = go (two-or-three n a b l)
@@ -59,8 +70,8 @@ module _ (g : Geometry) (m : Mem) where
 
     pub in-sweep : 4 ≤ n → controlWord m 0 ≤ 4 → Decides r (SweepRest g m) → Decides r (Rest (phase m) g m)
     in-sweep l h d = to sweep (is 4 (omega arith)) (via
-        (λ q. record { records = λ at p. q .swept .records at (live-reached (q .empty) p); cycle = (q .empty, q .marks, q .swept .marked) })
-        (λ q. record { empty = q .cycle .0; marks = q .cycle .1; swept = record { records = λ at p. q .records at (reached-live p); marked = q .cycle .2 } })
+        (λ q. record { records = λ at p. q .swept .records at (live-reached (q .empty) p); cycle = (q .empty, q .marks, λ at p t. bit-marked (q .empty) at (q .swept .entered at p t)) })
+        (λ q. record { empty = q .cycle .0; marks = q .cycle .1; swept = record { records = λ at p. q .records at (reached-live p); entered = λ at p t. marked-entered g m at (q .cycle .2 at p t) } })
         d)
 
   -- ---- all of it
@@ -69,13 +80,13 @@ module _ (g : Geometry) (m : Mem) where
   classes-of p s l f = p .segments s l .classes f
 
   pub parts-fail : (r : Bool) → Decides r (Parts g m) → r ≡ false → Decides false (Sound g m)
-  parts-fail r d e = fails (λ s. refuted d e (record { phases = s .phases; segments = s .segments; occupied = s .occupied; mutators = s .mutators; acknowledgements = s .acknowledgements }))
+  parts-fail r d e = fails (λ s. refuted d e (record { phases = s .phases; segments = s .segments; occupied = s .occupied; behind = s .behind; mutators = s .mutators; acknowledgements = s .acknowledgements }))
 
   pub trace-fails : (r : Bool) → Decides r (Traced g m) → r ≡ false → Decides false (Sound g m)
   trace-fails r d e = fails (λ s. refuted d e (record { trace = s .trace; records = λ at q. s .records at (root (inr q)) }))
 
   pub all-of : Parts g m → Traced g m → (r : Bool) → Decides r (Rest (phase m) g m) → Decides r (Sound g m)
   all-of p t r d = via
-      (λ q. record { phases = p .phases; segments = p .segments; occupied = p .occupied; mutators = p .mutators; acknowledgements = p .acknowledgements; records = q .records; trace = t .trace; cycle = q .cycle })
+      (λ q. record { phases = p .phases; segments = p .segments; occupied = p .occupied; behind = p .behind; mutators = p .mutators; acknowledgements = p .acknowledgements; records = q .records; trace = t .trace; cycle = q .cycle })
       (λ s. record { records = s .records; cycle = s .cycle })
       d

@@ -1,20 +1,14 @@
 -- What the examination decides after the parts and the trace stack: that what is live passes the test, and what the phase asks.
 use mathlib.Core.Path.{_≡_}
-use Prim.Native.Nat.{ℕ, _*_, _<_}
-use Rattle.words.specs.Bits.{bitAt}
-use Rattle.classes.specs.Class.{IsClass}
+use Prim.Native.Nat.{ℕ, _<_}
 use Rattle.layout.specs.declared.Geometry.{Geometry}
-use Rattle.layout.specs.Geometry.{mostBlocks}
 use Rattle.layout.specs.Mem.{Mem}
 use Rattle.theory.specs.Phases.{Phase}
-use Rattle.model.specs.Fields.{traceCount, tag, class}
+use Rattle.model.specs.Fields.{traceCount, tag}
 use Rattle.model.specs.Consistent.{InPhase, MarksOf}
+use Rattle.examine_marks.specs.Heads.{OnlyEntries}
 use Rattle.examine_colours.specs.Coloured.{LiveOk, Coloured, SweptOk}
 use Rattle.model.specs.Tag as Tag
-
--- every segment in use has a class
-abbrev pub Classes : Geometry → Mem → Type 0
-Classes g m = (s : ℕ) → s < g .segments → (tag m s ≡ Tag.free → ⊥) → IsClass (class m s)
 
 pub record Rest (p : Phase) (g : Geometry) (m : Mem) : Type 0 where
   pub records : LiveOk g m
@@ -26,7 +20,7 @@ pub record IdleRest (g : Geometry) (m : Mem) : Type 0 where
   pub records : LiveOk g m
 
 pub record SyncRest (g : Geometry) (m : Mem) : Type 0 where
-  pub none : (k : ℕ) → k < g .segments * mostBlocks g → bitAt (m .marks) k ≡ 0
+  pub only : OnlyEntries g m
   pub records : LiveOk g m
 
 pub record MarkRest (g : Geometry) (m : Mem) : Type 0 where

@@ -13,7 +13,8 @@ ghost use Rattle.model.specs.Fields.{phase};
 ghost use Rattle.model.specs.Consistent.{Sound};
 ghost use Rattle.examine_parts.specs.Parts.{Parts};
 ghost use Rattle.examine_trace.specs.Traced.{Traced};
-ghost use Rattle.examine_sound.specs.Cycle.{Classes, Rest, IdleRest, SyncRest, MarkRest, SweepRest};
+ghost use Rattle.examine_marks.specs.Heads.{Classes};
+ghost use Rattle.examine_sound.specs.Cycle.{Rest, IdleRest, SyncRest, MarkRest, SweepRest};
 
 // In idle: nothing on the trace stack, no segment in the collect set, and what is live passes the test.
 fn idle_ok(g: Geometry, mem: &[u32], scratch: &mut [u32]) -> bool
@@ -31,13 +32,13 @@ fn idle_ok(g: Geometry, mem: &[u32], scratch: &mut [u32]) -> bool
     examine_colours::live_ok(g, mem, scratch)
 }
 
-// In handshake 1: no mark, and what is live passes the test.
+// In handshake 1: bits among the marks of entries of the trace stack only, and what is live passes the test.
 fn sync_ok(g: Geometry, mem: &[u32], scratch: &mut [u32]) -> bool
-    requires { ⌜ (Sized g (length (now mem))) × (length (now scratch) ≡ scratchWords g) ⌝ }
+    requires { ⌜ (Sized g (length (now mem))) × (length (now scratch) ≡ scratchWords g) × Traced g (memOf g (now mem)) ⌝ }
     ensures { λ r. ⌜ Decides r (SyncRest g (memOf g (now (mem .entry)))) ⌝ }
 {
-    let none = examine_parts::no_marks(g, mem);
-    if !none {
+    let only = examine_marks::only_entries(g, mem);
+    if !only {
         return false;
     }
     examine_colours::live_ok(g, mem, scratch)
@@ -48,7 +49,7 @@ fn mark_ok(g: Geometry, mem: &[u32], scratch: &mut [u32]) -> bool
     requires { ⌜ (Sized g (length (now mem))) × (length (now scratch) ≡ scratchWords g) × Classes g (memOf g (now mem)) ⌝ }
     ensures { λ r. ⌜ Decides r (MarkRest g (memOf g (now (mem .entry)))) ⌝ }
 {
-    let used = examine_parts::marks(g, mem, false);
+    let used = examine_marks::marks(g, mem, false);
     if !used {
         return false;
     }
@@ -64,7 +65,7 @@ fn sweep_ok(g: Geometry, mem: &[u32], scratch: &mut [u32]) -> bool
     if count != 0 {
         return false;
     }
-    let used = examine_parts::marks(g, mem, true);
+    let used = examine_marks::marks(g, mem, true);
     if !used {
         return false;
     }
@@ -73,7 +74,7 @@ fn sweep_ok(g: Geometry, mem: &[u32], scratch: &mut [u32]) -> bool
 
 // What the phase asks, and that what is live passes the test.
 fn rest_ok(g: Geometry, mem: &[u32], scratch: &mut [u32]) -> bool
-    requires { ⌜ (Sized g (length (now mem))) × (length (now scratch) ≡ scratchWords g) × Classes g (memOf g (now mem)) × (controlWord (memOf g (now mem)) 0 ≤ phaseNumber sweep) ⌝ }
+    requires { ⌜ (Sized g (length (now mem))) × (length (now scratch) ≡ scratchWords g) × Classes g (memOf g (now mem)) × (controlWord (memOf g (now mem)) 0 ≤ phaseNumber sweep) × Traced g (memOf g (now mem)) ⌝ }
     ensures { λ r. ⌜ Decides r (Rest (phase (memOf g (now (mem .entry)))) g (memOf g (now (mem .entry)))) ⌝ }
 {
     let number = layout::control(g, mem, 0);

@@ -40,38 +40,35 @@ bit-by ws k w x ew ex =
     let e : bitAt ws k ≡ x = bit-split ws k ∙ ap (λ z. bitOf z (k % 32)) (sym ew) ∙ sym ex in
     record { sound = λ t. e ∙ eqb-true x 1 t; complete = λ q. eq-eqb x 1 (sym e ∙ q) }
 
--- ---- the queued bits as a part of the slice
+-- ---- the marks as a part of the slice
 
-module _ (g : Geometry) (l : List ℕ) (z : Sized g (length l)) (a b most : ℕ) (em : most ≡ len g Region.trace) (ea : a ≡ from g Region.marks + g .segments * markWords g) (eb : b ≡ length l - most) where
-  pub part-ends : (b ≡ a + len g Region.queued) × (b ≤ length l) × (most ≤ length l)
+module _ (g : Geometry) (l : List ℕ) (z : Sized g (length l)) (a b most : ℕ) (em : most ≡ len g Region.trace) (ea : a ≡ from g Region.marks + 0 * markWords g) (eb : b ≡ length l - most) where
+  pub part-ends : (b ≡ a + len g Region.marks) × (b ≤ length l) × (most ≤ length l)
   part-ends = let t = z .is in (omega arith, omega arith, omega arith)
 
-  part-is : midOf a (b - a) l ≡ memOf g l .queued
+  part-is : midOf a (b - a) l ≡ memOf g l .marks
   part-is =
-      read-at g l Region.queued 0 (len g Region.queued) a b (omega arith, part-ends .0, omega arith, omega arith)
-      ∙ take-all (len g Region.queued) (memOf g l .queued) (let q = sizes-of g l z .queued in omega arith)
+      read-at g l Region.marks 0 (len g Region.marks) a b (omega arith, part-ends .0, omega arith, omega arith)
+      ∙ take-all (len g Region.marks) (memOf g l .marks) (let q = sizes-of g l z .marks in omega arith)
 
   pub part-room : wordsFor most ≤ length (midOf a (b - a) l)
-  part-room = rw part-is (let q = sizes-of g l z .queued in let w = marks-are g (g .segments) in omega arith)
+  part-room = rw part-is (let q = sizes-of g l z .marks in let w = marks-are g (g .segments) in omega arith)
 
-  pub part-count : (r : ℕ) → r ≡ onesAmong (bitAt (midOf a (b - a) l)) most → r ≡ onesAmong (bitAt (memOf g l .queued)) (g .segments * mostBlocks g)
-  part-count r e = e ∙ ap (λ (y : List ℕ). onesAmong (bitAt y) most) part-is ∙ ap (onesAmong (bitAt (memOf g l .queued))) em
+  pub part-count : (r : ℕ) → r ≡ onesAmong (bitAt (midOf a (b - a) l)) most → r ≡ onesAmong (bitAt (memOf g l .marks)) (g .segments * mostBlocks g)
+  part-count r e = e ∙ ap (λ (y : List ℕ). onesAmong (bitAt y) most) part-is ∙ ap (onesAmong (bitAt (memOf g l .marks))) em
 
 -- ---- a bit of an entry
 
 module _ (m : Mem) (k : ℕ) (before : List ℕ) where
-  pub bit-marked : bitAt (m .marks) k ≡ 1 → BitEnters m k before false before
-  bit-marked e = record { new = λ t. absurd (true≢false (sym t)); wrong = λ _ f _ _. omega arith }
-
-  pub bit-unqueued : (bitAt (m .queued) k ≡ 1 → ⊥) → BitEnters m k before false before
-  bit-unqueued d = record { new = λ t. absurd (true≢false (sym t)); wrong = λ _ _ f _. d f }
+  pub bit-unset : (bitAt (m .marks) k ≡ 1 → ⊥) → BitEnters m k before false before
+  bit-unset d = record { new = λ t. absurd (true≢false (sym t)); wrong = λ _ f _. d f }
 
   pub bit-again : bitAt before k ≡ 1 → BitEnters m k before false before
-  bit-again e = record { new = λ t. absurd (true≢false (sym t)); wrong = λ _ _ _ f. omega arith }
+  bit-again e = record { new = λ t. absurd (true≢false (sym t)); wrong = λ _ _ f. omega arith }
 
-  pub bit-new : (bitAt (m .marks) k ≡ 1 → ⊥) → bitAt (m .queued) k ≡ 1 → (bitAt before k ≡ 1 → ⊥) → BitEnters m k before true (setBit before k)
-  bit-new a b c = record {
-    new = λ _. (zero-of-not-one _ (at-lt (m .marks) k) a, b, zero-of-not-one _ (at-lt before k) c, refl);
+  pub bit-new : bitAt (m .marks) k ≡ 1 → (bitAt before k ≡ 1 → ⊥) → BitEnters m k before true (setBit before k)
+  bit-new b c = record {
+    new = λ _. (b, zero-of-not-one _ (at-lt before k) c, refl);
     wrong = λ t. absurd (true≢false t);
   }
 
@@ -86,8 +83,8 @@ module _ (g : Geometry) (m : Mem) (i : ℕ) (before : List ℕ) (w : ℕ) (ew : 
 
   pub enter-by : (w ≡ 0 → ⊥) → RecordOk g m (w - 1) → (k : ℕ) → k ≡ recordBit g m (w - 1) → (r : Bool) (after : List ℕ) → BitEnters m k before r after → Enters g m i before r after
   enter-by f ok k ek r after q = record {
-    new = λ t. let n = q .new t in (record { named = omega arith; passes = subst (λ (x : ℕ). RecordOk g m (x - 1)) ew ok; unmarked = ap (bitAt (m .marks)) (sym is) ∙ n .0; bit = ap (bitAt (m .queued)) (sym is) ∙ n .1 }, ap (bitAt before) (sym is) ∙ n .2, n .3 ∙ ap (setBit before) is);
-    wrong = λ t o z. q .wrong t (ap (bitAt (m .marks)) is ∙ o .unmarked) (ap (bitAt (m .queued)) is ∙ o .bit) (ap (bitAt before) is ∙ z);
+    new = λ t. let n = q .new t in (record { named = omega arith; passes = subst (λ (x : ℕ). RecordOk g m (x - 1)) ew ok; bit = ap (bitAt (m .marks)) (sym is) ∙ n .0 }, ap (bitAt before) (sym is) ∙ n .1, n .2 ∙ ap (setBit before) is);
+    wrong = λ t o z. q .wrong t (ap (bitAt (m .marks)) is ∙ o .bit) (ap (bitAt before) is ∙ z);
   }
     where
       is : k ≡ entryBit g m i
@@ -96,7 +93,7 @@ module _ (g : Geometry) (m : Mem) (i : ℕ) (before : List ℕ) (w : ℕ) (ew : 
 -- ---- the entries so far
 
 module _ (g : Geometry) (m : Mem) where
-  pub seen-none : (bits : List ℕ) → len g Region.queued ≤ length bits → ((k : ℕ) → bitAt bits k ≡ 0) → Seen g m 0 bits
+  pub seen-none : (bits : List ℕ) → len g Region.marks ≤ length bits → ((k : ℕ) → bitAt bits k ≡ 0) → Seen g m 0 bits
   seen-none bits l z = record {
     long = l;
     entries = λ k h. absurd (omega arith);
@@ -155,7 +152,7 @@ module _ (g : Geometry) (m : Mem) where
         here = record { index = i; within = l; names = omega (arith, some) }
 
         ok : EntryOk g m i
-        ok = record { named = some; passes = o .records _ here; unmarked = o .trace .unmarked _ here; bit = o .trace .bits _ here }
+        ok = record { named = some; passes = o .records _ here; bit = o .trace .bits _ here }
 
         go : (bitAt bits (entryBit g m i) ≡ 1) ⊎ (bitAt bits (entryBit g m i) ≡ 1 → ⊥) → bitAt bits (entryBit g m i) ≡ 0
         go (inr d) = zero-of-not-one _ (at-lt bits (entryBit g m i)) d
@@ -174,21 +171,20 @@ module _ (g : Geometry) (m : Mem) where
 
   -- ---- the whole stack
 
-  module _ (n ones : ℕ) (en : n ≡ traceCount m) (eo : ones ≡ onesAmong (bitAt (m .queued)) (g .segments * mostBlocks g)) where
-    pub count-wrong : (n ≡ ones → ⊥) → Decides false (Traced g m)
-    count-wrong d = fails (λ o. d (en ∙ o .trace .number ∙ sym eo))
+  module _ (n ones : ℕ) (en : n ≡ traceCount m) (eo : ones ≡ onesAmong (bitAt (m .marks)) (g .segments * mostBlocks g)) where
+    pub count-wrong : ones < n → Decides false (Traced g m)
+    count-wrong d = fails (λ o. let k = o .trace .number in omega arith)
 
-    pub count-few : n ≡ ones → n ≤ len g Region.trace
-    count-few e = let l = among-le (bitAt (m .queued)) (at-lt (m .queued)) (g .segments * mostBlocks g) in omega arith
+    pub count-few : n ≤ ones → n ≤ len g Region.trace
+    count-few e = let l = among-le (bitAt (m .marks)) (at-lt (m .marks)) (g .segments * mostBlocks g) in omega arith
 
-    pub count-right : n ≡ ones → (r : Bool) (after : List ℕ) → EntersAll g m r after → Decides r (Traced g m)
+    pub count-right : n ≤ ones → (r : Bool) (after : List ℕ) → EntersAll g m r after → Decides r (Traced g m)
     count-right e true after q = holds (record {
       trace = record {
         named = λ i l. p .entries i l .named;
         once = p .once;
-        unmarked = λ at x. ap (λ (z : ℕ). bitAt (m .marks) (recordBit g m z)) (entry-is at x) ∙ p .entries (x .index) (x .within) .unmarked;
-        bits = λ at x. ap (λ (z : ℕ). bitAt (m .queued) (recordBit g m z)) (entry-is at x) ∙ p .entries (x .index) (x .within) .bit;
-        number = sym en ∙ e ∙ eo;
+        bits = λ at x. ap (λ (z : ℕ). bitAt (m .marks) (recordBit g m z)) (entry-is at x) ∙ p .entries (x .index) (x .within) .bit;
+        number = omega arith;
       };
       records = λ at x. subst (RecordOk g m) (sym (entry-is at x)) (p .entries (x .index) (x .within) .passes);
     })

@@ -9,7 +9,7 @@ use Rattle.layout.specs.declared.Geometry.{Geometry}
 use Rattle.layout.specs.Geometry.{len}
 use Rattle.layout.specs.Mem.{Mem, traceWord}
 use Rattle.model.specs.Fields.{traceCount}
-use Rattle.model.specs.Records.{recordBit, marked, queued}
+use Rattle.model.specs.Records.{recordBit, entered}
 use Rattle.model.specs.Reaching.{IsEntry}
 use Rattle.model.specs.Consistent.{RecordOk, TraceOk}
 use Rattle.layout.specs.Region as Region
@@ -30,13 +30,12 @@ entryBit g m i = recordBit g m (entryAt m i)
 pub record EntryOk (g : Geometry) (m : Mem) (i : ℕ) : Type 0 where
   pub named : 1 ≤ traceWord m i
   pub passes : RecordOk g m (entryAt m i)
-  pub unmarked : marked g m (entryAt m i) ≡ 0
-  pub bit : queued g m (entryAt m i) ≡ 1
+  pub bit : entered g m (entryAt m i) ≡ 1
 
 -- bit k of an entry, entered among the bits so far
 pub record BitEnters (m : Mem) (k : ℕ) (before : List ℕ) (r : Bool) (after : List ℕ) : Type 0 where
-  pub new : r ≡ true → (bitAt (m .marks) k ≡ 0) × (bitAt (m .queued) k ≡ 1) × (bitAt before k ≡ 0) × (after ≡ setBit before k)
-  pub wrong : r ≡ false → bitAt (m .marks) k ≡ 0 → bitAt (m .queued) k ≡ 1 → bitAt before k ≡ 0 → ⊥
+  pub new : r ≡ true → (bitAt (m .marks) k ≡ 1) × (bitAt before k ≡ 0) × (after ≡ setBit before k)
+  pub wrong : r ≡ false → bitAt (m .marks) k ≡ 1 → bitAt before k ≡ 0 → ⊥
 
 pub record Enters (g : Geometry) (m : Mem) (i : ℕ) (before : List ℕ) (r : Bool) (after : List ℕ) : Type 0 where
   pub new : r ≡ true → EntryOk g m i × (bitAt before (entryBit g m i) ≡ 0) × (after ≡ setBit before (entryBit g m i))
@@ -44,7 +43,7 @@ pub record Enters (g : Geometry) (m : Mem) (i : ℕ) (before : List ℕ) (r : Bo
 
 -- the first i entries are in order, none of them twice, and the bits are exactly theirs
 pub record Seen (g : Geometry) (m : Mem) (i : ℕ) (bits : List ℕ) : Type 0 where
-  pub long : len g Region.queued ≤ length bits
+  pub long : len g Region.marks ≤ length bits
   pub entries : (k : ℕ) → k < i → EntryOk g m k
   pub once : (j k : ℕ) → j < k → k < i → traceWord m j ≡ traceWord m k → ⊥
   pub there : (k : ℕ) → k < i → bitAt bits (entryBit g m k) ≡ 1

@@ -1,5 +1,5 @@
-// The examination's part on the trace stack, over memory of any content: each entry is a record that passes the test, unmarked and queued, none is
-// there twice, and there are as many as queued bits. Entries are told apart by bits in a lent scratch.
+// The examination's part on the trace stack, over memory of any content: each entry is a record that passes the test, with its bit, none is there
+// twice, and there are no more than bits. Entries are told apart by bits in a lent scratch.
 use layout::Geometry;
 use tracing::Bit;
 ghost use mathlib.Core.Path.{_≡_};
@@ -22,37 +22,24 @@ pub fn mark_bit(g: Geometry, mem: &[u32], k: usize) -> bool
     words::bit_of(w, (k % 32) as u32) == 1
 }
 
-// Whether queued bit k is 1.
-fn queued_bit(g: Geometry, mem: &[u32], k: usize) -> bool
-    requires { ⌜ (Sized g (length (now mem))) × (k < g .segments * mostBlocks g) ⌝ }
-    ensures { λ r. ⌜ Decides r (bitAt (memOf g (now (mem .entry)) .queued) k ≡ 1) ⌝ }
-{
-    let w = layout::queued(g, mem, k / 32);
-    words::bit_of(w, (k % 32) as u32) == 1
-}
-
-// How many queued bits are 1.
-fn queued_count(g: Geometry, mem: &[u32]) -> u32
+// How many mark bits are 1.
+pub fn mark_count(g: Geometry, mem: &[u32]) -> u32
     requires { ⌜ Sized g (length (now mem)) ⌝ }
-    ensures { λ r. ⌜ r ≡ onesAmong (bitAt (memOf g (now (mem .entry)) .queued)) (g .segments * mostBlocks g) ⌝ }
+    ensures { λ r. ⌜ r ≡ onesAmong (bitAt (memOf g (now (mem .entry)) .marks)) (g .segments * mostBlocks g) ⌝ }
 {
     let most = layout::trace_words(g);
-    let n = g.segments;
-    let a = layout::marks_from(g, n);
+    let a = layout::marks_from(g, 0);
     let b = mem.len() - most;
     words::ones_among(&mem[a..b], most as u32)
 }
 
-// Bit k of an entry: unmarked, queued, and new among the bits so far.
+// Bit k of an entry: set, and new among the bits so far.
 fn enter_bit(g: Geometry, mem: &[u32], k: usize, scratch: &mut [u32]) -> bool
-    requires { ⌜ (Sized g (length (now mem))) × (k < g .segments * mostBlocks g) × (len g Region.queued ≤ length (now scratch)) ⌝ }
+    requires { ⌜ (Sized g (length (now mem))) × (k < g .segments * mostBlocks g) × (len g Region.marks ≤ length (now scratch)) ⌝ }
     ensures { λ r. ⌜ BitEnters (memOf g (now (mem .entry))) k (now (scratch .entry)) r (now (scratch .exit)) ⌝ }
 {
-    if mark_bit(g, mem, k) {
-        return false;
-    }
-    let queued = queued_bit(g, mem, k);
-    if !queued {
+    let set = mark_bit(g, mem, k);
+    if !set {
         return false;
     }
     let bit = k as u32;
@@ -65,7 +52,7 @@ fn enter_bit(g: Geometry, mem: &[u32], k: usize, scratch: &mut [u32]) -> bool
 
 // Entry i.
 fn enter(g: Geometry, mem: &[u32], i: usize, scratch: &mut [u32]) -> bool
-    requires { ⌜ (Sized g (length (now mem))) × (i < len g Region.trace) × (len g Region.queued ≤ length (now scratch)) ⌝ }
+    requires { ⌜ (Sized g (length (now mem))) × (i < len g Region.trace) × (len g Region.marks ≤ length (now scratch)) ⌝ }
     ensures { λ r. ⌜ Enters g (memOf g (now (mem .entry))) i (now (scratch .entry)) r (now (scratch .exit)) ⌝ }
 {
     let w = layout::trace(g, mem, i);
@@ -82,7 +69,7 @@ fn enter(g: Geometry, mem: &[u32], i: usize, scratch: &mut [u32]) -> bool
 // All n entries.
 fn enter_all(g: Geometry, mem: &[u32], n: usize, scratch: &mut [u32]) -> bool
     requires { ⌜ (Sized g (length (now mem))) × (n ≡ traceCount (memOf g (now mem))) × (n ≤ len g Region.trace) ⌝ }
-    requires { ⌜ (len g Region.queued ≤ length (now scratch)) × ((k : ℕ) → bitAt (now scratch) k ≡ 0) ⌝ }
+    requires { ⌜ (len g Region.marks ≤ length (now scratch)) × ((k : ℕ) → bitAt (now scratch) k ≡ 0) ⌝ }
     ensures { λ r. ⌜ EntersAll g (memOf g (now (mem .entry))) r (now (scratch .exit)) ⌝ }
 {
     let mut i = 0;
@@ -98,12 +85,12 @@ fn enter_all(g: Geometry, mem: &[u32], n: usize, scratch: &mut [u32]) -> bool
 
 // Whether the trace stack is in order and its entries are records that pass the test. The scratch may hold anything.
 pub fn trace_ok(g: Geometry, mem: &[u32], scratch: &mut [u32]) -> bool
-    requires { ⌜ (Sized g (length (now mem))) × (len g Region.queued ≤ length (now scratch)) ⌝ }
+    requires { ⌜ (Sized g (length (now mem))) × (len g Region.marks ≤ length (now scratch)) ⌝ }
     ensures { λ r. ⌜ Decides r (Traced g (memOf g (now (mem .entry)))) ⌝ }
 {
     let n = layout::control(g, mem, 1);
-    let ones = queued_count(g, mem);
-    if n != ones {
+    let ones = mark_count(g, mem);
+    if ones < n {
         return false;
     }
     searching::clear_all(scratch);

@@ -23,7 +23,7 @@ use Rattle.model.specs.Answers.{answerOf}
 use Rattle.model.specs.Fields.{phase, tag, class}
 use Rattle.model.specs.Calls.{observe, act, exec}
 use Rattle.model.specs.Collector.{started, stepOf, lowest, collects}
-use Rattle.model.specs.Consistent.{Consistent}
+use Rattle.model.specs.Consistent.{Consistent, Behind}
 use Rattle.model.specs.Lists.{Event, mutatorCall, startCall, stepCall, openingCall, lookCall, eventNumber, Ghost, putUnless, blockIn, fed, struck, remainingCall}
 use Rattle.refine_view.specs.View.{view}
 use Rattle.refine_view.specs.Kept.{refusedOut, agrees, ActKept, CallKept, EachOccupied, Steady, Structure}
@@ -155,29 +155,33 @@ module _ (g : Geometry) (m : Mem) (z : Sizes g m) (k : Consistent g m) (w : Ghos
 
 -- ---- consistency afterwards: the memory beside itself
 
+-- what the machine does not see
+abbrev Ordering : Geometry → Mem → Mem → Type 0
+Ordering g m m′ = Structure g m′ × (EachOccupied g m → EachOccupied g m′) × (Behind g m → Behind g m′)
+
 module _ (g : Geometry) (m : Mem) (z : Sizes g m) (k : Consistent g m) where
-  unmoved-structure : (m′ : Mem) → m′ ≡ m → Structure g m′ × (EachOccupied g m → EachOccupied g m′)
-  unmoved-structure m′ h = subst (λ x. Structure g x × (EachOccupied g m → EachOccupied g x)) (sym h) (structure-of g m (consistent-ordered g m k), λ u. u)
+  unmoved-structure : (m′ : Mem) → m′ ≡ m → Ordering g m m′
+  unmoved-structure m′ h = subst (Ordering g m) (sym h) (structure-of g m (consistent-ordered g m k), λ u. u, λ u. u)
 
-  acted : (m′ : Mem) (c : Call) → CallKept struckOut g m c → m′ ≡ act g m c .1 → Structure g m′ × (EachOccupied g m → EachOccupied g m′)
+  acted : (m′ : Mem) (c : Call) → CallKept struckOut g m c → m′ ≡ act g m c .1 → Ordering g m m′
   acted m′ c (refusedOut n t y) h = unmoved-structure m′ (h ∙ ap (λ z. z .1) y)
-  acted m′ c (agrees q) h = subst (λ x. Structure g x × (EachOccupied g m → EachOccupied g x)) (sym h) (q .moves .structure, q .moves .occupied)
+  acted m′ c (agrees q) h = subst (Ordering g m) (sym h) (q .moves .structure, q .moves .occupied, q .moves .behind)
 
-  called : (m′ : Mem) (c : Call) → m′ ≡ exec g m c .1 → Structure g m′ × (EachOccupied g m → EachOccupied g m′)
+  called : (m′ : Mem) (c : Call) → m′ ≡ exec g m c .1 → Ordering g m m′
   unfolding exec
   called m′ c = go (refusal (observe m) c) refl
     where
-      go : (n : ℕ) → refusal (observe m) c ≡ n → m′ ≡ refuse n m (act g m c) .1 → Structure g m′ × (EachOccupied g m → EachOccupied g m′)
+      go : (n : ℕ) → refusal (observe m) c ≡ n → m′ ≡ refuse n m (act g m c) .1 → Ordering g m m′
       go zero x h = acted m′ c (all-kept .calls g m z k c x) h
       go (suc n) x h = unmoved-structure m′ h
 
-  structured : (v : Event) (m′ : Mem) → Acts g m m′ v → Structure g m′ × (EachOccupied g m → EachOccupied g m′)
+  structured : (v : Event) (m′ : Mem) → Acts g m m′ v → Ordering g m m′
   structured v m′ (wrong n h) = unmoved-structure m′ h
   structured v m′ (looks h) = unmoved-structure m′ h
   structured v m′ (calls {c = c} e h) = called m′ c h
-  structured v m′ (starts i o h) = let q = all-kept .starts g m z k i in subst (λ x. Structure g x × (EachOccupied g m → EachOccupied g x)) (sym h) (q .structure, q .occupied)
+  structured v m′ (starts i o h) = let q = all-kept .starts g m z k i in subst (Ordering g m) (sym h) (q .structure, q .occupied, λ _. q .behind)
   structured v m′ (startRefused e h) = unmoved-structure m′ h
-  structured v m′ (steps e h) = let q = all-kept .steps g m z k .moves in subst (λ x. Structure g x × (EachOccupied g m → EachOccupied g x)) (sym h) (q .structure, q .occupied)
+  structured v m′ (steps e h) = let q = all-kept .steps g m z k .moves in subst (Ordering g m) (sym h) (q .structure, q .occupied, q .behind)
 
   abbrev pub alone : Ghost
   alone = record { heap = self g m; put = selfPut g m }
@@ -186,7 +190,7 @@ module _ (g : Geometry) (m : Mem) (z : Sizes g m) (k : Consistent g m) where
   self-leads v after a = leads g m z k alone Any (self-good g m z (consistent-ordered g m k)) v after a
 
   pub acts-consistent : (v : Event) (after : List ℕ) → Sizes g (memOf g after) → Acts g m (memOf g after) v → Consistent g (memOf g after)
-  acts-consistent v after z′ a = let q = structured v (memOf g after) a in consistent-of g (memOf g after) z′ (q .0) (go (self-leads v after a)) (q .1 (k .sound .occupied))
+  acts-consistent v after z′ a = let q = structured v (memOf g after) a in consistent-of g (memOf g after) z′ (q .0) (go (self-leads v after a)) (q .1 (k .sound .occupied)) (q .2 (k .sound .behind))
     where
       go : Leads g m z k alone Any (self-good g m z (consistent-ordered g m k)) v after → Inv (segmentOf g) (view g (memOf g after))
       go (goes n) = n .couples .inv

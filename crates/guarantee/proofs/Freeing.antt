@@ -7,18 +7,18 @@ use Prim.Native.Nat.{ℕ, _%_, _<_}
 use native.Mathlib.Omega.{arith}
 use borrow.Author.Tests.{eq-eqb}
 use Rattle.rules.proofs.Order.{same-or-not}
-use Rattle.words.specs.Bits.{bitAt}
 use Rattle.words.proofs.Word.{one-of-not-zero}
 use Rattle.words.proofs.Lists.{at-lt}
 use Rattle.layout.specs.declared.Geometry.{Geometry}
-use Rattle.layout.specs.Geometry.{segmentWords, blocksIn, segmentOf, bitIn}
+use Rattle.layout.specs.Geometry.{segmentWords, blocksIn, segmentOf}
 use Rattle.layout.specs.Mem.{Mem, memOf}
 use Rattle.theory.proofs.CycleKeeps.{quiet-reached}
 use Rattle.theory.proofs.Invariant.{Quiet}
 use Rattle.theory.proofs.Simulation.{reach-up}
-use Rattle.model.specs.Fields.{tag, class}
+use Rattle.model.specs.Fields.{traceCount, tag, class}
 use Rattle.model.specs.Segments.{usedBit}
-use Rattle.model.specs.Records.{headerOf}
+use Rattle.model.specs.Records.{headerOf, recordBit, entered}
+use Rattle.model.specs.Consistent.{InPhase}
 use Rattle.model.specs.Reaching.{isMarked}
 use Rattle.model.specs.Collector.{swept}
 use Rattle.classes.specs.Class.{IsClass, blockWords}
@@ -26,7 +26,8 @@ use Rattle.model.specs.Lists.{Element, Ghost, BlockReached}
 use Rattle.refine_view.specs.View.{view, isHead}
 use Rattle.refine_view.proofs.Invariants.{consistent-ordered}
 use Rattle.laws.proofs.Bools.{and-both}
-use Rattle.laws.proofs.Blocks.{header-segment, header-aligned, header-bit}
+use Rattle.laws.proofs.Blocks.{header-segment, header-aligned}
+use Rattle.laws.proofs.Marked.{all-marked}
 use Rattle.laws.proofs.Lengths.{sizes-of}
 use Rattle.refine_sweep.proofs.Sweeping.{swept-free, lowest-condemned}
 use Rattle.guarantee.specs.Demand3.{SweptIn, BlockFree, Unreached, GarbageFreed}
@@ -46,8 +47,8 @@ module _ (g : Geometry) (words : List ℕ) (w : Ghost) (es : List Element) (c : 
   m = memOf g (c .stepBefore)
 
   module _ (s b : ℕ) where
-    unmarked : IsClass (class m s) → b < blocksIn g (class m s) → tag m s ≡ Tag.condemned → (BlockReached (heapThen g words w es c) (headerOf g s (class m s) b) → ⊥) → bitAt (m .marks) (bitIn g s b) ≡ 0
-    unmarked k l e f = go (same-or-not (bitAt (m .marks) (bitIn g s b)) 0)
+    unmarked : traceCount m ≡ 0 → IsClass (class m s) → b < blocksIn g (class m s) → tag m s ≡ Tag.condemned → (BlockReached (heapThen g words w es c) (headerOf g s (class m s) b) → ⊥) → entered g m (headerOf g s (class m s) b) ≡ 0
+    unmarked quiet k l e f = go (same-or-not (entered g m (headerOf g s (class m s) b)) 0)
       where
         there : segmentOf g (headerOf g s (class m s) b) ≡ s
         there = header-segment g (class m s) k s b l
@@ -55,11 +56,11 @@ module _ (g : Geometry) (words : List ℕ) (w : Ghost) (es : List Element) (c : 
         head : isHead g m (headerOf g s (class m s) b) ≡ true
         head = eq-eqb _ _ (ap (λ z. headerOf g s (class m s) b % segmentWords g % blockWords (class m z)) there ∙ header-aligned g (class m s) k s b l)
 
-        go : (bitAt (m .marks) (bitIn g s b) ≡ 0) ⊎ (bitAt (m .marks) (bitIn g s b) ≡ 0 → ⊥) → bitAt (m .marks) (bitIn g s b) ≡ 0
+        go : (entered g m (headerOf g s (class m s) b) ≡ 0) ⊎ (entered g m (headerOf g s (class m s) b) ≡ 0 → ⊥) → entered g m (headerOf g s (class m s) b) ≡ 0
         go (inl z) = z
         go (inr n) =
-            let one : bitAt (m .marks) (bitIn g s b) ≡ 1 = one-of-not-zero _ (at-lt (m .marks) (bitIn g s b)) n in
-            let bit : isMarked g m (headerOf g s (class m s) b) ≡ true = eq-eqb _ _ (ap (bitAt (m .marks)) (header-bit g (class m s) k s b l m refl) ∙ one) in
+            let one : entered g m (headerOf g s (class m s) b) ≡ 1 = one-of-not-zero _ (at-lt (m .marks) (recordBit g m (headerOf g s (class m s) b))) n in
+            let bit : isMarked g m (headerOf g s (class m s) b) ≡ true = eq-eqb _ _ (all-marked g m (headerOf g s (class m s) b) quiet ∙ one) in
             absurd (f (was-reached (headerOf g s (class m s) b) (y .during .point .couples .comp .black (headerOf g s (class m s) b) (and-both _ _ head bit) (eq-eqb _ _ (ap (tag m) there ∙ e)))))
 
     free-of : (m′ : Mem) → (usedBit g m′ s b ≡ 0) ⊎ (tag m′ s ≡ Tag.free) → BlockFree g m′ s b
@@ -76,7 +77,7 @@ module _ (g : Geometry) (words : List ℕ) (w : Ghost) (es : List Element) (c : 
       let n = y .during .collected s (o .0) (o .1) .1 in
       let i : IsClass (class m s) = k .segments s (o .0) .classes (λ i. absurd (let j : Tag.free ≡ Tag.condemned = sym i ∙ o .1 in omega arith)) in
       let l : b < blocksIn g (class m s) = subst (λ x. b < blocksIn g x) (sym n) (z .block) in
-      let u = unmarked s b i l (o .1) (λ r. z .unreached (subst (λ x. BlockReached (heapThen g words w es c) (headerOf g s x b)) n r)) in
+      let u = unmarked s b (subst (λ p. InPhase p g m) (a .in-sweep) (k .cycle) .0) i l (o .1) (λ r. z .unreached (subst (λ x. BlockReached (heapThen g words w es c) (headerOf g s x b)) n r)) in
       subst (λ x. BlockFree g x s b) (sym (y .memory ∙ a .leaves)) (free-of s b (swept g m s) (swept-free g m h k (a .in-sweep) s b (a .is-lowest) l u))
 
 pub garbage-freed : GarbageFreed

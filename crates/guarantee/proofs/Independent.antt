@@ -10,7 +10,7 @@ use Rattle.rules.specs.Pick.{pick}
 use Rattle.layout.specs.declared.Geometry.{Geometry}
 use Rattle.layout.specs.Geometry.{blocksIn, segmentOf}
 use Rattle.layout.specs.Mem.{Mem}
-use Rattle.layout.proofs.Sizes.{segment-below}
+use Rattle.layout.proofs.Sizes.{segment-below, marks-words}
 use Rattle.theory.specs.Phases.{Phase, idle, sync1, sync2, mark, sweep}
 use Rattle.theory.specs.Reach.{root}
 use Rattle.theory.proofs.Graph.{reach-map, safe-map}
@@ -18,7 +18,7 @@ use Rattle.model.specs.Fields.{phase, tag, class, place}
 use Rattle.model.specs.Segments.{usedBit}
 use Rattle.model.specs.Records.{blockOf}
 use Rattle.model.specs.Reaching.{IsRoot, IsEntry, PointsTo, Live, Reached, Covered, isMarked}
-use Rattle.model.specs.Consistent.{SegmentOk, Occupied, MutatorOk, RecordOk, TraceOk, MarksOf, Tricolour, InPhase, Sound}
+use Rattle.model.specs.Consistent.{SegmentOk, Occupied, MutatorOk, RecordOk, TraceOk, MarksOf, bitWord, Tricolour, InPhase, Sound}
 use Rattle.laws.proofs.Blocks.{of-block}
 use Rattle.refine_view.proofs.Seeing.{entry-was, edge-was, live-was}
 use Rattle.refine_view.proofs.Carried.{record-by, use-by}
@@ -26,7 +26,7 @@ use Rattle.guarantee.specs.Independent.{SameBlocks, SameButSummaries, So
 use Rattle.model.specs.Tag as Tag
 
 abbrev with : Mem → List ℕ → List ℕ → Mem
-with m stacks bitmaps = record { control = m .control; mutators = m .mutators; heap = m .heap; segments = m .segments; stacks = stacks; bitmaps = bitmaps; marks = m .marks; queued = m .queued; trace = m .trace }
+with m stacks bitmaps = record { control = m .control; mutators = m .mutators; heap = m .heap; segments = m .segments; stacks = stacks; bitmaps = bitmaps; marks = m .marks; trace = m .trace }
 
 module _ (g : Geometry) (m : Mem) (st bi : List ℕ) (same : SameBlocks g m (with m st bi)) where
   abbrev m′ : Mem
@@ -77,10 +77,15 @@ module _ (g : Geometry) (m : Mem) (st bi : List ℕ) (same : SameBlocks g m (wit
   mutator-on k o = record { states = o .states; acknowledged = o .acknowledged; gone = o .gone; holds = o .holds }
 
   trace-on : TraceOk g m → TraceOk g m′
-  trace-on o = record { named = o .named; once = o .once; unmarked = λ at e. o .unmarked at (entry-on at e); bits = λ at e. o .bits at (entry-on at e); number = o .number }
+  trace-on o = record { named = o .named; once = o .once; bits = λ at e. o .bits at (entry-on at e); number = o .number }
 
-  marks-on : (test : ℕ → Type 0) → MarksOf g m test → MarksOf g m′ test
-  marks-on test o s b l t k e = let u = o s b l t k e in use-by g m m′ s b u refl (u .used) (used-same s b l (u .used) (u .within) ∙ u .block)
+  marks-on : ((s : ℕ) → s < g .segments → SegmentOk g m s) → (test : ℕ → Type 0) → MarksOf g m test → MarksOf g m′ test
+  marks-on ok test o k l t e =
+      let u = o k l t e in
+      let s = segmentOf g (bitWord k) in
+      let x = marks-words g (g .segments) in
+      let h = segment-below g (bitWord k) (omega arith) in
+      use-by g m m′ (bitWord k) refl u (u .used) (used-same s (blockOf g m (bitWord k)) h (u .used) (of-block g m (bitWord k) (ok s h .classes (u .used))) ∙ u .block)
 
   tricolour-on : Tricolour g m → Tricolour g m′
   tricolour-on t = record {
@@ -88,23 +93,24 @@ module _ (g : Geometry) (m : Mem) (st bi : List ℕ) (same : SameBlocks g m (wit
     edges = λ x y l e p. covered-back (t .edges x y (live-on l) e (edge-on x y p));
   }
 
-  phase-on : (p : Phase) → InPhase p g m → InPhase p g m′
-  phase-on idle h = h
-  phase-on sync1 h = h
-  phase-on sync2 h = (marks-on (λ s. Unit {0}) (h .0), tricolour-on (h .1))
-  phase-on mark h = (marks-on (λ s. Unit {0}) (h .0), tricolour-on (h .1))
-  phase-on sweep h = (h .0, marks-on (λ s. tag m s ≡ Tag.condemned) (h .1), λ at r e. h .2 at (reached-on r) e)
+  phase-on : ((s : ℕ) → s < g .segments → SegmentOk g m s) → (p : Phase) → InPhase p g m → InPhase p g m′
+  phase-on ok idle h = h
+  phase-on ok sync1 h = λ k l b. entry-was m′ m refl (λ i. refl) (bitWord k) (h k l b)
+  phase-on ok sync2 h = (marks-on ok (λ s. Unit {0}) (h .0), tricolour-on (h .1))
+  phase-on ok mark h = (marks-on ok (λ s. Unit {0}) (h .0), tricolour-on (h .1))
+  phase-on ok sweep h = (h .0, marks-on ok (λ s. tag m s ≡ Tag.condemned) (h .1), λ at r e. h .2 at (reached-on r) e)
 
   sound-on : Sound g m → Sound g m′
   sound-on c = record {
     phases = c .phases;
     segments = λ s l. segment-on s l (c .segments s l);
     occupied = λ s l. occupied-on s l (c .occupied s l);
+    behind = c .behind;
     mutators = λ k l. mutator-on k (c .mutators k l);
     acknowledgements = c .acknowledgements;
     records = λ at p. record-on at (c .records at (live-on p));
     trace = trace-on (c .trace);
-    cycle = phase-on (phase m) (c .cycle);
+    cycle = phase-on (c .segments) (phase m) (c .cycle);
   }
     where
       -- a record's block is one of its segment's
@@ -125,7 +131,6 @@ module _ (g : Geometry) (m m′ : Mem) (e : SameButSummaries g m m′) where
     stacks = m′ .stacks;
     bitmaps = m′ .bitmaps;
     marks = sym (e .marks) i;
-    queued = sym (e .queued) i;
     trace = sym (e .trace) i;
   }
 
@@ -143,7 +148,6 @@ module _ (g : Geometry) (m m′ : Mem) (e : SameButSummaries g m m′) where
     heap = sym (e .heap);
     segments = sym (e .segments);
     marks = sym (e .marks);
-    queued = sym (e .queued);
     trace = sym (e .trace);
     blocks = λ s b l u h. sym (e .blocks s b l (λ z. u (word-same _ ∙ z)) (subst (λ z. b < blocksIn g z) (word-same _) h));
   }

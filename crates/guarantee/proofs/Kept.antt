@@ -69,12 +69,12 @@ module _ (g : Geometry) (m : Mem) (s : Sizes g m) (c : Ordered g m) (k d cl p n 
           block = headerOf g r cl (x .0);
           permitted = x .2;
           answer = refl;
-          moves = record { structure = x .3 .structure; occupied = λ u. x .3 .occupied (t .occupied u); agree = x .3 .agree; steady = λ i q y. let z = x .3 .steady i q y in let w = t .steady i q (z .0) in (w .0, z .1 ∙ w .1) };
+          moves = record { structure = x .3 .structure; occupied = λ u. x .3 .occupied (t .occupied u); behind = λ u. x .3 .behind (t .behind u); agree = x .3 .agree; steady = λ i q y. let z = x .3 .steady i q y in let w = t .steady i q (z .0) in (w .0, z .1 ∙ w .1) };
         }))
 
   -- the mutator's own segment
   pub own-taken : holding m k cl ≡ suc (holding m k cl - 1) → Taken g m m k cl (holding m k cl - 1)
-  own-taken q = record { sizes = s; structure = moves-self g m c .structure; occupied = λ u i q f. u i q; prepared = agree-self g m; shows = refl; steady = λ i q y. (y, refl); holds = q; known = a }
+  own-taken q = record { sizes = s; structure = moves-self g m c .structure; occupied = λ u i q f. u i q; behind = λ u. u; prepared = agree-self g m; shows = refl; steady = λ i q y. (y, refl); holds = q; known = a }
 
   by-source : Kept struckOut g m (c-make k d p n) (fromSource g m k d cl (ofCounts p n) (sourceOf g m k cl))
   by-source = go (eqb (holding m k cl) 0) (eqb (count g m (partStack cl)) 0) (eqb (count g m freeStack) 0) refl refl refl

@@ -28,7 +28,6 @@ pub record SameButSummaries (g : Geometry) (m m′ : Mem) : Type 0 where
   pub segments : m′ .segments ≡ m .segments
   pub blocks : SameBlocks g m m′
   pub marks : m′ .marks ≡ m .marks
-  pub queued : m′ .queued ≡ m .queued
   pub trace : m′ .trace ≡ m .trace
 
 abbrev pub SoundTogether : Type 0

@@ -11,7 +11,7 @@ use Rattle.rules.proofs.Order.{same-or-not}
 use Rattle.words.specs.Bits.{onesAmong}
 use Rattle.layout.specs.Geometry.{blocksIn, segmentOf}
 use Rattle.layout.specs.declared.Geometry.{Geometry}
-use Rattle.layout.specs.Mem.{Mem, Sizes}
+use Rattle.layout.specs.Mem.{Mem, Sizes, setControl}
 use Rattle.model.specs.Fields.{tag, class}
 use Rattle.model.specs.Segments.{usedBit, inUse}
 use Rattle.model.specs.Records.{blockOf, headerOf}
@@ -24,8 +24,7 @@ use Rattle.laws.proofs.Bools.{and-right, and-left, not-eq}
 use Rattle.laws.proofs.Segments.{used-small, in-use-le}
 use Rattle.laws.proofs.Blocks.{header-segment, header-block}
 use Rattle.words.proofs.Counts.{one-missing}
-use Rattle.refine_sweep.proofs.Outcome.{Outcome}
-use Rattle.refine_sweep.proofs.SweepStep.{swept-outcome}
+use Rattle.refine_sweep.proofs.SweepStep.{settled-outcome}
 use Rattle.guarantee.specs.Demand3.{BlockFree}
 use Rattle.model.specs.Tag as Tag
 
@@ -33,8 +32,9 @@ module _ (g : Geometry) (m : Mem) (z : Sizes g m) (c : Ordered g m) (s : ℕ) (l
   abbrev after : Mem
   after = swept g m s
 
-  outcome : Outcome g m after s
-  outcome = swept-outcome g m z c s l t
+  classed : (tag after s ≡ Tag.free → ⊥) → class after s ≡ class m s
+  unfolding swept setControl
+  classed = settled-outcome g m z c s l t .classed
 
   -- "how many blocks in use became free"
   pub some-free : (n : ℕ) → inUse g m s - inUse g after s ≡ suc n → (b : ℕ) × (b < blocksIn g (class m s)) × BlockFree g after s b
@@ -44,7 +44,7 @@ module _ (g : Geometry) (m : Mem) (z : Sizes g m) (c : Ordered g m) (s : ℕ) (l
       go (inl f) = let h = in-use-le g m s in (0, omega arith, inr (eq-eqb _ _ f))
       go (inr f) =
           let h = in-use-le g m s in
-          let k : inUse g after s ≡ onesAmong (usedBit g after s) (blocksIn g (class m s)) = ap (λ (x : Bool). pick x 0 (onesAmong (usedBit g after s) (blocksIn g (class after s)))) (ne-eqb (tag after s) 0 f) ∙ ap (λ x. onesAmong (usedBit g after s) (blocksIn g x)) (outcome .classed f) in
+          let k : inUse g after s ≡ onesAmong (usedBit g after s) (blocksIn g (class m s)) = ap (λ (x : Bool). pick x 0 (onesAmong (usedBit g after s) (blocksIn g (class after s)))) (ne-eqb (tag after s) 0 f) ∙ ap (λ x. onesAmong (usedBit g after s) (blocksIn g x)) (classed f) in
           let x = one-missing (usedBit g after s) (used-small g after s) (blocksIn g (class m s)) (λ q. omega arith) in
           (x .0, x .1, inl (x .2))
 
@@ -60,7 +60,7 @@ module _ (g : Geometry) (m : Mem) (z : Sizes g m) (c : Ordered g m) (s : ℕ) (l
 
       used : usedBit g after s b ≡ 1
       used =
-          subst (λ x. usedBit g after s x ≡ 1) (header-block g (class m s) k s b h after (outcome .classed kept))
+          subst (λ x. usedBit g after s x ≡ 1) (header-block g (class m s) k s b h after (classed kept))
           (subst (λ x. usedBit g after x (blockOf g after (headerOf g s (class m s) b)) ≡ 1) there (eqb-true _ _ (and-right (not (eqb (tag after (segmentOf g (headerOf g s (class m s) b))) Tag.free)) _ u)))
 
       go : (usedBit g after s b ≡ 0) ⊎ (isFree after s ≡ true) → ⊥

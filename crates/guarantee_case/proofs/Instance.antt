@@ -144,7 +144,6 @@ sizes-sevens g = record {
   stacks = length-replicate {A = ℕ} (len g Region.stacks) 7;
   bitmaps = length-replicate {A = ℕ} (len g Region.bitmaps) 7;
   marks = length-replicate {A = ℕ} (len g Region.marks) 7;
-  queued = length-replicate {A = ℕ} (len g Region.queued) 7;
   trace = length-replicate {A = ℕ} (len g Region.trace) 7;
   heap = length-replicate {A = ℕ} (len g Region.heap) 7;
 }

@@ -33,12 +33,11 @@ module _ (g : Geometry) (m : Mem) (z : Sizes g m) (some : 0 < g .segments) where
     stacks = replicate (len g Region.stacks) 0;
     bitmaps = before .bitmaps;
     marks = before .marks;
-    queued = before .queued;
     trace = before .trace;
   }
 
   alike : SameButSummaries g before unstacked
-  alike = record { control = refl; mutators = refl; heap = refl; segments = refl; blocks = λ s b l u h. refl; marks = refl; queued = refl; trace = refl }
+  alike = record { control = refl; mutators = refl; heap = refl; segments = refl; blocks = λ s b l u h. refl; marks = refl; trace = refl }
 
   -- segment 0 is free, and the free stack is empty
   not-summed : Summed g unstacked → ⊥
@@ -62,7 +61,6 @@ module _ (g : Geometry) (m : Mem) (z : Sizes g m) (some : 0 < g .segments) where
           stacks = length-replicate {A = ℕ} (len g Region.stacks) 0;
           bitmaps = s .bitmaps;
           marks = s .marks;
-          queued = s .queued;
           trace = s .trace;
           heap = s .heap;
         };

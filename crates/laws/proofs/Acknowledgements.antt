@@ -14,7 +14,7 @@ use Rattle.layout.specs.Geometry.{mutatorCount, mutatorWords, rootCount}
 use Rattle.layout.specs.Mem.{Mem, Sizes, controlWord, mutatorWord, setControl, setMutator, setTrace}
 use Rattle.theory.specs.Phases.{Phase, idle, sync1, sync2, mark, sweep, owes}
 use Rattle.model.specs.Fields.{phase, absent, outside, stateAt, acksAt, state, acks, setAcks, root}
-use Rattle.model.specs.Records.{record?, marked, queued, setQueued}
+use Rattle.model.specs.Records.{record?, entered, setEntered}
 use Rattle.model.specs.Tracing.{push, onTop, pushRoots}
 use Rattle.model.specs.Mutators.{given, acknowledged}
 use Rattle.model.specs.Collector.{outsideAnswered}
@@ -47,14 +47,13 @@ roots-untouched g m k = fold-untouched g (pushRoots g m k) (root m k) (roots-nex
 -- ---- the acknowledgements may be set before the roots are pushed
 
 push-acks : (g : Geometry) (m : Mem) (k v w : ℕ) → push g (setAcks m k v) (record? w) ≡ setAcks (push g m (record? w)) k v
-unfolding push setMutator setTrace setControl setQueued
+unfolding push setMutator setTrace setControl setEntered
 push-acks g m k v zero = refl
-push-acks g m k v (suc at) = go (eqb (marked g m at) 1) (eqb (queued g m at) 1)
+push-acks g m k v (suc at) = go (eqb (entered g m at) 1)
   where
-    go : (x y : Bool) → pick x (setAcks m k v) (pick y (setAcks m k v) (onTop g (setAcks m k v) at)) ≡ setAcks (pick x m (pick y m (onTop g m at))) k v
-    go true y = refl
-    go false true = refl
-    go false false = refl
+    go : (x : Bool) → pick x (setAcks m k v) (onTop g (setAcks m k v) at) ≡ setAcks (pick x m (onTop g m at)) k v
+    go true = refl
+    go false = refl
 
 pub root-acks : (m : Mem) (k v i : ℕ) → i < rootCount → root (setAcks m k v) k i ≡ root m k i
 unfolding setMutator
@@ -85,7 +84,7 @@ pub acknowledged-phase : (g : Geometry) (m : Mem) (k : ℕ) → controlWord (ack
 unfolding setMutator
 acknowledged-phase g m k = acknowledged-by g m k (λ z. controlWord z 0 ≡ controlWord m 0) refl refl (roots-untouched g m k .phase)
 
--- ---- what they need and keep: the queued bits are counted, and the records that roots name are in order
+-- ---- what they need and keep: the entries are counted, and the records that roots name are in order
 
 pub record RootsReady (g : Geometry) (m : Mem) : Type 0 where
   pub sizes : Sizes g m
@@ -108,7 +107,7 @@ same-roots m m′ states words at r = record {
 
 module _ (g : Geometry) (m : Mem) (y : RootsReady g m) where
   pub ready-roots : Ready g m
-  ready-roots = record { control = let l = y .sizes .control in omega arith; queued = y .sizes .queued; number = y .number }
+  ready-roots = record { control = let l = y .sizes .control in omega arith; marks = y .sizes .marks; number = y .number }
 
   module _ (k : ℕ) (l : k < mutatorCount) where
     ready-acks : (v : ℕ) → RootsReady g (setAcks m k v)

@@ -1,21 +1,41 @@
 -- Blocks and the words of their headers: segment, block and bit of a header, and back. Assumes nothing.
 use mathlib.Core.Path.{_≡_, sym, _∙_, ap, subst}
+use mathlib.Core.Bool.{Bool}
+use lib.Dec.{eqb, eqb→eq}
 use Prim.Native.Nat.{ℕ, suc, _+_, _*_, _/_, _%_, _≤_, _<_}
-use native.Mathlib.Nat.{mod-lt, div-lt-iff-lt-mul, div-add-mod', mul-div-cancel, mul-mod-left, suc-mul, mul-le-mul-right}
+use native.Mathlib.Nat.{mod-lt, div-lt-iff-lt-mul, div-add-mod', mul-div-cancel, mul-mod-left, suc-mul, mul-le-mul-right, mul-assoc}
 use native.Mathlib.Omega.{arith}
 use lib.Arith.{digits-div, digits-mod}
 use Rattle.classes.proofs.Filling.{two-words}
 use Rattle.layout.specs.declared.Geometry.{Geometry}
-use Rattle.layout.specs.Geometry.{segmentWords, mostBlocks, blocksIn, segmentOf, bitIn}
+use Rattle.layout.specs.Geometry.{segmentWords, mostBlocks, blocksIn, segmentOf}
 use Rattle.layout.specs.Mem.{Mem}
-use Rattle.layout.proofs.Sizes.{one-way, within, whole, words-some}
+use Rattle.layout.proofs.Sizes.{marks-words, whole, words-some}
 use Rattle.model.specs.Fields.{class}
 use Rattle.model.specs.Records.{blockOf, headerOf, recordBit}
+use Rattle.model.specs.Consistent.{bitWord}
 use Rattle.classes.specs.Class.{IsClass, blockWords}
+use Rattle.classes.proofs.Every.{at-class}
+
+-- the words of a block are those of some smallest blocks
+evenWords : ℕ → Bool
+evenWords c = eqb (blockWords c) (blockWords c / 2 * 2)
+
+pub even-words : (c : ℕ) → IsClass c → blockWords c ≡ blockWords c / 2 * 2
+unfolding evenWords
+even-words c k = eqb→eq _ _ (at-class evenWords tt c k)
 
 module _ (g : Geometry) (c : ℕ) (k : IsClass c) where
   pub blocks-words : blocksIn g c * blockWords c ≡ segmentWords g
   blocks-words = whole g c k .words
+
+  -- a segment's mark bits, as many as the smallest blocks, are shared out among its blocks
+  pub blocks-step : blocksIn g c * (blockWords c / 2) ≡ mostBlocks g
+  blocks-step =
+      let w = blocks-words in
+      let e : blocksIn g c * blockWords c ≡ blocksIn g c * (blockWords c / 2) * 2 = ap (λ z. blocksIn g c * z) (even-words c k) ∙ sym (mul-assoc (blocksIn g c) (blockWords c / 2) 2) in
+      let m = marks-words g 1 in
+      omega arith
 
   pub blocks-most : blocksIn g c ≤ mostBlocks g
   blocks-most = whole g c k .most
@@ -55,9 +75,6 @@ module _ (g : Geometry) (c : ℕ) (k : IsClass c) where
         let z : class m (segmentOf g (headerOf g s c b)) ≡ c = ap (class m) header-segment ∙ e in
         ap (λ z. headerOf g s c b % segmentWords g / blockWords z) z ∙ ap (λ z. z / blockWords c) header-word ∙ mul-div-cancel b words-pos
 
-    pub header-bit : (m : Mem) → class m s ≡ c → recordBit g m (headerOf g s c b) ≡ bitIn g s b
-    header-bit m e = ap (λ z. bitIn g z (blockOf g m (headerOf g s c b))) header-segment ∙ ap (bitIn g s) (header-block m e)
-
     pub header-aligned : headerOf g s c b % segmentWords g % blockWords c ≡ 0
     header-aligned = ap (λ z. z % blockWords c) header-word ∙ mul-mod-left b (blockWords c)
 
@@ -82,7 +99,7 @@ module _ (g : Geometry) (m : Mem) (at : ℕ) (k : IsClass (class m (segmentOf g 
   of-block = block-below g (class m (segmentOf g at)) k (at % segmentWords g) (mod-lt at (words-some g))
 
   pub bit-below : at < g .segments * segmentWords g → recordBit g m at < g .segments * mostBlocks g
-  bit-below l = let h = of-block in let q = blocks-most g (class m (segmentOf g at)) k in within (mostBlocks g) (segmentOf g at) (g .segments) (blockOf g m at) (div-lt-iff-lt-mul (words-some g) .1 l) (omega arith)
+  bit-below l = let e = marks-words g (g .segments) in omega arith
 
   pub is-header : at % segmentWords g % blockWords (class m (segmentOf g at)) ≡ 0 → at ≡ headerOf g (segmentOf g at) (class m (segmentOf g at)) (blockOf g m at)
   is-header a =
@@ -90,14 +107,15 @@ module _ (g : Geometry) (m : Mem) (at : ℕ) (k : IsClass (class m (segmentOf g 
       let f = div-add-mod' at (segmentWords g) in
       omega arith
 
+  -- the head of a block is the word of its bit
+  pub head-word : at % segmentWords g % blockWords (class m (segmentOf g at)) ≡ 0 → bitWord (recordBit g m at) ≡ at
+  head-word a =
+      let h = is-header a in
+      let p = marks-words g (segmentOf g at) in
+      let e = even-words (class m (segmentOf g at)) k in
+      let q : blockOf g m at * blockWords (class m (segmentOf g at)) ≡ blockOf g m at * (blockWords (class m (segmentOf g at)) / 2) * 2 = ap (λ z. blockOf g m at * z) e ∙ sym (mul-assoc (blockOf g m at) (blockWords (class m (segmentOf g at)) / 2) 2) in
+      omega arith
+
 -- two heads with one bit are one
 pub same-bit : (g : Geometry) (m : Mem) (x y : ℕ) → IsClass (class m (segmentOf g x)) → IsClass (class m (segmentOf g y)) → x % segmentWords g % blockWords (class m (segmentOf g x)) ≡ 0 → y % segmentWords g % blockWords (class m (segmentOf g y)) ≡ 0 → recordBit g m x ≡ recordBit g m y → x ≡ y
-same-bit g m x y k l a b e =
-    let p = of-block g m x k in
-    let q = of-block g m y l in
-    let u = blocks-most g (class m (segmentOf g x)) k in
-    let v = blocks-most g (class m (segmentOf g y)) l in
-    let w = one-way (mostBlocks g) (segmentOf g x) (blockOf g m x) (segmentOf g y) (blockOf g m y) (omega arith) (omega arith) e in
-    let s : segmentOf g x ≡ segmentOf g y = w .0 in
-    let t : blockOf g m x ≡ blockOf g m y = w .1 in
-    is-header g m x k a ∙ ap (λ z. headerOf g z (class m z) (blockOf g m x)) s ∙ ap (headerOf g (segmentOf g y) (class m (segmentOf g y))) t ∙ sym (is-header g m y l b)
+same-bit g m x y k l a b e = sym (head-word g m x k a) ∙ ap bitWord e ∙ head-word g m y l b

@@ -4,14 +4,14 @@ use mathlib.Core.List.{List}
 use Prim.Native.Nat.{ℕ}
 use native.Mathlib.Omega.{arith}
 use lib.ListN.{length, length-set}
-use Rattle.words.proofs.Lists.{length-setBit, length-clearBit}
+use Rattle.words.proofs.Lists.{length-setBit}
 use Rattle.layout.specs.declared.Geometry.{Geometry}
 use Rattle.layout.specs.Geometry.{Sized}
 use Rattle.layout.specs.Mem.{Mem, memOf, setControl, setMutator, setSegment, setStack, setTrace, setHeap, setRun, Sizes}
 use Rattle.layout.proofs.Regions.{length-region}
 use Rattle.model.specs.declared.SegmentState.{SegmentState}
 use Rattle.model.specs.Segments.{setSegmentState}
-use Rattle.model.specs.Records.{setMarked, setQueued, clearQueued, recordBit}
+use Rattle.model.specs.Records.{setEntered, recordBit}
 use Rattle.laws.proofs.Words.{state-is}
 use Rattle.layout.specs.Region as Region
 use Rattle.laws.proofs.Windows.{length-spliced}
@@ -25,7 +25,6 @@ sizes-of g l s = record {
   stacks = length-region g l Region.stacks (s .is) (omega arith);
   bitmaps = length-region g l Region.bitmaps (s .is) (omega arith);
   marks = length-region g l Region.marks (s .is) (omega arith);
-  queued = length-region g l Region.queued (s .is) (omega arith);
   trace = length-region g l Region.trace (s .is) (omega arith);
   heap = length-region g l Region.heap (s .is) (omega arith);
 }
@@ -33,51 +32,43 @@ sizes-of g l s = record {
 module _ (g : Geometry) (m : Mem) (s : Sizes g m) where
   pub sizes-control : (i v : ℕ) → Sizes g (setControl m i v)
   unfolding setControl
-  sizes-control i v = record { control = length-set (m .control) i v ∙ s .control; mutators = s .mutators; segments = s .segments; stacks = s .stacks; bitmaps = s .bitmaps; marks = s .marks; queued = s .queued; trace = s .trace; heap = s .heap }
+  sizes-control i v = record { control = length-set (m .control) i v ∙ s .control; mutators = s .mutators; segments = s .segments; stacks = s .stacks; bitmaps = s .bitmaps; marks = s .marks; trace = s .trace; heap = s .heap }
 
   pub sizes-mutator : (i v : ℕ) → Sizes g (setMutator m i v)
   unfolding setMutator
-  sizes-mutator i v = record { control = s .control; mutators = length-set (m .mutators) i v ∙ s .mutators; segments = s .segments; stacks = s .stacks; bitmaps = s .bitmaps; marks = s .marks; queued = s .queued; trace = s .trace; heap = s .heap }
+  sizes-mutator i v = record { control = s .control; mutators = length-set (m .mutators) i v ∙ s .mutators; segments = s .segments; stacks = s .stacks; bitmaps = s .bitmaps; marks = s .marks; trace = s .trace; heap = s .heap }
 
   pub sizes-entry : (i : ℕ) (vs : List ℕ) → Sizes g (setRun m Region.mutators i vs)
   unfolding setRun
-  sizes-entry i vs = record { control = s .control; mutators = length-spliced (m .mutators) i vs ∙ s .mutators; segments = s .segments; stacks = s .stacks; bitmaps = s .bitmaps; marks = s .marks; queued = s .queued; trace = s .trace; heap = s .heap }
+  sizes-entry i vs = record { control = s .control; mutators = length-spliced (m .mutators) i vs ∙ s .mutators; segments = s .segments; stacks = s .stacks; bitmaps = s .bitmaps; marks = s .marks; trace = s .trace; heap = s .heap }
 
   pub sizes-segment : (i v : ℕ) → Sizes g (setSegment m i v)
   unfolding setSegment
-  sizes-segment i v = record { control = s .control; mutators = s .mutators; segments = length-set (m .segments) i v ∙ s .segments; stacks = s .stacks; bitmaps = s .bitmaps; marks = s .marks; queued = s .queued; trace = s .trace; heap = s .heap }
+  sizes-segment i v = record { control = s .control; mutators = s .mutators; segments = length-set (m .segments) i v ∙ s .segments; stacks = s .stacks; bitmaps = s .bitmaps; marks = s .marks; trace = s .trace; heap = s .heap }
 
   pub sizes-stack : (i v : ℕ) → Sizes g (setStack m i v)
   unfolding setStack
-  sizes-stack i v = record { control = s .control; mutators = s .mutators; segments = s .segments; stacks = length-set (m .stacks) i v ∙ s .stacks; bitmaps = s .bitmaps; marks = s .marks; queued = s .queued; trace = s .trace; heap = s .heap }
+  sizes-stack i v = record { control = s .control; mutators = s .mutators; segments = s .segments; stacks = length-set (m .stacks) i v ∙ s .stacks; bitmaps = s .bitmaps; marks = s .marks; trace = s .trace; heap = s .heap }
 
   pub sizes-bitmap : (i : ℕ) (vs : List ℕ) → Sizes g (setRun m Region.bitmaps i vs)
   unfolding setRun
-  sizes-bitmap i vs = record { control = s .control; mutators = s .mutators; segments = s .segments; stacks = s .stacks; bitmaps = length-spliced (m .bitmaps) i vs ∙ s .bitmaps; marks = s .marks; queued = s .queued; trace = s .trace; heap = s .heap }
+  sizes-bitmap i vs = record { control = s .control; mutators = s .mutators; segments = s .segments; stacks = s .stacks; bitmaps = length-spliced (m .bitmaps) i vs ∙ s .bitmaps; marks = s .marks; trace = s .trace; heap = s .heap }
 
-  pub sizes-marked : (at : ℕ) → Sizes g (setMarked g m at)
-  unfolding setMarked
-  sizes-marked at = record { control = s .control; mutators = s .mutators; segments = s .segments; stacks = s .stacks; bitmaps = s .bitmaps; marks = length-setBit (m .marks) (recordBit g m at) ∙ s .marks; queued = s .queued; trace = s .trace; heap = s .heap }
-
-  pub sizes-queued : (at : ℕ) → Sizes g (setQueued g m at)
-  unfolding setQueued
-  sizes-queued at = record { control = s .control; mutators = s .mutators; segments = s .segments; stacks = s .stacks; bitmaps = s .bitmaps; marks = s .marks; queued = length-setBit (m .queued) (recordBit g m at) ∙ s .queued; trace = s .trace; heap = s .heap }
-
-  pub sizes-unqueued : (at : ℕ) → Sizes g (clearQueued g m at)
-  unfolding clearQueued
-  sizes-unqueued at = record { control = s .control; mutators = s .mutators; segments = s .segments; stacks = s .stacks; bitmaps = s .bitmaps; marks = s .marks; queued = length-clearBit (m .queued) (recordBit g m at) ∙ s .queued; trace = s .trace; heap = s .heap }
+  pub sizes-entered : (at : ℕ) → Sizes g (setEntered g m at)
+  unfolding setEntered
+  sizes-entered at = record { control = s .control; mutators = s .mutators; segments = s .segments; stacks = s .stacks; bitmaps = s .bitmaps; marks = length-setBit (m .marks) (recordBit g m at) ∙ s .marks; trace = s .trace; heap = s .heap }
 
   pub sizes-trace : (i v : ℕ) → Sizes g (setTrace m i v)
   unfolding setTrace
-  sizes-trace i v = record { control = s .control; mutators = s .mutators; segments = s .segments; stacks = s .stacks; bitmaps = s .bitmaps; marks = s .marks; queued = s .queued; trace = length-set (m .trace) i v ∙ s .trace; heap = s .heap }
+  sizes-trace i v = record { control = s .control; mutators = s .mutators; segments = s .segments; stacks = s .stacks; bitmaps = s .bitmaps; marks = s .marks; trace = length-set (m .trace) i v ∙ s .trace; heap = s .heap }
 
   pub sizes-heap : (i v : ℕ) → Sizes g (setHeap m i v)
   unfolding setHeap
-  sizes-heap i v = record { control = s .control; mutators = s .mutators; segments = s .segments; stacks = s .stacks; bitmaps = s .bitmaps; marks = s .marks; queued = s .queued; trace = s .trace; heap = length-set (m .heap) i v ∙ s .heap }
+  sizes-heap i v = record { control = s .control; mutators = s .mutators; segments = s .segments; stacks = s .stacks; bitmaps = s .bitmaps; marks = s .marks; trace = s .trace; heap = length-set (m .heap) i v ∙ s .heap }
 
   pub sizes-heap-run : (i : ℕ) (vs : List ℕ) → Sizes g (setRun m Region.heap i vs)
   unfolding setRun
-  sizes-heap-run i vs = record { control = s .control; mutators = s .mutators; segments = s .segments; stacks = s .stacks; bitmaps = s .bitmaps; marks = s .marks; queued = s .queued; trace = s .trace; heap = length-spliced (m .heap) i vs ∙ s .heap }
+  sizes-heap-run i vs = record { control = s .control; mutators = s .mutators; segments = s .segments; stacks = s .stacks; bitmaps = s .bitmaps; marks = s .marks; trace = s .trace; heap = length-spliced (m .heap) i vs ∙ s .heap }
 
 pub sizes-state : (g : Geometry) (m : Mem) → Sizes g m → (r : ℕ) (x : SegmentState) → Sizes g (setSegmentState g m r x)
 sizes-state g m s r x = rw (state-is g m r x) (sizes-segment g _ (sizes-segment g _ (sizes-segment g _ (sizes-segment g m s _ _) _ _) _ _) _ _)

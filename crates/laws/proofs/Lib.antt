@@ -19,6 +19,7 @@ pub mod Headers
 pub mod Blocks
 pub mod Apart
 pub mod Rooted
+pub mod Marked
 pub mod Pushes
 pub mod Acknowledgements
 pub mod Promised

@@ -6,7 +6,7 @@ use mathlib.Core.Option.{Option, none, some, Option·some-injective}
 use Prim.Native.Nat.{ℕ, zero, suc, _<_}
 use native.Mathlib.Omega.{arith}
 use lib.Dec.{eqb}
-use borrow.Author.Tests.{eqb-true, eqb-false}
+use borrow.Author.Tests.{eq-eqb, ne-eqb, eqb-true, eqb-false}
 use Rattle.rules.specs.Pick.{pick}
 use Rattle.rules.proofs.Order.{le-or-lt}
 use Rattle.layout.specs.Mem.{Mem}
@@ -42,3 +42,30 @@ none-condemned m (suc n) e s l q = go (lowest m n) refl e (λ f h. none-condemne
     go : (o : Option ℕ) → lowest m n ≡ o → orThen o (pick (eqb (tag m n) Tag.condemned) (some n) none) ≡ none → (lowest m n ≡ none → s < n → ⊥) → ⊥
     go none k f ih = here (eqb (tag m n) Tag.condemned) refl f (ih k)
     go (some x) k f ih = none-some (sym f)
+
+-- what it finds is the lowest
+pub lower-other : (m : Mem) (n r : ℕ) → lowest m n ≡ some r → (s : ℕ) → s < r → tag m s ≡ Tag.condemned → ⊥
+unfolding lowest
+lower-other m zero r e s l q = none-some e
+lower-other m (suc n) r e s l q = go (lowest m n) refl e (λ f. lower-other m n r f s l q)
+  where
+    here : (t : Bool) → pick t (some n) none ≡ some r → lowest m n ≡ none → ⊥
+    here true f k = let z : n ≡ r = Option·some-injective n r f in none-condemned m n k s (omega arith) q
+    here false f k = none-some f
+
+    go : (o : Option ℕ) → lowest m n ≡ o → orThen o (pick (eqb (tag m n) Tag.condemned) (some n) none) ≡ some r → (lowest m n ≡ some r → ⊥) → ⊥
+    go none k f ih = here (eqb (tag m n) Tag.condemned) f k
+    go (some x) k f ih = ih (k ∙ f)
+
+-- ---- and back
+
+pub lowest-none : (m : Mem) (n : ℕ) → ((s : ℕ) → s < n → tag m s ≡ Tag.condemned → ⊥) → lowest m n ≡ none
+unfolding lowest
+lowest-none m zero f = refl
+lowest-none m (suc n) f = rw (lowest-none m n (λ s l. f s (omega arith)), ne-eqb _ _ (f n (omega arith))) refl
+
+pub lowest-some : (m : Mem) (n r : ℕ) → r < n → tag m r ≡ Tag.condemned → ((s : ℕ) → s < r → tag m s ≡ Tag.condemned → ⊥) → lowest m n ≡ some r
+unfolding lowest
+lowest-some m zero r l t f = absurd (omega arith)
+lowest-some m (suc n) r l t f =
+    ⊎-elim (λ h. let z : n ≡ r = omega arith in rw (lowest-none m n (λ s k. f s (omega arith)), eq-eqb _ _ (ap (tag m) z ∙ t)) (ap some z)) (λ h. rw (lowest-some m n r h t f) refl) (le-or-lt n r)

@@ -11,13 +11,13 @@ use Rattle.layout.specs.Geometry.{mutatorCount, mutatorWords, rootCount}
 use Rattle.layout.specs.Mem.{Mem, setTrace, setStack, Sizes}
 use Rattle.theory.specs.Phases.{Phase, idle, sync1, sync2, mark, sweep, Duty, nothing, both, old, owes}
 use Rattle.model.specs.Rules.{phaseNumber}
-use Rattle.model.specs.Fields.{phase, traceCount, setTraceCount, acksAt, acks, root, setTag}
+use Rattle.model.specs.Fields.{setCursor, phase, traceCount, setTraceCount, acksAt, acks, root, setTag}
 use Rattle.model.specs.Segments.{stacked, count}
-use Rattle.model.specs.Records.{record?, pointerCount, pointer, marked, queued, setQueued, clearQueued}
+use Rattle.model.specs.Records.{record?, pointerCount, pointer, entered, setEntered}
 use Rattle.model.specs.Tracing.{push, barrier, pushRoots, pushPointers, popped, traced, onTop}
 use Rattle.model.specs.Mutators.{given, acknowledged}
 use Rattle.model.specs.Collector.{collects, condemned, acksReset, marksCleared, started}
-use Rattle.laws.proofs.Lengths.{sizes-control, sizes-mutator, sizes-segment, sizes-stack, sizes-queued, sizes-unqueued, sizes-marked, sizes-trace}
+use Rattle.laws.proofs.Lengths.{sizes-control, sizes-mutator, sizes-segment, sizes-stack, sizes-entered, sizes-trace}
 use Rattle.model.specs.Tag as Tag
 
 module _ (g : Geometry) where
@@ -28,16 +28,15 @@ module _ (g : Geometry) where
 
   sizes-onTop : (m : Mem) → Sizes g m → (at : ℕ) → Sizes g (onTop g m at)
   sizes-onTop m s at =
-      let a = sizes-queued g m s at in
-      let b = sizes-trace g (setQueued g m at) a (traceCount m) (suc at) in
-      sizes-control g (setTrace (setQueued g m at) (traceCount m) (suc at)) b 1 (traceCount m + 1)
+      let a = sizes-entered g m s at in
+      let b = sizes-trace g (setEntered g m at) a (traceCount m) (suc at) in
+      sizes-control g (setTrace (setEntered g m at) (traceCount m) (suc at)) b 1 (traceCount m + 1)
 
   pub sizes-push : (m : Mem) → Sizes g m → (o : Option ℕ) → Sizes g (push g m o)
   unfolding push
   sizes-push m s none = s
   sizes-push m s (some at) =
-      sizes-pick (eqb (marked g m at) 1) m (pick (eqb (queued g m at) 1) m (onTop g m at)) s
-      (sizes-pick (eqb (queued g m at) 1) m (onTop g m at) s (sizes-onTop m s at))
+      sizes-pick (eqb (entered g m at) 1) m (onTop g m at) s (sizes-onTop m s at)
 
   pub sizes-barrier : (d : Duty) (m : Mem) → Sizes g m → (new o : Option ℕ) → Sizes g (barrier g d m new o)
   sizes-barrier nothing m s new o = s
@@ -55,10 +54,7 @@ module _ (g : Geometry) where
   sizes-pointers m s at (suc n) = sizes-push (pushPointers g m at n) (sizes-pointers m s at n) (record? (pointer m at n))
 
   sizes-popped : (m : Mem) → Sizes g m → (at : ℕ) → Sizes g (popped g m at)
-  sizes-popped m s at =
-      let a = sizes-control g m s 1 (traceCount m - 1) in
-      let b = sizes-unqueued g (setTraceCount m (traceCount m - 1)) a at in
-      sizes-marked g (clearQueued g (setTraceCount m (traceCount m - 1)) at) b at
+  sizes-popped m s at = sizes-control g m s 1 (traceCount m - 1)
 
   pub sizes-traced : (m : Mem) → Sizes g m → (at : ℕ) → Sizes g (traced g m at)
   sizes-traced m s at = sizes-pointers (popped g m at) (sizes-popped m s at) at (pointerCount m at)
@@ -102,7 +98,6 @@ module _ (g : Geometry) where
     stacks = z .stacks;
     bitmaps = z .bitmaps;
     marks = length-replicate (length (m .marks)) 0 ∙ z .marks;
-    queued = z .queued;
     trace = z .trace;
     heap = z .heap;
   }
@@ -112,4 +107,5 @@ module _ (g : Geometry) where
   sizes-started m z =
       let m₁ : Mem = condemned m (g .segments) in
       let m₂ : Mem = acksReset m₁ mutatorCount in
-      sizes-control g (marksCleared m₂) (sizes-cleared m₂ (sizes-reset m₁ (sizes-condemned m z (g .segments)) mutatorCount)) 0 (phaseNumber sync1)
+      let y = sizes-cleared m₂ (sizes-reset m₁ (sizes-condemned m z (g .segments)) mutatorCount) in
+      sizes-control g (setCursor (marksCleared m₂) 0) (sizes-control g (marksCleared m₂) y 2 0) 0 (phaseNumber sync1)

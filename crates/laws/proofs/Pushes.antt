@@ -1,7 +1,7 @@
 -- Pushes on the trace stack, one and any fold of them: what they leave as it was, and what they need and keep. Assumes nothing.
 use mathlib.Core.Path.{_≡_, refl, sym, _∙_, ap, subst}
 use mathlib.Core.Bool.{Bool, true, false}
-use Prim.Native.Nat.{ℕ, zero, suc, _+_, _*_, _/_, _<_}
+use Prim.Native.Nat.{ℕ, zero, suc, _+_, _*_, _/_, _≤_, _<_}
 use native.Mathlib.Omega.{arith}
 use lib.Dec.{eqb}
 use lib.ListN.{length, length-set}
@@ -17,14 +17,14 @@ use Rattle.layout.specs.Geometry.{mostBlocks, len}
 use Rattle.layout.specs.Mem.{Mem, Sizes, controlWord, setTrace, setControl}
 use Rattle.layout.proofs.Sizes.{marks-are}
 use Rattle.model.specs.Fields.{traceCount, root}
-use Rattle.model.specs.Records.{record?, recordBit, pointer, marked, queued, setQueued}
+use Rattle.model.specs.Records.{record?, recordBit, pointer, entered, setEntered}
 use Rattle.model.specs.Tracing.{push, onTop, pushRoots, pushPointers}
 use Rattle.model.specs.Consistent.{RecordOk, Consistent}
 use Rattle.laws.proofs.Blocks.{bit-below}
 use Rattle.laws.proofs.Apart.{class-of}
 use Rattle.layout.specs.Region as Region
 
--- ---- what pushes leave as it was: all but the trace stack
+-- ---- what pushes leave as it was: all but the trace stack and the bits of its entries
 
 pub record Untouched (m m′ : Mem) : Type 0 where
   pub phase : controlWord m′ 0 ≡ controlWord m 0
@@ -33,10 +33,9 @@ pub record Untouched (m m′ : Mem) : Type 0 where
   pub segments : m′ .segments ≡ m .segments
   pub stacks : m′ .stacks ≡ m .stacks
   pub bitmaps : m′ .bitmaps ≡ m .bitmaps
-  pub marks : m′ .marks ≡ m .marks
 
 untouched-self : (m : Mem) → Untouched m m
-untouched-self m = record { phase = refl; mutators = refl; heap = refl; segments = refl; stacks = refl; bitmaps = refl; marks = refl }
+untouched-self m = record { phase = refl; mutators = refl; heap = refl; segments = refl; stacks = refl; bitmaps = refl }
 
 untouched-then : (m m′ m″ : Mem) → Untouched m m′ → Untouched m′ m″ → Untouched m m″
 untouched-then m m′ m″ a b = record {
@@ -46,7 +45,6 @@ untouched-then m m′ m″ a b = record {
   segments = b .segments ∙ a .segments;
   stacks = b .stacks ∙ a .stacks;
   bitmaps = b .bitmaps ∙ a .bitmaps;
-  marks = b .marks ∙ a .marks;
 }
 
 -- a record in order stays so where heap, segments' records and bitmaps do
@@ -62,24 +60,24 @@ record-same g m m′ h s b at r = record {
 pub record-untouched : (g : Geometry) (m m′ : Mem) → Untouched m m′ → (at : ℕ) → RecordOk g m at → RecordOk g m′ at
 record-untouched g m m′ u = record-same g m m′ (u .heap) (u .segments) (u .bitmaps)
 
--- ---- what they need and keep: lengths, and as many queued bits as the trace stack has entries
+-- ---- what they need and keep: lengths, and no more entries of the trace stack than bits
 
 abbrev pub Counted : Geometry → Mem → Type 0
-Counted g m = traceCount m ≡ onesAmong (bitAt (m .queued)) (g .segments * mostBlocks g)
+Counted g m = traceCount m ≤ onesAmong (bitAt (m .marks)) (g .segments * mostBlocks g)
 
 pub record Ready (g : Geometry) (m : Mem) : Type 0 where
   pub control : 1 < length (m .control)
-  pub queued : length (m .queued) ≡ len g Region.queued
+  pub marks : length (m .marks) ≡ len g Region.marks
   pub number : Counted g m
 
 pub ready-of : (g : Geometry) (m : Mem) → Sizes g m → Consistent g m → Ready g m
-ready-of g m s c = record { control = let l = s .control in omega arith; queued = s .queued; number = c .sound .trace .number }
+ready-of g m s c = record { control = let l = s .control in omega arith; marks = s .marks; number = c .sound .trace .number }
 
 -- ---- one push
 
 module _ (g : Geometry) (m : Mem) where
   untouched-top : (at : ℕ) → Untouched m (onTop g m at)
-  unfolding setTrace setControl setQueued
+  unfolding setTrace setControl setEntered
   untouched-top at = record {
     phase = getD-set-other (m .control) 1 0 (traceCount m + 1) 0 (λ e. omega arith);
     mutators = refl;
@@ -87,47 +85,44 @@ module _ (g : Geometry) (m : Mem) where
     segments = refl;
     stacks = refl;
     bitmaps = refl;
-    marks = refl;
   }
 
   pub untouched-push : (w : ℕ) → Untouched m (push g m (record? w))
   unfolding push
   untouched-push zero = untouched-self m
-  untouched-push (suc at) = go (eqb (marked g m at) 1) (eqb (queued g m at) 1)
+  untouched-push (suc at) = go (eqb (entered g m at) 1)
     where
-      go : (x y : Bool) → Untouched m (pick x m (pick y m (onTop g m at)))
-      go true y = untouched-self m
-      go false true = untouched-self m
-      go false false = untouched-top at
+      go : (x : Bool) → Untouched m (pick x m (onTop g m at))
+      go true = untouched-self m
+      go false = untouched-top at
 
   module _ (y : Ready g m) where
-    module _ (at : ℕ) (r : RecordOk g m at) (free : queued g m at ≡ 1 → ⊥) where
+    module _ (at : ℕ) (r : RecordOk g m at) (free : entered g m at ≡ 1 → ⊥) where
       below : recordBit g m at < g .segments * mostBlocks g
       below = bit-below g m at (class-of g m at r) (r .inside)
 
-      in-words : recordBit g m at / 32 < length (m .queued)
-      in-words = let l = below in let z = marks-are g (g .segments) in let q = y .queued in omega arith
+      in-words : recordBit g m at / 32 < length (m .marks)
+      in-words = let l = below in let z = marks-are g (g .segments) in let q = y .marks in omega arith
 
       ready-top : Ready g (onTop g m at)
-      unfolding setTrace setControl setQueued
+      unfolding setTrace setControl setEntered
       ready-top = record {
         control = subst (λ z. 1 < z) (sym (length-set (m .control) 1 (traceCount m + 1))) (y .control);
-        queued = length-setBit (m .queued) (recordBit g m at) ∙ y .queued;
+        marks = length-setBit (m .marks) (recordBit g m at) ∙ y .marks;
         number =
             let c = getD-set-same (m .control) 1 (traceCount m + 1) 0 (y .control) in
-            let n = set-count (m .queued) (recordBit g m at) (g .segments * mostBlocks g) in-words below (zero-of-not-one _ (at-lt (m .queued) (recordBit g m at)) free) in
-            c ∙ ap (λ z. z + 1) (y .number) ∙ sym n;
+            let n = set-count (m .marks) (recordBit g m at) (g .segments * mostBlocks g) in-words below (zero-of-not-one _ (at-lt (m .marks) (recordBit g m at)) free) in
+            let k = y .number in omega arith;
       }
 
     pub ready-push : (w : ℕ) → ((at : ℕ) → w ≡ suc at → RecordOk g m at) → Ready g (push g m (record? w))
     unfolding push
     ready-push zero r = y
-    ready-push (suc at) r = go (eqb (marked g m at) 1) (eqb (queued g m at) 1) refl
+    ready-push (suc at) r = go (eqb (entered g m at) 1) refl
       where
-        go : (x z : Bool) → eqb (queued g m at) 1 ≡ z → Ready g (pick x m (pick z m (onTop g m at)))
-        go true z e = y
-        go false true e = y
-        go false false e = ready-top at (r at refl) (eqb-false _ _ e)
+        go : (z : Bool) → eqb (entered g m at) 1 ≡ z → Ready g (pick z m (onTop g m at))
+        go true e = y
+        go false e = ready-top at (r at refl) (eqb-false _ _ e)
 
 -- ---- any fold of them: h is the memory after so many, w the words pushed
 

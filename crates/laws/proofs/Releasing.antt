@@ -26,7 +26,7 @@ pub record Releasable (g : Geometry) (m : Mem) : Type 0 where
 
 -- a memory with other segments' records and stacks
 abbrev pub withRecords : Mem → List ℕ → List ℕ → Mem
-withRecords m segments stacks = record { control = m .control; mutators = m .mutators; heap = m .heap; segments = segments; stacks = stacks; bitmaps = m .bitmaps; marks = m .marks; queued = m .queued; trace = m .trace }
+withRecords m segments stacks = record { control = m .control; mutators = m .mutators; heap = m .heap; segments = segments; stacks = stacks; bitmaps = m .bitmaps; marks = m .marks; trace = m .trace }
 
 -- segment q was held by mutator k and is of one of the first n classes
 abbrev pub Gone : Mem → ℕ → ℕ → ℕ → Type 0

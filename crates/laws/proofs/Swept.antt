@@ -13,11 +13,11 @@ use Rattle.words.proofs.Counts.{only-ones}
 use Rattle.classes.specs.Class.{IsClass}
 use Rattle.layout.specs.declared.Geometry.{Geometry}
 use Rattle.layout.specs.Geometry.{blocksIn}
-use Rattle.layout.specs.Mem.{Mem, Sizes, setRun, setStack}
+use Rattle.layout.specs.Mem.{Mem, Sizes, setControl, setRun, setStack}
 use Rattle.model.specs.declared.SegmentState.{SegmentState}
 use Rattle.model.specs.Fields.{class}
 use Rattle.model.specs.Segments.{setSegmentState, freeStack, partStack, stacked, bitmap, inUse}
-use Rattle.model.specs.Collector.{keptBy, rebuiltBy, swept}
+use Rattle.model.specs.Collector.{keptBy, rebuiltBy, settledBy, swept}
 use Rattle.laws.proofs.Words.{Recorded, tagOf, classIn, placeIn, ownerIn, state-there, state-others, recorded-as}
 use Rattle.laws.proofs.Bitmaps.{bitmap-by}
 use Rattle.laws.proofs.Rebuilding.{rebuilt-mark}
@@ -68,9 +68,9 @@ module _ (g : Geometry) (m : Mem) (s : Sizes g m) (r : ℕ) (l : r < g .segments
   unfolding setStack
   parted-use = in-use-as (segment.Part (class m r) 0) parted refl refl ∙ among-same _ _ blocks (λ b h. rw (le-ltb b 0 (omega arith)) (rebuilt-mark g m s r l k b h))
 
-  pub swept-use : inUse g (swept g m r) r ≡ keptBy g m r
-  unfolding swept
-  swept-use = none? (eqb (keptBy g m r) 0) refl
+  settled-use : inUse g (settledBy g m r) r ≡ keptBy g m r
+  unfolding settledBy
+  settled-use = none? (eqb (keptBy g m r) 0) refl
     where
       all? : (b : Bool) → eqb (keptBy g m r) blocks ≡ b → inUse g (pick b filled parted) r ≡ keptBy g m r
       all? true e = filled-use (eqb-true _ _ e)
@@ -79,3 +79,8 @@ module _ (g : Geometry) (m : Mem) (s : Sizes g m) (r : ℕ) (l : r < g .segments
       none? : (b : Bool) → eqb (keptBy g m r) 0 ≡ b → inUse g (pick b freed (pick (eqb (keptBy g m r) blocks) filled parted)) r ≡ keptBy g m r
       none? true e = freed-use (eqb-true _ _ e)
       none? false e = all? (eqb (keptBy g m r) blocks) refl
+
+  -- the cursor is no matter of the segment's
+  pub swept-use : inUse g (swept g m r) r ≡ keptBy g m r
+  unfolding swept setControl
+  swept-use = settled-use

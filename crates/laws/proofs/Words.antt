@@ -141,17 +141,16 @@ pub record OtherRegions (m m′ : Mem) : Type 0 where
   pub stacks : m′ .stacks ≡ m .stacks
   pub bitmaps : m′ .bitmaps ≡ m .bitmaps
   pub marks : m′ .marks ≡ m .marks
-  pub queued : m′ .queued ≡ m .queued
   pub trace : m′ .trace ≡ m .trace
   pub heap : m′ .heap ≡ m .heap
 
 record-others : (m : Mem) (s t c p k : ℕ) → OtherRegions m (setRecord m s t c p k)
 unfolding setSegment
-record-others m s t c p k = record { control = refl; mutators = refl; stacks = refl; bitmaps = refl; marks = refl; queued = refl; trace = refl; heap = refl }
+record-others m s t c p k = record { control = refl; mutators = refl; stacks = refl; bitmaps = refl; marks = refl; trace = refl; heap = refl }
 
 pub tag-others : (m : Mem) (s t : ℕ) → OtherRegions m (setTag m s t)
 unfolding setSegment
-tag-others m s t = record { control = refl; mutators = refl; stacks = refl; bitmaps = refl; marks = refl; queued = refl; trace = refl; heap = refl }
+tag-others m s t = record { control = refl; mutators = refl; stacks = refl; bitmaps = refl; marks = refl; trace = refl; heap = refl }
 
 pub state-others : (g : Geometry) (m : Mem) (s : ℕ) (x : SegmentState) → OtherRegions m (setSegmentState g m s x)
 state-others g m s x = rw (state-is g m s x) (record-others m s (tagOf x) (classIn x) (placeIn g x) (ownerIn x))

@@ -74,7 +74,7 @@ module _ (g : Geometry) (l : List ℕ) where
   flat-memOf e = whole (lens g) l (omega arith)
 
 same-lengths : (g : Geometry) (m : Mem) → Sizes g m → lengths (regions m) ≡ lens g
-same-lengths g m z = rw (z .control, z .mutators, z .heap, z .segments, z .stacks, z .bitmaps, z .marks, z .queued, z .trace) refl
+same-lengths g m z = rw (z .control, z .mutators, z .heap, z .segments, z .stacks, z .bitmaps, z .marks, z .trace) refl
 
 -- a memory with regions of their lengths, joined: a slice of the right length, cut into that memory again
 pub memOf-flat : (g : Geometry) (m : Mem) → Sizes g m → memOf g (flat m) ≡ m

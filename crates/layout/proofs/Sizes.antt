@@ -55,7 +55,11 @@ class-height g c = let z = bytes-are g in let e = z .1 in let l = z .3 in shape-
 pub marks-are : (g : Geometry) (n : ℕ) → n * mostBlocks g ≡ n * markWords g * 32
 marks-are g n = let z = bytes-are g in let e = z .1 in ap (λ x. n * x) (let f : mostBlocks g ≡ markWords g * 32 = omega arith in f) ∙ sym (mul-assoc n (markWords g) 32)
 
--- the word of a bit of the marks and of the queued bits
+-- a bit for each two words
+pub marks-words : (g : Geometry) (n : ℕ) → n * segmentWords g ≡ n * mostBlocks g * 2
+marks-words g n = let z = bytes-are g in let e = z .1 in ap (λ x. n * x) (let f : segmentWords g ≡ mostBlocks g * 2 = omega arith in f) ∙ sym (mul-assoc n (mostBlocks g) 2)
+
+-- the word of a bit of the marks
 pub mark-word : (g : Geometry) (k : ℕ) → k < g .segments * mostBlocks g → k / 32 < g .segments * markWords g
 mark-word g k l = let e = marks-are g (g .segments) in omega arith
 

@@ -8,7 +8,7 @@ use lib.Dec.{eqb, ltb}
 use lib.ListN.{getD}
 use Rattle.rules.specs.Pick.{pick}
 use Rattle.words.specs.Levels.{wordsFor}
-use Rattle.classes.specs.Class.{firstClass, classCount, wordBytes}
+use Rattle.classes.specs.Class.{firstClass, classCount, wordBytes, blockWords}
 use Rattle.classes.specs.Shape.{segmentSize, blocksOf, longestOf}
 use Rattle.layout.specs.declared.Geometry.{Geometry}
 use Rattle.layout.specs.Parts.{start}
@@ -51,13 +51,13 @@ bitmapWords g = longestOf (segmentBytes g)
 abbrev pub segmentOf : Geometry → ℕ → ℕ
 segmentOf g at = at / segmentWords g
 
--- the number of a block's bit among the marks and the queued bits: one for each block of each segment
-abbrev pub bitIn : Geometry → ℕ → ℕ → ℕ
-bitIn g s b = s * mostBlocks g + b
+-- the bit of a word of the heap among the marks: one for the words of a smallest block
+abbrev pub markBit : ℕ → ℕ
+markBit at = at / blockWords firstClass
 
--- the phase, and the count of the trace stack
+-- the phase, the count of the trace stack, the sweep's cursor, and words to spare
 abbrev pub controlWords : ℕ
-controlWords = 2
+controlWords = 16
 
 -- a mutator's entry: its roots, its state, its acknowledgements, for each class the segment that it holds, and words to spare
 abbrev pub mutatorWords : ℕ
@@ -75,11 +75,11 @@ segmentRecordWords = 4
 abbrev pub stackCount : ℕ
 stackCount = 1 + classCount
 
--- the lengths of the nine regions, in order
+-- the lengths of the eight regions, in order
 abbrev pub lens : Geometry → List ℕ
 lens g =
     controlWords ∷ mutatorCount * mutatorWords ∷ g .segments * segmentWords g ∷ g .segments * segmentRecordWords ∷ (1 + g .segments) * stackCount
-    ∷ g .segments * bitmapWords g ∷ g .segments * markWords g ∷ g .segments * markWords g ∷ g .segments * mostBlocks g ∷ []
+    ∷ g .segments * bitmapWords g ∷ g .segments * markWords g ∷ g .segments * mostBlocks g ∷ []
 
 -- the length of region k, and where it begins
 abbrev pub len : Geometry → ℕ → ℕ
@@ -89,7 +89,7 @@ abbrev pub from : Geometry → ℕ → ℕ
 from g k = start (lens g) k
 
 abbrev pub regionCount : ℕ
-regionCount = 9
+regionCount = 8
 
 -- the length of the lent slice
 abbrev pub total : Geometry → ℕ
@@ -97,7 +97,7 @@ total g = from g regionCount
 
 -- the length of the examination's scratch: two bits for each block, and a stack with an entry for each
 abbrev pub scratchWords : Geometry → ℕ
-scratchWords g = len g Region.marks + len g Region.queued + len g Region.trace
+scratchWords g = len g Region.marks + len g Region.marks + len g Region.trace
 
 -- "segment count not 1 to 256, or a slice not of its length"
 unfoldable pub wrongSize : Geometry → ℕ → Bool

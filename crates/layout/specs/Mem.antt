@@ -16,7 +16,6 @@ pub record Mem : Type 0 where
   pub stacks : List ℕ
   pub bitmaps : List ℕ
   pub marks : List ℕ
-  pub queued : List ℕ
   pub trace : List ℕ
 
 abbrev pub ofParts : List (List ℕ) → Mem
@@ -28,12 +27,11 @@ ofParts xs = record {
   stacks = getD xs 4 [];
   bitmaps = getD xs 5 [];
   marks = getD xs 6 [];
-  queued = getD xs 7 [];
-  trace = getD xs 8 [];
+  trace = getD xs 7 [];
 }
 
 abbrev pub regions : Mem → List (List ℕ)
-regions m = m .control ∷ m .mutators ∷ m .heap ∷ m .segments ∷ m .stacks ∷ m .bitmaps ∷ m .marks ∷ m .queued ∷ m .trace ∷ []
+regions m = m .control ∷ m .mutators ∷ m .heap ∷ m .segments ∷ m .stacks ∷ m .bitmaps ∷ m .marks ∷ m .trace ∷ []
 
 unfoldable pub memOf : Geometry → List ℕ → Mem
 memOf g l = ofParts (parts (lens g) l)
@@ -49,7 +47,6 @@ pub record Sizes (g : Geometry) (m : Mem) : Type 0 where
   pub stacks : length (m .stacks) ≡ len g Region.stacks
   pub bitmaps : length (m .bitmaps) ≡ len g Region.bitmaps
   pub marks : length (m .marks) ≡ len g Region.marks
-  pub queued : length (m .queued) ≡ len g Region.queued
   pub trace : length (m .trace) ≡ len g Region.trace
   pub heap : length (m .heap) ≡ len g Region.heap
 
@@ -86,9 +83,6 @@ bitmapWord m i = getD (m .bitmaps) i 0
 abbrev pub markWord : Mem → ℕ → ℕ
 markWord m i = getD (m .marks) i 0
 
-abbrev pub queuedWord : Mem → ℕ → ℕ
-queuedWord m i = getD (m .queued) i 0
-
 abbrev pub traceWord : Mem → ℕ → ℕ
 traceWord m i = getD (m .trace) i 0
 
@@ -110,9 +104,6 @@ setStack m i v = withRegion m Region.stacks (set (m .stacks) i v)
 
 unfoldable pub setMarkWord : Mem → ℕ → ℕ → Mem
 setMarkWord m i v = withRegion m Region.marks (set (m .marks) i v)
-
-unfoldable pub setQueuedWord : Mem → ℕ → ℕ → Mem
-setQueuedWord m i v = withRegion m Region.queued (set (m .queued) i v)
 
 unfoldable pub setTrace : Mem → ℕ → ℕ → Mem
 setTrace m i v = withRegion m Region.trace (set (m .trace) i v)

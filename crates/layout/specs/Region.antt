@@ -1,7 +1,7 @@
 -- The regions of the lent slice, by their place in it.
 use Prim.Native.Nat.{ℕ}
 
--- the phase, and the count of the trace stack
+-- the phase, the count of the trace stack, the sweep's cursor
 abbrev pub control : ℕ
 control = 0
 
@@ -27,9 +27,5 @@ bitmaps = 5
 abbrev pub marks : ℕ
 marks = 6
 
--- which blocks are on the trace stack
-abbrev pub queued : ℕ
-queued = 7
-
 abbrev pub trace : ℕ
-trace = 8
+trace = 7

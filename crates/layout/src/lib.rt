@@ -1,4 +1,4 @@
-// The one lent slice and its regions: control, mutators, heap, segment records, stacks, bitmaps, marks, queued bits, trace stack.
+// The one lent slice and its regions: control, mutators, heap, segment records, stacks, bitmaps, marks, trace stack.
 // Nothing above this crate mentions where a region begins: words are read and written through these functions, whose contracts speak of `Mem`, and the
 // place of a part that is lent to a leaf comes from here.
 use classes::ClassShape;
@@ -8,8 +8,8 @@ ghost use Prim.Native.Nat.{_+_, _*_, _%_, _≤_, _<_};
 ghost use lib.ListN.{length, replicate};
 ghost use Rattle.classes.specs.Class.{IsClass};
 ghost use Rattle.classes.specs.Shape.{shapeFor};
-ghost use Rattle.layout.specs.Geometry.{len, from, total, segmentWords, blocksIn, mostBlocks, markWords, bitmapWords, maxSegments, segmentOf, bitIn, mutatorCount, mutatorWords, Sized, wrongSize};
-ghost use Rattle.layout.specs.Mem.{memOf, controlWord, mutatorWord, segmentRecordWord, stackWord, bitmapWord, markWord, queuedWord, traceWord, heapWord, setControl, setMutator, setSegment, setStack, setMarkWord, setQueuedWord, setTrace, setHeap, setRun, clearRegion};
+ghost use Rattle.layout.specs.Geometry.{len, from, total, segmentWords, blocksIn, mostBlocks, markWords, bitmapWords, maxSegments, segmentOf, markBit, mutatorCount, mutatorWords, Sized, wrongSize};
+ghost use Rattle.layout.specs.Mem.{memOf, controlWord, mutatorWord, segmentRecordWord, stackWord, bitmapWord, markWord, traceWord, heapWord, setControl, setMutator, setSegment, setStack, setMarkWord, setTrace, setHeap, setRun, clearRegion};
 ghost use Rattle.layout.specs.Region as Region;
 
 // The size of the heap: today its number of segments.
@@ -27,6 +27,9 @@ const SEGMENT_BYTES: u32 = 16384;
 const SEGMENT_WORDS: usize = 4096;
 
 const MOST_BLOCKS: usize = 2048;
+
+// The words of a smallest block, which share a mark bit.
+const SMALLEST_WORDS: usize = 2;
 
 const MARK_WORDS: usize = 64;
 
@@ -55,7 +58,7 @@ pub const HELD_FROM: usize = 18;
 pub const MUTATOR_WORDS: usize = 32;
 
 // Where a region begins: so many words for each segment, and so many besides.
-const CONTROL_WORDS: usize = 2;
+const CONTROL_WORDS: usize = 16;
 
 const HEAP_FROM: usize = CONTROL_WORDS + 32 * MUTATOR_WORDS;
 
@@ -67,9 +70,7 @@ const BITMAPS_PER: usize = STACKS_PER + STACKS;
 
 const MARKS_PER: usize = BITMAPS_PER + BITMAP_WORDS;
 
-const QUEUED_PER: usize = MARKS_PER + MARK_WORDS;
-
-const TRACE_PER: usize = QUEUED_PER + MARK_WORDS;
+const TRACE_PER: usize = MARKS_PER + MARK_WORDS;
 
 const TOTAL_PER: usize = TRACE_PER + MOST_BLOCKS;
 
@@ -178,12 +179,11 @@ pub fn word_in(g: Geometry, s: usize, offset: usize) -> usize
     s * SEGMENT_WORDS + offset
 }
 
-// The number of the bit of block b of segment s.
-pub fn bit_in(g: Geometry, s: usize, b: usize) -> usize
-    requires { ⌜ (s < maxSegments) × (b < mostBlocks g) ⌝ }
-    ensures { λ r. ⌜ r ≡ bitIn g s b ⌝ }
+// The bit of a word of the heap among the marks.
+pub fn mark_bit(at: usize) -> usize
+    ensures { λ r. ⌜ r ≡ markBit at ⌝ }
 {
-    s * MOST_BLOCKS + b
+    at / SMALLEST_WORDS
 }
 
 // Word i of the control.
@@ -291,23 +291,6 @@ pub fn set_mark(g: Geometry, mem: &mut [u32], i: usize, v: u32)
     mem[n * MARKS_PER + FIXED + i] = v;
 }
 
-// Word i of the queued bits.
-pub fn queued(g: Geometry, mem: &[u32], i: usize) -> u32
-    requires { ⌜ (Sized g (length (now mem))) × (i < len g Region.queued) ⌝ }
-    ensures { λ r. ⌜ r ≡ queuedWord (memOf g (now (mem .entry))) i ⌝ }
-{
-    let n = g.segments;
-    mem[n * QUEUED_PER + FIXED + i]
-}
-
-pub fn set_queued(g: Geometry, mem: &mut [u32], i: usize, v: u32)
-    requires { ⌜ (Sized g (length (now mem))) × (i < len g Region.queued) ⌝ }
-    ensures { λ _. ⌜ memOf g (now (mem .exit)) ≡ setQueuedWord (memOf g (now (mem .entry))) i v ⌝ }
-{
-    let n = g.segments;
-    mem[n * QUEUED_PER + FIXED + i] = v;
-}
-
 // Word i of the trace stack.
 pub fn trace(g: Geometry, mem: &[u32], i: usize) -> u32
     requires { ⌜ (Sized g (length (now mem))) × (i < len g Region.trace) ⌝ }
@@ -368,16 +351,6 @@ pub fn clear_stacks(g: Geometry, mem: &mut [u32])
     let n = g.segments;
     let a = n * STACKS_PER + HEAP_FROM;
     let end = a + (1 + n) * STACKS;
-    zero(&mut mem[a..end]);
-}
-
-pub fn clear_queued(g: Geometry, mem: &mut [u32])
-    requires { ⌜ Sized g (length (now mem)) ⌝ }
-    ensures { λ _. ⌜ memOf g (now (mem .exit)) ≡ clearRegion g (memOf g (now (mem .entry))) Region.queued ⌝ }
-{
-    let n = g.segments;
-    let a = n * QUEUED_PER + FIXED;
-    let end = a + n * MARK_WORDS;
     zero(&mut mem[a..end]);
 }
 

@@ -21,7 +21,7 @@ use Rattle.bitmap_search.specs.Twice.{TwoBelow, TwoPromise}
 use Rattle.bitmap_search.proofs.Scan.{IsNext, next-is}
 use Rattle.bitmap_search.proofs.Twice.{Says, two-says, never-torn}
 use Rattle.layout.specs.declared.Geometry.{Geometry}
-use Rattle.layout.specs.Geometry.{mutatorCount, segmentWords, segmentRecordWords, blocksIn, bitIn}
+use Rattle.layout.specs.Geometry.{mutatorCount, segmentWords, segmentRecordWords, blocksIn, markBit}
 use Rattle.layout.specs.Mem.{Mem, controlWord, setHeap, setMutator, setRun, Sizes}
 use Rattle.theory.specs.Phases.{black}
 use Rattle.theory.specs.Calls.{a-ok}
@@ -32,17 +32,16 @@ use Rattle.model.specs.Answers.{answerOf}
 use Rattle.model.specs.Rules.{phaseOf}
 use Rattle.model.specs.Fields.{phase, acks, setHolding, setRoot, class, place, setPlace, ownerAt}
 use Rattle.model.specs.Segments.{setSegmentState, above, bitmap, free}
-use Rattle.model.specs.Records.{headerOf, written, recordBit, setMarked}
+use Rattle.model.specs.Records.{headerOf, written, setEntered}
 use Rattle.model.specs.Making.{Source, held, part, unused, noRoom, sourceOf, advanced, blackened, handedOut, inBlock, inSegment, fromSource, made}
 use Rattle.model.specs.Consistent.{Consistent}
 use Rattle.laws.proofs.Words.{Recorded, recorded-as, state-there}
-use Rattle.laws.proofs.Blocks.{header-bit}
 use Rattle.segments.proofs.Records.{place-alone}
 use Rattle.tracing.specs.Pushing.{withMark}
 use Rattle.making.specs.declared.Taken.{Taken}
 use Rattle.making.specs.declared.Handed.{Handed}
 use Rattle.making.specs.Taking.{segmentIn, takenFrom, Takes}
-use Rattle.making.specs.HandingOut.{Ready, Advances, blackenedAt, filledAs, HandsOut, Makes}
+use Rattle.making.specs.HandingOut.{Ready, Advances, filledAs, HandsOut, Makes}
 use Rattle.making.proofs.Readying.{ready}
 use Rattle.making.specs.declared.Taken.the-variants as taken
 use Rattle.making.specs.declared.Handed.the-variants as handed
@@ -97,43 +96,28 @@ module _ (g : Geometry) (m : Mem) (k c s : ℕ) (p : ℕ) (ep : p ≡ place m s)
 
 -- ---- born marked: n is the phase's number, a the acknowledgements, t whether that is black
 
-module _ (g : Geometry) (m : Mem) (k s b n a : ℕ) (t : Bool) (en : n ≡ controlWord m 0) (ea : a ≡ acks m k) (et : t ≡ black (phaseOf n) a) where
+module _ (g : Geometry) (m : Mem) (k at n a : ℕ) (t : Bool) (en : n ≡ controlWord m 0) (ea : a ≡ acks m k) (et : t ≡ black (phaseOf n) a) where
   is-black : black (phase m) (acks m k) ≡ t
   is-black = sym (et ∙ ap (λ z. black (phaseOf z) a) en ∙ ap (black (phase m)) ea)
 
-  pub born-black : t ≡ true → (i : ℕ) → i ≡ bitIn g s b → (m₁ : Mem) → m₁ ≡ withMark m i → m₁ ≡ blackenedAt g m k s b
+  pub born-black : t ≡ true → (i : ℕ) → i ≡ markBit at → (m₁ : Mem) → m₁ ≡ withMark m i → m₁ ≡ blackened g m k at
+  unfolding withMark setEntered
   born-black e i ei m₁ f = f ∙ rw (is-black ∙ e, ei) refl
 
-  pub born-white : t ≡ false → m ≡ blackenedAt g m k s b
+  pub born-white : t ≡ false → m ≡ blackened g m k at
   born-white e = rw (is-black ∙ e) refl
 
 -- ---- the record
 
 module _ (g : Geometry) (m : Mem) (k d c s b : ℕ) (shape : RecordShape) where
-  pub filled : (w at : ℕ) → w ≡ blockWords c → at ≡ s * segmentWords g + b * w → (m₁ m₂ m₃ : Mem) → m₁ ≡ written m at shape → m₂ ≡ blackenedAt g m₁ k s b → m₃ ≡ setRoot m₂ k d (at + 1) → m₃ ≡ filledAs g m k d c s b shape
+  pub filled : (w at : ℕ) → w ≡ blockWords c → at ≡ s * segmentWords g + b * w → (m₁ m₂ m₃ : Mem) → m₁ ≡ written m at shape → m₂ ≡ blackened g m₁ k at → m₃ ≡ setRoot m₂ k d (at + 1) → m₃ ≡ filledAs g m k d c s b shape
   filled w at ew ea m₁ m₂ m₃ e₁ e₂ e₃ =
       let i : at ≡ headerOf g s c b = ea ∙ ap (λ z. s * segmentWords g + b * z) ew in
       e₃ ∙ ap (setRoot m₂ k d) (add-one at) ∙ rw (e₂, e₁, i) refl
 
-  -- in a segment of the class its bit is the block's
-  module _ (i : IsClass c) (l : b < blocksIn g c) (e : class m s ≡ c) where
-    same-bit : recordBit g (written m (headerOf g s c b) shape) (headerOf g s c b) ≡ bitIn g s b
-    unfolding setHeap setRun
-    same-bit = header-bit g c i s b l (written m (headerOf g s c b) shape) e
-
-    pub filled-is : filledAs g m k d c s b shape ≡ setRoot (blackened g (written m (headerOf g s c b) shape) k (headerOf g s c b)) k d (suc (headerOf g s c b))
-    unfolding withMark setMarked
-    filled-is = rw same-bit refl
-
 -- ---- out of segment s
 
 module _ (g : Geometry) (m : Mem) (z : Sizes g m) (k d c s : ℕ) (l : s < g .segments) (i : IsClass c) (shape : RecordShape) (r : Handed) (m₁ : Mem) (q : Advances g m k c s r m₁) where
-  class-stays : (p : ℕ) (f : Found) → class (advanced g m k c s p f) s ≡ c
-  unfolding setMutator
-  class-stays p (Block b) = state-there g m s (Held c p k) (let y = z .segments in omega arith) .class
-  class-stays p Nothing = state-there g m s (Full c) (let y = z .segments in omega arith) .class
-  class-stays p Torn = state-there g m s (Full c) (let y = z .segments in omega arith) .class
-
   pub none-out : r ≡ handed.Torn → HandsOut g m k d c s shape (Refused 13) m₁
   none-out e = record { either = inr refl; exact = λ y. absurd (let b = q .exact y in let w : _≡_ {A = ℕ} 0 1 = cc in omega arith) }
 
@@ -145,7 +129,7 @@ module _ (g : Geometry) (m : Mem) (z : Sizes g m) (k d c s : ℕ) (l : s < g .se
         let x = q .exact y in
         let w : b ≡ x .0 = cc in
         let h : m₁ ≡ advanced g m k c s (b + 1) (free g m s c (b + 1)) = x .3 ∙ ap (λ v. advanced g m k c s (v + 1) (free g m s c (v + 1))) (sym w) in
-        (b, refl, x .2 ∙ ap Block (sym w), f ∙ filled-is g m₁ k d c s b shape i (q .below b e) (ap (λ v. class v s) h ∙ class-stays (b + 1) (free g m s c (b + 1))) ∙ rw h refl);
+        (b, refl, x .2 ∙ ap Block (sym w), f ∙ rw h refl);
   }
 
 -- ---- a make of a class: r is what is taken, m₁ the memory with it

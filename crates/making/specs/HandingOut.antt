@@ -3,24 +3,21 @@
 use mathlib.Core.Path.{_≡_}
 use mathlib.Core.Logic.{_⊎_}
 use Prim.Native.Nat.{ℕ, suc, _+_, _≤_, _<_}
-use Rattle.rules.specs.Pick.{pick}
 use Rattle.words.specs.Bits.{bitAt}
 use Rattle.words.specs.Tree.{Tree}
 use Rattle.classes.specs.declared.RecordShape.{RecordShape}
 use Rattle.bitmap_search.specs.declared.Found.the-variants.{Block}
 use Rattle.layout.specs.declared.Geometry.{Geometry}
-use Rattle.layout.specs.Geometry.{blocksIn, bitIn}
+use Rattle.layout.specs.Geometry.{blocksIn}
 use Rattle.layout.specs.Mem.{Mem}
-use Rattle.theory.specs.Phases.{black}
 use Rattle.model.specs.declared.Answer.{Answer}
 use Rattle.model.specs.declared.Answer.the-variants.{Ok, Refused}
 use Rattle.model.specs.Answers.{answerOf}
-use Rattle.model.specs.Fields.{phase, acks, setRoot, tag, class, place, owner}
+use Rattle.model.specs.Fields.{setRoot, tag, class, place, owner}
 use Rattle.model.specs.Segments.{above, bitmap, free}
 use Rattle.model.specs.Records.{headerOf, written}
-use Rattle.model.specs.Making.{advanced, handedOut, made}
+use Rattle.model.specs.Making.{advanced, blackened, handedOut, made}
 use Rattle.model.specs.Consistent.{Consistent}
-use Rattle.tracing.specs.Pushing.{withMark}
 use Rattle.making.specs.declared.Handed.{Handed}
 use Rattle.making.specs.declared.Handed.the-variants as handed
 use Rattle.model.specs.Tag as Tag
@@ -39,13 +36,9 @@ pub record Advances (g : Geometry) (m : Mem) (k c s : ℕ) (r : Handed) (after :
   pub exact : Ready g m k c s
       → (b : ℕ) × (r ≡ handed.Block b) × (free g m s c (place m s) ≡ Block b) × (after ≡ advanced g m k c s (b + 1) (free g m s c (b + 1)))
 
--- "born marked": block b of segment s
-abbrev pub blackenedAt : Geometry → Mem → ℕ → ℕ → ℕ → Mem
-blackenedAt g m k s b = pick (black (phase m) (acks m k)) (withMark m (bitIn g s b)) m
-
 -- the record of a shape in block b of segment s, born marked or not, into root d
 abbrev pub filledAs : Geometry → Mem → ℕ → ℕ → ℕ → ℕ → ℕ → RecordShape → Mem
-filledAs g m k d c s b shape = setRoot (blackenedAt g (written m (headerOf g s c b) shape) k s b) k d (suc (headerOf g s c b))
+filledAs g m k d c s b shape = setRoot (blackened g (written m (headerOf g s c b) shape) k (headerOf g s c b)) k d (suc (headerOf g s c b))
 
 -- Ok and the memory with the record, or 13; where the segment is ready, the first, and as the model has it
 pub record HandsOut (g : Geometry) (m : Mem) (k d c s : ℕ) (shape : RecordShape) (r : Answer) (after : Mem) : Type 0 where

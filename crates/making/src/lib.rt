@@ -14,13 +14,14 @@ ghost use lib.ListN.{length};
 ghost use Rattle.classes.specs.Class.{IsClass};
 ghost use Rattle.classes.specs.Record.{classOfRecord};
 ghost use Rattle.classes.specs.declared.SizeClass.the-variants.{Class};
-ghost use Rattle.layout.specs.Geometry.{Sized, mutatorCount, rootCount, blocksIn, mostBlocks};
+ghost use Rattle.layout.specs.Geometry.{Sized, len, mutatorCount, rootCount, blocksIn};
 ghost use Rattle.layout.specs.Mem.{memOf};
 ghost use Rattle.theory.specs.Calls.{c-make};
-ghost use Rattle.model.specs.Making.{takes};
+ghost use Rattle.model.specs.Making.{takes, blackened};
 ghost use Rattle.model.specs.Promise.{Promise};
 ghost use Rattle.making.specs.Taking.{TakesFree, TakesNew, Takes};
-ghost use Rattle.making.specs.HandingOut.{blackenedAt, filledAs, Advances, HandsOut, Makes};
+ghost use Rattle.making.specs.HandingOut.{filledAs, Advances, HandsOut, Makes};
+ghost use Rattle.layout.specs.Region as Region;
 
 // The segment that a make takes its block from.
 pub enum Taken {
@@ -122,14 +123,14 @@ fn advance(g: Geometry, mem: &mut [u32], k: u32, class: u32, s: usize) -> Handed
     }
 }
 
-// Marks block b of segment s where mutator k allocates black.
-fn blacken(g: Geometry, mem: &mut [u32], k: u32, s: usize, b: usize)
-    requires { ⌜ (Sized g (length (now mem))) × (k < mutatorCount) × (s < g .segments) × (b < mostBlocks g) ⌝ }
-    ensures { λ _. ⌜ memOf g (now (mem .exit)) ≡ blackenedAt g (memOf g (now (mem .entry))) k s b ⌝ }
+// Marks the record at a word where mutator k allocates black.
+fn blacken(g: Geometry, mem: &mut [u32], k: u32, at: usize)
+    requires { ⌜ (Sized g (length (now mem))) × (k < mutatorCount) × (at < len g Region.heap) ⌝ }
+    ensures { λ _. ⌜ memOf g (now (mem .exit)) ≡ blackened g (memOf g (now (mem .entry))) k at ⌝ }
 {
     let phase = mutators::phase(g, mem);
     if phase.black(mutators::acks(g, mem, k)) {
-        tracing::mark_bit(g, mem, layout::bit_in(g, s, b));
+        tracing::mark_bit(g, mem, layout::mark_bit(at));
         return;
     }
 }
@@ -152,7 +153,7 @@ fn fill(
     let block = b as usize;
     let at = layout::word_in(g, s, block * classes::block_words(class));
     records::write(g, mem, at, shape);
-    blacken(g, mem, k, s, block);
+    blacken(g, mem, k, at);
     mutators::set_root(g, mem, k, d, at as u32 + 1);
 }
 

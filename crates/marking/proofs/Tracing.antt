@@ -14,7 +14,7 @@ use Rattle.model.specs.declared.Step.{Step}
 use Rattle.model.specs.declared.Step.the-variants.{Moved, Traced, Refused}
 use Rattle.model.specs.Answers.{isMoved, isTraced}
 use Rattle.model.specs.Fields.{traceCount}
-use Rattle.model.specs.Records.{pointerCount, pointer, setMarked, clearQueued}
+use Rattle.model.specs.Records.{pointerCount, pointer}
 use Rattle.model.specs.Tracing.{pushPointers, popped, traced}
 use Rattle.model.specs.Collector.{traces}
 use Rattle.model.specs.Consistent.{RecordOk, Consistent}
@@ -22,9 +22,7 @@ use Rattle.model.specs.StepParts.{StepsAs}
 use Rattle.laws.proofs.Pushes.{Ready, pointers-none, pointers-next}
 use Rattle.laws.proofs.Popped.{entries-few, last-ok, last-inside, pointed-ok, ready-popped}
 use Rattle.laws.proofs.StepParts.{steps-done, steps-13}
-use Rattle.tracing.specs.declared.Bit.the-variants.{Torn}
-use Rattle.tracing.specs.Pushing.{recordBitAt}
-use Rattle.tracing.proofs.Succeeds.{has-bit, fold-succeeds}
+use Rattle.tracing.proofs.Succeeds.{fold-succeeds}
 use Rattle.marking.specs.Visiting.{PointerFails, Visits}
 use Rattle.theory.specs.Calls as theory
 use Rattle.layout.specs.Region as Region
@@ -36,7 +34,7 @@ inMark g m = traces g (traceCount m) m
 
 module _ (g : Geometry) (m : Mem) (s : Sizes g m) (c : Consistent g m) (n at : ℕ) (is : traceCount m ≡ suc n) (names : traceWord m n ≡ suc at) where
   same-pointer : (i : ℕ) → pointer (popped g m at) at i ≡ pointer m at i
-  unfolding setControl setMarked clearQueued
+  unfolding setControl
   same-pointer i = refl
 
   pointers-succeed : PointerFails g (popped g m at) at (pointerCount m at) → ⊥
@@ -71,8 +69,8 @@ module _ (g : Geometry) (m : Mem) (s : Sizes g m) (k : ℕ) (e : k ≡ traceCoun
         names : traceWord m (k - 1) ≡ suc (w - 1)
         names = let l = pos-of-ne-zero v in omega arith
 
-        pub trace-torn : Torn ≡ recordBitAt g m (w - 1) → (m′ : Mem) → StepsAs inMark g m (Refused 13) m′
-        trace-torn t m′ = steps-13 inMark g m (λ c. has-bit g m (c .sound .trace .number) (w - 1) (last-ok g m c (k - 1) (w - 1) count-is names) (sym t))
+        pub trace-torn : (d : ℕ) → d ≡ len g Region.heap → d ≤ w - 1 → (m′ : Mem) → StepsAs inMark g m (Refused 13) m′
+        trace-torn d z l m′ = steps-13 inMark g m (λ c. let i = last-ok g m c (k - 1) (w - 1) count-is names .inside in omega arith)
 
         does : inMark g m ≡ (theory.a-traced, traced g m (w - 1))
         does = ap (λ x. traces g x m) count-is ∙ ap (λ x. (theory.a-traced, traced g m (x - 1))) (sym ew)

@@ -9,12 +9,9 @@ use Rattle.layout.specs.Geometry.{len}
 use Rattle.layout.specs.Mem.{Mem, setControl}
 use Rattle.model.specs.declared.Step.the-variants.{Traced, Refused}
 use Rattle.model.specs.Fields.{traceCount}
-use Rattle.model.specs.Records.{pointerCount, setMarked, clearQueued}
+use Rattle.model.specs.Records.{pointerCount}
 use Rattle.model.specs.Tracing.{pushPointers, popped}
 use Rattle.records.specs.FieldWords.{ShapeRead}
-use Rattle.tracing.specs.declared.Bit.the-variants.{At}
-use Rattle.tracing.specs.Pushing.{recordBitAt, withMark, withoutQueued}
-use Rattle.tracing.proofs.Bits.{bit-within}
 use Rattle.marking.specs.Visiting.{PointerFails, PushesPointers, Visits}
 use Rattle.layout.specs.Region as Region
 
@@ -26,13 +23,12 @@ module _ (g : Geometry) (m : Mem) (at : ℕ) (s : RecordShape) (u : ShapeRead m 
   pub visit-off : d ≤ at + n → (after : Mem) → Visits g m at (Refused 13) after
   visit-off l after = record { either = inr (refl, inl (subst (λ x. len g Region.heap ≤ at + x) count-is (subst (λ x. x ≤ at + n) z l))) }
 
-  module _ (k : ℕ) (b : At k ≡ recordBitAt g m at) (c : ℕ) (ec : c ≡ traceCount m) (m₁ m₂ m₃ m₄ : Mem) (e₁ : m₁ ≡ setControl m 1 (c - 1)) (e₂ : m₂ ≡ withoutQueued m₁ k) (e₃ : m₃ ≡ withMark m₂ k) (r : Bool) (p : PushesPointers g m₃ at n r m₄) where
-    is-popped : m₃ ≡ popped g m at
-    unfolding withoutQueued withMark setControl setMarked clearQueued
-    is-popped = e₃ ∙ rw (e₂, e₁, ec, bit-within g m at k b .0) refl
+  module _ (c : ℕ) (ec : c ≡ traceCount m) (m₁ m₂ : Mem) (e₁ : m₁ ≡ setControl m 1 (c - 1)) (r : Bool) (p : PushesPointers g m₁ at n r m₂) where
+    is-popped : m₁ ≡ popped g m at
+    is-popped = e₁ ∙ rw ec refl
 
-    pub visit-done : r ≡ true → Visits g m at Traced m₄
+    pub visit-done : r ≡ true → Visits g m at Traced m₂
     visit-done t = record { either = inl (refl, p .done t ∙ ap (λ x. pushPointers g x at n) is-popped ∙ ap (pushPointers g (popped g m at) at) count-is) }
 
-    pub visit-fails : r ≡ false → Visits g m at (Refused 13) m₄
+    pub visit-fails : r ≡ false → Visits g m at (Refused 13) m₂
     visit-fails f = record { either = inr (refl, inr (subst (λ x. PointerFails g (popped g m at) at x) count-is (subst (λ x. PointerFails g x at n) is-popped (p .fails f)))) }

@@ -3,7 +3,6 @@
 use layout::Geometry;
 use model::Phase;
 use model::Step;
-use tracing::Bit;
 ghost use mathlib.Core.Path.{_≡_};
 ghost use Prim.Native.Nat.{_+_, _≤_, _<_};
 ghost use lib.ListN.{length};
@@ -13,8 +12,6 @@ ghost use Rattle.model.specs.Fields.{traceCount};
 ghost use Rattle.model.specs.Records.{pointer};
 ghost use Rattle.model.specs.Collector.{traces};
 ghost use Rattle.model.specs.StepParts.{StepsAs};
-ghost use Rattle.tracing.specs.Pushing.{recordBitAt};
-ghost use Rattle.tracing.specs.declared.Bit.the-variants.{At};
 ghost use Rattle.marking.specs.Visiting.{PushesPointers, Visits};
 ghost use Rattle.layout.specs.Region as Region;
 
@@ -43,10 +40,9 @@ fn push_pointers(g: Geometry, mem: &mut [u32], at: usize, n: usize) -> bool
     true
 }
 
-// Takes the last entry, the record at a word with bit k, off the trace stack, marks it and pushes its pointers.
-fn visit(g: Geometry, mem: &mut [u32], at: usize, k: usize) -> Step
-    requires { ⌜ (Sized g (length (now mem))) × (1 ≤ traceCount (memOf g (now mem))) ⌝ }
-    requires { ⌜ At k ≡ recordBitAt g (memOf g (now mem)) at ⌝ }
+// Takes the last entry, the record at a word, off the trace stack, which marks it, and pushes its pointers.
+fn visit(g: Geometry, mem: &mut [u32], at: usize) -> Step
+    requires { ⌜ (Sized g (length (now mem))) × (1 ≤ traceCount (memOf g (now mem))) × (at < len g Region.heap) ⌝ }
     ensures { λ r. ⌜ Visits g (memOf g (now (mem .entry))) at r (memOf g (now (mem .exit))) ⌝ }
 {
     let shape = records::shape(g, mem, at);
@@ -56,8 +52,6 @@ fn visit(g: Geometry, mem: &mut [u32], at: usize, k: usize) -> Step
     }
     let count = layout::control(g, mem, 1);
     layout::set_control(g, mem, 1, count - 1);
-    tracing::unqueue_bit(g, mem, k);
-    tracing::mark_bit(g, mem, k);
     if push_pointers(g, mem, at, n) {
         return Step::Traced;
     }
@@ -83,8 +77,8 @@ pub fn trace(g: Geometry, mem: &mut [u32]) -> Step
         return Step::Refused(13);
     }
     let at = (w - 1) as usize;
-    match tracing::bit_of(g, mem, at) {
-        Bit::Torn => Step::Refused(13),
-        Bit::At(k) => visit(g, mem, at, k),
+    if layout::heap_words(g) <= at {
+        return Step::Refused(13);
     }
+    visit(g, mem, at)
 }

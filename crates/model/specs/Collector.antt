@@ -12,7 +12,7 @@ use Rattle.layout.specs.Mem.{Mem, traceWord, withRegion}
 use Rattle.bitmap_write.specs.Ready.{adopted}
 use Rattle.theory.specs.Phases.{Phase, idle, sync1, sync2, mark, sweep, owes}
 use Rattle.theory.specs.Calls.{Answer, a-ok, a-moved, a-traced, a-done, a-idle, a-no, a-waiting, a-swept}
-use Rattle.model.specs.Fields.{phase, setPhase, traceCount, inside, outside, state, acks, setAcks, tag, setTag, class}
+use Rattle.model.specs.Fields.{phase, setPhase, setCursor, traceCount, inside, outside, state, acks, setAcks, tag, setTag, class}
 use Rattle.model.specs.Segments.{setSegmentState, freeStack, partStack, stacked, above, bitmap, setBitmap, marksOf, inUse}
 use Rattle.model.specs.Tracing.{traced}
 use Rattle.model.specs.Mutators.{acknowledged}
@@ -43,7 +43,7 @@ abbrev pub marksCleared : Mem → Mem
 marksCleared m = withRegion m Region.marks (replicate (length (m .marks)) 0)
 
 unfoldable pub started : Geometry → Mem → Mem
-started g m = setPhase (marksCleared (acksReset (condemned m (g .segments)) mutatorCount)) sync1
+started g m = setPhase (setCursor (marksCleared (acksReset (condemned m (g .segments)) mutatorCount)) 0) sync1
 
 -- "11, not now: start outside idle". Request No. 1: "A start in idle with no full segment now opens a cycle over no segments."
 abbrev pub startIn : Phase → Geometry → Mem → Answer × Mem
@@ -99,11 +99,15 @@ abbrev pub rebuiltBy : Geometry → Mem → ℕ → Mem
 rebuiltBy g m s = setBitmap g m s (adopted (above g (class m s)) (blocksIn g (class m s)) (marksOf g m s) (bitmap g m s))
 
 -- "place 0 unless it becomes full. No mark: free. All blocks marked: full. Else part."
-unfoldable pub swept : Geometry → Mem → ℕ → Mem
-swept g m s =
+unfoldable pub settledBy : Geometry → Mem → ℕ → Mem
+settledBy g m s =
     pick (eqb (keptBy g m s) 0) (stacked g (setSegmentState g (rebuiltBy g m s) s segment.Free) freeStack s)
     (pick (eqb (keptBy g m s) (blocksIn g (class m s))) (setSegmentState g (rebuiltBy g m s) s (segment.Full (class m s)))
     (stacked g (setSegmentState g (rebuiltBy g m s) s (segment.Part (class m s) 0)) (partStack (class m s)) s))
+
+-- and the cursor passes it
+unfoldable pub swept : Geometry → Mem → ℕ → Mem
+swept g m s = setCursor (settledBy g m s) (suc s)
 
 -- "how many blocks in use became free": those in use before less those after. "With none left: idle, and done."
 abbrev pub sweeps : Geometry → Option ℕ → Mem → Answer × Mem

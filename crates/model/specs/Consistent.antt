@@ -7,17 +7,17 @@ use Prim.Native.Nat.{ℕ, suc, _+_, _*_, _%_, _≤_, _<_}
 use lib.Dec.{eqb}
 use Rattle.words.specs.Bits.{bitAt, onesAmong}
 use Rattle.words.specs.Tree.{Tree}
-use Rattle.classes.specs.Class.{IsClass, blockWords}
+use Rattle.classes.specs.Class.{IsClass, firstClass, blockWords}
 use Rattle.classes.specs.Record.{classOfRecord}
 use Rattle.classes.specs.declared.SizeClass.the-variants.{Class}
 use Rattle.layout.specs.declared.Geometry.{Geometry}
-use Rattle.layout.specs.Geometry.{mutatorCount, mutatorWords, entryWords, segmentWords, mostBlocks, blocksIn, segmentOf, bitIn}
+use Rattle.layout.specs.Geometry.{mutatorCount, mutatorWords, entryWords, segmentWords, mostBlocks, blocksIn, segmentOf}
 use Rattle.layout.specs.Mem.{Mem, controlWord, mutatorWord, traceWord}
 use Rattle.theory.specs.Phases.{Phase, idle, sync1, sync2, mark, sweep}
 use Rattle.model.specs.Rules.{phaseNumber}
-use Rattle.model.specs.Fields.{phase, traceCount, absent, outside, state, acks, holding, tag, class, place, owner}
+use Rattle.model.specs.Fields.{phase, traceCount, cursor, absent, outside, state, acks, holding, tag, class, place, owner}
 use Rattle.model.specs.Segments.{freeStack, partStack, count, entry, above, bitmap, usedBit}
-use Rattle.model.specs.Records.{shapeOf, blockOf, marked, queued}
+use Rattle.model.specs.Records.{shapeOf, blockOf, entered, marked}
 use Rattle.rules.specs.Pick.{oneIf}
 use Rattle.model.specs.Reaching.{IsEntry, Live, Reached, Covered, IsRoot, PointsTo}
 use Rattle.model.specs.Tag as Tag
@@ -110,24 +110,31 @@ pub record TraceOk (g : Geometry) (m : Mem) : Type 0 where
   -- "Entering nil, a marked record, or one already on the stack does nothing."
   pub named : (i : ℕ) → i < traceCount m → 1 ≤ traceWord m i
   pub once : (i j : ℕ) → i < j → j < traceCount m → traceWord m i ≡ traceWord m j → ⊥
-  pub unmarked : (at : ℕ) → IsEntry m at → marked g m at ≡ 0
-  -- the queued bits are those of the entries: each has its bit, and there are no more bits than entries, so that
-  -- there is room for one more
-  pub bits : (at : ℕ) → IsEntry m at → queued g m at ≡ 1
-  pub number : traceCount m ≡ onesAmong (bitAt (m .queued)) (g .segments * mostBlocks g)
+  -- each has its bit; there are no more entries than bits, so that there is room for a record without one
+  pub bits : (at : ℕ) → IsEntry m at → entered g m at ≡ 1
+  pub number : traceCount m ≤ onesAmong (bitAt (m .marks)) (g .segments * mostBlocks g)
 
 -- ---- marks: of blocks in use only, so that a block that is handed out has none yet
 
--- bit b of segment s is of a block in use
+-- block b of segment s is in use
 pub record BlockInUse (g : Geometry) (m : Mem) (s b : ℕ) : Type 0 where
   pub used : tag m s ≡ Tag.free → ⊥
   pub within : b < blocksIn g (class m s)
   pub block : usedBit g m s b ≡ 1
 
+-- a word is the head of a block in use
+pub record HeadInUse (g : Geometry) (m : Mem) (at : ℕ) : Type 0 where
+  pub used : tag m (segmentOf g at) ≡ Tag.free → ⊥
+  pub aligned : at % segmentWords g % blockWords (class m (segmentOf g at)) ≡ 0
+  pub block : usedBit g m (segmentOf g at) (blockOf g m at) ≡ 1
+
+-- the word of a mark bit: the first of those that have it
+abbrev pub bitWord : ℕ → ℕ
+bitWord k = k * blockWords firstClass
+
 -- only blocks in use of the segments of a test have marks
 abbrev pub MarksOf : Geometry → Mem → (ℕ → Type 0) → Type 0
-MarksOf g m test =
-    (s b : ℕ) → s < g .segments → test s → b < mostBlocks g → bitAt (m .marks) (bitIn g s b) ≡ 1 → BlockInUse g m s b
+MarksOf g m test = (k : ℕ) → k < g .segments * mostBlocks g → test (segmentOf g (bitWord k)) → bitAt (m .marks) k ≡ 1 → HeadInUse g m (bitWord k)
 
 -- ---- the tricolour invariant: no record is hidden "behind a traced one"
 
@@ -141,8 +148,8 @@ pub record Tricolour (g : Geometry) (m : Mem) : Type 0 where
 abbrev pub InPhase : Phase → Geometry → Mem → Type 0
 -- "the trace stack empty and the phase idle"; no segment is condemned: "With none left: idle"
 InPhase idle g m = (traceCount m ≡ 0) × ((s : ℕ) → s < g .segments → tag m s ≡ Tag.condemned → ⊥)
--- "all marks are cleared, the phase is roll 1", and none is set before roll 2
-InPhase sync1 g m = (k : ℕ) → k < g .segments * mostBlocks g → bitAt (m .marks) k ≡ 0
+-- "all marks are cleared, the phase is roll 1", and none is set before roll 2: what has a bit is on the trace stack
+InPhase sync1 g m = (k : ℕ) → k < g .segments * mostBlocks g → bitAt (m .marks) k ≡ 1 → IsEntry m (bitWord k)
 InPhase sync2 g m = MarksOf g m (λ s. Unit {0}) × Tricolour g m
 InPhase mark g m = MarksOf g m (λ s. Unit {0}) × Tricolour g m
 -- "With an empty stack: sweep": what is reached is marked, and that is asked only of the condemned segments, whose
@@ -152,6 +159,11 @@ InPhase sweep g m =
     × MarksOf g m (λ s. tag m s ≡ Tag.condemned)
     × ((at : ℕ) → Reached m at → tag m (segmentOf g at) ≡ Tag.condemned → marked g m at ≡ 1)
 
+-- ---- the sweep's cursor: no condemned segment stands before it
+
+abbrev pub Behind : Geometry → Mem → Type 0
+Behind g m = (s : ℕ) → s < g .segments → s < cursor m → tag m s ≡ Tag.condemned → ⊥
+
 -- ---- the second half: all the rest; no upper level of a bitmap, no bit past a level's end and no stack of segments
 
 pub record Sound (g : Geometry) (m : Mem) : Type 0 where
@@ -159,6 +171,8 @@ pub record Sound (g : Geometry) (m : Mem) : Type 0 where
   pub phases : controlWord m 0 ≤ phaseNumber sweep
   pub segments : (s : ℕ) → s < g .segments → SegmentOk g m s
   pub occupied : (s : ℕ) → s < g .segments → Occupied g m s
+  -- a start sets the cursor to 0, and a sweep, which takes the lowest condemned segment, sets it past that one
+  pub behind : Behind g m
   pub mutators : (k : ℕ) → k < mutatorCount → MutatorOk g m k
   pub acknowledgements : (k : ℕ) → k < mutatorCount → (state m k ≡ absent → ⊥) → AcksIn (phase m) (acks m k)
   -- "That definition binds the links of records reachable from slots or trace stack only."

@@ -20,6 +20,13 @@ traceCount m = controlWord m 1
 abbrev pub setTraceCount : Mem → ℕ → Mem
 setTraceCount m n = setControl m 1 n
 
+-- the sweep's cursor: it has passed the segments before it
+abbrev pub cursor : Mem → ℕ
+cursor m = controlWord m 2
+
+abbrev pub setCursor : Mem → ℕ → Mem
+setCursor m s = setControl m 2 s
+
 -- ---- mutator k: root i, its state (0 absent, 1 inside, 2 outside), its acknowledgements, and the segment that it holds of class c
 -- (0, or 1 + the segment)
 

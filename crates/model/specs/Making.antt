@@ -16,7 +16,7 @@ use Rattle.theory.specs.Calls.{Answer, a-ok, a-no}
 use Rattle.model.specs.declared.SegmentState.the-variants.{Held, Full}
 use Rattle.model.specs.Fields.{phase, acks, holding, setHolding, setRoot, tag, class, place, owner}
 use Rattle.model.specs.Segments.{setSegmentState, freeStack, partStack, count, top, pop, above, bitmap, setBitmap, free}
-use Rattle.model.specs.Records.{headerOf, written, setMarked}
+use Rattle.model.specs.Records.{headerOf, written, setEntered}
 use Rattle.model.specs.Tag as Tag
 
 -- the segment that a make of class c takes its block from
@@ -53,7 +53,7 @@ advanced g m k c s p Torn = setHolding (setSegmentState g m s (Full c)) k c 0
 
 -- "born marked"
 abbrev pub blackened : Geometry → Mem → ℕ → ℕ → Mem
-blackened g m k at = pick (black (phase m) (acks m k)) (setMarked g m at) m
+blackened g m k at = pick (black (phase m) (acks m k)) (setEntered g m at) m
 
 -- the record of a shape in block b of segment s, into root d
 unfoldable pub handedOut : Geometry → Mem → ℕ → ℕ → ℕ → ℕ → ℕ → RecordShape → Mem

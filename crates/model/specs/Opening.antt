@@ -26,7 +26,6 @@ opened g m = record {
   stacks = openStacks g;
   bitmaps = m .bitmaps;
   marks = m .marks;
-  queued = replicate (len g Region.queued) 0;
   trace = m .trace;
   heap = m .heap;
 }

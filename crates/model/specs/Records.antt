@@ -1,16 +1,20 @@
 -- Records in the heap: references, headers, fields, and the block and the bits of a record. Document 01: "A header word P × 65,536 + N comes
 -- first, then the links, then the numbers. A link is nil or names a record."
+use mathlib.Core.Bool.{Bool, false, _||_}
+use mathlib.Core.List.{List}
 use mathlib.Core.Option.{Option, none, some}
 use Prim.Native.Nat.{ℕ, zero, suc, _+_, _*_, _/_, _%_, _<_}
-use lib.ListN.{replicate}
-use Rattle.words.specs.Bits.{bitAt, setBit, clearBit}
+use lib.Dec.{eqb}
+use lib.ListN.{getD, replicate}
+use Rattle.rules.specs.Pick.{pick}
+use Rattle.words.specs.Bits.{bitAt, setBit}
 use Rattle.classes.specs.Class.{blockWords}
 use Rattle.classes.specs.Record.{ofCounts, pointerCountOf, valueCountOf, fieldCountOf}
 use Rattle.classes.specs.declared.RecordShape.{RecordShape}
 use Rattle.layout.specs.declared.Geometry.{Geometry}
-use Rattle.layout.specs.Geometry.{segmentWords, segmentOf, bitIn}
+use Rattle.layout.specs.Geometry.{segmentWords, segmentOf, markBit}
 use Rattle.layout.specs.Mem.{Mem, heapWord, setHeap, setRun, withRegion}
-use Rattle.model.specs.Fields.{class}
+use Rattle.model.specs.Fields.{traceCount, class}
 use Rattle.layout.specs.Region as Region
 
 -- nil is 0, and a record is named by 1 + the index of its header word in the heap
@@ -68,20 +72,23 @@ headerOf g s c b = s * segmentWords g + b * blockWords c
 abbrev pub blockOf : Geometry → Mem → ℕ → ℕ
 blockOf g m at = at % segmentWords g / blockWords (class m (segmentOf g at))
 
+-- ---- its mark: one bit says that it is marked or on the trace stack, and the stack itself says which
+
 abbrev pub recordBit : Geometry → Mem → ℕ → ℕ
-recordBit g m at = bitIn g (segmentOf g at) (blockOf g m at)
+recordBit g m at = markBit at
 
+-- document 01: marked, or on the trace stack
+abbrev pub entered : Geometry → Mem → ℕ → ℕ
+entered g m at = bitAt (m .marks) (recordBit g m at)
+
+unfoldable pub setEntered : Geometry → Mem → ℕ → Mem
+setEntered g m at = withRegion m Region.marks (setBit (m .marks) (recordBit g m at))
+
+-- whether one of the first n entries of the trace stack names it
+unfoldable pub onStack : List ℕ → ℕ → ℕ → Bool
+onStack entries zero at = false
+onStack entries (suc n) at = eqb (getD entries n 0) (suc at) || onStack entries n at
+
+-- document 01: marked
 abbrev pub marked : Geometry → Mem → ℕ → ℕ
-marked g m at = bitAt (m .marks) (recordBit g m at)
-
-abbrev pub queued : Geometry → Mem → ℕ → ℕ
-queued g m at = bitAt (m .queued) (recordBit g m at)
-
-unfoldable pub setMarked : Geometry → Mem → ℕ → Mem
-setMarked g m at = withRegion m Region.marks (setBit (m .marks) (recordBit g m at))
-
-unfoldable pub setQueued : Geometry → Mem → ℕ → Mem
-setQueued g m at = withRegion m Region.queued (setBit (m .queued) (recordBit g m at))
-
-unfoldable pub clearQueued : Geometry → Mem → ℕ → Mem
-clearQueued g m at = withRegion m Region.queued (clearBit (m .queued) (recordBit g m at))
+marked g m at = pick (onStack (m .trace) (traceCount m) at) 0 (entered g m at)

@@ -4,15 +4,18 @@ use Prim.Native.Nat.{ℕ, zero, suc, _+_, _-_, _*_}
 use lib.Dec.{eqb, ltb}
 use Rattle.rules.specs.Pick.{pick}
 use Rattle.words.specs.Bits.{bitAt, onesAmong}
+use Rattle.words.specs.Levels.{wordsFor}
+use Rattle.bitmap_write.specs.Rebuild.{packed}
 use Rattle.classes.specs.Class.{firstClass}
 use Rattle.classes.specs.Shape.{shapeFor}
 use Rattle.layout.specs.declared.Geometry.{Geometry}
-use Rattle.layout.specs.Geometry.{markWords, blocksIn, bitmapWords}
+use Rattle.layout.specs.Geometry.{blocksIn, bitmapWords}
 use Rattle.layout.specs.Mem.{Mem, stackWord, setStack, readRun, setRun}
 use Rattle.bitmap_search.specs.declared.Found.{Found}
 use Rattle.bitmap_search.specs.Scan.{nextFree}
 use Rattle.model.specs.declared.SegmentState.{SegmentState}
 use Rattle.model.specs.Fields.{tag, setTag, class, setClass, place, setPlace, owner, setOwner}
+use Rattle.model.specs.Records.{headerOf, entered}
 use Rattle.model.specs.declared.SegmentState.the-variants as state
 use Rattle.layout.specs.Region as Region
 use Rattle.model.specs.Tag as Tag
@@ -78,8 +81,12 @@ bitmap g m s = readRun m Region.bitmaps (s * bitmapWords g) (bitmapWords g)
 abbrev pub setBitmap : Geometry → Mem → ℕ → List ℕ → Mem
 setBitmap g m s ws = setRun m Region.bitmaps (s * bitmapWords g) ws
 
+-- the marks of the blocks of class c of a segment, 32 to a word
+abbrev pub marksIn : Geometry → Mem → ℕ → ℕ → List ℕ
+marksIn g m s c = packed (λ b. pick (ltb b (blocksIn g c)) (entered g m (headerOf g s c b)) 0) (wordsFor (blocksIn g c)) 0
+
 abbrev pub marksOf : Geometry → Mem → ℕ → List ℕ
-marksOf g m s = readRun m Region.marks (s * markWords g) (markWords g)
+marksOf g m s = marksIn g m s (class m s)
 
 -- "the next free block": the first at or after the place whose bit is 0
 abbrev pub free : Geometry → Mem → ℕ → ℕ → ℕ → Found

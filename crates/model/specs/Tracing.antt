@@ -8,16 +8,16 @@ use Rattle.layout.specs.declared.Geometry.{Geometry}
 use Rattle.layout.specs.Mem.{Mem, setTrace}
 use Rattle.theory.specs.Phases.{Duty, nothing, both, old}
 use Rattle.model.specs.Fields.{traceCount, setTraceCount, root}
-use Rattle.model.specs.Records.{record?, pointerCount, pointer, marked, queued, setMarked, setQueued, clearQueued}
+use Rattle.model.specs.Records.{record?, pointerCount, pointer, entered, setEntered}
 
 -- on top of the stack, with its bit
 abbrev pub onTop : Geometry → Mem → ℕ → Mem
-onTop g m at = setTraceCount (setTrace (setQueued g m at) (traceCount m) (suc at)) (traceCount m + 1)
+onTop g m at = setTraceCount (setTrace (setEntered g m at) (traceCount m) (suc at)) (traceCount m + 1)
 
 -- document 01: entering
 unfoldable pub push : Geometry → Mem → Option ℕ → Mem
 push g m none = m
-push g m (some at) = pick (eqb (marked g m at) 1) m (pick (eqb (queued g m at) 1) m (onTop g m at))
+push g m (some at) = pick (eqb (entered g m at) 1) m (onTop g m at)
 
 -- "it enters the new value, then the old"
 abbrev pub barrier : Geometry → Duty → Mem → Option ℕ → Option ℕ → Mem
@@ -35,9 +35,9 @@ unfoldable pub pushPointers : Geometry → Mem → ℕ → ℕ → Mem
 pushPointers g m at zero = m
 pushPointers g m at (suc n) = push g (pushPointers g m at n) (record? (pointer m at n))
 
--- "takes the last entered record, marks it, enters its links in field order"
+-- "takes the last entered record, marks it, enters its links in field order": off the stack, what its bit says is that it is marked
 abbrev pub popped : Geometry → Mem → ℕ → Mem
-popped g m at = setMarked g (clearQueued g (setTraceCount m (traceCount m - 1)) at) at
+popped g m at = setTraceCount m (traceCount m - 1)
 
 abbrev pub traced : Geometry → Mem → ℕ → Mem
 traced g m at = pushPointers g (popped g m at) at (pointerCount m at)

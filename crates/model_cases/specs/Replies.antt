@@ -2,10 +2,12 @@
 use mathlib.Core.Path.{_≡_}
 use mathlib.Core.List.{List, [], _∷_, _++_}
 use Prim.Native.Nat.{ℕ, zero, suc}
+use lib.Dec.{ltb}
 use lib.ListN.{take, drop, replicate}
-use Rattle.words.specs.Bits.{bitOf, bitAt, withBit, withoutBit, setBit, clearBit, onesAmong}
+use Rattle.rules.specs.Pick.{pick}
+use Rattle.words.specs.Bits.{bitOf, bitAt, withBit, setBit, onesAmong}
 use Rattle.layout.specs.declared.Geometry.{Geometry}
-use Rattle.layout.specs.Geometry.{len, segmentBytes}
+use Rattle.layout.specs.Geometry.{len, blocksIn, segmentBytes}
 use Rattle.layout.specs.Mem.{Mem, setControl, setMutator, setSegment, setStack, setTrace, setHeap, setRun, spliced}
 use Rattle.bitmap_search.specs.Scan.{nextFree}
 use Rattle.bitmap_write.specs.Rebuild.{wordFrom, packed, fullBit, summed, rebuilt}
@@ -15,19 +17,19 @@ use Rattle.theory.specs.Calls.{Call, Answer, a-ok, a-no, require, ifRecord}
 use Rattle.model.specs.declared.Step.{Step}
 use Rattle.model.specs.declared.SegmentState.{SegmentState}
 use Rattle.model.specs.Answers.{stepAnswerOf}
-use Rattle.model.specs.Fields.{phase, traceCount, acks}
-use Rattle.model.specs.Segments.{setSegmentState, segment, marksOf}
-use Rattle.model.specs.Records.{headerShape, setMarked, setQueued, clearQueued}
+use Rattle.model.specs.Fields.{phase, traceCount, acks, class}
+use Rattle.model.specs.Segments.{setSegmentState, segment}
+use Rattle.model.specs.Records.{headerShape, headerOf, setEntered, onStack, marked}
 use Rattle.model.specs.Tracing.{push, pushRoots, pushPointers}
 use Rattle.model.specs.Mutators.{acknowledged, attached, released, detached}
 use Rattle.model.specs.Making.{handedOut, made}
 use Rattle.model.specs.Calls.{act, exec}
-use Rattle.model.specs.Collector.{collects, condemned, acksReset, started, startOf, outsideAnswered, waiting, lowest, swept, stepOf}
+use Rattle.model.specs.Collector.{collects, condemned, acksReset, started, startOf, outsideAnswered, waiting, lowest, settledBy, swept, stepOf}
 use Rattle.model.specs.Opening.{downTo0, opened}
 use Rattle.layout.specs.Region as Region
 
 -- an opening, one of the collector's calls, a look, or a mutator's call; and words to be shown: the acknowledgements of the first mutators, a
--- segment's first mark word, and words of the heap
+-- segment's first word of marks, and words of the heap
 pub data Input : Type 0 where
   opening start step look : Input
   call : Call → Input
@@ -70,12 +72,12 @@ does g m step = answered (stepOf g m)
 does g m look = (shown g m, m)
 does g m (call c) = answered (exec g m c)
 does g m (acknowledgements n) = (words (acksOf m n), m)
-does g m (marks s) = (words (take 1 (marksOf g m s)), m)
+does g m (marks s) = (words (packed (λ b. pick (ltb b (blocksIn g (class m s))) (marked g m (headerOf g s (class m s) b)) 0) 1 0), m)
 does g m (heap i n) = (words (take n (drop i (m .heap))), m)
 
 -- the replies to a list of inputs, in order; to unfold it is to unfold every definition that it stands on
 unfoldable pub replies : Geometry → Mem → List Input → List Reply
-unfolding segmentBytes headerShape bitOf bitAt withBit withoutBit setBit clearBit onesAmong setControl setMutator setSegment setStack setTrace setHeap setRun spliced nextFree wordFrom packed fullBit summed rebuilt padded completed cleared copied fresh adopted require ifRecord setSegmentState setMarked setQueued clearQueued push pushRoots pushPointers acknowledged attached released detached handedOut made act exec collects condemned acksReset started startOf outsideAnswered waiting lowest swept stepOf downTo0 opened
+unfolding segmentBytes headerShape bitOf bitAt withBit setBit onesAmong setControl setMutator setSegment setStack setTrace setHeap setRun spliced nextFree wordFrom packed fullBit summed rebuilt padded completed cleared copied fresh adopted require ifRecord setSegmentState setEntered onStack push pushRoots pushPointers acknowledged attached released detached handedOut made act exec collects condemned acksReset started startOf outsideAnswered waiting lowest settledBy swept stepOf downTo0 opened
 replies g m [] = []
 replies g m (e ∷ es) = let r = does g m e in r .0 ∷ replies g (r .1) es
 
@@ -92,7 +94,6 @@ sevens g = record {
   stacks = replicate (len g Region.stacks) 7;
   bitmaps = replicate (len g Region.bitmaps) 7;
   marks = replicate (len g Region.marks) 7;
-  queued = replicate (len g Region.queued) 7;
   trace = replicate (len g Region.trace) 7;
   heap = replicate (len g Region.heap) 7;
 }

@@ -17,7 +17,7 @@ row n x b = record { segments = n; length = x; refused = b }
 
 abbrev pub rows : List Row
 rows =
-    row 0 1037 true ∷ row 1 7391 false ∷ row 1 7390 true ∷ row 1 7392 true ∷ row 2 7391 true ∷ row 256 1627661 false ∷ row 257 1634015 true ∷ []
+    row 0 1051 true ∷ row 1 7341 false ∷ row 1 7340 true ∷ row 1 7342 true ∷ row 2 7341 true ∷ row 256 1611291 false ∷ row 257 1617581 true ∷ []
 
 abbrev pub All : List Row → Type 0
 All [] = Unit

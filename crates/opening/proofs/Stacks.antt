@@ -66,7 +66,7 @@ filled (suc k) n h =
     ∙ ap (λ j. n ∷ downTo0 n ++ drop j (n ∷ replicate k 0)) p
     ∙ ap (λ l. n ∷ downTo0 n ++ l) (drop-zeros n k ∙ ap (λ j. replicate j 0) q)
 
--- the memory with five regions cleared
+-- the memory with four regions cleared
 abbrev cleared : Geometry → Mem → Mem
 cleared g m = record {
   control = replicate (len g Region.control) 0;
@@ -75,18 +75,17 @@ cleared g m = record {
   stacks = replicate (len g Region.stacks) 0;
   bitmaps = m .bitmaps;
   marks = m .marks;
-  queued = replicate (len g Region.queued) 0;
   trace = m .trace;
   heap = m .heap;
 }
 
 -- the memory after each write of the opening
-module _ (g : Geometry) (m : Mem) {m₀ m₁ m₂ m₃ m₄ m₅ m₆ : Mem} where
-  pub opened-by : m₀ ≡ clearRegion g m Region.control → m₁ ≡ clearRegion g m₀ Region.mutators → m₂ ≡ clearRegion g m₁ Region.segments → m₃ ≡ clearRegion g m₂ Region.stacks → m₄ ≡ clearRegion g m₃ Region.queued
-      → m₅ ≡ setStack m₄ 0 (g .segments) → m₆ ≡ stackedDown m₅ 1 (g .segments) → m₆ ≡ opened g m
+module _ (g : Geometry) (m : Mem) {m₀ m₁ m₂ m₃ m₅ m₆ : Mem} where
+  pub opened-by : m₀ ≡ clearRegion g m Region.control → m₁ ≡ clearRegion g m₀ Region.mutators → m₂ ≡ clearRegion g m₁ Region.segments → m₃ ≡ clearRegion g m₂ Region.stacks
+      → m₅ ≡ setStack m₃ 0 (g .segments) → m₆ ≡ stackedDown m₅ 1 (g .segments) → m₆ ≡ opened g m
   unfolding clearRegion setStack stackedDown opened
-  opened-by e₀ e₁ e₂ e₃ e₄ e₅ e₆ =
-      e₆ ∙ rw (e₅, e₄, e₃, e₂, e₁, e₀) (ap (withRegion (cleared g m) Region.stacks) (filled (len g Region.stacks) (g .segments) (omega arith)))
+  opened-by e₀ e₁ e₂ e₃ e₅ e₆ =
+      e₆ ∙ rw (e₅, e₃, e₂, e₁, e₀) (ap (withRegion (cleared g m) Region.stacks) (filled (len g Region.stacks) (g .segments) (omega arith)))
 
 -- ---- the promise of the opening
 

@@ -32,7 +32,6 @@ pub fn open(g: Geometry, mem: &mut [u32]) -> Answer
     layout::clear_mutators(g, mem);
     layout::clear_segments(g, mem);
     layout::clear_stacks(g, mem);
-    layout::clear_queued(g, mem);
     layout::set_stack(g, mem, 0, g.segments as u32);
     stack_down(g, mem, 1, g.segments);
     Answer::Ok

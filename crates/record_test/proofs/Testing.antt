@@ -20,19 +20,15 @@ use Rattle.classes.specs.declared.SizeClass.{SizeClass}
 use Rattle.classes.specs.declared.SizeClass.the-variants.{Class}
 use Rattle.classes.proofs.Every.{class-passed, class-passes}
 use Rattle.layout.specs.declared.Geometry.{Geometry}
-use Rattle.layout.specs.Geometry.{Sized, len, from, segmentWords, mostBlocks, blocksIn, bitmapWords, segmentOf, bitIn}
+use Rattle.layout.specs.Geometry.{Sized, len, from, segmentWords, mostBlocks, blocksIn, bitmapWords, segmentOf, markBit}
 use Rattle.layout.specs.Mem.{Mem, markWord}
 use Rattle.model.specs.Fields.{tag, class, place}
 use Rattle.model.specs.Segments.{above, bitmap, usedBit}
-use Rattle.model.specs.Records.{shapeOf, blockOf, recordBit}
-use Rattle.model.specs.Reaching.{isMarked}
+use Rattle.model.specs.Records.{shapeOf, blockOf, recordBit, entered}
 use Rattle.model.specs.Consistent.{RecordOk}
 use Rattle.layout.proofs.Sizes.{words-some, segment-below}
-use Rattle.laws.proofs.Blocks.{block-most}
+use Rattle.laws.proofs.Blocks.{block-most, bit-below}
 use Rattle.laws.proofs.Apart.{class-of}
-use Rattle.tracing.specs.declared.Bit.the-variants.{At, Torn}
-use Rattle.tracing.specs.Pushing.{recordBitAt}
-use Rattle.tracing.proofs.Bits.{isAt, bit-within}
 use Rattle.bitmaps.proofs.Lent.{TreePart, tree-at}
 use Rattle.record_test.specs.Tests.{Classed}
 use Rattle.layout.specs.Region as Region
@@ -69,9 +65,6 @@ module _ (g : Geometry) (m : Mem) (at s c : ℕ) (es : s ≡ segmentOf g at) (k 
   used-is : usedBit g m s (o / w) ≡ usedBit g m (segmentOf g at) (blockOf g m at)
   used-is = rw (es, eo, ew, class-is)
 
-  bit-is : bitIn g s (o / w) ≡ recordBit g m at
-  bit-is = rw (es, eo, ew, class-is)
-
   pub head-block : o / w < mostBlocks g
   head-block = rw (eo, ew) (block-most g c (k .class) (at % segmentWords g) (mod-lt at (words-some g)))
 
@@ -87,7 +80,7 @@ module _ (g : Geometry) (m : Mem) (at s c : ℕ) (es : s ≡ segmentOf g at) (k 
   pub not-sized : (classOfRecord (shapeOf m at) ≡ Class c → ⊥) → RecordOk g m at → ⊥
   not-sized f r = f (r .sized ∙ ap Class (sym class-is))
 
-  pub passes : at < len g Region.heap → o % w ≡ 0 → usedBit g m s (o / w) ≡ 1 → classOfRecord (shapeOf m at) ≡ Class c → (b : ℕ) → b ≡ bitIn g s (o / w) → RecordOk g m at × (b ≡ recordBit g m at)
+  pub passes : at < len g Region.heap → o % w ≡ 0 → usedBit g m s (o / w) ≡ 1 → classOfRecord (shapeOf m at) ≡ Class c → (b : ℕ) → b ≡ markBit at → RecordOk g m at × (b ≡ recordBit g m at)
   passes l a u q b e = (
     record {
       inside = l;
@@ -96,7 +89,7 @@ module _ (g : Geometry) (m : Mem) (at s c : ℕ) (es : s ≡ segmentOf g at) (k 
       block = sym used-is ∙ u;
       sized = q ∙ ap Class class-is;
     },
-    e ∙ bit-is,
+    e,
   )
 
 -- ---- any word
@@ -119,15 +112,11 @@ module _ (g : Geometry) (m : Mem) (at s : ℕ) (es : s ≡ segmentOf g at) where
   pub classed : (t c : ℕ) → t ≡ tag m s → (t ≡ 0 → ⊥) → c ≡ class m s → classTest c ≡ true → Classed m s c
   classed t c et f e h = record { is = e; class = class-passed c h; used = λ q. f (et ∙ q) }
 
--- ---- the mark of a record
+-- ---- the bit of a record
 
 module _ (g : Geometry) (m : Mem) (at : ℕ) where
-  pub no-bit : RecordOk g m at → recordBitAt g m at ≡ Torn → ⊥
-  unfolding recordBitAt
-  no-bit r e = true≢false (ap isAt (sym there ∙ e))
-    where
-      there : recordBitAt g m at ≡ At (recordBit g m at)
-      there = rw (lt-ltb _ _ (r .inside), class-passes _ (class-of g m at r)) refl
+  pub bit-room : RecordOk g m at → markBit at < g .segments * mostBlocks g
+  bit-room r = bit-below g m at (class-of g m at r) (r .inside)
 
-  pub mark-by : (k w x : ℕ) → At k ≡ recordBitAt g m at → w ≡ markWord m (k / 32) → x ≡ bitOf w (k % 32) → eqb x 1 ≡ isMarked g m at
-  mark-by k w x ek ew ex = ap (λ z. eqb z 1) (ex ∙ ap (λ z. bitOf z (k % 32)) ew ∙ sym (bit-split (m .marks) k) ∙ ap (bitAt (m .marks)) (bit-within g m at k ek .0))
+  pub entered-by : (k w x : ℕ) → k ≡ markBit at → w ≡ markWord m (k / 32) → x ≡ bitOf w (k % 32) → eqb x 1 ≡ eqb (entered g m at) 1
+  entered-by k w x ek ew ex = ap (λ z. eqb z 1) (ex ∙ ap (λ z. bitOf z (k % 32)) ew ∙ sym (bit-split (m .marks) k) ∙ ap (bitAt (m .marks)) ek)

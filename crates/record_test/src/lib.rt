@@ -12,8 +12,8 @@ ghost use Rattle.classes.specs.declared.SizeClass.the-variants.{Class};
 ghost use Rattle.layout.specs.Geometry.{Sized, len, segmentOf, mostBlocks};
 ghost use Rattle.layout.specs.Mem.{memOf};
 ghost use Rattle.model.specs.Segments.{usedBit};
-ghost use Rattle.model.specs.Records.{shapeOf};
-ghost use Rattle.model.specs.Reaching.{isMarked};
+ghost use lib.Dec.{eqb};
+ghost use Rattle.model.specs.Records.{shapeOf, entered};
 ghost use Rattle.model.specs.Consistent.{RecordOk};
 ghost use Rattle.record_test.specs.Tests.{Classed, Tested};
 ghost use Rattle.layout.specs.Region as Region;
@@ -36,7 +36,7 @@ fn is_of_class(g: Geometry, mem: &[u32], at: usize, class: u32) -> bool
 }
 
 // Whether block b of segment s is in use.
-fn is_used(g: Geometry, mem: &[u32], s: usize, b: usize) -> bool
+pub fn is_used(g: Geometry, mem: &[u32], s: usize, b: usize) -> bool
     requires { ⌜ (Sized g (length (now mem))) × (s < g .segments) × (b < mostBlocks g) ⌝ }
     ensures { λ r. ⌜ Decides r (usedBit g (memOf g (now (mem .entry))) s b ≡ 1) ⌝ }
 {
@@ -61,7 +61,7 @@ fn test_block(g: Geometry, mem: &[u32], at: usize, s: usize, class: u32) -> Bit
     let b = offset / words;
     if is_used(g, mem, s, b) {
         if is_of_class(g, mem, at, class) {
-            return Bit::At(layout::bit_in(g, s, b));
+            return Bit::At(layout::mark_bit(at));
         }
     }
     Bit::Torn
@@ -86,16 +86,12 @@ pub fn test(g: Geometry, mem: &[u32], at: usize) -> Bit
     Bit::Torn
 }
 
-// Whether a record is marked.
-pub fn is_marked(g: Geometry, mem: &[u32], at: usize) -> bool
+// Whether a record's bit is set.
+pub fn is_entered(g: Geometry, mem: &[u32], at: usize) -> bool
     requires { ⌜ (Sized g (length (now mem))) × RecordOk g (memOf g (now mem)) at ⌝ }
-    ensures { λ r. ⌜ r ≡ isMarked g (memOf g (now (mem .entry))) at ⌝ }
+    ensures { λ r. ⌜ r ≡ eqb (entered g (memOf g (now (mem .entry))) at) 1 ⌝ }
 {
-    match tracing::bit_of(g, mem, at) {
-        Bit::Torn => false,
-        Bit::At(k) => {
-            let w = layout::mark(g, mem, k / 32);
-            words::bit_of(w, (k % 32) as u32) == 1
-        }
-    }
+    let k = layout::mark_bit(at);
+    let w = layout::mark(g, mem, k / 32);
+    words::bit_of(w, (k % 32) as u32) == 1
 }

@@ -40,7 +40,6 @@ module _ (g : Geometry) (m : Mem) (s : Sizes g m) (k d cl r b : ℕ) (shape : Re
         stacks = f .stacks;
         bitmaps = f .bitmaps;
         marks = f .marks;
-        queued = f .queued;
         trace = f .trace;
         heap = f .heap;
         words = λ j o h x. ap (λ (ws : List ℕ). getD ws (j * mutatorWords + o) 0) (f .mutators);
@@ -66,7 +65,6 @@ module _ (g : Geometry) (m : Mem) (s : Sizes g m) (k d cl r b : ℕ) (shape : Re
         stacks = f .stacks;
         bitmaps = f .bitmaps;
         marks = f .marks;
-        queued = f .queued;
         trace = f .trace;
         heap = f .heap;
         words = λ j o h x. table-other g full s₁ k cl 0 (q .few) (q .isClass) j o h x ∙ ap (λ (ws : List ℕ). getD ws (j * mutatorWords + o) 0) (f .mutators);

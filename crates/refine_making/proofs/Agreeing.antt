@@ -11,7 +11,7 @@ use borrow.Author.Tests.{eq-eqb, eqb-true}
 use Rattle.classes.specs.declared.RecordShape.{RecordShape}
 use Rattle.classes.specs.Record.{pointerCountOf, valueCountOf}
 use Rattle.layout.specs.declared.Geometry.{Geometry}
-use Rattle.layout.specs.Geometry.{rootCount, segmentOf, bitIn}
+use Rattle.layout.specs.Geometry.{rootCount, segmentOf, markBit}
 use Rattle.layout.specs.Mem.{Mem, heapWord, Sizes}
 use Rattle.theory.specs.Phases.{black}
 use Rattle.theory.specs.Update.{upd, upd2}
@@ -19,7 +19,7 @@ use Rattle.theory.proofs.Updates.{upd-hit, upd-other, upd-hit₁, upd-miss₁}
 use Rattle.theory.proofs.Agree.{Agree}
 use Rattle.model.specs.Fields.{phase, acks, root, tag, class}
 use Rattle.model.specs.Segments.{usedBit}
-use Rattle.model.specs.Records.{record?, pointerCount, pointer, marked, blockOf, recordBit, headerOf}
+use Rattle.model.specs.Records.{record?, pointerCount, pointer, blockOf, headerOf}
 use Rattle.model.specs.Reaching.{Live, isMarked}
 use Rattle.classes.specs.Class.{IsClass}
 use Rattle.model.specs.Consistent.{RecordOk}
@@ -27,7 +27,7 @@ use Rattle.refine_view.specs.Kept.{Ordered}
 use Rattle.refine_view.specs.View.{view, valuesOf, isHead, isUsed}
 use Rattle.laws.proofs.Bools.{and-both, ne-not}
 use Rattle.layout.proofs.Sizes.{segment-below}
-use Rattle.laws.proofs.Blocks.{header-segment, header-bit, header-is-class, header-head, of-block, same-bit, blocks-most}
+use Rattle.laws.proofs.Blocks.{header-segment, header-is-class, header-head, same-bit}
 use Rattle.laws.proofs.Segments.{in-range}
 use Rattle.theory.proofs.Updates.{upd2-by}
 use Rattle.refine_view.proofs.Invariants.{to-live, to-inv, used-of}
@@ -83,11 +83,11 @@ module _ (g : Geometry) (m : Mem) (s : Sizes g m) (c : Ordered g m) (m′ : Mem)
         and-both _ _ (ne-not _ _ (standing.tag-used g m m′ k d cl r b shape q a (segmentOf g x) (ok .used))) (eq-eqb _ _ e)
 
     -- its bit is another
-    pub bit-other : recordBit g m x ≡ bitIn g r b → ⊥
-    bit-other e = f (same-bit g m x h of-class (header-is-class g cl (q .isClass) r b (q .below) m (q .ofClass)) (ok .aligned) (header-head g cl (q .isClass) r b (q .below) m (q .ofClass)) (e ∙ sym (header-bit g cl (q .isClass) r b (q .below) m (q .ofClass))))
+    bit-other : markBit x ≡ markBit h → ⊥
+    bit-other e = f (same-bit g m x h of-class (header-is-class g cl (q .isClass) r b (q .below) m (q .ofClass)) (ok .aligned) (header-head g cl (q .isClass) r b (q .below) m (q .ofClass)) e)
 
     mark-on : (isHead g m′ x && isMarked g m′ x) ≡ (isHead g m x && isMarked g m x)
-    mark-on = standing.mark-same g m m′ k d cl r b shape q a x bit-other
+    mark-on = standing.mark-same g m m′ k d cl r b shape q a x (λ _. bit-other)
 
   -- ---- the machine's functions, changed at the new record
 
@@ -123,11 +123,8 @@ module _ (g : Geometry) (m : Mem) (s : Sizes g m) (c : Ordered g m) (m′ : Mem)
       of : IsClass (class m (segmentOf g x))
       of = c .segments (segmentOf g x) (in-range g m s (segmentOf g x) (λ z. let u = four in omega arith)) .classes (λ z. let u = four in omega arith)
 
-      other-bit : recordBit g m x ≡ bitIn g r b → ⊥
-      other-bit y =
-          let u = of-block g m x of in
-          let v = blocks-most g (class m (segmentOf g x)) of in
-          away (standing.bit-there g m m′ k d cl r b shape q a (segmentOf g x) (blockOf g m x) (omega arith) y .0)
+      other-bit : isHead g m x ≡ true → markBit x ≡ markBit h → ⊥
+      other-bit w y = other (same-bit g m x h of (header-is-class g cl (q .isClass) r b (q .below) m (q .ofClass)) (eqb-true _ _ w) (header-head g cl (q .isClass) r b (q .below) m (q .ofClass)) y)
 
   -- ---- roots
 

@@ -12,17 +12,18 @@ use Rattle.words.proofs.Lists.{set-there, set-elsewhere}
 use Rattle.classes.specs.Class.{firstClass}
 use Rattle.classes.specs.declared.RecordShape.{RecordShape}
 use Rattle.layout.specs.declared.Geometry.{Geometry}
-use Rattle.layout.specs.Geometry.{mutatorWords, mostBlocks, bitIn}
+use Rattle.layout.specs.Geometry.{mutatorWords, markBit}
 use Rattle.layout.specs.Mem.{Mem, setMutator, setHeap, setRun, Sizes}
 use Rattle.theory.specs.Phases.{black}
 use Rattle.model.specs.Fields.{phase, heldFrom, acks, setRoot, tag, class, place, owner}
-use Rattle.model.specs.Records.{headerOf, written, setMarked, recordBit}
+use Rattle.model.specs.Records.{headerOf, written, setEntered}
 use Rattle.model.specs.Making.{blackened, handedOut}
-use Rattle.layout.proofs.Sizes.{within, marks-are}
+use Rattle.layout.proofs.Sizes.{marks-are, marks-words}
+use Rattle.classes.proofs.Filling.{two-words}
 use Rattle.laws.proofs.Words.{Recorded, recorded-as}
-use Rattle.laws.proofs.Blocks.{header-bit, blocks-most}
+use Rattle.laws.proofs.Blocks.{header-inside}
 use Rattle.refine_view.proofs.Frames.{beside}
-use Rattle.laws.proofs.Lengths.{sizes-mutator, sizes-heap, sizes-heap-run, sizes-marked}
+use Rattle.laws.proofs.Lengths.{sizes-mutator, sizes-heap, sizes-heap-run, sizes-entered}
 use Rattle.refine_making.proofs.Request.{Request}
 use Rattle.refine_making.proofs.Result.{Moved, StillHeld, NowFull, Result}
 use Rattle.refine_making.proofs.Advanced.{moved}
@@ -38,33 +39,19 @@ module _ (g : Geometry) (m : Mem) (k d cl r b : ℕ) (shape : RecordShape) (q : 
   sizes₂ : Sizes g m₂
   sizes₂ = sizes-heap-run g _ (sizes-heap g m₁ (v .sizes) _ _) _ _
 
-  class₁ : class m₁ r ≡ cl
-  class₁ = go (v .segment)
-    where
-      go : StillHeld g m m₁ k cl r b ⊎ NowFull g m₁ k cl r → class m₁ r ≡ cl
-      go (inl x) = x .recorded .class
-      go (inr x) = x .recorded .class
-
-  class₂ : class m₂ r ≡ cl
-  unfolding setHeap setRun
-  class₂ = class₁
-
-  bit₂ : recordBit g m₂ h ≡ bitIn g r b
-  bit₂ = header-bit g cl (q .isClass) r b (q .below) m₂ class₂
-
   -- ---- the marks, born black
 
-  room : recordBit g m₂ h / 32 < length (m₁ .marks)
-  room = let z = v .sizes .marks in let a = q .inside in let c = q .below in let e = blocks-most g cl (q .isClass) in let f = bit₂ in let w = marks-are g (g .segments) in let y = within (mostBlocks g) r (g .segments) b a (omega arith) in omega arith
+  room : markBit h / 32 < length (m₁ .marks)
+  room = let z = v .sizes .marks in let w = marks-are g (g .segments) in let u = two-words cl (q .isClass) in let i = header-inside g cl (q .isClass) r b (q .below) (q .inside) in let y = marks-words g (g .segments) in omega arith
 
   marks₁ : (i : ℕ) → bitAt (m₁ .marks) i ≡ bitAt (m .marks) i
   marks₁ i = ap (λ (ws : List ℕ). bitAt ws i) (v .marks)
 
-  mark-there : bitAt (setBit (m₁ .marks) (recordBit g m₂ h)) (bitIn g r b) ≡ 1
-  mark-there = ap (λ i. bitAt (setBit (m₁ .marks) (recordBit g m₂ h)) i) (sym bit₂) ∙ set-there (m₁ .marks) (recordBit g m₂ h) room
+  mark-there : bitAt (setBit (m₁ .marks) (markBit h)) (markBit h) ≡ 1
+  mark-there = set-there (m₁ .marks) (markBit h) room
 
-  mark-other : (i : ℕ) → (i ≡ bitIn g r b → ⊥) → bitAt (setBit (m₁ .marks) (recordBit g m₂ h)) i ≡ bitAt (m .marks) i
-  mark-other i f = set-elsewhere (m₁ .marks) (recordBit g m₂ h) room i (λ e. f (e ∙ bit₂)) ∙ marks₁ i
+  mark-other : (i : ℕ) → (i ≡ markBit h → ⊥) → bitAt (setBit (m₁ .marks) (markBit h)) i ≡ bitAt (m .marks) i
+  mark-other i f = set-elsewhere (m₁ .marks) (markBit h) room i f ∙ marks₁ i
 
   -- ---- the segment's record
 
@@ -95,15 +82,14 @@ module _ (g : Geometry) (m : Mem) (k d cl r b : ℕ) (shape : RecordShape) (q : 
   -- ---- all of it
 
   -- with the marks that are left
-  ended : (ma : List ℕ) → Sizes g (beside m₂ (m₂ .control) (m₂ .mutators) ma (m₂ .queued) (m₂ .trace) (m₂ .heap)) → ((i : ℕ) → (i ≡ bitIn g r b → ⊥) → bitAt ma i ≡ bitAt (m .marks) i) → (black (phase m) (acks m k) ≡ true → bitAt ma (bitIn g r b) ≡ 1)
-      → (black (phase m) (acks m k) ≡ false → bitAt ma (bitIn g r b) ≡ bitAt (m .marks) (bitIn g r b)) → Result g m (setRoot (beside m₂ (m₂ .control) (m₂ .mutators) ma (m₂ .queued) (m₂ .trace) (m₂ .heap)) k d (suc h)) k d cl r b shape
+  ended : (ma : List ℕ) → Sizes g (beside m₂ (m₂ .control) (m₂ .mutators) ma (m₂ .trace) (m₂ .heap)) → ((i : ℕ) → (i ≡ markBit h → ⊥) → bitAt ma i ≡ bitAt (m .marks) i) → (black (phase m) (acks m k) ≡ true → bitAt ma (markBit h) ≡ 1)
+      → (black (phase m) (acks m k) ≡ false → bitAt ma (markBit h) ≡ bitAt (m .marks) (markBit h)) → Result g m (setRoot (beside m₂ (m₂ .control) (m₂ .mutators) ma (m₂ .trace) (m₂ .heap)) k d (suc h)) k d cl r b shape
   unfolding setHeap setRun setMutator
   ended ma z o x y = record {
     sizes = sizes-mutator g _ z _ _;
     control = v .control;
     stacks = v .stacks;
     bitmaps = v .bitmaps;
-    queued = v .queued;
     trace = v .trace;
     words = words.words-on g m k d cl r b shape q m₁ v;
     named = words.at-root g m k d cl r b shape q m₁ v;
@@ -118,10 +104,10 @@ module _ (g : Geometry) (m : Mem) (k d cl r b : ℕ) (shape : RecordShape) (q : 
     unborn = y;
   }
 
-  finished : (t : Bool) → black (phase m₁) (acks m₁ k) ≡ t → Result g m (setRoot (pick t (setMarked g m₂ h) m₂) k d (suc h)) k d cl r b shape
-  unfolding setHeap setRun setMarked setMutator
-  finished true e = ended _ (sizes-marked g m₂ sizes₂ h) mark-other (λ x. mark-there) (λ x. absurd (true≢false (sym e ∙ words.black-same g m k d cl r b shape q m₁ v ∙ x)))
-  finished false e = ended _ sizes₂ (λ i f. marks₁ i) (λ x. absurd (true≢false (sym x ∙ sym (words.black-same g m k d cl r b shape q m₁ v) ∙ e))) (λ x. marks₁ (bitIn g r b))
+  finished : (t : Bool) → black (phase m₁) (acks m₁ k) ≡ t → Result g m (setRoot (pick t (setEntered g m₂ h) m₂) k d (suc h)) k d cl r b shape
+  unfolding setHeap setRun setEntered setMutator
+  finished true e = ended _ (sizes-entered g m₂ sizes₂ h) mark-other (λ x. mark-there) (λ x. absurd (true≢false (sym e ∙ words.black-same g m k d cl r b shape q m₁ v ∙ x)))
+  finished false e = ended _ sizes₂ (λ i f. marks₁ i) (λ x. absurd (true≢false (sym x ∙ sym (words.black-same g m k d cl r b shape q m₁ v) ∙ e))) (λ x. marks₁ (markBit h))
 
   filled : Result g m (setRoot (blackened g m₂ k h) k d (suc h)) k d cl r b shape
   unfolding setHeap setRun

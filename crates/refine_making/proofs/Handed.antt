@@ -20,7 +20,7 @@ use Rattle.model.specs.Segments.{free}
 use Rattle.model.specs.Records.{headerOf}
 use Rattle.model.specs.Making.{handedOut}
 use Rattle.model.specs.Calls.{isAttached}
-use Rattle.model.specs.Consistent.{Occupied}
+use Rattle.model.specs.Consistent.{Occupied, Behind}
 use Rattle.refine_view.specs.View.{view}
 use Rattle.refine_view.specs.Kept.{Ordered, EachOccupied, Structure, Steady}
 use Rattle.refine_making.proofs.Request.{Request, requested}
@@ -28,6 +28,7 @@ use Rattle.refine_making.proofs.Blackened.{result}
 use Rattle.refine_making.proofs.Agreeing.{agree}
 use Rattle.refine_making.proofs.Segments.{occupied-ok}
 use Rattle.refine_making.proofs.Structured.{structure}
+use Rattle.refine_view.proofs.Keeping.{behind-by}
 use Rattle.refine_making.proofs.Unused as unused
 use Rattle.refine_making.proofs.Standing as standing
 
@@ -35,6 +36,7 @@ use Rattle.refine_making.proofs.Standing as standing
 pub record HandsOut (g : Geometry) (m m′ : Mem) (r : ℕ) (st : State) : Type 0 where
   pub structure : Structure g m′
   pub occupied : ((x : ℕ) → x < g .segments → (x ≡ r → ⊥) → Occupied g m x) → EachOccupied g m′
+  pub behind : Behind g m → Behind g m′
   pub agree : Agree (segmentOf g) st (view g m′)
   pub steady : Steady g m m′
 
@@ -42,11 +44,13 @@ module _ (g : Geometry) (m : Mem) (s : Sizes g m) (c : Ordered g m) where
   hands-out : (k d cl r b : ℕ) (shape : RecordShape) → Request g m k d cl r b shape → HandsOut g m (handedOut g m k d cl r b shape) r (make (view g m) k d (headerOf g r cl b) (pointerCountOf shape) (replicate (valueCountOf shape) 0))
   hands-out k d cl r b shape q =
       let a = result g m s k d cl r b shape q in
+      let t : Steady g m (handedOut g m k d cl r b shape) = (λ x l e. (standing.tag-back g m (handedOut g m k d cl r b shape) k d cl r b shape q a x e .0, standing.class-same g m (handedOut g m k d cl r b shape) k d cl r b shape q a x)) in
       record {
         structure = structure g m s c (handedOut g m k d cl r b shape) k d cl r b shape q a;
         occupied = occupied-ok g m c (handedOut g m k d cl r b shape) k d cl r b shape q a;
         agree = agree g m s c (handedOut g m k d cl r b shape) k d cl r b shape q a;
-        steady = λ x l e. (standing.tag-back g m (handedOut g m k d cl r b shape) k d cl r b shape q a x e .0, standing.class-same g m (handedOut g m k d cl r b shape) k d cl r b shape q a x);
+        behind = behind-by g m (handedOut g m k d cl r b shape) t (standing.cursor-same g m (handedOut g m k d cl r b shape) k d cl r b shape q a);
+        steady = t;
       }
 
   pub handed : (k d cl r : ℕ) (shape : RecordShape) → k < mutatorCount → isAttached m k ≡ true → d < rootCount → classOfRecord shape ≡ Class cl → holding m k cl ≡ suc r

@@ -5,11 +5,10 @@ use Prim.Native.Nat.{ℕ, _+_, _-_, _%_, _<_}
 use native.Mathlib.Omega.{arith}
 use lib.ListN.{replicate}
 use borrow.Author.Tests.{eq-eqb, ne-eqb}
-use Rattle.words.specs.Bits.{bitAt}
 use Rattle.classes.specs.declared.RecordShape.{RecordShape}
 use Rattle.classes.specs.Record.{pointerCountOf, valueCountOf}
 use Rattle.layout.specs.declared.Geometry.{Geometry}
-use Rattle.layout.specs.Geometry.{segmentWords, segmentOf, bitIn}
+use Rattle.layout.specs.Geometry.{segmentWords, segmentOf}
 use Rattle.layout.specs.Mem.{Mem, heapWord}
 use Rattle.theory.specs.Phases.{black}
 use Rattle.theory.specs.TraceStack.{tab}
@@ -17,13 +16,16 @@ use Rattle.theory.proofs.Invariant.{Tracing}
 use Rattle.model.specs.Fields.{phase, acks, tag, class}
 use Rattle.model.specs.Segments.{usedBit}
 use Rattle.classes.specs.Class.{blockWords}
-use Rattle.model.specs.Records.{headerShape, shapeOf, pointerCount, valueCount, pointer, value, marked, blockOf, recordBit, headerOf}
-use Rattle.model.specs.Reaching.{isMarked}
+use Rattle.model.specs.Records.{headerShape, shapeOf, pointerCount, valueCount, pointer, value, marked, blockOf, headerOf}
+use Rattle.model.specs.Reaching.{IsEntry, isMarked}
+use Rattle.laws.proofs.Marked.{stacked?, off-stack, unentered}
+use Rattle.refine_view.proofs.Seeing.{entry-was}
+use mathlib.Core.Logic.{⊎-elim}
 use Rattle.refine_view.specs.Kept.{Ordered}
 use Rattle.refine_view.specs.View.{valuesOf, isHead, isUsed}
 use Rattle.laws.proofs.Bools.{and-both, ne-not}
 use Rattle.laws.proofs.Headers.{shape-written}
-use Rattle.laws.proofs.Blocks.{header-segment, header-block, header-bit, header-class, header-head}
+use Rattle.laws.proofs.Blocks.{header-segment, header-block, header-class, header-head}
 use Rattle.laws.proofs.Tables.{tab-zeros}
 use Rattle.refine_making.proofs.Request.{Request}
 use Rattle.refine_making.proofs.Result.{Result}
@@ -61,9 +63,6 @@ module _ (g : Geometry) (m : Mem) (c : Ordered g m) (m′ : Mem) (k d cl r b : �
   pub aligned-there : h % segmentWords g % blockWords (class m′ (segmentOf g h)) ≡ 0
   aligned-there = header-head g cl (q .isClass) r b (q .below) m′ (standing.class-there g m m′ k d cl r b shape q a)
 
-  bit-there : recordBit g m′ h ≡ bitIn g r b
-  bit-there = header-bit g cl (q .isClass) r b (q .below) m′ (standing.class-there g m m′ k d cl r b shape q a)
-
   pub used-there : usedBit g m′ (segmentOf g h) (blockOf g m′ h) ≡ 1
   used-there =
       ap (λ z. usedBit g m′ z (blockOf g m′ h)) (header-segment g cl (q .isClass) r b (q .below))
@@ -83,7 +82,10 @@ module _ (g : Geometry) (m : Mem) (c : Ordered g m) (m′ : Mem) (k d cl r b : �
   mark-there t = rw (eq-eqb (h % segmentWords g % blockWords (class m′ (segmentOf g h))) 0 aligned-there) (go (black (phase m) (acks m k)) refl)
     where
       go : (x : Bool) → black (phase m) (acks m k) ≡ x → isMarked g m′ h ≡ x
-      go true e = eq-eqb (marked g m′ h) 1 (ap (bitAt (m′ .marks)) bit-there ∙ a .born e)
+      go true e = eq-eqb (marked g m′ h) 1 (⊎-elim (λ z. absurd (no-entry z)) (λ f. off-stack g m′ h f ∙ a .born e) (stacked? g m′ h))
+        where
+          no-entry : IsEntry m′ h → ⊥
+          no-entry z = let y = c .trace .bits h (entry-was m m′ (standing.count-same g m m′ k d cl r b shape q a) (standing.trace-same g m m′ k d cl r b shape q a) h z) in let w = unused.not-marked g m c k d cl r b shape q t in omega arith
       go false e =
-          let z : marked g m′ h ≡ 0 = ap (bitAt (m′ .marks)) bit-there ∙ a .unborn e ∙ unused.not-marked g m c k d cl r b shape q t in
+          let z : marked g m′ h ≡ 0 = unentered g m′ h (a .unborn e ∙ unused.not-marked g m c k d cl r b shape q t) in
           ne-eqb (marked g m′ h) 1 (λ y. omega arith)

@@ -8,12 +8,12 @@ use Rattle.classes.specs.Class.{firstClass}
 use Rattle.classes.specs.declared.RecordShape.{RecordShape}
 use Rattle.classes.specs.Record.{fieldCountOf}
 use Rattle.layout.specs.declared.Geometry.{Geometry}
-use Rattle.layout.specs.Geometry.{mutatorWords, blocksIn, bitIn}
+use Rattle.layout.specs.Geometry.{mutatorWords, blocksIn, markBit}
 use Rattle.layout.specs.Mem.{Mem, mutatorWord, heapWord, Sizes}
 use Rattle.theory.specs.Phases.{black}
 use Rattle.model.specs.Fields.{phase, heldFrom, acks, root, holding, tag, class, place, owner}
 use Rattle.model.specs.Segments.{bitmap}
-use Rattle.model.specs.Records.{headerOf, headerWord}
+use Rattle.model.specs.Records.{headerOf, headerWord, entered}
 use Rattle.laws.proofs.Words.{Recorded}
 
 -- the segment is still held, with a free block at or after its place
@@ -37,7 +37,6 @@ pub record Moved (g : Geometry) (m m′ : Mem) (k cl r b : ℕ) : Type 0 where
   pub stacks : m′ .stacks ≡ m .stacks
   pub bitmaps : m′ .bitmaps ≡ m .bitmaps
   pub marks : m′ .marks ≡ m .marks
-  pub queued : m′ .queued ≡ m .queued
   pub trace : m′ .trace ≡ m .trace
   pub heap : m′ .heap ≡ m .heap
   pub words : (j o : ℕ) → o < mutatorWords → (j ≡ k → o ≡ heldFrom + (cl - firstClass) → ⊥) → mutatorWord m′ (j * mutatorWords + o) ≡ mutatorWord m (j * mutatorWords + o)
@@ -50,7 +49,6 @@ pub record Result (g : Geometry) (m m′ : Mem) (k d cl r b : ℕ) (shape : Reco
   pub control : m′ .control ≡ m .control
   pub stacks : m′ .stacks ≡ m .stacks
   pub bitmaps : m′ .bitmaps ≡ m .bitmaps
-  pub queued : m′ .queued ≡ m .queued
   pub trace : m′ .trace ≡ m .trace
   pub words : (j o : ℕ) → o < mutatorWords → (j ≡ k → o ≡ heldFrom + (cl - firstClass) → ⊥) → (j ≡ k → o ≡ d → ⊥) → mutatorWord m′ (j * mutatorWords + o) ≡ mutatorWord m (j * mutatorWords + o)
   pub named : root m′ k d ≡ suc (headerOf g r cl b)
@@ -60,6 +58,6 @@ pub record Result (g : Geometry) (m m′ : Mem) (k d cl r b : ℕ) (shape : Reco
   pub fields : (i : ℕ) → i < fieldCountOf shape → heapWord m′ (headerOf g r cl b + 1 + i) ≡ 0
   pub before : (i : ℕ) → i < headerOf g r cl b → heapWord m′ i ≡ heapWord m i
   pub behind : (i : ℕ) → headerOf g r cl b + fieldCountOf shape < i → heapWord m′ i ≡ heapWord m i
-  pub marks : (i : ℕ) → (i ≡ bitIn g r b → ⊥) → bitAt (m′ .marks) i ≡ bitAt (m .marks) i
-  pub born : black (phase m) (acks m k) ≡ true → bitAt (m′ .marks) (bitIn g r b) ≡ 1
-  pub unborn : black (phase m) (acks m k) ≡ false → bitAt (m′ .marks) (bitIn g r b) ≡ bitAt (m .marks) (bitIn g r b)
+  pub marks : (i : ℕ) → (i ≡ markBit (headerOf g r cl b) → ⊥) → bitAt (m′ .marks) i ≡ bitAt (m .marks) i
+  pub born : black (phase m) (acks m k) ≡ true → entered g m′ (headerOf g r cl b) ≡ 1
+  pub unborn : black (phase m) (acks m k) ≡ false → entered g m′ (headerOf g r cl b) ≡ entered g m (headerOf g r cl b)

@@ -14,22 +14,20 @@ use Rattle.words.specs.Bits.{bitAt}
 use Rattle.classes.specs.Class.{firstClass, IsClass, blockWords}
 use Rattle.classes.specs.declared.RecordShape.{RecordShape}
 use Rattle.layout.specs.declared.Geometry.{Geometry}
-use Rattle.layout.specs.Geometry.{rootCount, segmentWords, mostBlocks, segmentOf, bitIn}
+use Rattle.layout.specs.Geometry.{rootCount, segmentWords, segmentOf, markBit}
 use Rattle.layout.specs.Mem.{Mem, controlWord, traceWord}
-use Rattle.model.specs.Fields.{phase, traceCount, stateAt, acksAt, heldFrom, state, acks, root, holding, tag, class, place}
+use Rattle.model.specs.Fields.{phase, traceCount, stateAt, acksAt, heldFrom, state, acks, root, holding, tag, class, place, cursor}
 use Rattle.model.specs.Segments.{bitmap, usedBit}
-use Rattle.model.specs.Records.{blockOf, recordBit, marked}
+use Rattle.model.specs.Records.{blockOf, headerOf}
 use Rattle.model.specs.Reaching.{isMarked}
 use Rattle.model.specs.Rules.{phaseOf}
 use Rattle.refine_view.specs.View.{stackOf, isHead}
-use Rattle.laws.proofs.Blocks.{blocks-most}
 use Rattle.laws.proofs.Bitmaps.{bitmap-by}
 use Rattle.refine_view.proofs.Seeing.{entries-same}
 use Rattle.laws.proofs.Entries.{holding-by, table-below}
 use Rattle.laws.proofs.Segments.{used-same}
 use Rattle.refine_making.proofs.Request.{Request}
 use Rattle.refine_making.proofs.Result.{StillHeld, NowFull, Result}
-use Rattle.layout.proofs.Sizes.{one-way}
 use Rattle.model.specs.Tag as Tag
 
 module _ (g : Geometry) (m m′ : Mem) (k d cl r b : ℕ) (shape : RecordShape) (q : Request g m k d cl r b shape) (a : Result g m m′ k d cl r b shape) where
@@ -43,6 +41,9 @@ module _ (g : Geometry) (m m′ : Mem) (k d cl r b : ℕ) (shape : RecordShape) 
 
   pub count-same : traceCount m′ ≡ traceCount m
   count-same = ap (λ (ws : List ℕ). getD ws 1 0) (a .control)
+
+  pub cursor-same : cursor m′ ≡ cursor m
+  cursor-same = ap (λ (ws : List ℕ). getD ws 2 0) (a .control)
 
   pub trace-same : (i : ℕ) → traceWord m′ i ≡ traceWord m i
   trace-same i = ap (λ (ws : List ℕ). getD ws i 0) (a .trace)
@@ -135,9 +136,6 @@ module _ (g : Geometry) (m m′ : Mem) (k d cl r b : ℕ) (shape : RecordShape) 
   pub block-same : (x : ℕ) → blockOf g m′ x ≡ blockOf g m x
   block-same x = ap (λ c. x % segmentWords g / blockWords c) (class-same (segmentOf g x))
 
-  pub bit-same : (x : ℕ) → recordBit g m′ x ≡ recordBit g m x
-  bit-same x = ap (bitIn g (segmentOf g x)) (block-same x)
-
   used-before : (x i : ℕ) → i < place m′ x → usedBit g m′ x i ≡ 1
   used-before x i l = rw (lt-ltb i (place m′ x) l) refl
 
@@ -163,11 +161,10 @@ module _ (g : Geometry) (m m′ : Mem) (k d cl r b : ℕ) (shape : RecordShape) 
           bit false = ap (λ ws. bitAt ws i) (bitmap-same x) ∙ w
       go (inr f) t y w = used-same g m m′ x i (a .others x f .place) (bitmap-same x) ∙ e
 
-  -- a bit of another block is another bit
-  pub bit-there : (x i : ℕ) → i < mostBlocks g → bitIn g x i ≡ bitIn g r b → (x ≡ r) × (i ≡ b)
-  bit-there x i l e = let u = q .below in let v = blocks-most g cl (q .isClass) in one-way (mostBlocks g) x i r b l (omega arith) e
-
-  pub mark-same : (x : ℕ) → (recordBit g m x ≡ bitIn g r b → ⊥) → (isHead g m′ x && isMarked g m′ x) ≡ (isHead g m x && isMarked g m x)
-  mark-same x f =
-      let e : marked g m′ x ≡ marked g m x = ap (bitAt (m′ .marks)) (bit-same x) ∙ a .marks (recordBit g m x) f in
-      ap (λ z. z && isMarked g m′ x) (head-same x) ∙ ap (λ z. isHead g m x && eqb z 1) e
+  -- the head of another block has another bit
+  pub mark-same : (x : ℕ) → (isHead g m x ≡ true → markBit x ≡ markBit (headerOf g r cl b) → ⊥) → (isHead g m′ x && isMarked g m′ x) ≡ (isHead g m x && isMarked g m x)
+  mark-same x f = ap (λ z. z && isMarked g m′ x) (head-same x) ∙ go (isHead g m x) refl
+    where
+      go : (y : Bool) → isHead g m x ≡ y → (y && isMarked g m′ x) ≡ (y && isMarked g m x)
+      go false e = refl
+      go true e = rw (a .trace, count-same, a .marks (markBit x) (f e)) refl

@@ -1,7 +1,7 @@
 -- The words that a make leaves are in order: mutators, stacks, records, trace stack and marks. Assumes nothing.
-use mathlib.Core.Path.{_≡_, sym, _∙_, ap, subst}
+use mathlib.Core.Path.{_≡_, refl, sym, _∙_, ap, subst}
 use mathlib.Core.Logic.{_⊎_, inl, inr, _≢_}
-use Prim.Native.Nat.{ℕ, suc, _-_, _≤_, _<_}
+use Prim.Native.Nat.{ℕ, suc, _-_, _*_, _≤_, _<_}
 use native.Mathlib.Omega.{arith}
 use Rattle.rules.proofs.Order.{same-or-not}
 use Rattle.words.specs.Bits.{bitAt}
@@ -10,23 +10,27 @@ use Rattle.classes.specs.declared.SizeClass.the-variants.{Class}
 use Rattle.classes.specs.declared.RecordShape.{RecordShape}
 use Rattle.classes.specs.Record.{classOfRecord}
 use Rattle.layout.specs.declared.Geometry.{Geometry}
-use Rattle.layout.specs.Geometry.{mutatorCount, blocksIn, segmentOf, bitIn}
+use Rattle.layout.specs.Geometry.{mutatorCount, mostBlocks, segmentOf, markBit}
 use Rattle.layout.specs.Mem.{Mem, Sizes}
 use Rattle.theory.specs.Phases.{sync1, black}
 use Rattle.theory.proofs.Agree.{live-back}
 use Rattle.model.specs.Fields.{phase, state, acks, holding, tag, class, owner}
 use Rattle.model.specs.Segments.{freeStack, partStack}
-use Rattle.model.specs.Records.{blockOf, headerOf}
-use Rattle.model.specs.Reaching.{Live}
-use Rattle.model.specs.Consistent.{MutatorOk, StackOk, isFree, isPart, RecordOk, BlockInUse, MarksOf}
+use Rattle.model.specs.Records.{blockOf, headerOf, entered}
+use Rattle.model.specs.Reaching.{IsEntry, Live}
+use Rattle.model.specs.Consistent.{MutatorOk, StackOk, isFree, isPart, RecordOk, HeadInUse, MarksOf, bitWord}
 use Rattle.refine_view.specs.View.{view}
 use Rattle.refine_view.specs.Kept.{Ordered, QueuedOk, MarksIn, Structure}
-use Rattle.laws.proofs.Blocks.{header-inside}
+use Rattle.laws.proofs.Blocks.{header-inside, bit-below, head-word}
+use Rattle.laws.proofs.Apart.{class-of}
+use Rattle.words.proofs.Counts.{among-change}
+use Rattle.words.proofs.Lists.{at-lt}
+use mathlib.Core.Bool.{Bool, true, false}
 use Rattle.laws.proofs.Entries.{mutators-table}
 use Rattle.laws.proofs.OtherStacks.{stack-by}
 use Rattle.laws.proofs.Segments.{part-same}
-use Rattle.refine_view.proofs.Carried.{record-by, use-by, queued-by, marks-by}
-use Rattle.refine_view.proofs.Seeing.{live-on}
+use Rattle.refine_view.proofs.Carried.{record-by, use-by, marks-by}
+use Rattle.refine_view.proofs.Seeing.{live-on, entry-was}
 use Rattle.refine_view.proofs.Invariants.{structure-of}
 use Rattle.refine_making.proofs.Request.{Request}
 use Rattle.refine_making.proofs.Result.{StillHeld, NowFull, Result}
@@ -88,37 +92,61 @@ module _ (g : Geometry) (m : Mem) (s : Sizes g m) (c : Ordered g m) (m′ : Mem)
 
   -- ---- the trace stack
 
+  -- the new record's bit may be set, and no other changes
+  bit-up : (i : ℕ) → bitAt (m .marks) i ≤ bitAt (m′ .marks) i
+  bit-up i = go (same-or-not i (markBit h))
+    where
+      there : (x : Bool) → black (phase m) (acks m k) ≡ x → entered g m h ≤ entered g m′ h
+      there true e = let z = a .born e in let w = at-lt (m .marks) (markBit h) in omega arith
+      there false e = let z = a .unborn e in omega arith
+
+      go : (i ≡ markBit h) ⊎ (i ≡ markBit h → ⊥) → bitAt (m .marks) i ≤ bitAt (m′ .marks) i
+      go (inl e) = subst (λ z. bitAt (m .marks) z ≤ bitAt (m′ .marks) z) (sym e) (there (black (phase m) (acks m k)) refl)
+      go (inr f) = let z = a .marks i f in omega arith
+
+  entry-back : (x : ℕ) → IsEntry m′ x → IsEntry m x
+  entry-back = entry-was m m′ (standing.count-same g m m′ k d cl r b shape q a) (standing.trace-same g m m′ k d cl r b shape q a)
+
+  head-bit : markBit h < g .segments * mostBlocks g
+  head-bit = bit-below g m′ h (class-of g m′ h new-record) (new-record .inside)
+
   trace-ok : QueuedOk g m′
-  trace-ok = queued-by g m m′ (structure-of g m c .trace) (standing.count-same g m m′ k d cl r b shape q a) (standing.trace-same g m m′ k d cl r b shape q a) (a .queued) (λ x e. standing.bit-same g m m′ k d cl r b shape q a x)
+  trace-ok = let o = c .trace in record {
+    named = λ i l. subst (λ z. 1 ≤ z) (sym (standing.trace-same g m m′ k d cl r b shape q a i)) (o .named i (subst (λ z. i < z) (standing.count-same g m m′ k d cl r b shape q a) l));
+    bits = λ x e. let z = o .bits x (entry-back x e) in let y = bit-up (markBit x) in let w = at-lt (m′ .marks) (markBit x) in omega arith;
+    number =
+        let z = among-change (bitAt (m .marks)) (bitAt (m′ .marks)) (g .segments * mostBlocks g) (markBit h) head-bit (λ i l f. a .marks i f) in
+        let y = bit-up (markBit h) in
+        let w = o .number in
+        let u = standing.count-same g m m′ k d cl r b shape q a in
+        omega arith;
+  }
 
   -- ---- marks
 
-  use-on : (x i : ℕ) → BlockInUse g m x i → BlockInUse g m′ x i
-  use-on x i u = use-by g m m′ x i u (standing.class-same g m m′ k d cl r b shape q a x) (standing.tag-used g m m′ k d cl r b shape q a x (u .used)) (standing.used-on g m m′ k d cl r b shape q a x i (u .block))
+  use-on : (x : ℕ) → HeadInUse g m x → HeadInUse g m′ x
+  use-on x u = use-by g m m′ x (standing.class-same g m m′ k d cl r b shape q a (segmentOf g x)) u (standing.tag-used g m m′ k d cl r b shape q a (segmentOf g x) (u .used)) (standing.used-on g m m′ k d cl r b shape q a (segmentOf g x) (blockOf g m x) (u .block))
 
-  use-new : BlockInUse g m′ r b
-  use-new = record {
-    used = λ e. let z = standing.tag-there g m m′ k d cl r b shape q a .0 in omega arith;
-    within = subst (λ z. b < blocksIn g z) (sym (standing.class-there g m m′ k d cl r b shape q a)) (q .below);
-    block = standing.used-there g m m′ k d cl r b shape q a;
-  }
+  use-new : HeadInUse g m′ h
+  use-new = record { used = new-record .used; aligned = new-record .aligned; block = new-record .block }
+
+  head-is : bitWord (markBit h) ≡ h
+  head-is = head-word g m′ h (class-of g m′ h new-record) (new-record .aligned)
 
   marks-of : (test : ℕ → Type 0) → MarksOf g m test → MarksOf g m′ test
-  marks-of test o x i l t y e = go (same-or-not (bitIn g x i) (bitIn g r b))
+  marks-of test o i l t e = go (same-or-not i (markBit h))
     where
-      go : (bitIn g x i ≡ bitIn g r b) ⊎ (bitIn g x i ≡ bitIn g r b → ⊥) → BlockInUse g m′ x i
-      go (inl z) =
-          let w = standing.bit-there g m m′ k d cl r b shape q a x i y z in
-          subst (λ u. BlockInUse g m′ u i) (sym (w .0)) (subst (BlockInUse g m′ r) (sym (w .1)) use-new)
-      go (inr z) = use-on x i (o x i l t y (sym (a .marks (bitIn g x i) z) ∙ e))
+      go : (i ≡ markBit h) ⊎ (i ≡ markBit h → ⊥) → HeadInUse g m′ (bitWord i)
+      go (inl z) = subst (HeadInUse g m′) (sym (ap bitWord z ∙ head-is)) use-new
+      go (inr z) = use-on (bitWord i) (o i l t (sym (a .marks i z) ∙ e))
 
   -- nothing is born black before the second handshake
   blank : phase m ≡ sync1 → MarksIn sync1 g m → MarksIn sync1 g m′
-  blank e o i l = go (same-or-not i (bitIn g r b))
+  blank e o i l u = entry-was m′ m (sym (standing.count-same g m m′ k d cl r b shape q a)) (λ j. sym (standing.trace-same g m m′ k d cl r b shape q a j)) (bitWord i) (o i l (go (same-or-not i (markBit h))))
     where
-      go : (i ≡ bitIn g r b) ⊎ (i ≡ bitIn g r b → ⊥) → bitAt (m′ .marks) i ≡ 0
-      go (inl z) = ap (bitAt (m′ .marks)) z ∙ a .unborn (ap (λ w. black w (acks m k)) e) ∙ ap (bitAt (m .marks)) (sym z) ∙ o i l
-      go (inr z) = a .marks i z ∙ o i l
+      go : (i ≡ markBit h) ⊎ (i ≡ markBit h → ⊥) → bitAt (m .marks) i ≡ 1
+      go (inl z) = ap (bitAt (m .marks)) z ∙ sym (a .unborn (ap (λ w. black w (acks m k)) e)) ∙ ap (bitAt (m′ .marks)) (sym z) ∙ u
+      go (inr z) = sym (a .marks i z) ∙ u
 
   pub structure : Structure g m′
   structure = record {

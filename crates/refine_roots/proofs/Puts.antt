@@ -45,12 +45,12 @@ module _ (g : Geometry) (m : Mem) (i v : ℕ) (o : Structure g m) (heads : (x : 
 
   pub heap-structure : Structure g now
   unfolding setHeap
-  heap-structure = structure-beside g m (m .control) (m .mutators) (m .marks) (m .queued) (m .trace) (now .heap) o (o .phases)
-      (held-self g m (m .control) (m .marks) (m .queued) (m .trace) (now .heap))
-      (λ k h. mutator-beside g m (m .control) (m .marks) (m .queued) (m .trace) (now .heap) k (o .mutators k h))
+  heap-structure = structure-beside g m (m .control) (m .mutators) (m .marks) (m .trace) (now .heap) o (o .phases)
+      (held-self g m (m .control) (m .marks) (m .trace) (now .heap))
+      (λ k h. mutator-beside g m (m .control) (m .marks) (m .trace) (now .heap) k (o .mutators k h))
       (λ x h. (o .records x (live x h), heads x (live x h)))
-      (queued-by g m now (o .trace) refl (λ i. refl) refl (λ x q. refl))
-      (marks-beside g m (m .control) (m .mutators) (m .queued) (m .trace) (now .heap) (phase m) (o .marks))
+      (queued-by g m now (o .trace) refl (λ i. refl) refl)
+      (marks-beside g m (m .control) (m .mutators) (now .heap) refl (phase m) (o .marks))
 
 -- ---- a field of a live record
 
@@ -119,7 +119,7 @@ module _ (g : Geometry) (m : Mem) (s : Sizes g m) (c : Ordered g m) (at : ℕ) (
 
   pub value-moves : Moves g m (setValue m at f v) (machine.setValues (view g m) at (set (valuesOf m at) f v))
   unfolding setHeap
-  value-moves = record { structure = heap-structure g m place v (structure-of g m c) (λ x p. header x (c .records x p)) live; occupied = λ u. u; agree = agree; steady = λ x q e. (e, refl) }
+  value-moves = record { structure = heap-structure g m place v (structure-of g m c) (λ x p. header x (c .records x p)) live; occupied = λ u. u; behind = λ u. u; agree = agree; steady = λ x q e. (e, refl) }
 
 pub put-kept : (g : Geometry) (m : Mem) → Sizes g m → Ordered g m → (k i f v : ℕ) → refusal (observe m) (c-put k i f v) ≡ 0 → ActKept g m (c-put k i f v)
 unfolding act

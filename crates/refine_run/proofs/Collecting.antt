@@ -12,7 +12,7 @@ use Rattle.model.specs.Rules.{phaseNumber}
 use Rattle.model.specs.Fields.{phase, traceCount, outside, state, class}
 use Rattle.model.specs.Segments.{setSegmentState, freeStack, partStack, stacked, above, bitmap, marksOf}
 use Rattle.model.specs.Mutators.{acknowledged}
-use Rattle.model.specs.Collector.{startIn, startOf, outsideAnswered, waiting, moves, traces, lowest, keptBy, rebuiltBy, swept, sweeps, stepIn, stepOf}
+use Rattle.model.specs.Collector.{startIn, startOf, outsideAnswered, waiting, moves, traces, lowest, keptBy, rebuiltBy, swept, sweeps, stepIn, stepOf, settledBy}
 use Rattle.laws.proofs.Lengths.{sizes-control, sizes-bitmap, sizes-state}
 use Rattle.laws.proofs.Operations.{sizes-pick, sizes-traced, sizes-acknowledged, sizes-stacked, sizes-started}
 use Rattle.model.specs.declared.SegmentState.the-variants as segment
@@ -48,9 +48,9 @@ module _ (g : Geometry) where
   sizes-traces zero m z = sizes-control g m z 0 (phaseNumber sweep)
   sizes-traces (suc n) m z = sizes-traced g m z (traceWord m n - 1)
 
-  sizes-swept : (m : Mem) → Sizes g m → (s : ℕ) → Sizes g (swept g m s)
-  unfolding swept
-  sizes-swept m z s =
+  sizes-settled : (m : Mem) → Sizes g m → (s : ℕ) → Sizes g (settledBy g m s)
+  unfolding settledBy
+  sizes-settled m z s =
       let c : ℕ = class m s in
       let m₁ : Mem = rebuiltBy g m s in
       let z₁ : Sizes g m₁ = sizes-bitmap g m z (s * bitmapWords g) (adopted (above g c) (blocksIn g c) (marksOf g m s) (bitmap g m s)) in
@@ -61,6 +61,10 @@ module _ (g : Geometry) where
       (sizes-stacked g (setSegmentState g m₁ s segment.Free) (sizes-state g m₁ z₁ s segment.Free) freeStack s)
       (sizes-pick g (eqb (keptBy g m s) (blocksIn g c)) full part (sizes-state g m₁ z₁ s (segment.Full c))
       (sizes-stacked g (setSegmentState g m₁ s (segment.Part c 0)) (sizes-state g m₁ z₁ s (segment.Part c 0)) (partStack c) s))
+
+  sizes-swept : (m : Mem) → Sizes g m → (s : ℕ) → Sizes g (swept g m s)
+  unfolding swept
+  sizes-swept m z s = sizes-control g (settledBy g m s) (sizes-settled m z s) 2 (suc s)
 
   sizes-sweeps : (o : Option ℕ) (m : Mem) → Sizes g m → Sizes g (sweeps g o m .1)
   sizes-sweeps none m z = sizes-control g m z 0 (phaseNumber idle)

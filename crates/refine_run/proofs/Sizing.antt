@@ -25,7 +25,7 @@ use Rattle.model.specs.Records.{record?, pointerCount, pointer, headerOf, writt
 use Rattle.model.specs.Mutators.{acknowledged, attached, detached, released, releasedOne}
 use Rattle.model.specs.Making.{Source, held, part, unused, noRoom, sourceOf, takes, freshened, advanced, blackened, handedOut, inBlock, fromSource, made}
 use Rattle.model.specs.Calls.{observe, ofClass, act, exec}
-use Rattle.laws.proofs.Lengths.{sizes-mutator, sizes-entry, sizes-stack, sizes-bitmap, sizes-marked, sizes-heap, sizes-heap-run, sizes-state}
+use Rattle.laws.proofs.Lengths.{sizes-mutator, sizes-entry, sizes-stack, sizes-bitmap, sizes-entered, sizes-heap, sizes-heap-run, sizes-state}
 use Rattle.laws.proofs.Operations.{sizes-pick, sizes-barrier, sizes-acknowledged, sizes-stacked}
 use Rattle.model.specs.Segments as segments
 
@@ -65,7 +65,7 @@ module _ (g : Geometry) where
   sizes-written m z at shape = sizes-heap-run g (setHeap m at (headerWord shape)) (sizes-heap g m z at (headerWord shape)) (at + 1) (replicate (fieldCountOf shape) 0)
 
   sizes-blackened : (m : Mem) → Sizes g m → (k at : ℕ) → Sizes g (blackened g m k at)
-  sizes-blackened m z k at = sizes-pick g (black (phase m) (acks m k)) _ m (sizes-marked g m z at) z
+  sizes-blackened m z k at = sizes-pick g (black (phase m) (acks m k)) _ m (sizes-entered g m z at) z
 
   sizes-handed : (m : Mem) → Sizes g m → (k d c s b : ℕ) (shape : RecordShape) → Sizes g (handedOut g m k d c s b shape)
   unfolding handedOut

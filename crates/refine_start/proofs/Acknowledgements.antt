@@ -21,16 +21,15 @@ pub record BesideMutators (m m′ : Mem) : Type 0 where
   pub segments : m′ .segments ≡ m .segments
   pub stacks : m′ .stacks ≡ m .stacks
   pub bitmaps : m′ .bitmaps ≡ m .bitmaps
-  pub queued : m′ .queued ≡ m .queued
   pub trace : m′ .trace ≡ m .trace
   pub heap : m′ .heap ≡ m .heap
 
 pub beside-reset : (m : Mem) (n : ℕ) → BesideMutators m (acksReset m n)
 unfolding acksReset setMutator
-beside-reset m zero = record { control = refl; segments = refl; stacks = refl; bitmaps = refl; queued = refl; trace = refl; heap = refl }
+beside-reset m zero = record { control = refl; segments = refl; stacks = refl; bitmaps = refl; trace = refl; heap = refl }
 beside-reset m (suc k) =
     let b = beside-reset m k in
-    record { control = b .control; segments = b .segments; stacks = b .stacks; bitmaps = b .bitmaps; queued = b .queued; trace = b .trace; heap = b .heap }
+    record { control = b .control; segments = b .segments; stacks = b .stacks; bitmaps = b .bitmaps; trace = b .trace; heap = b .heap }
 
 -- ---- the mutators' words
 

@@ -27,14 +27,13 @@ others-then a b c p q = record {
   stacks = q .stacks ∙ p .stacks;
   bitmaps = q .bitmaps ∙ p .bitmaps;
   marks = q .marks ∙ p .marks;
-  queued = q .queued ∙ p .queued;
   trace = q .trace ∙ p .trace;
   heap = q .heap ∙ p .heap;
 }
 
 pub others-condemned : (m : Mem) (n : ℕ) → OtherRegions m (condemned m n)
 unfolding condemned
-others-condemned m zero = record { control = refl; mutators = refl; stacks = refl; bitmaps = refl; marks = refl; queued = refl; trace = refl; heap = refl }
+others-condemned m zero = record { control = refl; mutators = refl; stacks = refl; bitmaps = refl; marks = refl; trace = refl; heap = refl }
 others-condemned m (suc s) = go (collects m s) (others-condemned m s)
   where
     go : (b : Bool) → OtherRegions m (condemned m s) → OtherRegions m (pick b (setTag (condemned m s) s Tag.condemned) (condemned m s))

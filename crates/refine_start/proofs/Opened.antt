@@ -52,10 +52,6 @@ module _ (g : Geometry) (m : Mem) where
   unfolding opened
   opened-stacks = refl
 
-  opened-queued : (k : ℕ) → bitAt (opened g m .queued) k ≡ 0
-  unfolding opened
-  opened-queued k = zeros-bit (len g Region.queued) k
-
   pub opened-idle : phase (opened g m) ≡ idle
   opened-idle = ap phaseOf (opened-control 0)
 
@@ -68,7 +64,6 @@ sizes-opened g m s = record {
   stacks = length-open g;
   bitmaps = s .bitmaps;
   marks = s .marks;
-  queued = length-replicate {A = ℕ} (len g Region.queued) 0;
   trace = s .trace;
   heap = s .heap;
 }
@@ -116,9 +111,8 @@ module _ (g : Geometry) (m : Mem) where
       record {
         named = λ i l. absurd (omega arith);
         once = λ i j l k e. omega arith;
-        unmarked = λ at e. absurd (let l = e .within in omega arith);
         bits = λ at e. absurd (let l = e .within in omega arith);
-        number = z ∙ sym (no-ones (bitAt (opened g m .queued)) (g .segments * mostBlocks g) (λ i l. opened-queued g m i));
+        number = omega arith;
       }
 
   in-idle : InPhase idle g (opened g m)
@@ -138,6 +132,7 @@ opened-consistent g m s = record {
     phases = let z = opened-control g m 0 in omega arith;
     segments = λ r l. segment-ok g m r;
     occupied = λ r l a b. let t : tag (opened g m) r ≡ Tag.free = opened-segment g m (r * segmentRecordWords + tagAt) in absurd (omega arith);
+    behind = λ r l b e. let z = opened-control g m 2 in omega arith;
     mutators = λ k l. mutator-ok g m k;
     acknowledgements = λ k l f. absurd (f (opened-mutator g m (k * mutatorWords + stateAt)));
     records = λ at p. absurd (no-reached g m at p);

@@ -18,7 +18,7 @@ use Rattle.theory.proofs.Agree.{Agree}
 use Rattle.model.specs.Rules.{phaseOf}
 use Rattle.model.specs.Fields.{phase, traceCount, absent, stateAt, acksAt, state, tag, class, place, owner, root, holding}
 use Rattle.model.specs.Segments.{freeStack, partStack, usedBit}
-use Rattle.model.specs.Records.{record?, pointerCount, pointer, blockOf, recordBit, marked}
+use Rattle.model.specs.Records.{record?, pointerCount, pointer, blockOf, recordBit}
 use Rattle.model.specs.Collector.{isFull, collects, started}
 use Rattle.model.proofs.Collecting.{collects-full}
 use Rattle.model.specs.Reaching.{Live, isMarked}
@@ -30,7 +30,8 @@ use Rattle.laws.proofs.Bools.{and-false, test-same}
 use Rattle.refine_view.proofs.Contents.{pointers-by, fields-by}
 use Rattle.refine_view.proofs.Seeing.{root-was, edge-was, live-was}
 use Rattle.laws.proofs.OtherStacks.{stack-by}
-use Rattle.refine_view.proofs.Carried.{block-by, bit-by, record-by, queued-by}
+use Rattle.refine_view.proofs.Carried.{block-by, record-by}
+use Rattle.laws.proofs.Marked.{unentered}
 use Rattle.refine_view.proofs.Invariants.{structure-of}
 use Rattle.laws.proofs.Entries.{holding-by, table-below}
 use Rattle.laws.proofs.Segments.{segment-same, tree-same, occupied-same, part-same, used-same, in-range}
@@ -175,7 +176,7 @@ module _ (g : Geometry) (m m′ : Mem) (z : Sizes g m) (ok : Ordered g m) (quiet
   -- ---- the trace stack
 
   trace-ok : QueuedOk g m′
-  trace-ok = queued-by g m m′ (structure-of g m ok .trace) (b .traced) (λ i. ap (λ l. getD l i 0) (b .trace)) (b .queued) (λ at e. bit-by g m m′ at (b .segments (segmentOf g at) .class))
+  trace-ok = let n = none-left in record { named = λ i l. absurd (omega arith); bits = λ at e. absurd (let l = e .within in omega arith); number = omega arith }
 
   structure : Structure g m′
   structure = record {
@@ -187,14 +188,14 @@ module _ (g : Geometry) (m m′ : Mem) (z : Sizes g m) (ok : Ordered g m) (quiet
     partSegments = λ c h. stack-by g m m′ (partStack c) (isPart m c) (isPart m′ c) (b .stacks) (ok .partSegments c h) (λ s l. part-test c s);
     records = λ at p. record-ok at (ok .records at (live-before at p));
     trace = trace-ok;
-    marks = subst (λ p. MarksIn p g m′) (sym begun-phase) (λ k l. b .marks k);
+    marks = subst (λ p. MarksIn p g m′) (sym begun-phase) (λ k l e. absurd (let q = b .marks k in omega arith));
   }
 
   -- ---- beside the machine's start
 
   no-mark : (at : ℕ) → (isHead g m′ at && isMarked g m′ at) ≡ false
   no-mark at =
-      let e : isMarked g m′ at ≡ false = ne-eqb (marked g m′ at) 1 (λ e. let q = b .marks (recordBit g m′ at) in omega arith) in
+      let e : isMarked g m′ at ≡ false = ap (λ z. eqb z 1) (unentered g m′ at (b .marks (recordBit g m′ at))) in
       ap (λ x. isHead g m′ at && x) e ∙ and-false (isHead g m′ at)
 
   used-test : (at : ℕ) → isUsed g m′ at ≡ isUsed g m at
@@ -226,6 +227,7 @@ start-kept g m z ok quiet =
     record {
       structure = structure g m (started g m) z ok quiet b;
       occupied = occupied-ok g m (started g m) z ok quiet b;
+      behind = λ x l h e. let y = b .cursor in omega arith;
       agree = agree g m (started g m) z ok quiet b;
       collected = λ s l e. (sym (collected g m (started g m) z ok quiet b s) ∙ eq-eqb _ _ e, b .segments s .class);
     }

@@ -2,14 +2,12 @@
 use mathlib.Core.Path.{_≡_, sym, _∙_, ap, subst}
 use mathlib.Core.Logic.{_⊎_, inl, inr}
 use mathlib.Core.Bool.{true, false, not, _&&_, true≢false}
-use mathlib.Core.List.{List}
-use Prim.Native.Nat.{ℕ, _/_, _%_, _<_}
+use Prim.Native.Nat.{ℕ, _%_, _<_}
 use native.Mathlib.Decide.{ℕ-discrete}
 use lib.Dec.{eqb}
 use borrow.Author.Tests.{eq-eqb, ne-eqb}
-use Rattle.words.specs.Bits.{bitAt}
 use Rattle.layout.specs.declared.Geometry.{Geometry}
-use Rattle.layout.specs.Geometry.{segmentWords, segmentOf, bitIn}
+use Rattle.layout.specs.Geometry.{segmentWords, segmentOf}
 use Rattle.layout.specs.Mem.{Mem, Sizes}
 use Rattle.theory.specs.Phases.{sweep}
 use Rattle.theory.specs.Update.{ifDec}
@@ -18,18 +16,20 @@ use Rattle.theory.proofs.Agree.{Agree}
 use Rattle.theory.proofs.Invariant.{Tracing}
 use Rattle.model.specs.Fields.{phase, traceCount, absent, inside, tag, class}
 use Rattle.classes.specs.Class.{blockWords}
-use Rattle.model.specs.Records.{blockOf, record?}
+use Rattle.model.specs.Records.{record?}
 use Rattle.model.specs.Reaching.{Live, isMarked}
 use Rattle.refine_view.specs.View.{view, stackOf, isHead, isUsed}
 use Rattle.refine_view.specs.Kept.{Ordered, Moves}
 use Rattle.laws.proofs.Bools.{and-both}
+use Rattle.laws.proofs.Marked.{marked-by}
 use Rattle.refine_view.proofs.Seeing.{head-of}
 use Rattle.refine_view.proofs.Contents.{pointers-by, fields-by}
 use Rattle.refine_view.proofs.Invariants.{to-live, used-of, used-record}
 use Rattle.refine_sweep.proofs.Frames.{mutator-same, heap-same}
 use Rattle.refine_sweep.proofs.Outcome.{Outcome}
-use Rattle.refine_sweep.proofs.Survivors.{empty, empty-after, phase-after, live-marked}
+use Rattle.refine_sweep.proofs.Survivors.{empty, empty-after, phase-after, live-marked, control-same}
 use Rattle.refine_sweep.proofs.Structured.{record-after, structure-after, occupied-after, steady-after}
+use Rattle.refine_view.proofs.Keeping.{behind-by}
 use Rattle.theory.specs.Machine as machine
 use Rattle.model.specs.Tag as Tag
 
@@ -61,8 +61,8 @@ module _ (g : Geometry) (m : Mem) (s : Sizes g m) (c : Ordered g m) (ph : phase 
       go : ((segmentOf g x ≡ r) × (after .condemned (segmentOf g x) ≡ false)) ⊎ ((segmentOf g x ≡ r → ⊥) × (after .condemned (segmentOf g x) ≡ eqb (tag m (segmentOf g x)) Tag.condemned)) → (isHead g m′ x && isMarked g m′ x) ≡ (isHead g m x && isMarked g m x)
       go (inl h) = absurd (true≢false (sym e ∙ h .1))
       go (inr h) =
-          ap (λ z. eqb (x % segmentWords g % blockWords z) 0 && eqb (bitAt (m′ .marks) (bitIn g (segmentOf g x) (x % segmentWords g / blockWords z))) 1) (o .left .other (segmentOf g x) (h .0) .class)
-          ∙ ap (λ (z : List ℕ). isHead g m x && eqb (bitAt z (bitIn g (segmentOf g x) (blockOf g m x))) 1) (o .left .marks)
+          ap (λ z. eqb (x % segmentWords g % blockWords z) 0 && isMarked g m′ x) (o .left .other (segmentOf g x) (h .0) .class)
+          ∙ ap (λ z. isHead g m x && eqb z 1) (marked-by g m m′ x (o .left .marks) (o .left .trace) (empty-after g m s c ph m′ r l t o ∙ sym (empty g m s c ph m′ r l t o)))
 
   pub agree-after : Agree (segmentOf g) after (view g m′)
   agree-after =
@@ -84,4 +84,4 @@ module _ (g : Geometry) (m : Mem) (s : Sizes g m) (c : Ordered g m) (ph : phase 
       }
 
   pub moves-after : Moves g m m′ after
-  moves-after = record { structure = structure-after g m s c ph m′ r l t o; occupied = occupied-after g m s c ph m′ r l t o; agree = agree-after; steady = steady-after g m s c ph m′ r l t o }
+  moves-after = record { structure = structure-after g m s c ph m′ r l t o; occupied = occupied-after g m s c ph m′ r l t o; behind = behind-by g m m′ (steady-after g m s c ph m′ r l t o) (control-same g m s c ph m′ r l t o 2); agree = agree-after; steady = steady-after g m s c ph m′ r l t o }

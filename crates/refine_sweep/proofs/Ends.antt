@@ -8,17 +8,17 @@ use Rattle.rules.specs.Pick.{pick}
 use Rattle.words.specs.Bits.{bitAt}
 use Rattle.words.specs.Tree.{Tree}
 use Rattle.words.proofs.Lists.{at-lt}
-use Rattle.layout.specs.Geometry.{blocksIn, bitIn}
+use Rattle.layout.specs.Geometry.{blocksIn}
 use Rattle.layout.specs.declared.Geometry.{Geometry}
 use Rattle.layout.specs.Mem.{Mem, Sizes}
 use Rattle.model.specs.declared.SegmentState.{SegmentState}
 use Rattle.model.specs.Fields.{tag, class, place, owner}
 use Rattle.model.specs.Segments.{above, bitmap, usedBit, marksOf}
 use Rattle.model.specs.Collector.{keptBy}
+use Rattle.model.specs.Records.{headerOf, entered}
 use Rattle.classes.specs.Class.{IsClass}
 use Rattle.laws.proofs.Words.{tagOf, classIn, placeIn, ownerIn}
 use Rattle.laws.proofs.Parted.{Stacks}
-use Rattle.laws.proofs.Blocks.{blocks-most}
 use Rattle.words.proofs.Counts.{none-one, all-one, one-missing, one-there}
 use Rattle.laws.proofs.Rebuilding.{mark-bit}
 use Rattle.refine_sweep.proofs.Settled.{Settled}
@@ -27,9 +27,9 @@ use Rattle.model.specs.declared.SegmentState.the-variants as segment
 use Rattle.model.specs.Tag as Tag
 
 module _ (g : Geometry) (m : Mem) (s : Sizes g m) (r : ℕ) (l : r < g .segments) (k : IsClass (class m r)) (m′ : Mem) where
-  -- a block's bit among the segment's marks, and among all
-  to-mark : (b : ℕ) → b < blocksIn g (class m r) → bitAt (marksOf g m r) b ≡ bitAt (m .marks) (bitIn g r b)
-  to-mark b h = let q = blocks-most g (class m r) k in mark-bit g m s r l k b (omega arith)
+  -- a block's bit among the segment's marks, and its record's
+  to-mark : (b : ℕ) → b < blocksIn g (class m r) → bitAt (marksOf g m r) b ≡ entered g m (headerOf g r (class m r) b)
+  to-mark b h = mark-bit g m s r l k b h
 
   pub free-end : Settled g m m′ r segment.Free → keptBy g m r ≡ 0 → Stacks g m′ → Outcome g m m′ r
   free-end q e p =
@@ -52,17 +52,17 @@ module _ (g : Geometry) (m : Mem) (s : Sizes g m) (r : ℕ) (l : r < g .segments
         uncondemned = λ a. omega arith;
         classed = λ d. absurd (d z);
         used = λ d b h. absurd (d z);
-        kept = λ b h a _. (let y : bitAt (m .marks) (bitIn g r b) ≡ 0 = sym (to-mark b h) ∙ none-one (bitAt (marksOf g m r)) (blocksIn g (class m r)) e b h in omega arith);
+        kept = λ b h a _. (let y : entered g m (headerOf g r (class m r) b) ≡ 0 = sym (to-mark b h) ∙ none-one (bitAt (marksOf g m r)) (blocksIn g (class m r)) e b h in omega arith);
         stacks = p;
       }
 
   -- a segment that stays in use, with its class
-  kept-end : (x : SegmentState) → Settled g m m′ r x → classIn x ≡ class m r → ownerIn x ≡ 0 → 1 ≤ tagOf x → (tagOf x ≡ 2 → ⊥) → tagOf x ≤ 3 → (tagOf x ≤ 2 → (b : ℕ) × (placeIn g x ≤ b) × (b < blocksIn g (class m r)) × (bitAt (bitmap g m′ r) b ≡ 0)) → (3 ≤ tagOf x → placeIn g x ≡ blocksIn g (class m r)) → (tagOf x ≤ 2 → (b : ℕ) × (b < blocksIn g (class m r)) × (bitAt (m .marks) (bitIn g r b) ≡ 1))
-      → ((b : ℕ) → b < blocksIn g (class m r) → pick (ltb b (placeIn g x)) 1 (bitAt (bitmap g m′ r) b) ≡ bitAt (m .marks) (bitIn g r b)) → Stacks g m′ → Outcome g m m′ r
+  kept-end : (x : SegmentState) → Settled g m m′ r x → classIn x ≡ class m r → ownerIn x ≡ 0 → 1 ≤ tagOf x → (tagOf x ≡ 2 → ⊥) → tagOf x ≤ 3 → (tagOf x ≤ 2 → (b : ℕ) × (placeIn g x ≤ b) × (b < blocksIn g (class m r)) × (bitAt (bitmap g m′ r) b ≡ 0)) → (3 ≤ tagOf x → placeIn g x ≡ blocksIn g (class m r)) → (tagOf x ≤ 2 → (b : ℕ) × (b < blocksIn g (class m r)) × (entered g m (headerOf g r (class m r) b) ≡ 1))
+      → ((b : ℕ) → b < blocksIn g (class m r) → pick (ltb b (placeIn g x)) 1 (bitAt (bitmap g m′ r) b) ≡ entered g m (headerOf g r (class m r) b)) → Stacks g m′ → Outcome g m m′ r
   kept-end x q c o low two top remains whole marked used p =
       let z : tag m′ r ≡ tagOf x = q .there .tag in
       let w : class m′ r ≡ class m r = q .there .class ∙ c in
-      let reads : (b : ℕ) → b < blocksIn g (class m r) → usedBit g m′ r b ≡ bitAt (m .marks) (bitIn g r b) = λ b h. ap (λ y. pick (ltb b y) 1 (bitAt (bitmap g m′ r) b)) (q .there .place) ∙ used b h in
+      let reads : (b : ℕ) → b < blocksIn g (class m r) → usedBit g m′ r b ≡ entered g m (headerOf g r (class m r) b) = λ b h. ap (λ y. pick (ltb b y) 1 (bitAt (bitmap g m′ r) b)) (q .there .place) ∙ used b h in
       record {
         left = q .left;
         segment = record {

@@ -5,6 +5,7 @@ pub mod Frames
 pub mod Survivors
 pub mod Structured
 pub mod Agreeing
+pub mod Passed
 pub mod Settled
 pub mod Ends
 pub mod SweptStacks

@@ -2,12 +2,12 @@
 -- from them. Assumes nothing.
 use mathlib.Core.Path.{_≡_}
 use Prim.Native.Nat.{ℕ, _<_}
-use Rattle.words.specs.Bits.{bitAt}
-use Rattle.layout.specs.Geometry.{blocksIn, bitIn}
+use Rattle.layout.specs.Geometry.{blocksIn}
 use Rattle.layout.specs.declared.Geometry.{Geometry}
 use Rattle.layout.specs.Mem.{Mem}
 use Rattle.model.specs.Fields.{tag, class, place, owner}
 use Rattle.model.specs.Segments.{bitmap, usedBit}
+use Rattle.model.specs.Records.{headerOf, entered}
 use Rattle.model.specs.Consistent.{SegmentOk, Occupied, TreeOk}
 use Rattle.laws.proofs.Words.{Recorded}
 use Rattle.laws.proofs.Parted.{Stacks}
@@ -18,7 +18,6 @@ pub record Left (g : Geometry) (m m′ : Mem) (r : ℕ) : Type 0 where
   pub control : m′ .control ≡ m .control
   pub mutators : m′ .mutators ≡ m .mutators
   pub marks : m′ .marks ≡ m .marks
-  pub queued : m′ .queued ≡ m .queued
   pub trace : m′ .trace ≡ m .trace
   pub heap : m′ .heap ≡ m .heap
   pub other : (x : ℕ) → (x ≡ r → ⊥) → Recorded m′ x (tag m x) (class m x) (place m x) (owner m x)
@@ -33,6 +32,6 @@ pub record Outcome (g : Geometry) (m m′ : Mem) (r : ℕ) : Type 0 where
   pub unheld : tag m′ r ≡ Tag.held → ⊥
   pub uncondemned : tag m′ r ≡ Tag.condemned → ⊥
   pub classed : (tag m′ r ≡ Tag.free → ⊥) → class m′ r ≡ class m r
-  pub used : (tag m′ r ≡ Tag.free → ⊥) → (b : ℕ) → b < blocksIn g (class m r) → usedBit g m′ r b ≡ bitAt (m .marks) (bitIn g r b)
-  pub kept : (b : ℕ) → b < blocksIn g (class m r) → bitAt (m .marks) (bitIn g r b) ≡ 1 → tag m′ r ≡ Tag.free → ⊥
+  pub used : (tag m′ r ≡ Tag.free → ⊥) → (b : ℕ) → b < blocksIn g (class m r) → usedBit g m′ r b ≡ entered g m (headerOf g r (class m r) b)
+  pub kept : (b : ℕ) → b < blocksIn g (class m r) → entered g m (headerOf g r (class m r) b) ≡ 1 → tag m′ r ≡ Tag.free → ⊥
   pub stacks : Stacks g m′

@@ -5,13 +5,14 @@ use Prim.Native.Nat.{ℕ, _<_}
 use native.Mathlib.Omega.{arith}
 use Rattle.words.specs.Bits.{bitAt}
 use Rattle.words.specs.Tree.{Tree}
-use Rattle.layout.specs.Geometry.{blocksIn, bitIn}
+use Rattle.layout.specs.Geometry.{blocksIn}
 use Rattle.layout.specs.declared.Geometry.{Geometry}
 use Rattle.layout.specs.Mem.{Mem, setStack, setRun, Sizes}
 use Rattle.model.specs.declared.SegmentState.{SegmentState}
 use Rattle.model.specs.Fields.{class}
 use Rattle.model.specs.Segments.{setSegmentState, above, bitmap, stacked}
 use Rattle.model.specs.Collector.{rebuiltBy}
+use Rattle.model.specs.Records.{headerOf, entered}
 use Rattle.classes.specs.Class.{IsClass}
 use Rattle.laws.proofs.Words.{Recorded, recorded-as, tagOf, classIn, placeIn, ownerIn, OtherRegions, state-others, state-there, state-other}
 use Rattle.laws.proofs.Bitmaps.{bitmap-by}
@@ -22,7 +23,7 @@ use Rattle.laws.proofs.Rebuilding.{rebuilt-other, rebuilt-bit, rebuilt-tree}
 pub record Settled (g : Geometry) (m m′ : Mem) (r : ℕ) (x : SegmentState) : Type 0 where
   pub left : Left g m m′ r
   pub there : Recorded m′ r (tagOf x) (classIn x) (placeIn g x) (ownerIn x)
-  pub bits : (b : ℕ) → b < blocksIn g (class m r) → bitAt (bitmap g m′ r) b ≡ bitAt (m .marks) (bitIn g r b)
+  pub bits : (b : ℕ) → b < blocksIn g (class m r) → bitAt (bitmap g m′ r) b ≡ entered g m (headerOf g r (class m r) b)
   pub tree : Tree (above g (class m r)) (blocksIn g (class m r)) (bitmap g m′ r)
 
 module _ (g : Geometry) (m : Mem) (s : Sizes g m) (r : ℕ) (l : r < g .segments) (k : IsClass (class m r)) (x : SegmentState) where
@@ -49,7 +50,6 @@ module _ (g : Geometry) (m : Mem) (s : Sizes g m) (r : ℕ) (l : r < g .segments
       control = others .control;
       mutators = others .mutators;
       marks = others .marks;
-      queued = others .queued;
       trace = others .trace;
       heap = others .heap;
       other = λ y d. state-other g (rebuiltBy g m r) r x y d;
@@ -66,7 +66,7 @@ unfolding setStack
 settled-stacked g m m′ r x t q =
     let o = q .left in
     record {
-      left = record { control = o .control; mutators = o .mutators; marks = o .marks; queued = o .queued; trace = o .trace; heap = o .heap; other = λ y d. recorded-as m′ _ y _ _ _ _ refl (o .other y d); bitmaps = o .bitmaps };
+      left = record { control = o .control; mutators = o .mutators; marks = o .marks; trace = o .trace; heap = o .heap; other = λ y d. recorded-as m′ _ y _ _ _ _ refl (o .other y d); bitmaps = o .bitmaps };
       there = recorded-as m′ _ r _ _ _ _ refl (q .there);
       bits = q .bits;
       tree = q .tree;

@@ -8,19 +8,20 @@ use lib.ListN.{getD}
 use Rattle.rules.proofs.Order.{same-or-not}
 use Rattle.words.specs.Bits.{bitAt}
 use Rattle.layout.specs.declared.Geometry.{Geometry}
-use Rattle.layout.specs.Geometry.{mutatorCount, bitIn}
+use Rattle.layout.specs.Geometry.{mutatorCount, segmentOf}
 use Rattle.layout.specs.Mem.{Mem, Sizes}
 use Rattle.theory.specs.Phases.{sweep}
 use Rattle.model.specs.Fields.{phase, tag}
 use Rattle.model.specs.Reaching.{Live}
-use Rattle.model.specs.Consistent.{InPhase, SegmentOk, Occupied, TreeOk, MutatorOk, RecordOk, BlockInUse}
+use Rattle.model.specs.Records.{blockOf}
+use Rattle.model.specs.Consistent.{InPhase, SegmentOk, Occupied, TreeOk, MutatorOk, RecordOk, HeadInUse, bitWord}
 use Rattle.refine_view.specs.Kept.{Ordered, EachOccupied, Structure, MarksIn, Steady}
 use Rattle.laws.proofs.Segments.{segment-same, tree-same, occupied-by}
 use Rattle.refine_view.proofs.Carried.{record-by, use-by, queued-by}
 use Rattle.refine_view.proofs.Invariants.{structure-of}
 use Rattle.refine_sweep.proofs.Frames.{mutator-same, heap-same}
 use Rattle.refine_sweep.proofs.Outcome.{Outcome}
-use Rattle.refine_sweep.proofs.Survivors.{control-same, empty, phase-after, live-was, class-same, used-other, tag-after, block-after}
+use Rattle.refine_sweep.proofs.Survivors.{control-same, phase-after, live-was, class-same, used-other, tag-after, block-after}
 use Rattle.model.specs.Tag as Tag
 
 module _ (g : Geometry) (m : Mem) (s : Sizes g m) (c : Ordered g m) (ph : phase m ≡ sweep) (m′ : Mem) (r : ℕ) (l : r < g .segments) (t : tag m r ≡ Tag.condemned) (o : Outcome g m m′ r) where
@@ -58,11 +59,12 @@ module _ (g : Geometry) (m : Mem) (s : Sizes g m) (c : Ordered g m) (ph : phase 
       (sym (w .tag) ∙ e, w .class)
 
   marks-after : MarksIn sweep g m′
-  marks-after x b h e k q =
-      let d : x ≡ r → ⊥ = λ f. o .uncondemned (sym (ap (tag m′) f) ∙ e) in
-      let w = o .left .other x d in
-      let u : BlockInUse g m x b = subst (λ p. InPhase p g m) ph (c .cycle) .1 x b h (sym (w .tag) ∙ e) k (sym (ap (λ (z : List ℕ). bitAt z (bitIn g x b)) (o .left .marks)) ∙ q) in
-      use-by g m m′ x b u (w .class) (λ z. u .used (sym (w .tag) ∙ z)) (used-other g m s c ph m′ r l t o x b d ∙ u .block)
+  marks-after k h e q =
+      let x = bitWord k in
+      let d : segmentOf g x ≡ r → ⊥ = λ f. o .uncondemned (sym (ap (tag m′) f) ∙ e) in
+      let w = o .left .other (segmentOf g x) d in
+      let u : HeadInUse g m x = subst (λ p. InPhase p g m) ph (c .cycle) .1 k h (sym (w .tag) ∙ e) (sym (ap (λ (z : List ℕ). bitAt z k) (o .left .marks)) ∙ q) in
+      use-by g m m′ x (w .class) u (λ z. u .used (sym (w .tag) ∙ z)) (used-other g m s c ph m′ r l t o (segmentOf g x) (blockOf g m x) d ∙ u .block)
 
   pub structure-after : Structure g m′
   structure-after = record {
@@ -73,6 +75,6 @@ module _ (g : Geometry) (m : Mem) (s : Sizes g m) (c : Ordered g m) (ph : phase 
     freeSegments = o .stacks .0;
     partSegments = o .stacks .1;
     records = λ x p. record-after x (live-was g m s c ph m′ r l t o p);
-    trace = queued-by g m m′ (structure-of g m c .trace) (control-same g m s c ph m′ r l t o 1) (λ i. ap (λ (z : List ℕ). getD z i 0) (o .left .trace)) (o .left .queued) (λ x e. absurd (let h = e .within in let n = empty g m s c ph m′ r l t o in omega arith));
+    trace = queued-by g m m′ (structure-of g m c .trace) (control-same g m s c ph m′ r l t o 1) (λ i. ap (λ (z : List ℕ). getD z i 0) (o .left .trace)) (o .left .marks);
     marks = subst (λ p. MarksIn p g m′) (sym (phase-after g m s c ph m′ r l t o)) marks-after;
   }

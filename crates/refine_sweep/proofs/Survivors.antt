@@ -6,20 +6,20 @@ use Prim.Native.Nat.{ℕ, _<_}
 use native.Mathlib.Omega.{arith}
 use lib.ListN.{getD}
 use Rattle.rules.proofs.Order.{same-or-not}
-use Rattle.words.specs.Bits.{bitAt}
-use Rattle.layout.specs.Geometry.{blocksIn, segmentOf, bitIn}
+use Rattle.layout.specs.Geometry.{blocksIn, segmentOf}
 use Rattle.layout.specs.declared.Geometry.{Geometry}
 use Rattle.layout.specs.Mem.{Mem, controlWord, Sizes}
 use Rattle.theory.specs.Phases.{sweep}
 use Rattle.model.specs.Rules.{phaseOf}
 use Rattle.model.specs.Fields.{phase, traceCount, tag, class}
 use Rattle.model.specs.Segments.{usedBit}
-use Rattle.model.specs.Records.{blockOf, marked}
+use Rattle.model.specs.Records.{blockOf, headerOf, entered, marked}
 use Rattle.model.specs.Reaching.{Live}
 use Rattle.classes.specs.Class.{IsClass}
 use Rattle.model.specs.Consistent.{InPhase}
 use Rattle.refine_view.specs.Kept.{Ordered}
-use Rattle.laws.proofs.Blocks.{of-block}
+use Rattle.laws.proofs.Blocks.{of-block, is-header}
+use Rattle.laws.proofs.Marked.{marked-entered}
 use Rattle.laws.proofs.Segments.{used-same}
 use Rattle.refine_sweep.proofs.Frames.{live-reached, live-before}
 use Rattle.refine_sweep.proofs.Outcome.{Outcome}
@@ -51,9 +51,15 @@ module _ (g : Geometry) (m : Mem) (s : Sizes g m) (c : Ordered g m) (ph : phase 
   pub class-swept : IsClass (class m r)
   class-swept = c .segments r l .classes (λ z. let y = t in omega arith)
 
+  -- by the header word of its block
+  live-bit : (x : ℕ) → Live m x → segmentOf g x ≡ r → entered g m (headerOf g r (class m r) (blockOf g m x)) ≡ 1
+  live-bit x p e =
+      let is : x ≡ headerOf g r (class m r) (blockOf g m x) = is-header g m x (subst (λ z. IsClass (class m z)) (sym e) class-swept) (c .records x p .aligned) ∙ ap (λ z. headerOf g z (class m z) (blockOf g m x)) e in
+      subst (λ z. entered g m z ≡ 1) is (marked-entered g m x (live-marked x p e))
+
   -- so its segment is not freed, and its block stays in use
   pub segment-kept : (x : ℕ) → Live m x → segmentOf g x ≡ r → tag m′ r ≡ Tag.free → ⊥
-  segment-kept x p e = o .kept (blockOf g m x) (subst (λ z. blockOf g m x < blocksIn g (class m z)) e (of-block g m x (subst (λ z. IsClass (class m z)) (sym e) class-swept))) (sym (ap (λ z. bitAt (m .marks) (bitIn g z (blockOf g m x))) e) ∙ live-marked x p e)
+  segment-kept x p e = o .kept (blockOf g m x) (subst (λ z. blockOf g m x < blocksIn g (class m z)) e (of-block g m x (subst (λ z. IsClass (class m z)) (sym e) class-swept))) (live-bit x p e)
 
   pub class-same : (x : ℕ) → Live m x → class m′ (segmentOf g x) ≡ class m (segmentOf g x)
   class-same x p = go (same-or-not (segmentOf g x) r)
@@ -79,6 +85,5 @@ module _ (g : Geometry) (m : Mem) (s : Sizes g m) (c : Ordered g m) (ph : phase 
       go (inl e) =
           ap (λ z. usedBit g m′ z (blockOf g m x)) e
           ∙ o .used (segment-kept x p e) (blockOf g m x) (subst (λ z. blockOf g m x < blocksIn g (class m z)) e (of-block g m x (subst (λ z. IsClass (class m z)) (sym e) class-swept)))
-          ∙ sym (ap (λ z. bitAt (m .marks) (bitIn g z (blockOf g m x))) e)
-          ∙ live-marked x p e
+          ∙ live-bit x p e
       go (inr d) = used-other (segmentOf g x) (blockOf g m x) d ∙ c .records x p .block

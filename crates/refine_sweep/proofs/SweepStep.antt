@@ -11,7 +11,7 @@ use Rattle.layout.specs.declared.Geometry.{Geometry}
 use Rattle.layout.specs.Mem.{Mem, Sizes}
 use Rattle.model.specs.Fields.{tag, class}
 use Rattle.model.specs.Segments.{freeStack, partStack, stacked}
-use Rattle.model.specs.Collector.{keptBy, swept}
+use Rattle.model.specs.Collector.{keptBy, settledBy}
 use Rattle.classes.specs.Class.{IsClass}
 use Rattle.refine_view.specs.Kept.{Ordered}
 use Rattle.refine_sweep.proofs.Settled.{settledMem, settled-state}
@@ -43,9 +43,9 @@ module _ (g : Geometry) (m : Mem) (s : Sizes g m) (c : Ordered g m) (r : ℕ) (l
   parted-is : (keptBy g m r ≡ 0 → ⊥) → (keptBy g m r ≡ blocksIn g (class m r) → ⊥) → Outcome g m parted r
   parted-is n e = part-end g m s r l classed parted (part-state g m s c r l classed t) n e (part-stacks g m s c r l classed t)
 
-  pub swept-outcome : Outcome g m (swept g m r) r
-  unfolding swept
-  swept-outcome = none? (eqb (keptBy g m r) 0) refl
+  pub settled-outcome : Outcome g m (settledBy g m r) r
+  unfolding settledBy
+  settled-outcome = none? (eqb (keptBy g m r) 0) refl
     where
       all? : (keptBy g m r ≡ 0 → ⊥) → (b : Bool) → eqb (keptBy g m r) (blocksIn g (class m r)) ≡ b → Outcome g m (pick b filled parted) r
       all? n true e = filled-is (eqb-true _ _ e)

@@ -37,6 +37,7 @@ use Rattle.laws.proofs.Released.{releasing}
 use Rattle.refine_view.proofs.Seeing.{entries-same}
 use Rattle.refine_view.proofs.Invariants.{to-live, to-inv}
 use Rattle.refine_taking.proofs.Standing.{over, Stood, Stands, marked-live, marked-condemned, collect-same, used-live, steady, records-stand, trace-stands, marks-stand}
+use Rattle.refine_view.proofs.Keeping.{behind-by}
 use Rattle.theory.specs.Machine as machine
 use Rattle.layout.specs.Region as Region
 use Rattle.model.specs.Tag as Tag
@@ -248,7 +249,7 @@ module _ (g : Geometry) (m : Mem) (s : Sizes g m) (c : Ordered g m) (k : ℕ) (f
   }
 
   moves-over : Moves g m m₁ (detach (view g m) k)
-  moves-over = record { structure = structure; occupied = occupied-ok; agree = agree; steady = steady g m s c emptied (parted .segments) (parted .stacks) (m .bitmaps) stands }
+  moves-over = record { structure = structure; occupied = occupied-ok; behind = behind-by g m m₁ (steady g m s c emptied (parted .segments) (parted .stacks) (m .bitmaps) stands) refl; agree = agree; steady = steady g m s c emptied (parted .segments) (parted .stacks) (m .bitmaps) stands }
 
   same : setRun parted Region.mutators (k * mutatorWords) zeros ≡ m₁
   unfolding setRun

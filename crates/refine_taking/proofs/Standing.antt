@@ -16,21 +16,21 @@ use Rattle.theory.specs.Reach.{root}
 use Rattle.model.specs.Fields.{phase, tag, class, place}
 use Rattle.model.specs.Segments.{bitmap, usedBit}
 use Rattle.classes.specs.Class.{blockWords}
-use Rattle.model.specs.Records.{blockOf, queued, marked}
+use Rattle.model.specs.Records.{blockOf}
 use Rattle.model.specs.Reaching.{IsRoot, Live, isMarked}
-use Rattle.model.specs.Consistent.{RecordOk, MarksOf}
+use Rattle.model.specs.Consistent.{RecordOk, MarksOf, bitWord}
 use Rattle.refine_view.specs.View.{view, isHead}
 use Rattle.refine_view.specs.Kept.{Ordered, QueuedOk, MarksIn, Steady}
 use Rattle.laws.proofs.Bools.{ne-not, test-same}
 use Rattle.refine_view.proofs.Seeing.{entry-was, edge-was, live-was}
 use Rattle.laws.proofs.Segments.{used-same}
-use Rattle.refine_view.proofs.Carried.{block-by, bit-by, record-by, use-by, queued-by, marks-by}
+use Rattle.refine_view.proofs.Carried.{block-by, record-by, use-by, queued-by, marks-by}
 use Rattle.refine_view.proofs.Invariants.{structure-of}
 use Rattle.model.specs.Tag as Tag
 
 -- a memory with other mutators' entries, segments' records, stacks and bitmaps
 abbrev pub over : Mem → List ℕ → List ℕ → List ℕ → List ℕ → Mem
-over m mutators segments stacks bitmaps = record { control = m .control; mutators = mutators; segments = segments; stacks = stacks; bitmaps = bitmaps; marks = m .marks; queued = m .queued; trace = m .trace; heap = m .heap }
+over m mutators segments stacks bitmaps = record { control = m .control; mutators = mutators; segments = segments; stacks = stacks; bitmaps = bitmaps; marks = m .marks; trace = m .trace; heap = m .heap }
 
 -- a segment is not free, and has the class, the place and the bitmap that it had
 pub record Stood (g : Geometry) (m m₁ : Mem) (s : ℕ) : Type 0 where
@@ -60,7 +60,7 @@ module _ (g : Geometry) (m : Mem) (s : Sizes g m) (c : Ordered g m) (mu se st bi
   -- ---- what the machine sees
 
   pub marked-same : (at : ℕ) → (tag m (segmentOf g at) ≡ Tag.free → ⊥) → view g m₁ .marked at ≡ view g m .marked at
-  marked-same at u = ap (λ z. eqb (at % segmentWords g % blockWords z) 0 && isMarked g m₁ at) (h .stood (segmentOf g at) u .class) ∙ ap (λ z. isHead g m at && eqb (bitAt (m .marks) z) 1) (bit-by g m m₁ at (h .stood (segmentOf g at) u .class))
+  marked-same at u = ap (λ z. eqb (at % segmentWords g % blockWords z) 0 && isMarked g m₁ at) (h .stood (segmentOf g at) u .class)
 
   pub marked-live : (at : ℕ) → Live m at → view g m₁ .marked at ≡ view g m .marked at
   marked-live at l = marked-same at (c .records at l .used)
@@ -94,13 +94,13 @@ module _ (g : Geometry) (m : Mem) (s : Sizes g m) (c : Ordered g m) (mu se st bi
         record-by g m m₁ at (z .class) r (z .used) (use-same (segmentOf g at) (blockOf g m at) (r .used) ∙ r .block) refl
 
   pub trace-stands : QueuedOk g m₁
-  trace-stands = queued-by g m m₁ (structure-of g m c .trace) refl (λ i. refl) refl (λ at e. bit-by g m m₁ at (h .stood (segmentOf g at) (c .records at (root (inr e)) .used) .class))
+  trace-stands = queued-by g m m₁ (structure-of g m c .trace) refl (λ i. refl) refl
 
   marks-of : (test : ℕ → Type 0) → MarksOf g m test → MarksOf g m₁ test
-  marks-of test o q b l w k e =
-      let u = o q b l w k e in
-      let z = h .stood q (u .used) in
-      use-by g m m₁ q b u (z .class) (z .used) (use-same q b (u .used) ∙ u .block)
+  marks-of test o k l w e =
+      let u = o k l w e in
+      let z = h .stood (segmentOf g (bitWord k)) (u .used) in
+      use-by g m m₁ (bitWord k) (z .class) u (z .used) (use-same (segmentOf g (bitWord k)) (blockOf g m (bitWord k)) (u .used) ∙ u .block)
 
   pub marks-stand : MarksIn (phase m₁) g m₁
-  marks-stand = marks-by g m m₁ (h .condemned) marks-of (phase m) (λ e o. o) (structure-of g m c .marks)
+  marks-stand = marks-by g m m₁ (h .condemned) marks-of (phase m) (λ e o k l b. entry-was m₁ m refl (λ i. refl) (bitWord k) (o k l b)) (structure-of g m c .marks)

@@ -8,7 +8,7 @@ use Rattle.layout.specs.Mem.{Mem, Sizes}
 use Rattle.theory.proofs.Agree.{Agree}
 use Rattle.model.specs.Fields.{holding}
 use Rattle.model.specs.Calls.{isAttached}
-use Rattle.model.specs.Consistent.{Occupied}
+use Rattle.model.specs.Consistent.{Occupied, Behind}
 use Rattle.refine_view.specs.View.{view}
 use Rattle.refine_view.specs.Kept.{EachOccupied, Structure, Steady}
 use Rattle.theory.specs.MachineCalls as machine
@@ -19,6 +19,7 @@ pub record Taken (g : Geometry) (m m₁ : Mem) (k cl r : ℕ) : Type 0 where
   pub structure : Structure g m₁
   -- the other segments have a block in use as before; this one gets it with what is handed out
   pub occupied : EachOccupied g m → (q : ℕ) → q < g .segments → (q ≡ r → ⊥) → Occupied g m₁ q
+  pub behind : Behind g m → Behind g m₁
   pub prepared : Agree (segmentOf g) (view g m) (view g m₁)
   pub shows : machine.observe (view g m₁) ≡ machine.observe (view g m)
   pub steady : Steady g m m₁

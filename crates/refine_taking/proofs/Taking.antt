@@ -35,6 +35,7 @@ use Rattle.refine_view.proofs.Seeing.{entries-same, root-was}
 use Rattle.refine_view.proofs.Invariants.{to-live}
 use Rattle.refine_taking.proofs.Standing.{over, Stood, Stands, marked-live, marked-condemned, collect-same, used-live, steady, records-stand, trace-stands, marks-stand}
 use Rattle.refine_taking.proofs.Taken.{Taken}
+use Rattle.refine_view.proofs.Keeping.{behind-by}
 use Rattle.theory.specs.MachineCalls as calls
 use Rattle.model.specs.Tag as Tag
 
@@ -206,6 +207,7 @@ module _ (g : Geometry) (m : Mem) (s : Sizes g m) (c : Ordered g m) (mu se st bi
       marks = marks-stand g m s c mu se st bi stands;
     };
     occupied = λ u q l f. occupied-by g m m₁ q (u q l) (t .other q f) (t .bitmaps q f);
+    behind = behind-by g m m₁ (steady g m s c mu se st bi stands) refl;
     prepared = agree;
     shows = face-same;
     steady = steady g m s c mu se st bi stands;

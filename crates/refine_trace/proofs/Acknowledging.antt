@@ -33,10 +33,11 @@ use Rattle.laws.proofs.Words.{mutator-there}
 use Rattle.theory.proofs.Updates.{upd-by}
 use Rattle.laws.proofs.Entries.{state-set, acks-set, root-set, mutators-set, held-set}
 use Rattle.refine_view.proofs.Seeing.{entries-same, live-on, live-back}
-use Rattle.refine_view.proofs.Frames.{mutator-beside, marks-beside}
+use Rattle.refine_view.proofs.Frames.{mutator-beside}
 use Rattle.refine_view.proofs.Invariants.{to-record, structure-of}
 use Rattle.refine_view.proofs.Keeping.{moves-self}
-use Rattle.refine_trace.proofs.Over.{over, mutator-over}
+use Rattle.laws.proofs.Apart.{class-of}
+use Rattle.refine_trace.proofs.Over.{over, condemned-class, mutator-over}
 use Rattle.refine_trace.proofs.Entered.{Entered, structure-entered}
 use Rattle.refine_trace.proofs.Push.{Pushed}
 use Rattle.refine_trace.proofs.Folds.{roots-pushed}
@@ -56,46 +57,45 @@ module _ (g : Geometry) (m : Mem) (s : Sizes g m) (c : Ordered g m) (k : ℕ) (f
     abbrev next-state : State
     next-state = machine.setAcks (view g m) k v l
 
-    acks-agree : Agree (segmentOf g) next-state (view g next-memory)
-    unfolding setMutator
-    acks-agree = record {
-      phase = ap phaseOf (e .phase);
-      stack = entries-same (over m control q t) next-memory (getD control 1 0) (λ i h. refl) ∙ is;
-      attached = λ i. ap (λ x. not (eqb x 0)) (state-set g m s k acksAt v few (omega arith) i (λ x y. omega arith));
-      inside = λ i. ap (λ x. eqb x 1) (state-set g m s k acksAt v few (omega arith) i (λ x y. omega arith));
-      acks = λ i. upd-by (acks m) k v i (acks base i) (λ h. ap (acks base) h ∙ mutator-there g m s k acksAt v few (omega arith)) (λ f. acks-set g m s k acksAt v few (omega arith) i (λ x y. f x));
-      root = λ i j a h. ap record? (root-set g m s k acksAt v few (omega arith) i j h (λ x y. omega arith));
-      marked = λ x b h. refl;
-      condemnedMarks = λ b h. refl;
-      condemned = λ x. refl;
-      pointerCount = λ b h. refl;
-      values = λ b h. refl;
-      pointer = λ b f h x. refl;
-      used = λ b h. refl;
-    }
-
     module _ (lives : (x : ℕ) → List·Memᴰ x l → machine.Live (view g m) x) where
       was-live : {x : ℕ} → machine.Live next-state x → machine.Live (view g m) x
       was-live p = reach-map {R = LiveRoot next-state} {R′ = LiveRoot (view g m)} (λ x h. ⊎-elim (λ (r : Root (view g m) x). root (inl r)) (lives x) h) (λ x y z d. inl d) p
+
+      acks-agree : Agree (segmentOf g) next-state (view g next-memory)
+      unfolding setMutator
+      acks-agree = record {
+        phase = ap phaseOf (e .phase);
+        stack = entries-same (over m control q t) next-memory (getD control 1 0) (λ i h. refl) ∙ is;
+        attached = λ i. ap (λ x. not (eqb x 0)) (state-set g m s k acksAt v few (omega arith) i (λ x y. omega arith));
+        inside = λ i. ap (λ x. eqb x 1) (state-set g m s k acksAt v few (omega arith) i (λ x y. omega arith));
+        acks = λ i. upd-by (acks m) k v i (acks base i) (λ h. ap (acks base) h ∙ mutator-there g m s k acksAt v few (omega arith)) (λ f. acks-set g m s k acksAt v few (omega arith) i (λ x y. f x));
+        root = λ i j a h. ap record? (root-set g m s k acksAt v few (omega arith) i j h (λ x y. omega arith));
+        marked = λ x b h. e .same b (class-of g m b (to-record g m s c b (was-live h)));
+        condemnedMarks = λ b h. e .same b (condemned-class g m s (c .segments) b h);
+        condemned = λ x. refl;
+        pointerCount = λ b h. refl;
+        values = λ b h. refl;
+        pointer = λ b f h x. refl;
+        used = λ b h. refl;
+      }
 
       was-record : (x : ℕ) → Live next-memory x → RecordOk g m x
       was-record x p = to-record g m s c x ((was-live (agreeing.live-back (segmentOf g) next-state (view g next-memory) acks-agree (live-on g next-memory p))))
 
       next-structure : Structure g next-memory
       unfolding setMutator
-      next-structure = structure-entered g m control q t e (base .mutators) (m .marks) (m .heap) (structure-of g m c)
+      next-structure = structure-entered g m control q t e (base .mutators) (m .heap) (structure-of g m c)
           (held-set g m s (c .mutators) k acksAt v few (omega arith) there (λ z. absurd (omega arith)) (λ z. small))
-          (λ j l. mutator-beside g base control (m .marks) q t (m .heap) j (mutators-set g m s (c .mutators) k acksAt v few (omega arith) there (λ z. absurd (omega arith)) (λ z. small) j l))
+          (λ j l. mutator-beside g base control q t (m .heap) j (mutators-set g m s (c .mutators) k acksAt v few (omega arith) there (λ z. absurd (omega arith)) (λ z. small) j l))
           (λ x p. (was-record x p, refl))
-          (marks-beside g m control (base .mutators) q t (m .heap) (phase m) (structure-of g m c .marks))
 
       acks-over : Moves g m next-memory next-state
       unfolding setMutator
-      acks-over = record { structure = next-structure; occupied = λ u. u; agree = acks-agree; steady = λ x h z. (z, refl) }
+      acks-over = record { structure = next-structure; occupied = λ u. u; behind = λ u x h b. u x h (subst (λ z. x < z) (e .cursor) b); agree = acks-agree; steady = λ x h z. (z, refl) }
 
   -- the trace stack pushed to l, then the acknowledgements set
   acks-moves : (m′ : Mem) (l : List ℕ) → Pushed g m m′ l → ((x : ℕ) → List·Memᴰ x l → machine.Live (view g m) x) → Moves g m (setAcks m′ k v) (machine.setAcks (view g m) k v l)
-  acks-moves m′ l p h = subst (λ z. Moves g m z (machine.setAcks (view g m) k v l)) (sym (ap (λ z. setAcks z k v) (p .is) ∙ mutator-over m (p .control) (p .queued) (p .trace) _ v)) (acks-over (p .control) (p .queued) (p .trace) (p .entered) l (p .stack) h)
+  acks-moves m′ l p h = subst (λ z. Moves g m z (machine.setAcks (view g m) k v l)) (sym (ap (λ z. setAcks z k v) (p .is) ∙ mutator-over m (p .control) (p .marks) (p .trace) _ v)) (acks-over (p .control) (p .marks) (p .trace) (p .entered) l (p .stack) h)
 
 module _ (g : Geometry) (m : Mem) (s : Sizes g m) (c : Ordered g m) (k : ℕ) (few : k < mutatorCount) (there : state m k ≡ absent → ⊥) where
   root-live : (i x : ℕ) → i < rootCount → record? (fields.root m k i) ≡ some x → machine.Live (view g m) x

@@ -9,7 +9,7 @@ use borrow.Author.Tests.{ne-eqb}
 use Rattle.rules.specs.Pick.{pick, oneIf}
 use Rattle.rules.proofs.Order.{same-or-not}
 use Rattle.layout.specs.declared.Geometry.{Geometry}
-use Rattle.layout.specs.Geometry.{mutatorCount, mostBlocks, segmentOf, bitIn}
+use Rattle.layout.specs.Geometry.{mutatorCount, segmentOf}
 use Rattle.layout.specs.Mem.{Mem, Sizes}
 use Rattle.theory.specs.Phases.{Phase, sync1, sync2, mark, owes}
 use Rattle.theory.specs.Machine.{State, check}
@@ -24,7 +24,7 @@ use Rattle.model.specs.Collector.{outsideAnswered, waiting, moves}
 use Rattle.refine_view.specs.View.{view}
 use Rattle.refine_view.specs.Kept.{Ordered, EachOccupied, Moves, MarksIn, Steady}
 use Rattle.laws.proofs.Bools.{not-eq, and-false}
-use Rattle.layout.proofs.Sizes.{within}
+use Rattle.model.specs.Consistent.{bitWord}
 use Rattle.refine_view.proofs.Invariants.{to-inv, ordered-of, structure-of}
 use Rattle.refine_view.proofs.Keeping.{agree-self}
 use Rattle.laws.proofs.Operations.{sizes-acknowledged}
@@ -33,13 +33,16 @@ use Rattle.refine_trace.proofs.Acknowledging.{acknowledged-moves}
 use Rattle.theory.proofs.Agree.{agree-trans}
 use Rattle.theory.proofs.AgreeKeeps.{check-agree}
 use Rattle.theory.proofs.CollectorKeeps.{outside-later}
+use Rattle.model.specs.Consistent.{Behind}
 use Rattle.theory.specs.MachineCalls as machine
+use Rattle.theory.specs.Reach as reach
 
 -- a memory after answers, beside the machine's state after them
 record Answered (g : Geometry) (m m′ : Mem) (st : State) : Type 0 where
   pub sizes : Sizes g m′
   pub ordered : Ordered g m′
   pub occupied : EachOccupied g m → EachOccupied g m′
+  pub behind : Behind g m → Behind g m′
   pub agree : Agree (segmentOf g) st (view g m′)
   pub steady : Steady g m m′
 
@@ -55,6 +58,7 @@ module _ (g : Geometry) (m : Mem) where
         ordered = ordered-of g (acknowledged g m′ k) z (v .structure) (agree-inv (segmentOf g) (check (view g m′) k) (view g (acknowledged g m′ k)) (v .agree) (check-inv (segmentOf g) (view g m′) (to-inv g m′ (w .sizes) (w .ordered)) k there));
         agree = agree-trans (segmentOf g) (check st k) (check (view g m′) k) (check-agree (segmentOf g) st (view g m′) (w .agree) k h) (view g (acknowledged g m′ k)) (v .agree);
         occupied = λ u. v .occupied (w .occupied u);
+        behind = λ u. v .behind (w .behind u);
         steady = λ x d e. let a = v .steady x d e in let b = w .steady x d (a .0) in (b .0, a .1 ∙ b .1);
       }
 
@@ -75,7 +79,7 @@ module _ (g : Geometry) (m : Mem) where
 
   module _ (s : Sizes g m) (c : Ordered g m) where
     all-answered : (n : ℕ) → n ≤ mutatorCount → Answered g m (outsideAnswered g m n) (answerOutside n (view g m))
-    all-answered zero h = subst (λ z. Answered g m z (view g m)) (sym answered-none) (record { sizes = s; ordered = c; occupied = λ u. u; agree = agree-self g m; steady = λ x l e. (e, refl) })
+    all-answered zero h = subst (λ z. Answered g m z (view g m)) (sym answered-none) (record { sizes = s; ordered = c; occupied = λ u. u; behind = λ u. u; agree = agree-self g m; steady = λ x l e. (e, refl) })
     all-answered (suc n) h =
         let w = all-answered n (omega arith) in
         let u = outside-later n (view g m) in
@@ -106,7 +110,7 @@ module _ (g : Geometry) (m : Mem) (st : State) (a : Agree (segmentOf g) st (view
 
 module _ (g : Geometry) (m m′ : Mem) (st : State) (w : Answered g m m′ st) (p : Phase) (tracing : Tracing p → Tracing (st .phase)) (marks : MarksIn p g m′) where
   now : Moves g m m′ st
-  now = record { structure = structure-of g m′ (w .ordered); occupied = w .occupied; agree = w .agree; steady = w .steady }
+  now = record { structure = structure-of g m′ (w .ordered); occupied = w .occupied; behind = w .behind; agree = w .agree; steady = w .steady }
 
   by-waiting : (n : ℕ) → Moves g m (moves n m′ p .1) (move n st p)
   by-waiting zero = phase-moves g m m′ st now (w .sizes) p tracing marks
@@ -126,11 +130,12 @@ module _ (g : Geometry) (m : Mem) (s : Sizes g m) (c : Ordered g m) where
   tracing-kept : (n : ℕ) (p : Phase) → phase m ≡ p → Tracing p → Tracing (answerOutside n (view g m) .phase)
   tracing-kept n p e t = subst Tracing (sym (outside-later n (view g m) .phase ∙ e)) t
 
-  blank : (m′ : Mem) → MarksIn sync1 g m′ → MarksIn sync2 g m′
-  blank m′ h = λ x b l u k e. absurd (let z = h (bitIn g x b) (within (mostBlocks g) x (g .segments) b l k) in omega arith)
+  -- what has a bit is on the stack, so it is a record in order
+  blank : (m′ : Mem) → Ordered g m′ → MarksIn sync1 g m′ → MarksIn sync2 g m′
+  blank m′ o h = λ k l u e. let r = o .records (bitWord k) (reach.root (inr (h k l e))) in record { used = r .used; aligned = r .aligned; block = r .block }
 
   pub first-by : (n : ℕ) → n ≤ mutatorCount → phase m ≡ sync1 → Moves g m (moves (waiting (outsideAnswered g m n) n) (outsideAnswered g m n) sync2 .1) (move (machine.waiting n (answerOutside n (view g m))) (answerOutside n (view g m)) sync2)
-  first-by n h e = stepped g m (outsideAnswered g m n) (answerOutside n (view g m)) (all-answered g m s c n h) sync2 (λ t. tracing-kept n sync1 e tt) (blank (outsideAnswered g m n) (marks-kept n h sync1 e)) n
+  first-by n h e = stepped g m (outsideAnswered g m n) (answerOutside n (view g m)) (all-answered g m s c n h) sync2 (λ t. tracing-kept n sync1 e tt) (blank (outsideAnswered g m n) (all-answered g m s c n h .ordered) (marks-kept n h sync1 e)) n
 
   pub second-by : (n : ℕ) → n ≤ mutatorCount → phase m ≡ sync2 → Moves g m (moves (waiting (outsideAnswered g m n) n) (outsideAnswered g m n) mark .1) (move (machine.waiting n (answerOutside n (view g m))) (answerOutside n (view g m)) mark)
   second-by n h e = stepped g m (outsideAnswered g m n) (answerOutside n (view g m)) (all-answered g m s c n h) mark (λ t. tracing-kept n sync2 e tt) (marks-kept n h sync2 e) n

@@ -7,7 +7,6 @@ pub mod Self
 pub mod Acknowledging
 pub mod Pointers
 pub mod Storing
-pub mod Marking
 pub mod Popping
 pub mod TraceStep
 pub mod Leaving

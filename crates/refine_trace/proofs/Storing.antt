@@ -19,9 +19,10 @@ use Rattle.model.specs.Consistent.{RecordOk}
 use Rattle.refine_view.specs.View.{view, stackOf}
 use Rattle.refine_view.specs.Kept.{Ordered, Structure, Moves}
 use Rattle.refine_view.proofs.Seeing.{entries-same, live-on, live-back}
-use Rattle.refine_view.proofs.Frames.{held-self, mutator-beside, marks-beside}
+use Rattle.refine_view.proofs.Frames.{held-self, mutator-beside}
 use Rattle.refine_view.proofs.Invariants.{to-record, to-inv, structure-of}
-use Rattle.refine_trace.proofs.Over.{over, heap-over}
+use Rattle.laws.proofs.Apart.{class-of}
+use Rattle.refine_trace.proofs.Over.{over, condemned-class, heap-over}
 use Rattle.refine_trace.proofs.Entered.{Entered, structure-entered}
 use Rattle.refine_trace.proofs.Push.{Pushed, push-pushed}
 use Rattle.refine_trace.proofs.Self.{pushed-self}
@@ -79,8 +80,8 @@ module _ (g : Geometry) (m : Mem) (s : Sizes g m) (c : Ordered g m) where
         inside = λ i. refl;
         acks = λ i. refl;
         root = λ i j a h. refl;
-        marked = λ x b h. refl;
-        condemnedMarks = λ b h. refl;
+        marked = λ x b h. e .same b (class-of g m b (to-record g m s c b (was-live h)));
+        condemnedMarks = λ b h. e .same b (condemned-class g m s (c .segments) b h);
         condemned = λ x. refl;
         pointerCount = λ b h. pointers-kept g m s (c .segments) at f w at-record few b (to-record g m s c b (was-live h));
         values = λ b h. values-kept g m s (c .segments) at f w at-record few b (to-record g m s c b (was-live h));
@@ -90,17 +91,16 @@ module _ (g : Geometry) (m : Mem) (s : Sizes g m) (c : Ordered g m) where
 
       next-structure : Structure g next-memory
       unfolding setHeap
-      next-structure = structure-entered g m control q t e (m .mutators) (m .marks) (base .heap) (structure-of g m c)
-          (held-self g m control (m .marks) q t (base .heap))
-          (λ j l. mutator-beside g m control (m .marks) q t (base .heap) j (c .mutators j l))
+      next-structure = structure-entered g m control q t e (m .mutators) (base .heap) (structure-of g m c)
+          (held-self g m control q t (base .heap))
+          (λ j l. mutator-beside g m control q t (base .heap) j (c .mutators j l))
           (λ x p. let r = to-record g m s c x (was-live (agreeing.live-back (segmentOf g) next-state (view g next-memory) store-agree (live-on g next-memory p))) in (r, header-kept g m s (c .segments) at f w at-record few x r))
-          (marks-beside g m control (m .mutators) q t (base .heap) (phase m) (structure-of g m c .marks))
 
       store-over : Moves g m next-memory next-state
       unfolding setHeap
-      store-over = record { structure = next-structure; occupied = λ u. u; agree = store-agree; steady = λ x h z. (z, refl) }
+      store-over = record { structure = next-structure; occupied = λ u. u; behind = λ u x h b. u x h (subst (λ z. x < z) (e .cursor) b); agree = store-agree; steady = λ x h z. (z, refl) }
 
     pub store-moves : Moves g m (setPointer (tracing.barrier g (duty (phase m) (acks m k)) m new old-value) at f w) next-state
     store-moves =
         let p = barrier-pushed (duty (phase m) (acks m k)) in
-        subst (λ z. Moves g m z next-state) (sym (ap (λ z. setPointer z at f w) (p .is) ∙ heap-over m (p .control) (p .queued) (p .trace) _ w)) (store-over (p .control) (p .queued) (p .trace) (p .entered) (p .stack))
+        subst (λ z. Moves g m z next-state) (sym (ap (λ z. setPointer z at f w) (p .is) ∙ heap-over m (p .control) (p .marks) (p .trace) _ w)) (store-over (p .control) (p .marks) (p .trace) (p .entered) (p .stack))

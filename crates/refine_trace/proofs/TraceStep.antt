@@ -6,13 +6,10 @@ use mathlib.Core.Option.{some}
 use mathlib.Core.List.{List, [], _∷_}
 use Prim.Native.Nat.{ℕ, zero, suc, _-_, _≤_, _<_}
 use native.Mathlib.Omega.{arith}
-use lib.Dec.{eqb}
-use lib.ListN.{getD, set}
-use borrow.Author.Tests.{eqb-true}
-use Rattle.words.specs.Bits.{clearBit}
+use lib.ListN.{getD}
 use Rattle.layout.specs.Geometry.{segmentOf}
 use Rattle.layout.specs.declared.Geometry.{Geometry}
-use Rattle.layout.specs.Mem.{Mem, traceWord, setControl, Sizes}
+use Rattle.layout.specs.Mem.{Mem, traceWord, controlWord, setControl, Sizes}
 use Rattle.theory.specs.Phases.{mark, sweep}
 use Rattle.theory.specs.Reach.{root, next}
 use Rattle.theory.specs.TraceStack.{tab, pushes}
@@ -20,35 +17,30 @@ use Rattle.theory.specs.Update.{upd}
 use Rattle.theory.specs.Machine.{State, trace}
 use Rattle.theory.specs.MachineCalls.{traceStep}
 use Rattle.theory.proofs.Agree.{Agree}
-use Rattle.theory.proofs.Updates.{tab-inv}
 use Rattle.model.specs.Rules.{phaseOf}
-use Rattle.model.specs.Fields.{phase, traceCount, tag, class}
-use Rattle.model.specs.Records.{record?, pointerCount, pointer, recordBit, setMarked, clearQueued}
+use Rattle.model.specs.Fields.{phase, traceCount}
+use Rattle.model.specs.Records.{record?, pointerCount, pointer}
 use Rattle.model.specs.Tracing.{popped, traced}
 use Rattle.model.specs.Collector.{traces}
-use Rattle.classes.specs.Class.{IsClass}
 use Rattle.model.specs.Consistent.{RecordOk}
 use Rattle.refine_view.specs.View.{view, stackOf}
 use Rattle.refine_view.specs.Kept.{Ordered, Structure, Moves, MarksIn}
 use Rattle.refine_view.proofs.Seeing.{entries-same, live-on, live-back}
 use Rattle.refine_view.proofs.Invariants.{to-record, to-inv, structure-of}
 use Rattle.refine_view.proofs.Keeping.{moves-self}
-use Rattle.laws.proofs.Segments.{in-range}
 use Rattle.laws.proofs.Apart.{class-of}
 use Rattle.refine_view.proofs.Frames.{held-self, mutator-beside, structure-beside}
 use Rattle.refine_view.proofs.Phasing.{phase-moves}
-use Rattle.refine_trace.proofs.Over.{over}
+use Rattle.refine_trace.proofs.Over.{over, condemned-class}
 use Rattle.refine_trace.proofs.Entered.{Entered, queued-over}
 use Rattle.refine_trace.proofs.Push.{Pushed}
 use Rattle.theory.proofs.Updates.{pushes-alike}
 use Rattle.refine_trace.proofs.Folds.{pointers-pushed}
-use Rattle.refine_trace.proofs.Self.{entry-at, entered-self}
-use Rattle.refine_trace.proofs.Marking.{marked-view, segments-marked, record-marked, entered-marked, marks-marked}
-use Rattle.refine_trace.proofs.Popping.{popped-over, count-after, entered-less}
+use Rattle.refine_trace.proofs.Self.{entry-at}
+use Rattle.refine_trace.proofs.Popping.{after, popped-over, count-after, phase-after, cursor-after, marked-view, segments-after, record-after, entered-after}
 use Rattle.theory.specs.Machine as machine
 use Rattle.theory.proofs.Agree as agreeing
 use Rattle.theory.proofs.CycleKeeps as cycle
-use Rattle.model.specs.Tag as Tag
 
 module _ (g : Geometry) (m : Mem) (s : Sizes g m) (c : Ordered g m) (marking : phase m ≡ mark) where
   marks-now : MarksIn mark g m
@@ -57,7 +49,7 @@ module _ (g : Geometry) (m : Mem) (s : Sizes g m) (c : Ordered g m) (marking : p
   -- ---- the stack is empty
 
   none-left : Moves g m (traces g 0 m .1) (traceStep [] (view g m))
-  none-left = phase-moves g m m (view g m) (moves-self g m c) s sweep (λ t. absurd t) (λ x b l u k e. marks-now x b l tt k e)
+  none-left = phase-moves g m m (view g m) (moves-self g m c) s sweep (λ t. absurd t) (λ k l u e. marks-now k l tt e)
 
   -- ---- the last entered record
 
@@ -72,7 +64,7 @@ module _ (g : Geometry) (m : Mem) (s : Sizes g m) (c : Ordered g m) (marking : p
     at-record = to-record g m s c at at-live
 
     abbrev base : Mem
-    base = setMarked g m at
+    base = after g m s c n some-left
 
     abbrev next-state : State
     next-state = trace (view g m) at (stackOf m n)
@@ -86,44 +78,40 @@ module _ (g : Geometry) (m : Mem) (s : Sizes g m) (c : Ordered g m) (marking : p
     popped-pushed : Pushed g base (popped g m at) (stackOf m n)
     popped-pushed = record {
       control = _;
-      queued = _;
+      marks = _;
       trace = _;
-      is = popped-over g m at;
-      entered = entered-marked g m s (c .segments) at at-record _ _ _ (entered-less g m (c .segments) (m .control) (m .queued) (m .trace) (entered-self g m s c) n some-left);
-      stack = ap (stackOf (over base (set (m .control) 1 (traceCount m - 1)) (clearBit (m .queued) (recordBit g m at)) (m .trace))) (count-after g m (c .segments) (m .control) (m .queued) (m .trace) (entered-self g m s c) n some-left) ∙ entries-same m (over base (set (m .control) 1 (traceCount m - 1)) (clearBit (m .queued) (recordBit g m at)) (m .trace)) n (λ i h. refl);
+      is = popped-over g m s c n some-left;
+      entered = entered-after g m s c n some-left marking;
+      stack = ap (stackOf base) (count-after g m s c n some-left) ∙ entries-same m base n (λ i h. refl);
     }
 
     pointer-live : (i x : ℕ) → i < pointerCount m at → record? (pointer m at i) ≡ some x → machine.Live (view g m) x
     pointer-live i x l e = next at-live (i, l, e)
 
     pointers-in : Pushed g base (traced g m at) (pushes (view g base .marked) (tab (pointerCount m at) (λ i. record? (pointer m at i))) (stackOf m n))
-    unfolding setControl setMarked clearQueued
-    pointers-in = pointers-pushed g base (segments-marked g m s (c .segments) at at-record) (popped g m at) (stackOf m n) popped-pushed at (pointerCount m at) (λ i x l e. record-marked g m s (c .segments) at at-record x (to-record g m s c x (pointer-live i x l e)))
-
-    same-marks : (x : ℕ) → machine.Live (view g m) x → view g base .marked x ≡ upd (view g m .marked) at true x
-    same-marks x p = marked-view g m s (c .segments) at at-record x (class-of g m x (to-record g m s c x p))
+    unfolding setControl
+    pointers-in = pointers-pushed g base (segments-after g m s c n some-left) (popped g m at) (stackOf m n) popped-pushed at (pointerCount m at) (λ i x l e. record-after g m s c n some-left x (to-record g m s c x (pointer-live i x l e)))
 
     all-pushed : Pushed g base (traced g m at) (next-state .stack)
-    all-pushed = subst (Pushed g base (traced g m at)) (pushes-alike (view g base .marked) (upd (view g m .marked) at true) (tab (pointerCount m at) (λ i. record? (pointer m at i))) (stackOf m n) (λ x h. let z = tab-inv (pointerCount m at) (λ i. record? (pointer m at i)) h in same-marks x (pointer-live (z .0) x (z .1) (z .2)))) pointers-in
-
-    condemned-class : (x : ℕ) → eqb (tag m (segmentOf g x)) Tag.condemned ≡ true → IsClass (class m (segmentOf g x))
-    condemned-class x e = let u : tag m (segmentOf g x) ≡ Tag.condemned = eqb-true _ _ e in c .segments (segmentOf g x) (in-range g m s (segmentOf g x) (λ z. omega arith)) .classes (λ z. omega arith)
+    all-pushed = subst (Pushed g base (traced g m at)) (pushes-alike (view g base .marked) (upd (view g m .marked) at true) (tab (pointerCount m at) (λ i. record? (pointer m at i))) (stackOf m n) (λ x h. marked-view g m s c n some-left x)) pointers-in
 
     module _ (control q t : List ℕ) (e : Entered g base control q t) (is : stackOf (over base control q t) (getD control 1 0) ≡ next-state .stack) where
       abbrev next-memory : Mem
       next-memory = over base control q t
 
+      phase-word : getD control 0 0 ≡ controlWord m 0
+      phase-word = e .phase ∙ phase-after g m s c n some-left
+
       trace-agree : Agree (segmentOf g) next-state (view g next-memory)
-      unfolding setMarked
       trace-agree = record {
-        phase = ap phaseOf (e .phase);
+        phase = ap phaseOf phase-word;
         stack = is;
         attached = λ i. refl;
         inside = λ i. refl;
         acks = λ i. refl;
         root = λ i j a h. refl;
-        marked = λ x b h. same-marks b (was-live h);
-        condemnedMarks = λ b h. marked-view g m s (c .segments) at at-record b (condemned-class b h);
+        marked = λ x b h. e .same b (class-of g m b (to-record g m s c b (was-live h))) ∙ marked-view g m s c n some-left b;
+        condemnedMarks = λ b h. e .same b (condemned-class g m s (c .segments) b h) ∙ marked-view g m s c n some-left b;
         condemned = λ x. refl;
         pointerCount = λ b h. refl;
         values = λ b h. refl;
@@ -131,29 +119,19 @@ module _ (g : Geometry) (m : Mem) (s : Sizes g m) (c : Ordered g m) (marking : p
         used = λ b h. refl;
       }
 
-      phase-is : phaseOf (getD control 0 0) ≡ mark
-      unfolding setMarked
-      phase-is = ap phaseOf (e .phase) ∙ marking
-
-      phase-small : getD control 0 0 ≤ 4
-      unfolding setMarked
-      phase-small = subst (λ z. z ≤ 4) (sym (e .phase)) (c .phases)
-
       next-structure : Structure g next-memory
-      unfolding setMarked
-      next-structure = structure-beside g m control (m .mutators) (base .marks) q t (m .heap) (structure-of g m c) phase-small
-          (held-self g m control (base .marks) q t (m .heap))
-          (λ j l. mutator-beside g m control (base .marks) q t (m .heap) j (c .mutators j l))
+      next-structure = structure-beside g m control (m .mutators) q t (m .heap) (structure-of g m c) (subst (λ z. z ≤ 4) (sym phase-word) (c .phases))
+          (held-self g m control q t (m .heap))
+          (λ j l. mutator-beside g m control q t (m .heap) j (c .mutators j l))
           (λ x p. (to-record g m s c x (was-live (agreeing.live-back (segmentOf g) next-state (view g next-memory) trace-agree (live-on g next-memory p))), refl))
-          (queued-over g base control q t e (m .mutators) (base .marks) (m .heap))
-          (subst (λ p. MarksIn p g next-memory) (sym phase-is) (λ x b l u k z. let y = marks-marked g m s (c .segments) at at-record marks-now x b l u k z in record { used = y .used; within = y .within; block = y .block }))
+          (queued-over g base control q t e (m .mutators) (m .heap))
+          (subst (λ z. MarksIn (phaseOf z) g next-memory) (sym (e .phase)) (e .marks))
 
       trace-over : Moves g m next-memory next-state
-      unfolding setMarked
-      trace-over = record { structure = next-structure; occupied = λ u. u; agree = trace-agree; steady = λ x h z. (z, refl) }
+      trace-over = record { structure = next-structure; occupied = λ u. u; behind = λ u x h b. u x h (subst (λ z. x < z) (e .cursor ∙ cursor-after g m s c n some-left) b); agree = trace-agree; steady = λ x h z. (z, refl) }
 
     one-traced : Moves g m (traces g (suc n) m .1) (traceStep (stackOf m (suc n)) (view g m))
-    one-traced = let p = all-pushed in subst (λ z. Moves g m z next-state) (sym (p .is)) (trace-over (p .control) (p .queued) (p .trace) (p .entered) (p .stack))
+    one-traced = let p = all-pushed in subst (λ z. Moves g m z next-state) (sym (p .is)) (trace-over (p .control) (p .marks) (p .trace) (p .entered) (p .stack))
 
   pub trace-by : (n : ℕ) → traceCount m ≡ n → Moves g m (traces g n m .1) (traceStep (stackOf m n) (view g m))
   trace-by zero e = none-left

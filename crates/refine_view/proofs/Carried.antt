@@ -8,14 +8,14 @@ use Rattle.classes.specs.declared.SizeClass.the-variants.{Class}
 use Rattle.classes.specs.Record.{classOfRecord}
 use Rattle.laws.proofs.Headers.{shape-by}
 use Rattle.layout.specs.declared.Geometry.{Geometry}
-use Rattle.layout.specs.Geometry.{segmentWords, mostBlocks, blocksIn, segmentOf, bitIn}
+use Rattle.layout.specs.Geometry.{segmentWords, mostBlocks, segmentOf}
 use Rattle.layout.specs.Mem.{Mem, traceWord, heapWord}
 use Rattle.theory.specs.Phases.{Phase, idle, sync1, sync2, mark, sweep}
 use Rattle.model.specs.Fields.{traceCount, tag, class}
 use Rattle.model.specs.Segments.{usedBit}
 use Rattle.model.specs.Records.{blockOf, recordBit}
 use Rattle.model.specs.Reaching.{IsEntry}
-use Rattle.model.specs.Consistent.{RecordOk, BlockInUse, MarksOf}
+use Rattle.model.specs.Consistent.{RecordOk, HeadInUse, MarksOf}
 use Rattle.refine_view.specs.Kept.{QueuedOk, MarksIn}
 use Rattle.refine_view.proofs.Seeing.{entry-was}
 use Rattle.model.specs.Tag as Tag
@@ -23,9 +23,6 @@ use Rattle.model.specs.Tag as Tag
 module _ (g : Geometry) (m m′ : Mem) (at : ℕ) (c : class m′ (segmentOf g at) ≡ class m (segmentOf g at)) where
   pub block-by : blockOf g m′ at ≡ blockOf g m at
   block-by = ap (λ z. at % segmentWords g / blockWords z) c
-
-  pub bit-by : recordBit g m′ at ≡ recordBit g m at
-  bit-by = ap (bitIn g (segmentOf g at)) block-by
 
   -- a record whose block stays in use
   pub record-by : RecordOk g m at → (tag m′ (segmentOf g at) ≡ Tag.free → ⊥) → usedBit g m′ (segmentOf g at) (blockOf g m at) ≡ 1 → heapWord m′ at ≡ heapWord m at → RecordOk g m′ at
@@ -37,15 +34,15 @@ module _ (g : Geometry) (m m′ : Mem) (at : ℕ) (c : class m′ (segmentOf g a
     sized = ap classOfRecord (shape-by m m′ at h) ∙ r .sized ∙ ap Class (sym c);
   }
 
-pub use-by : (g : Geometry) (m m′ : Mem) (s b : ℕ) → BlockInUse g m s b → class m′ s ≡ class m s → (tag m′ s ≡ Tag.free → ⊥) → usedBit g m′ s b ≡ 1 → BlockInUse g m′ s b
-use-by g m m′ s b u c t h = record { used = t; within = subst (λ z. b < blocksIn g z) (sym c) (u .within); block = h }
+  pub use-by : HeadInUse g m at → (tag m′ (segmentOf g at) ≡ Tag.free → ⊥) → usedBit g m′ (segmentOf g at) (blockOf g m at) ≡ 1 → HeadInUse g m′ at
+  use-by u t h = record { used = t; aligned = ap (λ z. at % segmentWords g % blockWords z) c ∙ u .aligned; block = ap (usedBit g m′ (segmentOf g at)) block-by ∙ h }
 
--- the trace stack's words stay, and the bits of its entries
-pub queued-by : (g : Geometry) (m m′ : Mem) → QueuedOk g m → traceCount m′ ≡ traceCount m → ((i : ℕ) → traceWord m′ i ≡ traceWord m i) → m′ .queued ≡ m .queued → ((at : ℕ) → IsEntry m at → recordBit g m′ at ≡ recordBit g m at) → QueuedOk g m′
-queued-by g m m′ o n t q b = record {
+-- the trace stack's words stay, and the marks
+pub queued-by : (g : Geometry) (m m′ : Mem) → QueuedOk g m → traceCount m′ ≡ traceCount m → ((i : ℕ) → traceWord m′ i ≡ traceWord m i) → m′ .marks ≡ m .marks → QueuedOk g m′
+queued-by g m m′ o n t q = record {
   named = λ i l. subst (λ z. 1 ≤ z) (sym (t i)) (o .named i (subst (λ z. i < z) n l));
-  bits = λ at e. let x = entry-was m m′ n t at e in ap (λ (l : List ℕ). bitAt l (recordBit g m′ at)) q ∙ ap (bitAt (m .queued)) (b at x) ∙ o .bits at x;
-  number = n ∙ o .number ∙ ap (λ (l : List ℕ). onesAmong (bitAt l) (g .segments * mostBlocks g)) (sym q);
+  bits = λ at e. let x = entry-was m m′ n t at e in ap (λ (l : List ℕ). bitAt l (recordBit g m at)) q ∙ o .bits at x;
+  number = rw (n, q) (o .number);
 }
 
 -- by the phase: no segment came among the condemned, no mark before marking began, and marks are of blocks in use
@@ -54,4 +51,4 @@ marks-by g m m′ back of idle blank h = λ s l e. h s l (back s e)
 marks-by g m m′ back of sync1 blank h = blank refl h
 marks-by g m m′ back of sync2 blank h = of (λ s. Unit {0}) h
 marks-by g m m′ back of mark blank h = of (λ s. Unit {0}) h
-marks-by g m m′ back of sweep blank h = λ s b l t. of (λ s. tag m s ≡ Tag.condemned) h s b l (back s t)
+marks-by g m m′ back of sweep blank h = λ k l t. of (λ s. tag m s ≡ Tag.condemned) h k l (back _ t)

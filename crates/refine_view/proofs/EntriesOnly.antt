@@ -24,14 +24,14 @@ use Rattle.theory.proofs.Agree as agreeing
 -- the entries l show A attached, I inside, the acknowledgements K and the roots R
 module _ (g : Geometry) (m : Mem) (l : List ℕ) (A I : ℕ → Bool) (K : ℕ → ℕ) (R : ℕ → ℕ → Option ℕ) where
   abbrev now : Mem
-  now = beside m (m .control) l (m .marks) (m .queued) (m .trace) (m .heap)
+  now = beside m (m .control) l (m .marks) (m .trace) (m .heap)
 
   abbrev after : machine.State
   after = record { pointerCount = view g m .pointerCount; values = view g m .values; pointer = view g m .pointer; used = view g m .used; condemned = view g m .condemned; marked = view g m .marked; stack = view g m .stack; attached = A; inside = I; acks = K; root = R; phase = view g m .phase }
 
   pub record Shows : Type 0 where
     pub mutators : (k : ℕ) → k < mutatorCount → MutatorOk g now k
-    pub held : Held g m (m .control) l (m .marks) (m .queued) (m .trace) (m .heap)
+    pub held : Held g m (m .control) l (m .marks) (m .trace) (m .heap)
     pub attached : (j : ℕ) → isAttached now j ≡ A j
     pub inside : (j : ℕ) → isInside now j ≡ I j
     pub acks : (j : ℕ) → acks now j ≡ K j
@@ -61,9 +61,10 @@ module _ (g : Geometry) (m : Mem) (l : List ℕ) (A I : ℕ → Bool) (K : ℕ �
 
     pub entries-moves : Moves g m now after
     entries-moves = record {
-      structure = structure-beside g m (m .control) l (m .marks) (m .queued) (m .trace) (m .heap) o (o .phases) (e .held) (e .mutators) (λ x p. (o .records x (was-live x p), refl))
-          (queued-by g m now (o .trace) refl (λ i. refl) refl (λ x q. refl)) (marks-beside g m (m .control) l (m .queued) (m .trace) (m .heap) (phase m) (o .marks));
+      structure = structure-beside g m (m .control) l (m .marks) (m .trace) (m .heap) o (o .phases) (e .held) (e .mutators) (λ x p. (o .records x (was-live x p), refl))
+          (queued-by g m now (o .trace) refl (λ i. refl) refl) (marks-beside g m (m .control) l (m .heap) refl (phase m) (o .marks));
       agree = agree;
       occupied = λ u. u;
+      behind = λ u. u;
       steady = λ x q h. (h, refl);
     }

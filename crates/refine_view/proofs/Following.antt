@@ -13,6 +13,7 @@ pub moves-then : (g : Geometry) (m m′ m″ : Mem) (st st′ st″ : State) →
 moves-then g m m′ m″ st st′ st″ v a w = record {
   structure = w .structure;
   occupied = λ u. w .occupied (v .occupied u);
+  behind = λ u. w .behind (v .behind u);
   agree = agree-trans (segmentOf g) st′ st″ a (view g m″) (w .agree);
   steady = λ x l e. let y = w .steady x l e in let z = v .steady x l (y .0) in (z .0, y .1 ∙ z .1);
 }

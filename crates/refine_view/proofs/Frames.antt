@@ -13,28 +13,28 @@ use Rattle.layout.specs.Geometry.{mutatorCount}
 use Rattle.layout.specs.Mem.{Mem, heapWord}
 use Rattle.theory.specs.Phases.{Phase}
 use Rattle.model.specs.Rules.{phaseOf}
-use Rattle.model.specs.Fields.{absent, state, holding}
+use Rattle.model.specs.Fields.{traceCount, absent, state, holding}
 use Rattle.model.specs.Reaching.{Live}
-use Rattle.model.specs.Consistent.{SegmentOk, MutatorOk, StackOk, RecordOk, BlockInUse}
+use Rattle.model.specs.Consistent.{SegmentOk, MutatorOk, StackOk, RecordOk, HeadInUse, bitWord}
 use Rattle.refine_view.specs.Kept.{Structure, QueuedOk, MarksIn}
 use Rattle.refine_view.proofs.Carried.{marks-by}
+use Rattle.refine_view.proofs.Seeing.{entry-was}
 
-abbrev pub beside : Mem → List ℕ → List ℕ → List ℕ → List ℕ → List ℕ → List ℕ → Mem
-beside m control mutators marks queued trace heap = record {
+abbrev pub beside : Mem → List ℕ → List ℕ → List ℕ → List ℕ → List ℕ → Mem
+beside m control mutators marks trace heap = record {
   control = control;
   mutators = mutators;
   segments = m .segments;
   stacks = m .stacks;
   bitmaps = m .bitmaps;
   marks = marks;
-  queued = queued;
   trace = trace;
   heap = heap;
 }
 
-module _ (g : Geometry) (m : Mem) (co mu ma qu tr he : List ℕ) where
+module _ (g : Geometry) (m : Mem) (co mu ma tr he : List ℕ) where
   abbrev now : Mem
-  now = beside m co mu ma qu tr he
+  now = beside m co mu ma tr he
 
   -- attached mutators stay so, and hold what they held
   abbrev pub Held : Type 0
@@ -58,8 +58,8 @@ module _ (g : Geometry) (m : Mem) (co mu ma qu tr he : List ℕ) where
   pub record-beside : (at : ℕ) → heapWord now at ≡ heapWord m at → RecordOk g m at → RecordOk g now at
   record-beside at e r = record { inside = r .inside; used = r .used; aligned = r .aligned; block = r .block; sized = ap classOfRecord (shape-by m now at e) ∙ r .sized }
 
-  pub use-beside : (s b : ℕ) → BlockInUse g m s b → BlockInUse g now s b
-  use-beside s b u = record { used = u .used; within = u .within; block = u .block }
+  pub use-beside : (at : ℕ) → HeadInUse g m at → HeadInUse g now at
+  use-beside at u = record { used = u .used; aligned = u .aligned; block = u .block }
 
   pub structure-beside : Structure g m → getD co 0 0 ≤ 4 → Held → ((k : ℕ) → k < mutatorCount → MutatorOk g now k) → ((at : ℕ) → Live now at → RecordOk g m at × (heapWord now at ≡ heapWord m at)) → QueuedOk g now → MarksIn (phaseOf (getD co 0 0)) g now → Structure g now
   structure-beside o p h u r q k = record {
@@ -75,13 +75,15 @@ module _ (g : Geometry) (m : Mem) (co mu ma qu tr he : List ℕ) where
   }
 
 -- where the mutators' entries stay too
-module _ (g : Geometry) (m : Mem) (co ma qu tr he : List ℕ) where
-  pub held-self : Held g m co (m .mutators) ma qu tr he
+module _ (g : Geometry) (m : Mem) (co ma tr he : List ℕ) where
+  pub held-self : Held g m co (m .mutators) ma tr he
   held-self k c l i a = (a, refl)
 
-  pub mutator-beside : (k : ℕ) → MutatorOk g m k → MutatorOk g (beside m co (m .mutators) ma qu tr he) k
+  pub mutator-beside : (k : ℕ) → MutatorOk g m k → MutatorOk g (beside m co (m .mutators) ma tr he) k
   mutator-beside k o = record { states = o .states; acknowledged = o .acknowledged; gone = o .gone; holds = o .holds }
 
--- where the marks stay
-pub marks-beside : (g : Geometry) (m : Mem) (co mu qu tr he : List ℕ) (p : Phase) → MarksIn p g m → MarksIn p g (beside m co mu (m .marks) qu tr he)
-marks-beside g m co mu qu tr he p h = marks-by g m (beside m co mu (m .marks) qu tr he) (λ s e. e) (λ test o s b l t k e. use-beside g m co mu (m .marks) qu tr he s b (o s b l t k e)) p (λ e z. z) h
+-- where the marks and the trace stack stay
+pub marks-beside : (g : Geometry) (m : Mem) (co mu he : List ℕ) → getD co 1 0 ≡ traceCount m → (p : Phase) → MarksIn p g m → MarksIn p g (beside m co mu (m .marks) (m .trace) he)
+marks-beside g m co mu he n p h =
+    marks-by g m (beside m co mu (m .marks) (m .trace) he) (λ s e. e) (λ test o k l t e. use-beside g m co mu (m .marks) (m .trace) he (bitWord k) (o k l t e)) p
+    (λ e z k l b. entry-was (beside m co mu (m .marks) (m .trace) he) m (sym n) (λ i. refl) (bitWord k) (z k l b)) h

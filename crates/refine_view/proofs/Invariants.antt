@@ -8,8 +8,7 @@ use native.Mathlib.Omega.{arith}
 use lib.ListN.{List·getD-eq-default}
 use borrow.Author.Tests.{eq-eqb, ne-eqb, eqb-true, eqb-false}
 use Rattle.rules.proofs.Order.{le-or-lt, same-or-not}
-use Rattle.words.proofs.Word.{one-of-not-zero}
-use Rattle.words.proofs.Lists.{at-lt}
+use Rattle.words.proofs.Word.{zero-of-not-one}
 use Rattle.layout.specs.Geometry.{segmentOf}
 use Rattle.layout.specs.declared.Geometry.{Geometry}
 use Rattle.layout.specs.Mem.{Mem, traceWord, Sizes}
@@ -22,13 +21,14 @@ use Rattle.model.specs.Fields.{phase, traceCount, absent, acksAt, state, acks}
 use Rattle.model.specs.Records.{recordBit, marked}
 use Rattle.model.specs.Calls.{isAttached}
 use Rattle.model.specs.Reaching.{IsRoot, IsEntry, Live, Reached, Covered, isMarked}
-use Rattle.model.specs.Consistent.{Consistent, InPhase, AcksIn, Tricolour, RecordOk}
+use Rattle.model.specs.Consistent.{Consistent, Behind, InPhase, AcksIn, Tricolour, RecordOk}
 use Rattle.refine_view.specs.View.{view, stackOf, isHead, isUsed}
 use Rattle.refine_view.specs.Kept.{Ordered, EachOccupied, Structure, MarksIn}
 use Rattle.words.proofs.Counts.{lt-of}
 use Rattle.laws.proofs.Bools.{not-eq, ne-not, and-both, and-right, and-not, and-false}
 use Rattle.layout.proofs.Sizes.{segment-below}
-use Rattle.laws.proofs.Blocks.{bit-below}
+use Rattle.laws.proofs.Blocks.{bit-below, head-word}
+use Rattle.laws.proofs.Marked.{entry-unmarked, marked-entered, marked-lt}
 use Rattle.refine_view.proofs.Seeing.{entry-of, entry-in, live-on, live-back, reached-on, reached-back, entry-on, entry-back, edge-on, edge-back, naming, covered-on, covered-back, head-of, few-mutators}
 use Rattle.laws.proofs.Rooted.{named}
 use Rattle.theory.specs.Machine as machine
@@ -96,13 +96,6 @@ once-of m (suc n) h d i j l k e = go (same-or-not j n) (λ q. once-of m n (λ i 
 marked-1 : (g : Geometry) (m : Mem) (at : ℕ) → isMarked g m at ≡ true → marked g m at ≡ 1
 marked-1 g m at e = eqb-true _ _ e
 
-unmarked : (g : Geometry) (m : Mem) (at : ℕ) → isMarked g m at ≡ false → marked g m at ≡ 0
-unmarked g m at e = go (same-or-not (marked g m at) 0)
-  where
-    go : (marked g m at ≡ 0) ⊎ (marked g m at ≡ 0 → ⊥) → marked g m at ≡ 0
-    go (inl q) = q
-    go (inr f) = absurd (eqb-false _ _ e (one-of-not-zero (marked g m at) (at-lt (m .marks) (recordBit g m at)) f))
-
 not-marked : (g : Geometry) (m : Mem) (at : ℕ) → marked g m at ≡ 0 → isMarked g m at ≡ false
 not-marked g m at e = ne-eqb (marked g m at) 1 (λ q. omega arith)
 
@@ -143,6 +136,19 @@ module _ (g : Geometry) (m : Mem) (s : Sizes g m) (c : Ordered g m) where
     pointersCovered = λ x y p e q. covered-on g m s (c .trace .named) (c .records) y (next (to-live p) (edge-back g m x y q)) (t .edges x y (to-live p) (marked-1 g m x (and-right (isHead g m x) _ e)) (edge-back g m x y q));
   }
 
+  -- in the first handshake what has a bit is on the stack
+  blank : InPhase sync1 g m → (x : ℕ) → Live m x → marked g m x ≡ 0
+  blank h x l = go (same-or-not (marked g m x) 1)
+    where
+      go : (marked g m x ≡ 1) ⊎ (marked g m x ≡ 1 → ⊥) → marked g m x ≡ 0
+      go (inr f) = zero-of-not-one _ (marked-lt g m x) f
+      go (inl e) =
+          let r = c .records x l in
+          let i = r .inside in
+          let k = c .segments (segmentOf g x) (segment-below g x i) .classes (r .used) in
+          let q = subst (IsEntry m) (head-word g m x k (r .aligned)) (h (recordBit g m x) (bit-below g m x k i) (marked-entered g m x e)) in
+          entry-unmarked g m x q
+
   -- before anything is marked, nothing can hide
   to-core : (p : Phase) → phase m ≡ p → InPhase p g m → Tracing p → Core (view g m)
   to-core idle e h t = absurd t
@@ -152,7 +158,7 @@ module _ (g : Geometry) (m : Mem) (s : Sizes g m) (c : Ordered g m) where
   }
     where
       blank-bit : (x : ℕ) → Live m x → marked g m x ≡ 0
-      blank-bit x l = let r = c .records x l in let i = r .inside in h (recordBit g m x) (bit-below g m x (c .segments (segmentOf g x) (segment-below g x i) .classes (r .used)) i)
+      blank-bit x l = blank h x l
   to-core sync2 e h t = to-covered (h .1) tt
   to-core mark e h t = to-covered (h .1) tt
   to-core sweep e h t = absurd t
@@ -178,7 +184,7 @@ module _ (g : Geometry) (m : Mem) (s : Sizes g m) (c : Ordered g m) where
   to-inv = record {
     valid = λ b p. used-of b (to-live p);
     stack = record {
-      white = λ x h. ap (λ b. isHead g m x && b) (not-marked g m x (c .trace .unmarked x (entry-back g m s (c .trace .named) x h))) ∙ and-false (isHead g m x);
+      white = λ x h. ap (λ b. isHead g m x && b) (not-marked g m x (entry-unmarked g m x (entry-back g m s (c .trace .named) x h))) ∙ and-false (isHead g m x);
       nodup = nodup-of m (traceCount m) (c .trace .named) (c .trace .once);
     };
     quiet = λ q. ap (stackOf m) (to-quiet (phase m) (c .cycle) q);
@@ -194,11 +200,7 @@ module _ (g : Geometry) (m : Mem) (s : Sizes g m) (c : Ordered g m) where
       live-of p = reach-map {R = IsRoot m} {R′ = λ at. IsRoot m at ⊎ IsEntry m at} (λ x r. root (inl r)) (λ x y q e. inl e) p
 
       white-bit : phase m ≡ sync1 → (x : ℕ) → Live m x → (isHead g m x && isMarked g m x) ≡ false
-      white-bit e x l =
-          let r = c .records x l in
-          let i = r .inside in
-          let z = in-phase sync1 e (recordBit g m x) (bit-below g m x (c .segments (segmentOf g x) (segment-below g x i) .classes (r .used)) i) in
-          ap (λ b. isHead g m x && b) (not-marked g m x z) ∙ and-false (isHead g m x)
+      white-bit e x l = ap (λ b. isHead g m x && b) (not-marked g m x (blank (in-phase sync1 e) x l)) ∙ and-false (isHead g m x)
 
 -- ---- and back: the words in order and the machine's invariant are consistency
 
@@ -250,15 +252,14 @@ module _ (g : Geometry) (m : Mem) (s : Sizes g m) (o : Structure g m) (inv : Inv
     trace = record {
       named = o .trace .named;
       once = once-of m (traceCount m) (o .trace .named) (inv .stack .nodup);
-      unmarked = λ at e. unmarked g m at (and-not _ _ (head-of g m s (o .trace .named) (o .records) at (root (inr e))) (inv .stack .white at (entry-on g m at e)));
       bits = o .trace .bits;
       number = o .trace .number;
     };
     cycle = from-phase (phase m) refl (o .marks);
   }
 
-  pub consistent-of : EachOccupied g m → Consistent g m
-  consistent-of u = let c = ordered-of in record {
+  pub consistent-of : EachOccupied g m → Behind g m → Consistent g m
+  consistent-of u b = let c = ordered-of in record {
     summed = record { trees = c .trees; freeSegments = c .freeSegments; partSegments = c .partSegments };
-    sound = record { phases = c .phases; segments = c .segments; occupied = u; mutators = c .mutators; acknowledgements = c .acknowledgements; records = c .records; trace = c .trace; cycle = c .cycle };
+    sound = record { phases = c .phases; segments = c .segments; occupied = u; behind = b; mutators = c .mutators; acknowledgements = c .acknowledgements; records = c .records; trace = c .trace; cycle = c .cycle };
   }

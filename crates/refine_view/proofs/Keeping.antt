@@ -20,15 +20,16 @@ use Rattle.theory.proofs.Simulation.{Same}
 use Rattle.theory.proofs.CallKeeps.{Coupled}
 use Rattle.theory.proofs.Agree.{Agree}
 use Rattle.theory.proofs.Invariant.{none-some}
-use Rattle.model.specs.Fields.{phase, acks}
+use Rattle.model.specs.Fields.{phase, acks, cursor}
 use Rattle.model.specs.Records.{record?, pointerCount, valueCount, pointer, shapeOf}
 use Rattle.model.specs.Calls.{isAttached, isInside, observe, act}
 use Rattle.model.specs.Reaching.{Live}
 use Rattle.refine_view.specs.View.{view, valuesOf}
-use Rattle.refine_view.specs.Kept.{Ordered, Moves, Matches, Kept, refusedOut, agrees}
+use Rattle.refine_view.specs.Kept.{Ordered, Moves, Matches, Kept, refusedOut, agrees, Steady}
 use Rattle.laws.proofs.Tables.{length-tab}
 use Rattle.refine_view.proofs.Seeing.{few-mutators}
 use Rattle.refine_view.proofs.Invariants.{to-live, to-inv, structure-of}
+use Rattle.model.specs.Consistent.{Behind}
 use Rattle.theory.specs.Machine as machine
 use Rattle.theory.specs.MachineCalls as calls
 use Rattle.model.specs.Fields as fields
@@ -65,7 +66,11 @@ agree-self g m = record {
 }
 
 pub moves-self : (g : Geometry) (m : Mem) → Ordered g m → Moves g m m (view g m)
-moves-self g m c = record { structure = structure-of g m c; occupied = λ u. u; agree = agree-self g m; steady = λ s l e. (e, refl) }
+moves-self g m c = record { structure = structure-of g m c; occupied = λ u. u; behind = λ u. u; agree = agree-self g m; steady = λ s l e. (e, refl) }
+
+-- the cursor stays, and no segment came among the condemned
+pub behind-by : (g : Geometry) (m m′ : Mem) → Steady g m m′ → cursor m′ ≡ cursor m → Behind g m → Behind g m′
+behind-by g m m′ t e u x l b q = u x l (subst (λ z. x < z) e b) (t x l q .0)
 
 -- a call that begins on the memory as it is, and is handed no block
 pub matches-by : (g : Geometry) (m : Mem) (c : Call) (r : Answer × Mem) → calls.Permitted (segmentOf g) 0 (view g m) c → r .0 ≡ calls.act 0 (view g m) c .0 → Moves g m (r .1) (calls.act 0 (view g m) c .1) → Matches g m c r

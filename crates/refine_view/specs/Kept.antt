@@ -14,17 +14,18 @@ use Rattle.theory.proofs.Agree.{Agree}
 use Rattle.theory.proofs.CollectorKeeps.{Pick}
 use Rattle.model.specs.Fields.{phase, traceCount, absent, state, acks, tag, class}
 use Rattle.model.specs.Segments.{freeStack, partStack}
-use Rattle.model.specs.Records.{queued}
+use Rattle.model.specs.Records.{entered}
 use Rattle.model.specs.Collector.{collects, started, lowest, stepOf}
 use Rattle.model.specs.Reaching.{IsEntry, Live}
 use Rattle.classes.specs.Class.{IsClass}
-use Rattle.model.specs.Consistent.{Consistent, SegmentOk, Occupied, MutatorOk, AcksIn, StackOk, isFree, isPart, TreeOk, RecordOk, TraceOk, MarksOf, InPhase}
+use Rattle.model.specs.Consistent.{Consistent, SegmentOk, Occupied, Behind, MutatorOk, AcksIn, StackOk, isFree, isPart, TreeOk, RecordOk, TraceOk, MarksOf, bitWord, InPhase}
 use Rattle.refine_view.specs.View.{view}
 use Rattle.model.specs.Calls as model
 use Rattle.theory.specs.MachineCalls as machine
 use Rattle.model.specs.Tag as Tag
 
--- consistency but for `occupied`, which a make breaks between taking a free segment and handing out a block of it
+-- consistency but for `occupied`, which a make breaks between taking a free segment and handing out a block of it, and `behind`, which no proof
+-- but that of the sweep's code asks for
 pub record Ordered (g : Geometry) (m : Mem) : Type 0 where
   pub phases : controlWord m 0 ≤ 4
   pub segments : (s : ℕ) → s < g .segments → SegmentOk g m s
@@ -41,12 +42,12 @@ pub record Ordered (g : Geometry) (m : Mem) : Type 0 where
 
 pub record QueuedOk (g : Geometry) (m : Mem) : Type 0 where
   pub named : (i : ℕ) → i < traceCount m → 1 ≤ traceWord m i
-  pub bits : (at : ℕ) → IsEntry m at → queued g m at ≡ 1
-  pub number : traceCount m ≡ onesAmong (bitAt (m .queued)) (g .segments * mostBlocks g)
+  pub bits : (at : ℕ) → IsEntry m at → entered g m at ≡ 1
+  pub number : traceCount m ≤ onesAmong (bitAt (m .marks)) (g .segments * mostBlocks g)
 
 abbrev pub MarksIn : Phase → Geometry → Mem → Type 0
 MarksIn idle g m = (s : ℕ) → s < g .segments → tag m s ≡ Tag.condemned → ⊥
-MarksIn sync1 g m = (k : ℕ) → k < g .segments * mostBlocks g → bitAt (m .marks) k ≡ 0
+MarksIn sync1 g m = (k : ℕ) → k < g .segments * mostBlocks g → bitAt (m .marks) k ≡ 1 → IsEntry m (bitWord k)
 MarksIn sync2 g m = MarksOf g m (λ s. Unit {0})
 MarksIn mark g m = MarksOf g m (λ s. Unit {0})
 MarksIn sweep g m = MarksOf g m (λ s. tag m s ≡ Tag.condemned)
@@ -62,7 +63,7 @@ pub record Structure (g : Geometry) (m : Mem) : Type 0 where
   pub trace : QueuedOk g m
   pub marks : MarksIn (phase m) g m
 
--- the part that is left out of both
+-- the parts that are left out of both: `Behind`, and this
 abbrev pub EachOccupied : Geometry → Mem → Type 0
 EachOccupied g m = (s : ℕ) → s < g .segments → Occupied g m s
 
@@ -76,6 +77,7 @@ Steady g m m′ = (s : ℕ) → s < g .segments → tag m′ s ≡ Tag.condemned
 pub record Moves (g : Geometry) (m m′ : Mem) (st : State) : Type 0 where
   pub structure : Structure g m′
   pub occupied : EachOccupied g m → EachOccupied g m′
+  pub behind : Behind g m → Behind g m′
   pub agree : Agree (segmentOf g) st (view g m′)
   pub steady : Steady g m m′
 
@@ -106,6 +108,7 @@ CallKept out g m c = Kept out g m c (model.act g m c)
 pub record StartKept (g : Geometry) (m : Mem) : Type 0 where
   pub structure : Structure g (started g m)
   pub occupied : EachOccupied g m → EachOccupied g (started g m)
+  pub behind : Behind g (started g m)
   pub agree : Agree (segmentOf g) (start (view g m) (collects m)) (view g (started g m))
   pub collected : (s : ℕ) → s < g .segments → tag (started g m) s ≡ Tag.condemned → (collects m s ≡ true) × (class (started g m) s ≡ class m s)
 

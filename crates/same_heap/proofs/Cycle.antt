@@ -11,13 +11,13 @@ use Rattle.layout.specs.Geometry.{mutatorCount}
 use Rattle.layout.specs.Mem.{Mem, traceWord}
 use Rattle.theory.specs.Phases.{Phase, idle, sync1, sync2, mark, sweep}
 use Rattle.model.specs.Rules.{phaseNumber}
-use Rattle.model.specs.Fields.{phase, traceCount, setTraceCount, outside, state, setTag}
-use Rattle.model.specs.Records.{pointerCount, clearQueued}
+use Rattle.model.specs.Fields.{phase, traceCount, setTraceCount, outside, state, setTag, setCursor}
+use Rattle.model.specs.Records.{pointerCount}
 use Rattle.model.specs.Tracing.{popped}
 use Rattle.model.specs.Mutators.{acknowledged}
 use Rattle.model.specs.Collector.{collects, condemned, acksReset, marksCleared, started, outsideAnswered, waiting, moves, traces, lowest, sweeps, stepIn, stepOf}
 use Rattle.same_heap.specs.SameHeap.{SameHeap}
-use Rattle.same_heap.proofs.Same.{same-self, same-then, framed, leaves-control, leaves-marked, leaves-acks, leaves-acknowledged, leaves-pointers}
+use Rattle.same_heap.proofs.Same.{same-self, same-then, framed, leaves-control, leaves-acks, leaves-acknowledged, leaves-pointers}
 use Rattle.model.specs.Tag as Tag
 
 -- ---- start
@@ -40,7 +40,9 @@ unfolding started
 leaves-started g m h =
     let m₁ : Mem = acksReset (condemned m (g .segments)) mutatorCount in
     let e : SameHeap m m₁ = subst (λ x. SameHeap x m₁) (none-collected m (g .segments) h) (leaves-reset (condemned m (g .segments)) mutatorCount) in
-    same-then m m₁ _ e (same-then m₁ (marksCleared m₁) _ (leaves-cleared m₁) (leaves-control (marksCleared m₁) 0 (phaseNumber sync1)))
+    let m₂ : Mem = setCursor (marksCleared m₁) 0 in
+    let f : SameHeap m m₂ = same-then m m₁ _ e (same-then m₁ (marksCleared m₁) _ (leaves-cleared m₁) (leaves-control (marksCleared m₁) 2 0)) in
+    same-then m m₂ _ f (leaves-control m₂ 0 (phaseNumber sync1))
 
 -- ---- step
 
@@ -59,11 +61,7 @@ module _ (g : Geometry) (m : Mem) where
   leaves-moves (suc n) m₁ e p = e
 
   leaves-popped : (at : ℕ) → SameHeap m (popped g m at)
-  unfolding clearQueued
-  leaves-popped at = same-then m (clearQueued g (setTraceCount m (traceCount m - 1)) at) _ (same-then m (setTraceCount m (traceCount m - 1)) _ (leaves-control m 1 (traceCount m - 1)) (unqueued (setTraceCount m (traceCount m - 1)))) (leaves-marked g _ at)
-    where
-      unqueued : (m₁ : Mem) → SameHeap m₁ (clearQueued g m₁ at)
-      unqueued m₁ = framed m₁ _ refl refl refl refl refl
+  leaves-popped at = leaves-control m 1 (traceCount m - 1)
 
   leaves-traces : (n : ℕ) → SameHeap m (traces g n m .1)
   leaves-traces zero = leaves-control m 0 (phaseNumber sweep)

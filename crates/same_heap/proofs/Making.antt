@@ -22,10 +22,10 @@ use Rattle.theory.specs.Calls.{Answer}
 use Rattle.model.specs.declared.SegmentState.the-variants.{Held, Full}
 use Rattle.model.specs.Fields.{phase, acks, place}
 use Rattle.model.specs.Segments.{freeStack, partStack, count, top, pop, above, bitmap, free}
-use Rattle.model.specs.Records.{headerOf, headerWord, written, setMarked}
+use Rattle.model.specs.Records.{headerOf, headerWord, written, setEntered}
 use Rattle.model.specs.Making.{Source, held, part, unused, noRoom, sourceOf, takes, freshened, advanced, blackened, handedOut, inBlock, inSegment, fromSource, made}
 use Rattle.same_heap.specs.SameHeap.{SameHeap}
-use Rattle.same_heap.proofs.Same.{same-self, same-then, same-back, same-mutator, same-stack, same-heap, same-heap-run, same-bitmap, same-state, same-count, leaves-marked}
+use Rattle.same_heap.proofs.Same.{same-self, same-then, same-back, same-mutator, same-stack, same-heap, same-heap-run, same-bitmap, same-state, same-count, leaves-entered}
 use Rattle.same_heap.proofs.Entries.{same-holding, same-place}
 use Rattle.layout.specs.Region as Region
 
@@ -48,8 +48,8 @@ module _ (g : Geometry) (k d c : ℕ) (shape : RecordShape) where
   leaves-blackened : (m : Mem) (at : ℕ) → SameHeap m (blackened g m k at)
   leaves-blackened m at = go (black (phase m) (acks m k))
     where
-      go : (b : Bool) → SameHeap m (pick b (setMarked g m at) m)
-      go true = leaves-marked g m at
+      go : (b : Bool) → SameHeap m (pick b (setEntered g m at) m)
+      go true = leaves-entered g m at
       go false = same-self m
 
   same-handed : (m m′ : Mem) → SameHeap m m′ → (s b : ℕ) → SameHeap (handedOut g m k d c s b shape) (handedOut g m′ k d c s b shape)

@@ -23,7 +23,7 @@ use Rattle.theory.specs.Calls.{Call, c-attach, c-detach, c-check, c-leave, c-en
 use Rattle.model.specs.Rules.{phaseOf, phaseNumber}
 use Rattle.model.specs.Fields.{phase, setPhase, traceCount, outside, state, acks, place, root}
 use Rattle.model.specs.Segments.{setSegmentState, freeStack, partStack, pop, free}
-use Rattle.model.specs.Records.{record?, pointer, pointerCount, headerOf, written, setMarked, clearQueued}
+use Rattle.model.specs.Records.{record?, pointer, pointerCount, headerOf, written, setEntered}
 use Rattle.model.specs.Tracing.{push, barrier, pushPointers, popped, traced}
 use Rattle.model.specs.Mutators.{acknowledged, attached, detached}
 use Rattle.model.specs.Making.{Source, held, part, unused, noRoom, sourceOf, takes, freshened, advanced, blackened, handedOut, inBlock, fromSource, made}
@@ -48,10 +48,10 @@ module _ (g : Geometry) (k d c : ℕ) (shape : RecordShape) where
   still-advanced m s p Torn = refl
 
   still-blackened : (m : Mem) (at : ℕ) → Still m (blackened g m k at)
-  unfolding setMarked
+  unfolding setEntered
   still-blackened m at = go (black (phase m) (acks m k))
     where
-      go : (b : Bool) → Still m (pick b (setMarked g m at) m)
+      go : (b : Bool) → Still m (pick b (setEntered g m at) m)
       go true = refl
       go false = refl
 
@@ -135,7 +135,7 @@ phase-outside g m (suc k) = go (eqb (state m k) outside) (phase-outside g m k)
     go false e = e
 
 still-popped : (g : Geometry) (m : Mem) (at : ℕ) → Still m (popped g m at)
-unfolding setMarked clearQueued setControl
+unfolding setControl
 still-popped g m at = getD-set-other (m .control) 1 0 (traceCount m - 1) 0 (λ e. omega arith)
 
 pub phase-traced : (g : Geometry) (m : Mem) (at : ℕ) → phase (traced g m at) ≡ phase m

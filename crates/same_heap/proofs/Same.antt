@@ -15,7 +15,7 @@ use Rattle.model.specs.declared.SegmentState.{SegmentState}
 use Rattle.model.specs.declared.SegmentState.the-variants.{Free, Part, Held, Full, Condemned}
 use Rattle.model.specs.Fields.{acksAt, setAcks, root}
 use Rattle.model.specs.Segments.{setSegmentState, setRecord, count, stacked}
-use Rattle.model.specs.Records.{pointer, setMarked}
+use Rattle.model.specs.Records.{pointer, setEntered}
 use Rattle.model.specs.Tracing.{pushRoots, pushPointers}
 use Rattle.model.specs.Mutators.{acknowledged}
 use Rattle.laws.proofs.Pushes.{Untouched, fold-untouched, roots-next, pointers-next}
@@ -127,9 +127,9 @@ pub leaves-control : (m : Mem) (i v : ℕ) → SameHeap m (setControl m i v)
 unfolding setControl
 leaves-control m i v = framed m _ refl refl refl refl refl
 
-pub leaves-marked : (g : Geometry) (m : Mem) (at : ℕ) → SameHeap m (setMarked g m at)
-unfolding setMarked
-leaves-marked g m at = framed m _ refl refl refl refl refl
+pub leaves-entered : (g : Geometry) (m : Mem) (at : ℕ) → SameHeap m (setEntered g m at)
+unfolding setEntered
+leaves-entered g m at = framed m _ refl refl refl refl refl
 
 pub leaves-acks : (m : Mem) (k v : ℕ) → SameHeap m (setAcks m k v)
 unfolding setMutator

@@ -12,7 +12,7 @@ use Rattle.theory.specs.Calls.{Call, a-no}
 use Rattle.model.specs.Fields.{acksAt, phase}
 use Rattle.model.specs.Calls.{exec}
 
--- Equal but for control words, acknowledgements, marks, queued bits and trace entries: every word of the mutators' entries but the acknowledgements,
+-- Equal but for control words, acknowledgements, marks and trace entries: every word of the mutators' entries but the acknowledgements,
 -- every word of the heap, of the segment records, of the stacks and of the bitmaps.
 pub record SameHeap (m m′ : Mem) : Type 0 where
   pub long : length (m′ .mutators) ≡ length (m .mutators)

@@ -11,9 +11,10 @@ use Rattle.layout.specs.Mem.{Mem}
 use Rattle.theory.specs.Reach.{Reach, root, WhiteEdge}
 use Rattle.theory.proofs.Graph.{reach-map}
 use Rattle.model.specs.Records.{pointerCount}
-use Rattle.model.specs.Reaching.{PointsTo, isMarked}
+use Rattle.model.specs.Reaching.{PointsTo}
+use Rattle.searching.proofs.Covering.{isEntered}
 use Rattle.searching.specs.declared.Edges.{Edges}
-use Rattle.searching.specs.declared.Edges.the-variants.{All, Unmarked}
+use Rattle.searching.specs.declared.Edges.the-variants.{All, Unentered}
 use Rattle.searching.specs.Graph.{Follows, graphOf}
 use Rattle.searching.specs.Scratch.{Searched}
 use Rattle.searching.specs.Found.{Finds}
@@ -48,19 +49,19 @@ module _ (g : Geometry) (m : Mem) where
       (λ x y q. record { field = q .index; within = q .within; names = q .names })
       (λ x y q. record { index = q .field; within = q .within; names = q .names })
 
-  unmarked-to : (x y : ℕ) → Follows Unmarked g m x y → WhiteEdge (isMarked g m) (PointsTo m) x y
-  unmarked-to x y q = go (isMarked g m x) refl (q .within)
+  unentered-to : (x y : ℕ) → Follows Unentered g m x y → WhiteEdge (isEntered g m) (PointsTo m) x y
+  unentered-to x y q = go (isEntered g m x) refl (q .within)
     where
-      go : (b : Bool) → isMarked g m x ≡ b → q .index < pick b 0 (pointerCount m x) → WhiteEdge (isMarked g m) (PointsTo m) x y
+      go : (b : Bool) → isEntered g m x ≡ b → q .index < pick b 0 (pointerCount m x) → WhiteEdge (isEntered g m) (PointsTo m) x y
       go true e l = absurd (omega arith)
       go false e l = (e, record { field = q .index; within = l; names = q .names })
 
-  unmarked-from : (x y : ℕ) → WhiteEdge (isMarked g m) (PointsTo m) x y → Follows Unmarked g m x y
-  unmarked-from x y q = record {
+  unentered-from : (x y : ℕ) → WhiteEdge (isEntered g m) (PointsTo m) x y → Follows Unentered g m x y
+  unentered-from x y q = record {
     index = q .1 .field;
     within = subst (λ (b : Bool). q .1 .field < pick b 0 (pointerCount m x)) (sym (q .0)) (q .1 .within);
     names = q .1 .names;
   }
 
-  pub finds-unmarked : (Root : ℕ → Type 0) (r : Bool) (after : List ℕ) → Searched (graphOf Unmarked g m Root) r after → Finds g m (Reach Root (WhiteEdge (isMarked g m) (PointsTo m))) r after
-  finds-unmarked Root = finds Unmarked Root (WhiteEdge (isMarked g m) (PointsTo m)) unmarked-to unmarked-from
+  pub finds-unentered : (Root : ℕ → Type 0) (r : Bool) (after : List ℕ) → Searched (graphOf Unentered g m Root) r after → Finds g m (Reach Root (WhiteEdge (isEntered g m) (PointsTo m))) r after
+  finds-unentered Root = finds Unentered Root (WhiteEdge (isEntered g m) (PointsTo m)) unentered-to unentered-from

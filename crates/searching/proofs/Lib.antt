@@ -1,4 +1,5 @@
 -- The laws of the search over the heap. Assumes nothing.
+pub mod Covering
 pub mod Steps
 pub mod Rooting
 pub mod Finding

@@ -21,14 +21,14 @@ use Rattle.layout.specs.Mem.{Mem}
 use Rattle.layout.proofs.Sizes.{mark-word}
 use Rattle.theory.specs.Reach.{root}
 use Rattle.model.specs.Records.{pointerCount, recordBit}
-use Rattle.model.specs.Reaching.{isMarked}
+use Rattle.searching.proofs.Covering.{isEntered}
 use Rattle.model.specs.Consistent.{RecordOk}
 use Rattle.laws.proofs.Blocks.{bit-below, same-bit}
 use Rattle.laws.proofs.Apart.{class-of, field-inside}
 use Rattle.walk.specs.Walk.{State, Placed, Seen, Valid, Run}
 use Rattle.walk.proofs.Walking.{room-le, run-still, run-more, run-same, Pushed, push-room, run-push, valid-empty, valid-popped, run-first, underway-from, exact-roots, fails-roots, underway-turn, left-turn, turn-fails, underway-exact}
 use Rattle.searching.specs.declared.Edges.{Edges}
-use Rattle.searching.specs.declared.Edges.the-variants.{All, Unmarked}
+use Rattle.searching.specs.declared.Edges.the-variants.{All, Unentered}
 use Rattle.searching.specs.declared.Met.{Met}
 use Rattle.searching.specs.declared.Met.the-variants.{Top, Bad}
 use Rattle.searching.specs.Graph.{recordsOf, followed, InRun, Follows, graphOf, graphFrom}
@@ -49,7 +49,7 @@ unfolding setBit
 set-word s k j d = getD-set-other s (k / 32) j (withBit (getD s (k / 32) 0) (k % 32)) 0 d
 
 -- the word of a bit lies before the stack
-pub bit-word : (g : Geometry) (k : ℕ) → k < len g Region.trace → k / 32 < len g Region.queued
+pub bit-word : (g : Geometry) (k : ℕ) → k < len g Region.trace → k / 32 < len g Region.marks
 bit-word g k l = mark-word g k l
 
 module _ (g : Geometry) (m : Mem) (s : List ℕ) (top at k : ℕ) (f : Valid (recordsOf g m) (stateOf g s top)) (ok : RecordOk g m at) (ek : k ≡ recordBit g m at) where
@@ -64,10 +64,10 @@ module _ (g : Geometry) (m : Mem) (s : List ℕ) (top at k : ℕ) (f : Valid (re
 
   module _ (size : length s ≡ searchWords g) (w : ℕ) (names : w ≡ suc at) where
     -- a set bit and a new entry are a push
-    pushes : (d : bitAt s k ≡ 1 → ⊥) → Pushed (recordsOf g m) at (stateOf g s top) (stateOf g (set (setBit s k) (len g Region.queued + top) at) (top + 1))
+    pushes : (d : bitAt s k ≡ 1 → ⊥) → Pushed (recordsOf g m) at (stateOf g s top) (stateOf g (set (setBit s k) (len g Region.marks + top) at) (top + 1))
     pushes d =
         let u = setBit s k in
-        let b = len g Region.queued in
+        let b = len g Region.marks in
         let v = set u (b + top) at in
         let l : length u ≡ searchWords g = length-setBit s k ∙ size in
         let r = enter-room d in
@@ -140,14 +140,14 @@ pick-le false k = omega arith
 
 followed-le : (e : Edges) (g : Geometry) (m : Mem) (at : ℕ) → followed e g m at ≤ pointerCount m at
 followed-le All g m at = omega arith
-followed-le Unmarked g m at = pick-le (isMarked g m at) (pointerCount m at)
+followed-le Unentered g m at = pick-le (isEntered g m at) (pointerCount m at)
 
 -- where the stack begins, as the code reads it
-pub base-is : (g : Geometry) (n t : ℕ) → n ≡ searchWords g → t ≡ len g Region.trace → n - t ≡ len g Region.queued
+pub base-is : (g : Geometry) (n t : ℕ) → n ≡ searchWords g → t ≡ len g Region.trace → n - t ≡ len g Region.marks
 base-is g n t en et = omega arith
 
 -- b is where the stack begins
-module _ (g : Geometry) (m : Mem) (s : List ℕ) (top : ℕ) (f : Valid (recordsOf g m) (stateOf g s top)) (some : 0 < top) (b : ℕ) (eb : b ≡ len g Region.queued) where
+module _ (g : Geometry) (m : Mem) (s : List ℕ) (top : ℕ) (f : Valid (recordsOf g m) (stateOf g s top)) (some : 0 < top) (b : ℕ) (eb : b ≡ len g Region.marks) where
   abbrev last : ℕ
   last = getD s (b + (top - 1)) 0
 
@@ -165,7 +165,7 @@ module _ (g : Geometry) (m : Mem) (s : List ℕ) (top : ℕ) (f : Valid (records
   turn-valid = valid-popped (top - 1) f (omega arith)
 
   pub turn-came : (e : Edges) (n : ℕ) → n ≡ followed e g m last → (met : Met) (after : List ℕ) → Came g m (InRun (m .heap) (last + 1) n) (stateOf g s (top - 1)) met after
-      → Came g m (Follows e g m (getD s (len g Region.queued + (top - 1)) 0)) (stateOf g s (top - 1)) met after
+      → Came g m (Follows e g m (getD s (len g Region.marks + (top - 1)) 0)) (stateOf g s (top - 1)) met after
   turn-came e n en met after c =
       subst (λ (z : ℕ). Came g m (Follows e g m (getD s (z + (top - 1)) 0)) (stateOf g s (top - 1)) met after) eb
       (subst (λ (z : ℕ). Came g m (InRun (m .heap) (last + 1) z) (stateOf g s (top - 1)) met after) en c)
@@ -177,7 +177,7 @@ pub cleared-more : (s : List ℕ) (i : ℕ) → i < length s → ((j : ℕ) → 
 cleared-more s i h z j l =
     ⊎-elim (λ e. subst (λ (x : ℕ). getD (set s i 0) x 0 ≡ 0) (sym e) (getD-set-same s i 0 0 h)) (λ d. getD-set-other s i j 0 0 d ∙ z j (lt-of (subst (λ (x : ℕ). j < x) (add-one i) l) d)) (same-or-not j i)
 
-pub cleared-bits : (g : Geometry) (s : List ℕ) → ((j : ℕ) → j < len g Region.queued → getD s j 0 ≡ 0) → Blank g s
+pub cleared-bits : (g : Geometry) (s : List ℕ) → ((j : ℕ) → j < len g Region.marks → getD s j 0 ≡ 0) → Blank g s
 cleared-bits g s z k l = bit-split s k ∙ ap (λ (w : ℕ). bitOf w (k % 32)) (z (k / 32) (bit-word g k l)) ∙ bit-zero (k % 32)
 
 module _ (g : Geometry) (m : Mem) (Named : ℕ → Type 0) (s : List ℕ) (blank : Blank g s) where

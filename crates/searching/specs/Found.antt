@@ -8,11 +8,12 @@ use Rattle.layout.specs.declared.Geometry.{Geometry}
 use Rattle.layout.specs.Geometry.{mostBlocks}
 use Rattle.layout.specs.Mem.{Mem}
 use Rattle.theory.specs.Reach.{Protected}
-use Rattle.model.specs.Records.{recordBit}
-use Rattle.model.specs.Reaching.{IsEntry, PointsTo, isMarked}
+use Rattle.model.specs.Records.{recordBit, entered}
+use Rattle.model.specs.Reaching.{PointsTo}
+use lib.Dec.{eqb}
 use Rattle.model.specs.Consistent.{RecordOk}
 use Rattle.walk.specs.Walk.{At}
-use Rattle.searching.specs.Graph.{recordsOf}
+use Rattle.searching.specs.Graph.{recordsOf, ByEntry}
 
 -- every record of the set passes the test, and a bit is 1 exactly when it is that of a record of the set
 pub record BitsOf (g : Geometry) (m : Mem) (Set : ℕ → Type 0) (bits : List ℕ) : Type 0 where
@@ -31,6 +32,6 @@ pub record Finds (g : Geometry) (m : Mem) (Set : ℕ → Type 0) (r : Bool) (bit
   pub good : r ≡ true → BitsOf g m Set bits
   pub bad : r ≡ false → BadRecord g m Set
 
--- reached from an entry of the trace stack through unmarked records only: covered is marked or this
+-- an entry of the trace stack, named by one, or reached from there through records whose bit is 0: covered is that the bit is 1, or this
 abbrev pub ByEntries : Geometry → Mem → ℕ → Type 0
-ByEntries g m = Protected (IsEntry m) (isMarked g m) (PointsTo m)
+ByEntries g m = Protected (ByEntry m) (λ at. eqb (entered g m at) 1) (PointsTo m)

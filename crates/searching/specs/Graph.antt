@@ -10,12 +10,13 @@ use Rattle.layout.specs.declared.Geometry.{Geometry}
 use Rattle.layout.specs.Geometry.{mostBlocks, len, mutatorWords, rootCount}
 use Rattle.layout.specs.Mem.{Mem}
 use Rattle.model.specs.Fields.{traceCount, absent, state}
-use Rattle.model.specs.Records.{pointerCount, recordBit}
-use Rattle.model.specs.Reaching.{isMarked}
+use Rattle.model.specs.Records.{pointerCount, recordBit, entered}
+use lib.Dec.{eqb}
+use Rattle.model.specs.Reaching.{IsEntry, PointsTo}
 use Rattle.model.specs.Consistent.{RecordOk}
 use Rattle.walk.specs.Walk.{State, Nodes, Seen, Graph}
 use Rattle.searching.specs.declared.Edges.{Edges}
-use Rattle.searching.specs.declared.Edges.the-variants.{All, Unmarked}
+use Rattle.searching.specs.declared.Edges.the-variants.{All, Unentered}
 use Rattle.searching.specs.declared.Source.{Source}
 use Rattle.searching.specs.declared.Source.the-variants.{Roots, Pointers, Entries}
 use Rattle.layout.specs.Region as Region
@@ -23,10 +24,10 @@ use Rattle.layout.specs.Region as Region
 abbrev pub recordsOf : Geometry → Mem → Nodes
 recordsOf g m = record { size = g .segments * mostBlocks g; Ok = RecordOk g m; place = recordBit g m }
 
--- how many pointers of a record are followed: all of them, or, of a marked record, none
+-- how many pointers of a record are followed: all of them, or, of one whose bit is 1, none
 abbrev pub followed : Edges → Geometry → Mem → ℕ → ℕ
 followed All g m at = pointerCount m at
-followed Unmarked g m at = pick (isMarked g m at) 0 (pointerCount m at)
+followed Unentered g m at = pick (eqb (entered g m at) 1) 0 (pointerCount m at)
 
 -- where words that name records are read, and how many there are
 abbrev pub wordsOf : Source → Mem → List ℕ
@@ -57,6 +58,24 @@ pub record RootBelow (m : Mem) (n x : ℕ) : Type 0 where
   pub mutator : ℕ
   pub few : mutator < n
   pub names : RootOf m mutator x
+
+-- a pointer of the record that w names names x
+abbrev pub PointedBy : Mem → ℕ → ℕ → Type 0
+PointedBy m w x = (e : ℕ) × (w ≡ suc e) × PointsTo m e x
+
+-- w names x, or the record that w names does
+abbrev pub Seeds : Mem → ℕ → ℕ → Type 0
+Seeds m w x = (w ≡ suc x) ⊎ PointedBy m w x
+
+-- so does one of the first n words of the trace stack
+pub record SeedBelow (m : Mem) (n x : ℕ) : Type 0 where
+  pub index : ℕ
+  pub few : index < n
+  pub seed : Seeds m (getD (m .trace) index 0) x
+
+-- an entry of the trace stack, or named by one
+abbrev pub ByEntry : Mem → ℕ → Type 0
+ByEntry m x = IsEntry m x ⊎ ((e : ℕ) × IsEntry m e × PointsTo m e x)
 
 -- as many entries as the trace stack's count says, of those that have words
 pub record EntryCount (g : Geometry) (m : Mem) (n : ℕ) : Type 0 where

@@ -17,10 +17,10 @@ use Rattle.searching.specs.Graph.{recordsOf, graphFrom, Follows}
 use Rattle.layout.specs.Region as Region
 
 abbrev pub searchWords : Geometry → ℕ
-searchWords g = len g Region.queued + len g Region.trace
+searchWords g = len g Region.marks + len g Region.trace
 
 abbrev pub stateOf : Geometry → List ℕ → ℕ → State
-stateOf g scratch t = record { seen = bitAt scratch; entry = λ i. getD scratch (len g Region.queued + i) 0; top = t }
+stateOf g scratch t = record { seen = bitAt scratch; entry = λ i. getD scratch (len g Region.marks + i) 0; top = t }
 
 -- no bit is 1
 abbrev pub Blank : Geometry → List ℕ → Type 0
@@ -34,7 +34,7 @@ pub record Lent (g : Geometry) (memory scratch : List ℕ) : Type 0 where
 -- the record at a word, with bit k, becomes seen; it goes on the stack if it was not
 pub record Enters (g : Geometry) (at k : ℕ) (before : List ℕ) (top r : ℕ) (after : List ℕ) : Type 0 where
   pub old : bitAt before k ≡ 1 → (r ≡ top) × (after ≡ before)
-  pub new : (bitAt before k ≡ 1 → ⊥) → (r ≡ top + 1) × (after ≡ set (setBit before k) (len g Region.queued + top) at)
+  pub new : (bitAt before k ≡ 1 → ⊥) → (r ≡ top + 1) × (after ≡ set (setBit before k) (len g Region.marks + top) at)
 
 -- what following some names came to: the state after it, or a name that fails the test
 abbrev pub Came : Geometry → Mem → (ℕ → Type 0) → State → Met → List ℕ → Type 0
@@ -48,7 +48,7 @@ Then g m Named before Bad r after = r ≡ Bad
 
 -- a turn: the last entry is taken off, and its pointers are followed
 abbrev pub Turns : Geometry → Mem → Edges → List ℕ → Met → Met → List ℕ → Type 0
-Turns g m e before (Top t) r after = Came g m (Follows e g m (getD before (len g Region.queued + (t - 1)) 0)) (stateOf g before (t - 1)) r after
+Turns g m e before (Top t) r after = Came g m (Follows e g m (getD before (len g Region.marks + (t - 1)) 0)) (stateOf g before (t - 1)) r after
 Turns g m e before Bad r after = r ≡ Bad
 
 -- a state that a word or a turn may start from

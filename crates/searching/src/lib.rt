@@ -4,7 +4,7 @@ use layout::Geometry;
 use tracing::Bit;
 ghost use mathlib.Core.Path.{_≡_};
 ghost use mathlib.Core.Bool.{true};
-ghost use Prim.Native.Nat.{suc, _+_, _-_, _*_, _≤_, _<_};
+ghost use Prim.Native.Nat.{ℕ, suc, _+_, _-_, _*_, _≤_, _<_};
 ghost use lib.ListN.{length, getD, replicate};
 ghost use Rattle.words.specs.Bits.{bitAt};
 ghost use Rattle.layout.specs.Geometry.{Sized, len, maxSegments, mutatorCount};
@@ -12,15 +12,15 @@ ghost use Rattle.layout.specs.Mem.{memOf};
 ghost use Rattle.model.specs.Reaching.{IsRoot, IsEntry, Live, Reached};
 ghost use Rattle.model.specs.Consistent.{RecordOk};
 ghost use Rattle.walk.specs.Walk.{Valid};
-ghost use Rattle.searching.specs.Graph.{recordsOf, followed, wordsOf, lengthOf, InRun, Follows, RootOf, EntryCount};
+ghost use Rattle.searching.specs.Graph.{recordsOf, followed, wordsOf, lengthOf, InRun, Follows, RootOf, PointedBy, Seeds, ByEntry, EntryCount};
 ghost use Rattle.searching.specs.Scratch.{searchWords, Blank, stateOf, Lent, Enters, Came, Then, Turns, Ready, isWaiting, isGood, Started, Finished};
 ghost use Rattle.searching.specs.Found.{Finds, ByEntries};
 ghost use Rattle.layout.specs.Region as Region;
 
-// Which pointers are followed: all, or those of unmarked records.
+// Which pointers are followed: all, or those of records whose bit is 0.
 pub enum Edges {
     All,
-    Unmarked,
+    Unentered,
 }
 
 // Where words that name records are read: the roots among the mutators' words, the pointers in the heap, the entries of the trace stack.
@@ -45,8 +45,8 @@ pub fn pointers(g: Geometry, mem: &[u32], edges: Edges, at: usize) -> usize
     let n = shape.pointer_count as usize;
     match edges {
         Edges::All => n,
-        Edges::Unmarked => {
-            if record_test::is_marked(g, mem, at) {
+        Edges::Unentered => {
+            if record_test::is_entered(g, mem, at) {
                 return 0;
             }
             n
@@ -134,7 +134,7 @@ fn follow_run(
 // A turn: the last entry is taken off, and its pointers are followed.
 fn turn_at(g: Geometry, mem: &[u32], edges: Edges, scratch: &mut [u32], top: usize) -> Met
     requires { ⌜ Lent g (now mem) (now scratch) × Valid (recordsOf g (memOf g (now mem))) (stateOf g (now scratch) top) × (0 < top) ⌝ }
-    ensures { λ r. ⌜ Came g (memOf g (now (mem .entry))) (Follows edges g (memOf g (now (mem .entry))) (getD (now (scratch .entry)) (len g Region.queued + (top - 1)) 0)) (stateOf g (now (scratch .entry)) (top - 1)) r (now (scratch .exit)) ⌝ }
+    ensures { λ r. ⌜ Came g (memOf g (now (mem .entry))) (Follows edges g (memOf g (now (mem .entry))) (getD (now (scratch .entry)) (len g Region.marks + (top - 1)) 0)) (stateOf g (now (scratch .entry)) (top - 1)) r (now (scratch .exit)) ⌝ }
 {
     let t = top - 1;
     let i = scratch.len() - layout::trace_words(g) + t;
@@ -261,6 +261,46 @@ fn follow_entries(g: Geometry, mem: &[u32], scratch: &mut [u32], met: Met) -> Me
     }
 }
 
+// The pointers of the record that a word names, which passes the test.
+fn follow_pointers(g: Geometry, mem: &[u32], w: u32, scratch: &mut [u32], top: usize) -> Met
+    requires { ⌜ Lent g (now mem) (now scratch) × Valid (recordsOf g (memOf g (now mem))) (stateOf g (now scratch) top) × ((x : ℕ) → w ≡ suc x → RecordOk g (memOf g (now mem)) x) ⌝ }
+    ensures { λ r. ⌜ Came g (memOf g (now (mem .entry))) (PointedBy (memOf g (now (mem .entry))) w) (stateOf g (now (scratch .entry)) top) r (now (scratch .exit)) ⌝ }
+{
+    if w == 0 {
+        return Met::Top(top);
+    }
+    let at = (w - 1) as usize;
+    let count = pointers(g, mem, Edges::All, at);
+    follow_run(g, mem, Source::Pointers, at + 1, count, scratch, top)
+}
+
+// A word that names a record or is nil, and the pointers of what it names.
+fn seed(g: Geometry, mem: &[u32], w: u32, scratch: &mut [u32], met: Met) -> Met
+    requires { ⌜ Lent g (now mem) (now scratch) × Ready g (memOf g (now mem)) (now scratch) met ⌝ }
+    ensures { λ r. ⌜ Then g (memOf g (now (mem .entry))) (Seeds (memOf g (now (mem .entry))) w) (now (scratch .entry)) met r (now (scratch .exit)) ⌝ }
+{
+    match follow(g, mem, w, scratch, met) {
+        Met::Bad => Met::Bad,
+        Met::Top(top) => follow_pointers(g, mem, w, scratch, top),
+    }
+}
+
+// The entries of the trace stack and what they name, where no bit is 1.
+fn seed_entries(g: Geometry, mem: &[u32], scratch: &mut [u32]) -> Met
+    requires { ⌜ Lent g (now mem) (now scratch) × Blank g (now scratch) ⌝ }
+    ensures { λ r. ⌜ Came g (memOf g (now (mem .entry))) (ByEntry (memOf g (now (mem .entry)))) (stateOf g (now (scratch .entry)) 0) r (now (scratch .exit)) ⌝ }
+{
+    let count = entry_count(g, mem);
+    let mut met = Met::Top(0);
+    let mut i: usize = 0;
+    while i < count {
+        let w = layout::trace(g, mem, i);
+        met = seed(g, mem, w, scratch, met);
+        i += 1;
+    }
+    met
+}
+
 // Every bit of the scratch becomes 0.
 fn clear(g: Geometry, scratch: &mut [u32])
     requires { ⌜ (g .segments ≤ maxSegments) × (length (now scratch) ≡ searchWords g) ⌝ }
@@ -306,12 +346,12 @@ pub fn reached(g: Geometry, mem: &[u32], scratch: &mut [u32]) -> bool
     finish(g, mem, Edges::All, scratch, met)
 }
 
-// The bits of the records that entries of the trace stack lead to through unmarked records.
+// The bits of the records that entries of the trace stack name, and that they lead to through records whose bit among the marks is 0.
 pub fn by_entries(g: Geometry, mem: &[u32], scratch: &mut [u32]) -> bool
     requires { ⌜ Lent g (now mem) (now scratch) ⌝ }
     ensures { λ r. ⌜ Finds g (memOf g (now (mem .entry))) (ByEntries g (memOf g (now (mem .entry)))) r (now (scratch .exit)) ⌝ }
 {
     clear(g, scratch);
-    let met = entries_at(g, mem, scratch, 0);
-    finish(g, mem, Edges::Unmarked, scratch, met)
+    let met = seed_entries(g, mem, scratch);
+    finish(g, mem, Edges::Unentered, scratch, met)
 }

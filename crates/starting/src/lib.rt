@@ -58,7 +58,7 @@ fn reset_acks(g: Geometry, mem: &mut [u32])
     }
 }
 
-// A cycle begins: segments condemned, acknowledgements anew, marks cleared, the first handshake.
+// A cycle begins: segments condemned, acknowledgements anew, marks cleared, the sweep's cursor before all segments, the first handshake.
 fn begin(g: Geometry, mem: &mut [u32])
     requires { ⌜ Sized g (length (now mem)) ⌝ }
     ensures { λ _. ⌜ memOf g (now (mem .exit)) ≡ started g (memOf g (now (mem .entry))) ⌝ }
@@ -66,6 +66,7 @@ fn begin(g: Geometry, mem: &mut [u32])
     condemn(g, mem);
     reset_acks(g, mem);
     layout::clear_marks(g, mem);
+    layout::set_control(g, mem, 2, 0);
     mutators::set_phase(g, mem, Phase::SYNC1);
 }
 

@@ -7,7 +7,7 @@ use Prim.Native.Nat.{ℕ, suc, _+_, _*_, _<_}
 use native.Mathlib.Omega.{arith}
 use lib.ListN.{length}
 use Rattle.layout.specs.declared.Geometry.{Geometry}
-use Rattle.layout.specs.Geometry.{markWords, wrongSize, rootCount}
+use Rattle.layout.specs.Geometry.{controlWords, markWords, wrongSize, rootCount}
 use Rattle.layout.specs.Mem.{Mem, memOf, controlWord, heapWord, setHeap}
 use Rattle.layout.proofs.Regions.{sized, length-region}
 use Rattle.theory.specs.Phases.{duty}
@@ -97,8 +97,8 @@ module _ (g : Geometry) (xs : List ℕ) (k i f j at : ℕ) (q : Reaches (c-store
     free (inr (inl x)) = push-succeeds g m c (pointer m at f) old-ok x
     free (inr (inr x)) =
         let z = sized g (length xs) (q .size) in
-        let lc : length (m .control) ≡ 2 = length-region g xs Region.control (z .is) (omega arith) in
-        let lq : length (m .queued) ≡ g .segments * markWords g = length-region g xs Region.queued (z .is) (omega arith) in
+        let lc : length (m .control) ≡ controlWords = length-region g xs Region.control (z .is) (omega arith) in
+        let lq : length (m .marks) ≡ g .segments * markWords g = length-region g xs Region.marks (z .is) (omega arith) in
         push-succeeds-next g m c (omega arith) lq (fields.root m k j) (pointer m at f) new-ok old-ok x
 
   pub store-by : (p v : ℕ) (r : Answer) (ys : List ℕ) → Word p ≡ pointerAt g m at f → v ≡ fields.root m k j → Stores g m k p v r (memOf g ys) → Promise (c-store k i f j) g xs r ys

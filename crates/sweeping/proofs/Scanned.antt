@@ -1,71 +1,62 @@
--- The scan for the lowest condemned segment, from the last one down: what it keeps, and one segment more. Assumes nothing.
+-- The scan for the lowest condemned segment, from the cursor up: what it keeps, one segment more, and what it finds. Assumes nothing.
 use mathlib.Core.Path.{_≡_, refl, sym, _∙_, ap}
-use mathlib.Core.Option.{Option, none, some}
-use Prim.Native.Nat.{ℕ, suc, _-_, _≤_, _<_}
+use mathlib.Core.Logic.{⊎-elim}
+use mathlib.Core.Bool.{Bool, true, false, true≢false}
+use Prim.Native.Nat.{ℕ, suc, _+_, _≤_, _<_}
 use native.Mathlib.Omega.{arith}
-use lib.Dec.{eqb, ltb}
-use borrow.Author.Tests.{lt-ltb, le-ltb, eq-eqb, ne-eqb}
-use Rattle.rules.specs.Pick.{pick}
+use Rattle.rules.proofs.Order.{le-or-lt, same-or-not}
+use Rattle.layout.specs.declared.Geometry.{Geometry}
 use Rattle.layout.specs.Mem.{Mem}
-use Rattle.model.specs.Fields.{tag}
-use Rattle.model.specs.Collector.{lowest, orThen}
-use Rattle.sweeping.specs.Sweeping.{lowestOf}
+use Rattle.model.specs.Fields.{cursor, tag}
+use Rattle.model.specs.Consistent.{Behind}
+use Rattle.laws.proofs.Lowest.{lowest-none, lowest-some}
+use Rattle.sweeping.specs.Sweeping.{lowestOf, Next, Finds}
+use Rattle.sweeping.specs.declared.Lowest.{Lowest}
 use Rattle.sweeping.specs.declared.Lowest.the-variants.{Segment, Nothing}
 use Rattle.model.specs.Tag as Tag
 
--- what was seen of n segments: n stands for none
-abbrev seen : ℕ → ℕ → Option ℕ
-seen n f = pick (ltb f n) (some f) none
+abbrev isNothing : Lowest → Bool
+isNothing Nothing = true
+isNothing (Segment s) = false
 
-or-none : (o : Option ℕ) → orThen o none ≡ o
-or-none none = refl
-or-none (some s) = refl
+-- the segments from one on to i are not condemned
+pub record Scanned (m : Mem) (from i : ℕ) : Type 0 where
+  pub passed : (x : ℕ) → from ≤ x → x < i → tag m x ≡ Tag.condemned → ⊥
 
-or-or : (a b c : Option ℕ) → orThen (orThen a b) c ≡ orThen a (orThen b c)
-or-or none b c = refl
-or-or (some s) b c = refl
+pub none-scanned : (m : Mem) (from : ℕ) → Scanned m from from
+none-scanned m from = record { passed = λ x a b q. omega arith }
 
--- the segments from i on are passed, and f is the lowest condemned one of them
-pub record Scanned (m : Mem) (n i f : ℕ) : Type 0 where
-  pub few : i ≤ n
-  pub is : orThen (lowest m i) (seen n f) ≡ lowest m n
+-- i is the segment after them, t its tag
+module _ (g : Geometry) (m : Mem) (from i : ℕ) (p : Scanned m from i) where
+  pub one-other : (t : ℕ) → t ≡ tag m i → (t ≡ Tag.condemned → ⊥) → Scanned m from (i + 1)
+  one-other t e h = record { passed = λ x a b q. ⊎-elim (λ z. h (e ∙ sym (ap (tag m) z) ∙ q)) (λ d. p .passed x a (omega arith) q) (same-or-not x i) }
 
-pub none-scanned : (m : Mem) (n : ℕ) → Scanned m n n n
-none-scanned m n = record { few = omega arith; is = ap (λ b. orThen (lowest m n) (pick b (some n) none)) (le-ltb n n (omega arith)) ∙ or-none (lowest m n) }
+  pub next-found : (t : ℕ) → t ≡ tag m i → t ≡ Tag.condemned → Next g m from i
+  next-found t e h = record { passed = p .passed; found = λ _. sym e ∙ h }
 
--- s is the segment before them, t its tag
-module _ (m : Mem) (n i f : ℕ) (p : Scanned m n i f) (l : 0 < i) (s : ℕ) (es : i - 1 ≡ s) (t : ℕ) (e : t ≡ tag m s) where
-  abbrev here : Option ℕ
-  here = pick (eqb (tag m s) Tag.condemned) (some s) none
+  pub next-none : g .segments ≤ i → Next g m from i
+  next-none l = record { passed = p .passed; found = λ h. absurd (omega arith) }
 
-  lowest-next : lowest m i ≡ orThen (lowest m s) here
-  unfolding lowest
-  lowest-next = ap (lowest m) (let z : i ≡ suc s = omega arith in z)
+-- from the cursor on
+module _ (g : Geometry) (m : Mem) (c i : ℕ) (e : c ≡ cursor m) (p : Next g m c i) where
+  -- none before i is condemned, if none is before the cursor
+  before : Behind g m → (x : ℕ) → x < g .segments → x < i → tag m x ≡ Tag.condemned → ⊥
+  before b x l h q = ⊎-elim (λ z. p .passed x z h q) (λ z. b x l (omega arith) q) (le-or-lt c x)
 
-  next : (o : Option ℕ) → orThen here (seen n f) ≡ o → orThen (lowest m (i - 1)) o ≡ lowest m n
-  next o h =
-      ap (λ x. orThen (lowest m x) o) es ∙ ap (orThen (lowest m s)) (sym h) ∙ sym (or-or (lowest m s) here (seen n f))
-      ∙ ap (λ x. orThen x (seen n f)) (sym lowest-next) ∙ p .is
+  pub scanned-some : i < g .segments → Finds g m (Segment i)
+  scanned-some l = record {
+    found = λ s q. (let z = same s q in (omega arith, ap (tag m) (sym z) ∙ p .found l));
+    exact = λ b. ap lowestOf (sym (lowest-some m (g .segments) i l (p .found l) (λ x k. before b x (omega arith) k)));
+  }
+    where
+      same : (s : ℕ) → Segment i ≡ Segment s → i ≡ s
+      same s q = cc
 
-  pub one-condemned : t ≡ Tag.condemned → Scanned m n (i - 1) s
-  one-condemned h =
-      let q = p .few in
-      record {
-        few = omega arith;
-        is = next (seen n s) (rw (eq-eqb _ _ (sym e ∙ h), lt-ltb s n (omega arith)) refl);
-      }
-
-  pub one-other : (t ≡ Tag.condemned → ⊥) → Scanned m n (i - 1) f
-  one-other h = let q = p .few in record { few = omega arith; is = next (seen n f) (rw (ne-eqb _ _ (λ z. h (e ∙ z))) refl) }
-
--- all are passed
-module _ (m : Mem) (n i f : ℕ) (p : Scanned m n i f) (l : i ≤ 0) where
-  found-is : seen n f ≡ lowest m n
-  unfolding lowest
-  found-is = ap (λ x. orThen (lowest m x) (seen n f)) (let z : 0 ≡ i = omega arith in z) ∙ p .is
-
-  pub scanned-some : f < n → Segment f ≡ lowestOf (lowest m n)
-  scanned-some h = ap (λ b. lowestOf (pick b (some f) none)) (sym (lt-ltb f n h)) ∙ ap lowestOf found-is
-
-  pub scanned-none : n ≤ f → Nothing ≡ lowestOf (lowest m n)
-  scanned-none h = ap (λ b. lowestOf (pick b (some f) none)) (sym (le-ltb f n h)) ∙ ap lowestOf found-is
+  pub scanned-none : g .segments ≤ i → Finds g m Nothing
+  scanned-none l = record {
+    found = λ s q. absurd (other s q);
+    exact = λ b. ap lowestOf (sym (lowest-none m (g .segments) (λ x k. before b x k (omega arith))));
+  }
+    where
+      other : (s : ℕ) → Nothing ≡ Segment s → ⊥
+      other s q = true≢false (ap isNothing q)

@@ -3,7 +3,7 @@ use mathlib.Core.Path.{_≡_, refl, sym, _∙_, ap, subst}
 use mathlib.Core.Bool.{Bool, true, false, true≢false}
 use mathlib.Core.Logic.{_⊎_, inl, inr}
 use mathlib.Core.Option.{Option, none, some}
-use Prim.Native.Nat.{ℕ, _-_, _<_}
+use Prim.Native.Nat.{ℕ, _-_, _<_, suc, _+_, _≤_}
 use native.Mathlib.Omega.{arith}
 use lib.Dec.{eqb}
 use borrow.Author.Tests.{ne-eqb, eqb-true}
@@ -21,20 +21,21 @@ use Rattle.model.specs.declared.Step.the-variants.{Swept, Done, Refused}
 use Rattle.model.specs.Answers.{isSwept, isDone}
 use Rattle.model.specs.declared.SegmentState.{SegmentState}
 use Rattle.model.specs.Fields.{tag, class, place, owner}
-use Rattle.model.specs.Segments.{stateOf, segment, freeStack, partStack, count, bitmap, marksOf, inUse}
-use Rattle.model.specs.Collector.{lowest, keptBy, rebuiltBy, swept, sweeps}
+use Rattle.model.specs.Segments.{stateOf, segment, freeStack, partStack, count, bitmap, inUse}
+use Rattle.model.specs.Collector.{lowest, keptBy, rebuiltBy, swept, sweeps, settledBy}
 use Rattle.model.specs.Consistent.{Consistent, isFree, isPart}
 use Rattle.model.specs.StepParts.{StepsAs}
 use Rattle.laws.proofs.Words.{classIn}
 use Rattle.laws.proofs.Blocks.{blocks-most, blocks-some}
 use Rattle.laws.proofs.Segments.{in-use-le, not-free, not-part}
 use Rattle.laws.proofs.Stacks.{stack-room}
-use Rattle.laws.proofs.Lowest.{found-condemned}
 use Rattle.laws.proofs.Swept.{swept-use}
+use Rattle.laws.proofs.Rebuilding.{rebuilt-mark}
+use Rattle.words.proofs.Ones.{among-same}
 use Rattle.laws.proofs.StepParts.{steps-done, steps-13}
 use Rattle.bitmaps.specs.Given.{adoptedAs, usedBits}
 use Rattle.sweeping.specs.declared.Lowest.the-variants.{Segment, Nothing}
-use Rattle.sweeping.specs.Sweeping.{lowestOf, stateAfter, stackAfter, settled, Settles, SweepFails, Sweeps}
+use Rattle.sweeping.specs.Sweeping.{lowestOf, Finds, stateAfter, stackAfter, settled, Settles, SweepFails, Sweeps}
 use Rattle.theory.specs.Calls as theory
 use Rattle.model.specs.Tag as Tag
 
@@ -44,11 +45,11 @@ inSweep g m = sweeps g (lowest m (g .segments)) m
 -- ---- what the code writes is what the model does
 
 module _ (g : Geometry) (m : Mem) (s : ℕ) (k : IsClass (class m s)) where
-  settled-is : settled g (rebuiltBy g m s) s (class m s) (keptBy g m s) ≡ swept g m s
-  unfolding settled stateAfter stackAfter swept
+  settled-is : settled g (rebuiltBy g m s) s (class m s) (keptBy g m s) ≡ settledBy g m s
+  unfolding settled stateAfter stackAfter settledBy
   settled-is = go (eqb (keptBy g m s) 0) (eqb (keptBy g m s) (blocksIn g (class m s))) refl refl
     where
-      go : (a b : Bool) → eqb (keptBy g m s) 0 ≡ a → eqb (keptBy g m s) (blocksIn g (class m s)) ≡ b → settled g (rebuiltBy g m s) s (class m s) (keptBy g m s) ≡ swept g m s
+      go : (a b : Bool) → eqb (keptBy g m s) 0 ≡ a → eqb (keptBy g m s) (blocksIn g (class m s)) ≡ b → settled g (rebuiltBy g m s) s (class m s) (keptBy g m s) ≡ settledBy g m s
       go true true x y = absurd (let p = blocks-some g (class m s) k in let q : keptBy g m s ≡ 0 = eqb-true _ _ x in let r : keptBy g m s ≡ blocksIn g (class m s) = eqb-true _ _ y in omega arith)
       go true false x y = rw (x, y) refl
       go false true x y = rw (x, y) refl
@@ -60,8 +61,8 @@ module _ (g : Geometry) (m : Mem) (s : ℕ) (z : Sizes g m) (l : s < g .segments
   pub swept-no-class : classTest c ≡ false → (m′ : Mem) → Sweeps g m s (Refused 13) m′
   swept-no-class f m′ = record { either = inr (refl, inl (λ k. true≢false (sym (class-passes _ (subst IsClass (sym ec) k)) ∙ f))) }
 
-  module _ (k : classTest c ≡ true) (p u n : ℕ) (ep : p ≡ place m s) (eu : u ≡ onesAmong (usedBits (bitAt (bitmap g m s)) p) (blocksIn g c)) (en : n ≡ onesAmong (bitAt (marksOf g m s)) (blocksIn g c))
-      (m₁ : Mem) (e : m₁ ≡ adoptedAs g m s c) (r : Bool) (m₂ : Mem) (q : Settles g m₁ s c n r m₂) where
+  module _ (k : classTest c ≡ true) (p u n : ℕ) (ep : p ≡ place m s) (eu : u ≡ onesAmong (usedBits (bitAt (bitmap g m s)) p) (blocksIn g c))
+      (m₁ : Mem) (e : m₁ ≡ adoptedAs g m s c) (en : n ≡ onesAmong (bitAt (bitmap g m₁ s)) (blocksIn g c)) (r : Bool) (m₂ : Mem) (q : Settles g m₁ s c n r m₂) where
     is-class : IsClass (class m s)
     is-class = subst IsClass ec (class-passed c k)
 
@@ -70,17 +71,21 @@ module _ (g : Geometry) (m : Mem) (s : ℕ) (z : Sizes g m) (l : s < g .segments
         ∙ sym (ap (λ b. pick b 0 (onesAmong (usedBits (bitAt (bitmap g m s)) (place m s)) (blocksIn g (class m s)))) (ne-eqb (tag m s) Tag.free (λ x. omega arith)))
 
     kept-is : n ≡ keptBy g m s
-    kept-is = en ∙ ap (λ x. onesAmong (bitAt (marksOf g m s)) (blocksIn g x)) ec
+    kept-is =
+        en ∙ ap (λ x. onesAmong (bitAt (bitmap g x s)) (blocksIn g c)) (e ∙ ap (adoptedAs g m s) ec)
+        ∙ ap (λ x. onesAmong (bitAt (bitmap g (rebuiltBy g m s) s)) (blocksIn g x)) ec
+        ∙ among-same _ _ (blocksIn g (class m s)) (λ b h. rebuilt-mark g m z s l is-class b h)
 
     settles : Settles g (rebuiltBy g m s) s (class m s) (keptBy g m s) r m₂
     settles = subst (λ x. Settles g (rebuiltBy g m s) s x (keptBy g m s) r m₂) ec
         (subst (λ x. Settles g (rebuiltBy g m s) s c x r m₂) kept-is
         (subst (λ x. Settles g x s c n r m₂) (e ∙ ap (adoptedAs g m s) ec) q))
 
-    pub swept-done : r ≡ true → (f : ℕ) → f ≡ u - n → Sweeps g m s (Swept s f) m₂
-    swept-done y f ef =
+    pub swept-done : r ≡ true → (m₃ : Mem) → m₃ ≡ setControl m₂ 2 (s + 1) → (f : ℕ) → f ≡ u - n → Sweeps g m s (Swept s f) m₃
+    unfolding swept
+    swept-done y m₃ e₃ f ef =
         let x : f ≡ inUse g m s - inUse g (swept g m s) s = ef ∙ ap (λ w. w - n) used-is ∙ ap (λ w. inUse g m s - w) (kept-is ∙ sym (swept-use g m z s l is-class)) in
-        record { either = inl (ap (Swept s) x, settles .done y ∙ settled-is g m s is-class, is-class) }
+        record { either = inl (ap (Swept s) x, e₃ ∙ ap (λ w. setControl w 2 (s + 1)) (settles .done y ∙ settled-is g m s is-class) ∙ ap (setControl (settledBy g m s) 2) (let w : s + 1 ≡ suc s = omega arith in w), is-class) }
 
     pub swept-full : r ≡ false → Sweeps g m s (Refused 13) m₂
     unfolding setRun
@@ -121,12 +126,12 @@ module _ (g : Geometry) (m : Mem) where
       go none e = refl
       go (some x) e = cc
 
-  pub sweep-done : Nothing ≡ lowestOf (lowest m (g .segments)) → (m′ : Mem) → m′ ≡ setControl m 0 (phaseNumber idle) → StepsAs inSweep g m Done m′
-  sweep-done e m′ u = steps-done inSweep g m refl isDone (λ _. rw (none-is e) (refl, u))
+  pub sweep-done : Finds g m Nothing → (m′ : Mem) → m′ ≡ setControl m 0 (phaseNumber idle) → StepsAs inSweep g m Done m′
+  sweep-done f m′ u = steps-done inSweep g m refl isDone (λ c. rw (none-is (f .exact (c .sound .behind))) (refl, u))
 
-  module _ (s : ℕ) (e : Segment s ≡ lowestOf (lowest m (g .segments))) where
+  module _ (s : ℕ) (f : Finds g m (Segment s)) where
     pub lowest-condemned : (s < g .segments) × (tag m s ≡ Tag.condemned)
-    lowest-condemned = found-condemned m (g .segments) s (some-is s e)
+    lowest-condemned = f .found s refl
 
     pub sweep-sweeps : (r : Step) (m′ : Mem) → Sweeps g m s r m′ → StepsAs inSweep g m r m′
     sweep-sweeps r m′ x = go (x .either)
@@ -136,7 +141,7 @@ module _ (g : Geometry) (m : Mem) where
             let b = in-use-le g m s in
             let a = blocks-most g (class m s) k in
             subst (λ w. StepsAs inSweep g m w m′) (sym u)
-            (steps-done inSweep g m refl (isSwept s _ (lowest-condemned .0) (omega arith)) (λ _. rw (some-is s e) (refl, y)))
+            (steps-done inSweep g m refl (isSwept s _ (lowest-condemned .0) (omega arith)) (λ c. rw (some-is s (f .exact (c .sound .behind))) (refl, y)))
         go (inr (u, y)) =
             let h = lowest-condemned in
             subst (λ w. StepsAs inSweep g m w m′) (sym u) (steps-13 inSweep g m (λ c. sweep-succeeds g m c s (h .0) (h .1) y))

@@ -4,7 +4,7 @@ use mathlib.Core.Path.{_≡_}
 use mathlib.Core.Bool.{Bool, true, false}
 use mathlib.Core.Logic.{_⊎_}
 use mathlib.Core.Option.{Option, none, some}
-use Prim.Native.Nat.{ℕ, _-_, _≤_}
+use Prim.Native.Nat.{ℕ, _-_, _≤_, _<_}
 use lib.Dec.{eqb}
 use Rattle.rules.specs.Pick.{pick}
 use Rattle.classes.specs.Class.{IsClass}
@@ -14,16 +14,28 @@ use Rattle.layout.specs.Mem.{Mem}
 use Rattle.model.specs.declared.SegmentState.{SegmentState}
 use Rattle.model.specs.declared.Step.{Step}
 use Rattle.model.specs.declared.Step.the-variants.{Swept, Refused}
-use Rattle.model.specs.Fields.{class}
+use Rattle.model.specs.Fields.{class, tag}
 use Rattle.model.specs.Segments.{setSegmentState, freeStack, partStack, count, stacked, inUse}
-use Rattle.model.specs.Collector.{keptBy, swept}
+use Rattle.model.specs.Collector.{keptBy, swept, lowest}
 use Rattle.sweeping.specs.declared.Lowest.{Lowest}
 use Rattle.sweeping.specs.declared.Lowest.the-variants.{Segment, Nothing}
+use Rattle.model.specs.Consistent.{Behind}
 use Rattle.model.specs.declared.SegmentState.the-variants as state
+use Rattle.model.specs.Tag as Tag
 
 abbrev pub lowestOf : Option ℕ → Lowest
 lowestOf none = Nothing
 lowestOf (some s) = Segment s
+
+-- r is the first condemned segment from one on, or past the last one
+pub record Next (g : Geometry) (m : Mem) (from r : ℕ) : Type 0 where
+  pub passed : (x : ℕ) → from ≤ x → x < r → tag m x ≡ Tag.condemned → ⊥
+  pub found : r < g .segments → tag m r ≡ Tag.condemned
+
+-- what the search answers: a condemned segment, which is the lowest where none stands before the cursor; none only where there is none
+pub record Finds (g : Geometry) (m : Mem) (r : Lowest) : Type 0 where
+  pub found : (s : ℕ) → r ≡ Segment s → (s < g .segments) × (tag m s ≡ Tag.condemned)
+  pub exact : Behind g m → r ≡ lowestOf (lowest m (g .segments))
 
 -- "place 0 unless it becomes full. No mark: free. All blocks marked: full. Else part.": n blocks of a segment of class c are marked
 unfoldable pub stateAfter : Geometry → ℕ → ℕ → SegmentState

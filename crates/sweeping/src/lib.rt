@@ -15,7 +15,7 @@ ghost use Rattle.model.specs.Fields.{tag, class};
 ghost use Rattle.model.specs.Collector.{lowest, sweeps};
 ghost use Rattle.model.specs.StepParts.{StepsAs};
 ghost use Rattle.model.specs.Tag as Tag;
-ghost use Rattle.sweeping.specs.Sweeping.{lowestOf, stateAfter, stackAfter, Settles, Sweeps};
+ghost use Rattle.sweeping.specs.Sweeping.{Next, Finds, stateAfter, stackAfter, Settles, Sweeps};
 
 // The lowest condemned segment, or none.
 pub enum Lowest {
@@ -23,23 +23,30 @@ pub enum Lowest {
     Nothing,
 }
 
-// Found from the last segment down: the last one seen is the lowest.
-fn lowest_condemned(g: Geometry, mem: &[u32]) -> Lowest
+// The first condemned segment from one on; past the last one where there is none.
+fn next_condemned(g: Geometry, mem: &[u32], from: usize) -> usize
     requires { ⌜ Sized g (length (now mem)) ⌝ }
-    ensures { λ r. ⌜ r ≡ lowestOf (lowest (memOf g (now (mem .entry))) (g .segments)) ⌝ }
+    ensures { λ r. ⌜ Next g (memOf g (now (mem .entry))) from r ⌝ }
 {
     let n = g.segments;
-    let mut found = n;
-    let mut i = n;
-    while 0 < i {
-        let s = i - 1;
-        i -= 1;
+    let mut s = from;
+    while s < n {
         if segments::tag(g, mem, s) == Segment::TAG_CONDEMNED {
-            found = s;
+            return s;
         }
+        s += 1;
     }
-    if found < n {
-        return Lowest::Segment(found);
+    s
+}
+
+// Found from the cursor up: in consistent memory no condemned segment stands before it.
+fn lowest_condemned(g: Geometry, mem: &[u32]) -> Lowest
+    requires { ⌜ Sized g (length (now mem)) ⌝ }
+    ensures { λ r. ⌜ Finds g (memOf g (now (mem .entry))) r ⌝ }
+{
+    let s = next_condemned(g, mem, layout::control(g, mem, 2) as usize);
+    if s < g.segments {
+        return Lowest::Segment(s);
     }
     Lowest::Nothing
 }
@@ -113,7 +120,7 @@ fn condemned_class(g: Geometry, mem: &[u32], s: usize) -> u32
     }
 }
 
-// Segment s is swept: its level 0 becomes the marks, and it is free, full or part by their number.
+// Segment s is swept: its level 0 becomes the marks, it is free, full or part by their number, and the cursor passes it.
 fn sweep_segment(g: Geometry, mem: &mut [u32], s: usize) -> Step
     requires { ⌜ (Sized g (length (now mem))) × (s < g .segments) ⌝ }
     requires { ⌜ tag (memOf g (now mem)) s ≡ Tag.condemned ⌝ }
@@ -123,9 +130,10 @@ fn sweep_segment(g: Geometry, mem: &mut [u32], s: usize) -> Step
     if classes::is_class(class) {
         let place = segments::place(g, mem, s);
         let used = bitmaps::in_use(g, mem, s, class, place);
-        let kept = bitmaps::kept(g, mem, s, class);
         bitmaps::adopt(g, mem, s, class);
+        let kept = bitmaps::kept(g, mem, s, class);
         if settle(g, mem, s, class, kept) {
+            layout::set_control(g, mem, 2, s as u32 + 1);
             return Step::Swept(s as u32, less(used, kept));
         }
     }

@@ -6,72 +6,58 @@ use mathlib.Core.Logic.{inl, inr}
 use Prim.Native.Nat.{ℕ, suc, _+_, _-_, _/_, _%_, _≤_, _<_}
 use native.Mathlib.Omega.{arith}
 use native.Mathlib.Nat.{pos-of-ne-zero}
-use lib.Bits.{bitAnd, bitOr}
+use lib.Bits.{bitOr}
 use borrow.Author.Tests.{eq-eqb, ne-eqb}
-use Rattle.words.specs.Bits.{bitAt, setBit, clearBit}
+use Rattle.words.specs.Bits.{bitAt, setBit}
 use Rattle.layout.specs.declared.Geometry.{Geometry}
 use Rattle.layout.specs.Geometry.{len}
-use Rattle.layout.specs.Mem.{Mem, markWord, queuedWord, setMarkWord, setQueuedWord, setTrace, setControl}
+use Rattle.layout.specs.Mem.{Mem, markWord, setMarkWord, setTrace, setControl}
 use Rattle.model.specs.Fields.{traceCount}
 use Rattle.model.specs.Records.{record?, recordBit}
 use Rattle.model.specs.Tracing.{push}
 use Rattle.model.specs.declared.Duty.{Duty}
 use Rattle.tracing.specs.declared.Bit.the-variants.{At, Torn}
 use Rattle.tracing.proofs.Bits.{bit-within}
-use Rattle.tracing.proofs.Masks.{mask, mask-set, mask-clear, mask-or, mask-less}
-use Rattle.tracing.specs.Pushing.{recordBitAt, withMark, withoutQueued, pushedBit, PushesBit, PushFails, Pushes, BarrierRuns}
+use Rattle.tracing.proofs.Masks.{mask, mask-or, or-same, or-other}
+use Rattle.tracing.specs.Pushing.{recordBitAt, withMark, pushedBit, PushesBit, PushFails, Pushes, BarrierRuns}
 use Rattle.words.specs.Bits as bits
 use Rattle.model.specs.Records as records
 use Rattle.model.specs.declared.Duty.the-variants as duty
 use Rattle.layout.specs.Region as Region
 
--- ---- x is the word of the marks and y that of the queued bits, each tested by the mask of bit k
+-- ---- x is the word of the marks, and what it is with bit k
 
-module _ (g : Geometry) (m : Mem) (w k : ℕ) where
+module _ (g : Geometry) (m : Mem) (w k : ℕ) (x : ℕ) (e : x ≡ markWord m (k / 32)) where
   low : k % 32 < 32
   low = omega arith
 
-  pub push-marked : (x : ℕ) → x ≡ markWord m (k / 32) → (bitAnd x (mask (k % 32)) ≡ 0 → ⊥) → PushesBit g m w k true m
-  unfolding pushedBit bitAt
-  push-marked x e h =
-      let q : bits.bitOf (markWord m (k / 32)) (k % 32) ≡ 1 = ap (λ z. bits.bitOf z (k % 32)) (sym e) ∙ mask-set x (k % 32) low h in
-      record { done = λ _. rw q refl; full = λ t. absurd (true≢false t) }
+  is-bit : bits.bitOf x (k % 32) ≡ bitAt (m .marks) k
+  unfolding bitAt
+  is-bit = ap (λ z. bits.bitOf z (k % 32)) e
 
-  module _ (x : ℕ) (e : x ≡ markWord m (k / 32)) (h : bitAnd x (mask (k % 32)) ≡ 0) (y : ℕ) (u : y ≡ queuedWord m (k / 32)) where
-    unmarked : bitAt (m .marks) k ≡ 1 → ⊥
-    unfolding bitAt
-    unmarked q = mask-clear x (k % 32) low h (ap (λ z. bits.bitOf z (k % 32)) e ∙ q)
+  pub push-old : bitOr x (mask (k % 32)) ≡ x → PushesBit g m w k true m
+  unfolding pushedBit
+  push-old h = record { done = λ _. rw (eq-eqb _ _ (sym is-bit ∙ or-same x (k % 32) low h)) refl; full = λ t. absurd (true≢false t) }
 
-    is-queued : bits.bitOf y (k % 32) ≡ bitAt (m .queued) k
-    unfolding bitAt
-    is-queued = ap (λ z. bits.bitOf z (k % 32)) u
+  module _ (h : bitOr x (mask (k % 32)) ≡ x → ⊥) (n : ℕ) (j : n ≡ traceCount m) where
+    unset : bitAt (m .marks) k ≡ 1 → ⊥
+    unset q = or-other x (k % 32) low h (is-bit ∙ q)
 
-    pub push-queued : (bitAnd y (mask (k % 32)) ≡ 0 → ⊥) → PushesBit g m w k true m
-    unfolding pushedBit
-    push-queued i = record {
-      done = λ _. rw (ne-eqb _ _ unmarked, eq-eqb _ _ (sym is-queued ∙ mask-set y (k % 32) low i)) refl;
-      full = λ t. absurd (true≢false t);
+    pub push-full : (d : ℕ) → d ≡ len g Region.trace → d ≤ n → PushesBit g m w k false m
+    push-full d t o = record {
+      done = λ y. absurd (true≢false (sym y));
+      full = λ _. (unset, subst (λ z. len g Region.trace ≤ z) j (subst (λ z. z ≤ n) t o));
     }
 
-    module _ (i : bitAnd y (mask (k % 32)) ≡ 0) (n : ℕ) (j : n ≡ traceCount m) where
-      unqueued : bitAt (m .queued) k ≡ 1 → ⊥
-      unqueued q = mask-clear y (k % 32) low i (is-queued ∙ q)
-
-      pub push-full : (d : ℕ) → d ≡ len g Region.trace → d ≤ n → PushesBit g m w k false m
-      push-full d t o = record {
-        done = λ y. absurd (true≢false (sym y));
-        full = λ _. (unqueued, subst (λ z. len g Region.trace ≤ z) j (subst (λ z. z ≤ n) t o));
-      }
-
-      pub push-done : (m₁ m₂ m₃ : Mem) → m₁ ≡ setQueuedWord m (k / 32) (bitOr y (mask (k % 32))) → m₂ ≡ setTrace m₁ n w → m₃ ≡ setControl m₂ 1 (n + 1)
-          → PushesBit g m w k true m₃
-      unfolding pushedBit setBit setQueuedWord
-      push-done m₁ m₂ m₃ e₁ e₂ e₃ =
-          let a = e₁ ∙ ap (setQueuedWord m (k / 32)) (mask-or y (k % 32) low) in
-          record {
-            done = λ _. e₃ ∙ rw (e₂, a, u, j, ne-eqb _ _ unmarked, ne-eqb _ _ unqueued) refl;
-            full = λ t. absurd (true≢false t);
-          }
+    pub push-done : (m₁ m₂ m₃ : Mem) → m₁ ≡ setMarkWord m (k / 32) (bitOr x (mask (k % 32))) → m₂ ≡ setTrace m₁ n w → m₃ ≡ setControl m₂ 1 (n + 1)
+        → PushesBit g m w k true m₃
+    unfolding pushedBit withMark setBit setMarkWord
+    push-done m₁ m₂ m₃ e₁ e₂ e₃ =
+        let a = e₁ ∙ ap (setMarkWord m (k / 32)) (mask-or x (k % 32) low) in
+        record {
+          done = λ _. e₃ ∙ rw (e₂, a, e, j, ne-eqb _ _ unset) refl;
+          full = λ t. absurd (true≢false t);
+        }
 
 -- ---- x is the word of the marks that has bit k
 
@@ -79,15 +65,10 @@ pub marked-bit : (m : Mem) (k x : ℕ) → x ≡ markWord m (k / 32) → (m′ :
 unfolding withMark setBit setMarkWord
 marked-bit m k x e m′ u = u ∙ ap (setMarkWord m (k / 32)) (mask-or x (k % 32) (let l : k % 32 < 32 = omega arith in l)) ∙ rw e refl
 
--- y is the word of the queued bits that has bit k
-pub unqueued-bit : (m : Mem) (k y : ℕ) → y ≡ queuedWord m (k / 32) → (m′ : Mem) → m′ ≡ setQueuedWord m (k / 32) (y - bitAnd y (mask (k % 32))) → m′ ≡ withoutQueued m k
-unfolding withoutQueued clearBit setQueuedWord
-unqueued-bit m k y e m′ u = u ∙ ap (setQueuedWord m (k / 32)) (mask-less y (k % 32) (let l : k % 32 < 32 = omega arith in l)) ∙ rw e refl
-
 -- ---- a push of a word
 
 pushed-is : (g : Geometry) (m : Mem) (at k : ℕ) → k ≡ recordBit g m at → pushedBit m (suc at) k ≡ push g m (some at)
-unfolding push pushedBit records.setQueued
+unfolding push pushedBit withMark records.setEntered
 pushed-is g m at k e = rw e refl
 
 module _ (g : Geometry) (m : Mem) (w : ℕ) where
@@ -98,15 +79,15 @@ module _ (g : Geometry) (m : Mem) (w : ℕ) where
   named : (w ≡ 0 → ⊥) → w ≡ suc (w - 1)
   named f = let l = pos-of-ne-zero f in omega arith
 
-  pub push-torn : (w ≡ 0 → ⊥) → Torn ≡ recordBitAt g m (w - 1) → Pushes g m w false m
+  pub push-torn : (w ≡ 0 → ⊥) → Torn ≡ recordBitAt g (w - 1) → Pushes g m w false m
   push-torn f e = record { done = λ t. absurd (true≢false (sym t)); fails = λ _. record { at = w - 1; names = named f; why = inl (sym e) } }
 
-  pub push-by : (k : ℕ) (r : Bool) (after : Mem) → (w ≡ 0 → ⊥) → At k ≡ recordBitAt g m (w - 1) → PushesBit g m w k r after → Pushes g m w r after
+  pub push-by : (k : ℕ) (r : Bool) (after : Mem) → (w ≡ 0 → ⊥) → At k ≡ recordBitAt g (w - 1) → PushesBit g m w k r after → Pushes g m w r after
   push-by k r after f e p =
-      let z = bit-within g m (w - 1) k e .0 in
+      let z = bit-within g (w - 1) k e .0 in
       record {
         done = λ t. p .done t ∙ subst (λ v. pushedBit m v k ≡ push g m (record? v)) (sym (named f)) (pushed-is g m (w - 1) k z);
-        fails = λ t. let h = p .full t in record { at = w - 1; names = named f; why = inr ((λ q. h .0 (ap (bitAt (m .queued)) z ∙ q)), h .1) };
+        fails = λ t. let h = p .full t in record { at = w - 1; names = named f; why = inr ((λ q. h .0 (ap (bitAt (m .marks)) z ∙ q)), h .1) };
       }
 
 -- ---- the barrier

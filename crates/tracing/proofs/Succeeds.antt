@@ -1,4 +1,4 @@
--- Nothing hinders a push of a record in order where the queued bits are counted, nor any push of a fold of them; so in consistent memory.
+-- Nothing hinders a push of a record in order where the entries are counted, nor any push of a fold of them; so in consistent memory.
 -- Assumes nothing.
 use mathlib.Core.Path.{_≡_, refl, sym, _∙_, ap}
 use mathlib.Core.Bool.{true≢false}
@@ -11,12 +11,11 @@ use Rattle.words.specs.Bits.{bitAt}
 use Rattle.words.proofs.Word.{zero-of-not-one}
 use Rattle.words.proofs.Counts.{zero-less}
 use Rattle.words.proofs.Lists.{at-lt}
-use Rattle.classes.proofs.Every.{class-passes}
 use Rattle.layout.specs.declared.Geometry.{Geometry}
 use Rattle.layout.specs.Geometry.{mostBlocks, markWords, len}
 use Rattle.layout.specs.Mem.{Mem}
 use Rattle.model.specs.Fields.{traceCount}
-use Rattle.model.specs.Records.{record?, recordBit, queued}
+use Rattle.model.specs.Records.{record?, recordBit, entered}
 use Rattle.model.specs.Tracing.{push}
 use Rattle.model.specs.Consistent.{RecordOk, Consistent}
 use Rattle.laws.proofs.Blocks.{bit-below}
@@ -31,17 +30,17 @@ use Rattle.layout.specs.Region as Region
 
 module _ (g : Geometry) (m : Mem) (number : Counted g m) where
   module _ (at : ℕ) (r : RecordOk g m at) where
-    pub has-bit : recordBitAt g m at ≡ Torn → ⊥
+    pub has-bit : recordBitAt g at ≡ Torn → ⊥
     unfolding recordBitAt
     has-bit e = let z : At (recordBit g m at) ≡ Torn = sym placed ∙ e in true≢false (ap isAt z)
       where
-        placed : recordBitAt g m at ≡ At (recordBit g m at)
-        placed = rw (lt-ltb _ _ (r .inside), class-passes _ (class-of g m at r)) refl
+        placed : recordBitAt g at ≡ At (recordBit g m at)
+        placed = rw (lt-ltb _ _ (r .inside)) refl
 
-    room : (queued g m at ≡ 1 → ⊥) → traceCount m < len g Region.trace
+    room : (entered g m at ≡ 1 → ⊥) → traceCount m < len g Region.trace
     room f =
         let b = bit-below g m at (class-of g m at r) (r .inside) in
-        let h = zero-less (bitAt (m .queued)) (at-lt (m .queued)) (g .segments * mostBlocks g) (recordBit g m at) b (zero-of-not-one _ (at-lt (m .queued) (recordBit g m at)) f) in
+        let h = zero-less (bitAt (m .marks)) (at-lt (m .marks)) (g .segments * mostBlocks g) (recordBit g m at) b (zero-of-not-one _ (at-lt (m .marks) (recordBit g m at)) f) in
         omega arith
 
   pub succeeds : (w : ℕ) → ((at : ℕ) → w ≡ suc at → RecordOk g m at) → PushFails g m w → ⊥
@@ -50,7 +49,7 @@ module _ (g : Geometry) (m : Mem) (number : Counted g m) where
       ok : RecordOk g m (h .at)
       ok = r (h .at) (h .names)
 
-      go : (recordBitAt g m (h .at) ≡ Torn) ⊎ ((queued g m (h .at) ≡ 1 → ⊥) × (len g Region.trace ≤ traceCount m)) → ⊥
+      go : (recordBitAt g (h .at) ≡ Torn) ⊎ ((entered g m (h .at) ≡ 1 → ⊥) × (len g Region.trace ≤ traceCount m)) → ⊥
       go (inl e) = has-bit (h .at) ok e
       go (inr p) = let l = room (h .at) ok (p .0) in let q = p .1 in omega arith
 
@@ -68,9 +67,9 @@ module _ (g : Geometry) (m : Mem) (c : Consistent g m) where
   pub push-succeeds : (w : ℕ) → ((at : ℕ) → w ≡ suc at → RecordOk g m at) → PushFails g m w → ⊥
   push-succeeds = succeeds g m (c .sound .trace .number)
 
-  module _ (lc : 1 < length (m .control)) (lq : length (m .queued) ≡ g .segments * markWords g) where
+  module _ (lc : 1 < length (m .control)) (lq : length (m .marks) ≡ g .segments * markWords g) where
     pub push-succeeds-next : (v w : ℕ) → ((at : ℕ) → v ≡ suc at → RecordOk g m at) → ((at : ℕ) → w ≡ suc at → RecordOk g m at) → PushFails g (push g m (record? v)) w → ⊥
     push-succeeds-next v w ok also =
-        let y : Ready g m = record { control = lc; queued = lq; number = c .sound .trace .number } in
+        let y : Ready g m = record { control = lc; marks = lq; number = c .sound .trace .number } in
         succeeds g (push g m (record? v)) (ready-push g m y v ok .number) w
         (λ at e. record-untouched g m (push g m (record? v)) (untouched-push g m v) at (also at e))

@@ -5,14 +5,13 @@ use mathlib.Core.Logic.{_⊎_}
 use Prim.Native.Nat.{ℕ, suc, _+_, _≤_}
 use lib.Dec.{eqb, ltb}
 use Rattle.rules.specs.Pick.{pick}
-use Rattle.words.specs.Bits.{bitAt, setBit, clearBit}
-use Rattle.classes.specs.Class.{classTest}
+use Rattle.words.specs.Bits.{bitAt, setBit}
 use Rattle.layout.specs.declared.Geometry.{Geometry}
-use Rattle.layout.specs.Geometry.{len, segmentOf}
+use Rattle.layout.specs.Geometry.{len, markBit}
 use Rattle.layout.specs.Mem.{Mem, setTrace, withRegion}
-use Rattle.model.specs.Fields.{class, traceCount, setTraceCount}
+use Rattle.model.specs.Fields.{traceCount, setTraceCount}
 use Rattle.model.specs.declared.Duty.{Duty}
-use Rattle.model.specs.Records.{record?, recordBit, queued}
+use Rattle.model.specs.Records.{record?, entered}
 use Rattle.model.specs.Tracing.{push, barrier}
 use Rattle.tracing.specs.declared.Bit.{Bit}
 use Rattle.tracing.specs.declared.Bit.the-variants.{At, Torn}
@@ -20,36 +19,29 @@ use Rattle.theory.specs.Phases as theory
 use Rattle.model.specs.declared.Duty.the-variants as duty
 use Rattle.layout.specs.Region as Region
 
--- the bit of the record at a word; none off the heap, or in a segment of no class
-unfoldable pub recordBitAt : Geometry → Mem → ℕ → Bit
-recordBitAt g m at =
-    pick (ltb at (len g Region.heap)) (pick (classTest (class m (segmentOf g at))) (At (recordBit g m at)) Torn) Torn
+-- the bit of the record at a word; none off the heap
+unfoldable pub recordBitAt : Geometry → ℕ → Bit
+recordBitAt g at = pick (ltb at (len g Region.heap)) (At (markBit at)) Torn
 
--- bit k marked
+-- bit k set
 unfoldable pub withMark : Mem → ℕ → Mem
 withMark m k = withRegion m Region.marks (setBit (m .marks) k)
 
--- bit k queued no more
-unfoldable pub withoutQueued : Mem → ℕ → Mem
-withoutQueued m k = withRegion m Region.queued (clearBit (m .queued) k)
-
--- the word w on top of the stack, with bit k, unless the bit is marked or queued
+-- the word w on top of the stack, with bit k, unless the bit is set
 unfoldable pub pushedBit : Mem → ℕ → ℕ → Mem
 pushedBit m w k =
-    pick (eqb (bitAt (m .marks) k) 1) m
-    (pick (eqb (bitAt (m .queued) k) 1) m
-    (setTraceCount (setTrace (withRegion m Region.queued (setBit (m .queued) k)) (traceCount m) w) (traceCount m + 1)))
+    pick (eqb (bitAt (m .marks) k) 1) m (setTraceCount (setTrace (withMark m k) (traceCount m) w) (traceCount m + 1))
 
--- what a push of word w and bit k answers: true and the memory with it, or false where it is not queued and the stack has no room
+-- what a push of word w and bit k answers: true and the memory with it, or false where its bit is not set and the stack has no room
 pub record PushesBit (g : Geometry) (m : Mem) (w k : ℕ) (r : Bool) (after : Mem) : Type 0 where
   pub done : r ≡ true → after ≡ pushedBit m w k
-  pub full : r ≡ false → (bitAt (m .queued) k ≡ 1 → ⊥) × (len g Region.trace ≤ traceCount m)
+  pub full : r ≡ false → (bitAt (m .marks) k ≡ 1 → ⊥) × (len g Region.trace ≤ traceCount m)
 
--- what hinders a push of word w: its record has no bit, or is not queued while the stack has no room
+-- what hinders a push of word w: its record has no bit, or its bit is not set while the stack has no room
 pub record PushFails (g : Geometry) (m : Mem) (w : ℕ) : Type 0 where
   pub at : ℕ
   pub names : w ≡ suc at
-  pub why : (recordBitAt g m at ≡ Torn) ⊎ ((queued g m at ≡ 1 → ⊥) × (len g Region.trace ≤ traceCount m))
+  pub why : (recordBitAt g at ≡ Torn) ⊎ ((entered g m at ≡ 1 → ⊥) × (len g Region.trace ≤ traceCount m))
 
 pub record Pushes (g : Geometry) (m : Mem) (w : ℕ) (r : Bool) (after : Mem) : Type 0 where
   pub done : r ≡ true → after ≡ push g m (record? w)

@@ -3,55 +3,46 @@
 use layout::Geometry;
 use model::Duty;
 ghost use mathlib.Core.Path.{_≡_};
-ghost use Prim.Native.Nat.{_*_, _<_};
+ghost use Prim.Native.Nat.{_*_, _≤_, _<_};
 ghost use lib.ListN.{length};
-ghost use Rattle.layout.specs.Geometry.{Sized, mostBlocks, mutatorCount};
+ghost use Rattle.layout.specs.Geometry.{Sized, maxSegments, mostBlocks, mutatorCount};
 ghost use Rattle.layout.specs.Mem.{memOf};
-ghost use Rattle.tracing.specs.Pushing.{recordBitAt, withMark, withoutQueued, PushesBit, Pushes, BarrierRuns};
+ghost use Rattle.tracing.specs.Pushing.{recordBitAt, withMark, PushesBit, Pushes, BarrierRuns};
 ghost use Rattle.tracing.specs.Roots.{PushesRoots};
 
-// The number of a record's bit among the marks and the queued bits, or none.
+// The number of a record's bit among the marks, or none.
 pub enum Bit {
     At(usize),
     Torn,
 }
 
-// The bit of the record at a word.
-pub fn bit_of(g: Geometry, mem: &[u32], at: usize) -> Bit
-    requires { ⌜ Sized g (length (now mem)) ⌝ }
-    ensures { λ r. ⌜ r ≡ recordBitAt g (memOf g (now (mem .entry))) at ⌝ }
+// The bit of the record at a word; none off the heap.
+pub fn bit_of(g: Geometry, at: usize) -> Bit
+    requires { ⌜ g .segments ≤ maxSegments ⌝ }
+    ensures { λ r. ⌜ r ≡ recordBitAt g at ⌝ }
 {
     if layout::heap_words(g) <= at {
         return Bit::Torn;
     }
-    let s = layout::segment_of(g, at);
-    let class = layout::segment(g, mem, s * layout::SEGMENT_RECORD_WORDS + layout::CLASS_AT);
-    if classes::is_class(class) {
-        let b = layout::offset_of(g, at) / classes::block_words(class);
-        return Bit::At(layout::bit_in(g, s, b));
-    }
-    Bit::Torn
+    Bit::At(layout::mark_bit(at))
 }
 
-// Pushes the record of a word and a bit, unless it is marked or queued; false where the stack has no room.
+// Pushes the record of a word and a bit, unless its bit is set; false where the stack has no room.
 fn push_bit(g: Geometry, mem: &mut [u32], w: u32, k: usize) -> bool
     requires { ⌜ (Sized g (length (now mem))) × (k < g .segments * mostBlocks g) ⌝ }
     ensures { λ r. ⌜ PushesBit g (memOf g (now (mem .entry))) w k r (memOf g (now (mem .exit))) ⌝ }
 {
     let q = k / 32;
-    let one = 1u32 << (k % 32);
-    if layout::mark(g, mem, q) & one != 0 {
-        return true;
-    }
-    let bits = layout::queued(g, mem, q);
-    if bits & one != 0 {
+    let bits = layout::mark(g, mem, q);
+    let new = bits | 1u32 << (k % 32);
+    if new == bits {
         return true;
     }
     let count = layout::control(g, mem, 1);
     if layout::trace_words(g) <= count as usize {
         return false;
     }
-    layout::set_queued(g, mem, q, bits | one);
+    layout::set_mark(g, mem, q, new);
     layout::set_trace(g, mem, count as usize, w);
     layout::set_control(g, mem, 1, count + 1);
     true
@@ -65,13 +56,13 @@ pub fn push(g: Geometry, mem: &mut [u32], w: u32) -> bool
     if w == 0 {
         return true;
     }
-    match bit_of(g, mem, (w - 1) as usize) {
+    match bit_of(g, (w - 1) as usize) {
         Bit::Torn => false,
         Bit::At(k) => push_bit(g, mem, w, k),
     }
 }
 
-// Marks bit k.
+// Sets bit k.
 pub fn mark_bit(g: Geometry, mem: &mut [u32], k: usize)
     requires { ⌜ (Sized g (length (now mem))) × (k < g .segments * mostBlocks g) ⌝ }
     ensures { λ _. ⌜ memOf g (now (mem .exit)) ≡ withMark (memOf g (now (mem .entry))) k ⌝ }
@@ -79,16 +70,6 @@ pub fn mark_bit(g: Geometry, mem: &mut [u32], k: usize)
     let q = k / 32;
     let bits = layout::mark(g, mem, q);
     layout::set_mark(g, mem, q, bits | 1u32 << (k % 32));
-}
-
-// Bit k is queued no more.
-pub fn unqueue_bit(g: Geometry, mem: &mut [u32], k: usize)
-    requires { ⌜ (Sized g (length (now mem))) × (k < g .segments * mostBlocks g) ⌝ }
-    ensures { λ _. ⌜ memOf g (now (mem .exit)) ≡ withoutQueued (memOf g (now (mem .entry))) k ⌝ }
-{
-    let q = k / 32;
-    let bits = layout::queued(g, mem, q);
-    layout::set_queued(g, mem, q, bits - (bits & 1u32 << (k % 32)));
 }
 
 // The write barrier of a store: the new value and then the old, the old, or nothing.

@@ -34,13 +34,12 @@ pub fn tweak(rng: &mut Rng, memory: &mut [u32], base: &[u32], segments: u32) {
         match rng.below(8) {
             0 => damage(rng, memory, segments),
             1 => acknowledge(rng, memory),
-            2 => exchange(rng, memory, 1, layout::regions(segments)[8]),
+            2 => exchange(rng, memory, 1, layout::regions(segments)[7]),
             3 => {
                 let stack = layout::regions(segments)[4] + rng.below(11) as usize * (1 + segments as usize);
                 exchange(rng, memory, stack, stack + 1);
             }
-            4 => set_bits(rng, memory, layout::regions(segments)[6], segments),
-            5 => set_bits(rng, memory, layout::regions(segments)[7], segments),
+            4 | 5 => set_bits(rng, memory, layout::regions(segments)[6], segments),
             6 => segment_word(rng, memory, segments),
             _ => bitmap_bit(rng, memory, segments),
         }
@@ -62,7 +61,7 @@ fn exchange(rng: &mut Rng, memory: &mut [u32], count: usize, entries: usize) {
     }
 }
 
-/// Some of 64 bits to a segment, in the marks or the queued bits.
+/// Some of 64 bits to a segment, in the marks.
 fn set_bits(rng: &mut Rng, memory: &mut [u32], region: usize, segments: u32) {
     let at = region + 64 * rng.below(segments) as usize;
     for _ in 0..rng.between(1, 40) {

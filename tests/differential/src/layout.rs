@@ -1,8 +1,8 @@
 //! Where docs/LAYOUT.md puts the verified library's words: for damage to torn memory, for coverage counters, and to see which block a
 //! make handed out.
 
-pub const MUTATORS: usize = 2;
-pub const HEAP: usize = 1026;
+pub const MUTATORS: usize = 16;
+pub const HEAP: usize = 1040;
 pub const SEGMENT_WORDS: usize = 4096;
 
 /// The number of blocks in a segment of the class.
@@ -16,9 +16,9 @@ pub fn class_of(fields: u32) -> u32 {
 }
 
 /// The regions in order: where each begins for n segments, and behind the last one the end.
-pub fn regions(segments: u32) -> [usize; 10] {
+pub fn regions(segments: u32) -> [usize; 9] {
     let n = segments as usize;
-    [0, MUTATORS, HEAP, 1026 + 4096 * n, 1026 + 4100 * n, 1037 + 4111 * n, 1037 + 4178 * n, 1037 + 4242 * n, 1037 + 4306 * n, 1037 + 6354 * n]
+    [0, MUTATORS, HEAP, 1040 + 4096 * n, 1040 + 4100 * n, 1051 + 4111 * n, 1051 + 4178 * n, 1051 + 4242 * n, 1051 + 6290 * n]
 }
 
 pub fn acknowledgements(memory: &[u32], mutator: u32) -> u32 {
@@ -45,9 +45,9 @@ pub fn side(memory: &[u32], mutator: u32) -> u32 {
 
 /// Whether the block is marked or on the trace stack.
 pub fn marked_or_queued(memory: &[u32], segments: u32, segment: u32, block: u32) -> bool {
-    let regions = regions(segments);
-    let word = 64 * segment as usize + block as usize / 32;
-    (memory[regions[6] + word] | memory[regions[7] + word]) >> (block % 32) & 1 == 1
+    let class = self::segment(memory, segments, segment)[1];
+    let bit = (2048 * segment + (block << class) / 8) as usize;
+    memory[regions(segments)[6] + bit / 32] >> (bit % 32) & 1 == 1
 }
 
 /// How many entries the trace stack has.
@@ -57,7 +57,7 @@ pub fn trace_count(memory: &[u32]) -> usize {
 
 /// An entry of the trace stack, the first entered first.
 pub fn trace_entry(memory: &[u32], segments: u32, number: usize) -> u32 {
-    memory[regions(segments)[8] + number]
+    memory[regions(segments)[7] + number]
 }
 
 /// The four words of a segment's record: state, class, place, mutator.

@@ -34,14 +34,14 @@ pub mod at {
     pub const PHASE: usize = 0;
     pub const TRACE_COUNT: usize = 1;
     /// Root 0 of mutator 0.
-    pub const ROOT: usize = 2;
+    pub const ROOT: usize = 16;
     /// The segment of class 12 that mutator 0 holds.
-    pub const HELD: usize = 2 + 18 + 9;
+    pub const HELD: usize = 16 + 18 + 9;
     /// The tag, and the mutator, of segment 0's record.
-    pub const TAG: usize = 1026 + 4096;
+    pub const TAG: usize = 1040 + 4096;
     pub const HOLDER: usize = TAG + 3;
     /// The count of the free stack.
-    pub const FREE_COUNT: usize = 1026 + 4100;
+    pub const FREE_COUNT: usize = 1040 + 4100;
 }
 
 /// A reference one past the last word of the heap.

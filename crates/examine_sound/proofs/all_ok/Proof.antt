@@ -23,7 +23,7 @@ returns-2 : tie.Need-returns-2
 returns-2 c = let a = c .before .before .before .before .before .before .before .before .before in trace-fails (a .args .g) (memOf (a .args .g) (a .args .mem .now)) _ (c .before .before .before .trace-ok .ensures) (not-true _ (c .if2 .taken))
 
 rest-ok-requires : tie.Need-rest-ok-requires
-rest-ok-requires c κs = let a = c .before .before .before .before .before .before .before .before .before .before in let p = c .before .before .before .before .before .before .before .parts .ensures .sound (not-false _ (c .before .before .before .before .before .before .if1 .left)) in (a .pre .0, c .before .before .before .before .trace-ok .kept .1 .1 .0 ∙ a .pre .1, classes-of (a .args .g) (memOf (a .args .g) (a .args .mem .now)) p, p .phases)
+rest-ok-requires c κs = let a = c .before .before .before .before .before .before .before .before .before .before in let p = c .before .before .before .before .before .before .before .parts .ensures .sound (not-false _ (c .before .before .before .before .before .before .if1 .left)) in (a .pre .0, c .before .before .before .before .trace-ok .kept .1 .1 .0 ∙ a .pre .1, classes-of (a .args .g) (memOf (a .args .g) (a .args .mem .now)) p, p .phases, c .before .before .before .before .trace-ok .ensures .sound (not-false _ (c .before .if2 .left)))
 
 same-length-2 : tie.Need-same-length-2
 same-length-2 c = search needs

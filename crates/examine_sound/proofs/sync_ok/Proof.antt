@@ -5,11 +5,11 @@ use borrow.Author.Needs.{needs}
 use Rattle.examine_sound.proofs.sync_ok.Statement.{statement}
 use Rattle.examine_sound.proofs.sync_ok.Tie as tie
 
-no-marks-requires : tie.Need-no-marks-requires
-no-marks-requires c κs = search needs
+only-entries-requires : tie.Need-only-entries-requires
+only-entries-requires c κs = search needs
 
 returns : tie.Need-returns
-returns c = fails (λ q. refuted (c .before .no-marks .ensures) (not-true _ (c .if1 .taken)) (q .none))
+returns c = fails (λ q. refuted (c .before .only-entries .ensures) (not-true _ (c .if1 .taken)) (q .only))
 
 live-ok-requires : tie.Need-live-ok-requires
 live-ok-requires c κs = search needs
@@ -18,8 +18,8 @@ same-length : tie.Need-same-length
 same-length c = search needs
 
 returns-2 : tie.Need-returns-2
-returns-2 c = via (λ h. record { none = c .before .before .before .before .before .no-marks .ensures .sound (not-false _ (c .before .before .before .before .if1 .left)); records = h }) (λ q. q .records) (c .before .before .live-ok .ensures)
+returns-2 c = via (λ h. record { only = c .before .before .before .before .before .only-entries .ensures .sound (not-false _ (c .before .before .before .before .if1 .left)); records = h }) (λ q. q .records) (c .before .before .live-ok .ensures)
 
 pub sync-ok-spec : {M : Type 1} → statement M
 sync-ok-spec =
-    tie.close (tie.spec no-marks-requires returns live-ok-requires same-length returns-2)
+    tie.close (tie.spec only-entries-requires returns live-ok-requires same-length returns-2)

@@ -13,11 +13,11 @@ use Rattle.examine_trace.proofs.trace_ok.Tie as tie
 control-requires : tie.Need-control-requires
 control-requires c κs = search needs
 
-queued-count-requires : tie.Need-queued-count-requires
-queued-count-requires c κs = search needs
+mark-count-requires : tie.Need-mark-count-requires
+mark-count-requires c κs = search needs
 
 returns : tie.Need-returns
-returns c = let a = c .before .before .before .before .before in count-wrong (a .args .g) (memOf (a .args .g) (a .args .mem .now)) _ _ (c .before .before .control .ensures) (c .before .queued-count .ensures) (c .if1 .taken)
+returns c = let a = c .before .before .before .before .before in count-wrong (a .args .g) (memOf (a .args .g) (a .args .mem .now)) _ _ (c .before .before .control .ensures) (c .before .mark-count .ensures) (c .if1 .taken)
 
 clear-all-requires : tie.Need-clear-all-requires
 clear-all-requires c κs = search needs
@@ -26,20 +26,20 @@ cast-enter-all : tie.Need-cast-enter-all
 cast-enter-all c = search needs
 
 enter-all-requires : tie.Need-enter-all-requires
-enter-all-requires c κs = let a = c .before .before .before .before .before .before .before .before .before .before in let m = memOf (a .args .g) (a .args .mem .now) in ((a .pre .0, c .before .before .before .before .before .before .before .control .ensures, count-few (a .args .g) m _ _ (c .before .before .before .before .before .before .before .control .ensures) (c .before .before .before .before .before .before .queued-count .ensures) (c .before .before .before .before .before .if1 .left)), (subst (λ (n : ℕ). len (a .args .g) Region.queued ≤ n) (sym (c .before .before .before .clear-all .kept .0)) (a .pre .1), clear-bits (length (a .args .scratch .now)) _ (c .before .before .before .clear-all .ensures)))
+enter-all-requires c κs = let a = c .before .before .before .before .before .before .before .before .before .before in let m = memOf (a .args .g) (a .args .mem .now) in ((a .pre .0, c .before .before .before .before .before .before .before .control .ensures, count-few (a .args .g) m _ _ (c .before .before .before .before .before .before .before .control .ensures) (c .before .before .before .before .before .before .mark-count .ensures) (c .before .before .before .before .before .if1 .left)), (subst (λ (n : ℕ). len (a .args .g) Region.marks ≤ n) (sym (c .before .before .before .clear-all .kept .0)) (a .pre .1), clear-bits (length (a .args .scratch .now)) _ (c .before .before .before .clear-all .ensures)))
 
 same-length : tie.Need-same-length
 same-length c = search needs
 
 returns-2 : tie.Need-returns-2
-returns-2 c = let a = c .before .before .before .before .before .before .before .before .before .before .before .before .before in let m = memOf (a .args .g) (a .args .mem .now) in count-right (a .args .g) m _ _ (c .before .before .before .before .before .before .before .before .before .before .control .ensures) (c .before .before .before .before .before .before .before .before .before .queued-count .ensures) (c .before .before .before .before .before .before .before .before .if1 .left) _ _ (c .before .before .enter-all .ensures)
+returns-2 c = let a = c .before .before .before .before .before .before .before .before .before .before .before .before .before in let m = memOf (a .args .g) (a .args .mem .now) in count-right (a .args .g) m _ _ (c .before .before .before .before .before .before .before .before .before .before .control .ensures) (c .before .before .before .before .before .before .before .before .before .mark-count .ensures) (c .before .before .before .before .before .before .before .before .if1 .left) _ _ (c .before .before .enter-all .ensures)
 
 pub trace-ok-spec : {M : Type 1} → statement M
 trace-ok-spec =
     tie.close
     (tie.spec
     control-requires
-    queued-count-requires
+    mark-count-requires
     returns
     clear-all-requires
     cast-enter-all

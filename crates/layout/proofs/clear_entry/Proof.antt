@@ -35,7 +35,7 @@ same-length c = search needs
 
 returns : tie.Need-returns
 returns c =
-    cleared-part (c .before .before .before .before .before .args .g) (c .before .before .before .before .before .args .mem .now) 1 (c .before .before .before .before .before .args .k * 32) 32 (2 + c .before .before .before .before .before .args .k * 32) ((2 + c .before .before .before .before .before .args .k * 32) + 32) _ (c .before .before .zero .ensures) (omega arith)
+    cleared-part (c .before .before .before .before .before .args .g) (c .before .before .before .before .before .args .mem .now) 1 (c .before .before .before .before .before .args .k * 32) 32 (16 + c .before .before .before .before .before .args .k * 32) ((16 + c .before .before .before .before .before .args .k * 32) + 32) _ (c .before .before .zero .ensures) (omega arith)
 
 pub clear-entry-spec : {M : Type 1} → statement M
 clear-entry-spec =

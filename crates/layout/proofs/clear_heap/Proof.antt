@@ -32,7 +32,7 @@ same-length c = search needs
 
 returns : tie.Need-returns
 returns c =
-    cleared-part (c .before .before .before .before .before .args .g) (c .before .before .before .before .before .args .mem .now) 2 (c .before .before .before .before .before .args .i) (c .before .before .before .before .before .args .n) (1026 + c .before .before .before .before .before .args .i) ((1026 + c .before .before .before .before .before .args .i) + (c .before .before .before .before .before .args .n)) _ (c .before .before .zero .ensures) (omega arith)
+    cleared-part (c .before .before .before .before .before .args .g) (c .before .before .before .before .before .args .mem .now) 2 (c .before .before .before .before .before .args .i) (c .before .before .before .before .before .args .n) (1040 + c .before .before .before .before .before .args .i) ((1040 + c .before .before .before .before .before .args .i) + (c .before .before .before .before .before .args .n)) _ (c .before .before .zero .ensures) (omega arith)
 
 pub clear-heap-spec : {M : Type 1} → statement M
 clear-heap-spec =

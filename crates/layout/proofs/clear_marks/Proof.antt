@@ -42,7 +42,7 @@ same-length c = search needs
 returns : tie.Need-returns
 unfolding segmentBytes
 returns c =
-    cleared-at (c .before .before .before .before .before .args .g) (c .before .before .before .before .before .args .mem .now) 6 (c .before .before .before .before .before .args .g .segments * 4178 + 1037) (c .before .before .before .before .before .args .g .segments * 4178 + 1037 + c .before .before .before .before .before .args .g .segments * 64) _ (c .before .before .zero .ensures) (omega arith) (c .before .before .before .before .before .pre .is) (omega arith)
+    cleared-at (c .before .before .before .before .before .args .g) (c .before .before .before .before .before .args .mem .now) 6 (c .before .before .before .before .before .args .g .segments * 4178 + 1051) (c .before .before .before .before .before .args .g .segments * 4178 + 1051 + c .before .before .before .before .before .args .g .segments * 64) _ (c .before .before .zero .ensures) (omega arith) (c .before .before .before .before .before .pre .is) (omega arith)
 
 pub clear-marks-spec : {M : Type 1} → statement M
 clear-marks-spec =

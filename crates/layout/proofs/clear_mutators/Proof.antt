@@ -22,7 +22,7 @@ same-length c = search needs
 
 returns : tie.Need-returns
 returns c =
-    cleared-at (c .before .before .before .before .before .args .g) (c .before .before .before .before .before .args .mem .now) 1 2 1026 _ (c .before .before .zero .ensures) (omega arith) (c .before .before .before .before .before .pre .is) (omega arith)
+    cleared-at (c .before .before .before .before .before .args .g) (c .before .before .before .before .before .args .mem .now) 1 16 1040 _ (c .before .before .zero .ensures) (omega arith) (c .before .before .before .before .before .pre .is) (omega arith)
 
 pub clear-mutators-spec : {M : Type 1} → statement M
 clear-mutators-spec =

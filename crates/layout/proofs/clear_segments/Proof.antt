@@ -42,7 +42,7 @@ same-length c = search needs
 returns : tie.Need-returns
 unfolding segmentBytes
 returns c =
-    cleared-at (c .before .before .before .before .before .args .g) (c .before .before .before .before .before .args .mem .now) 3 (c .before .before .before .before .before .args .g .segments * 4096 + 1026) (c .before .before .before .before .before .args .g .segments * 4096 + 1026 + c .before .before .before .before .before .args .g .segments * 4) _ (c .before .before .zero .ensures) (omega arith) (c .before .before .before .before .before .pre .is) (omega arith)
+    cleared-at (c .before .before .before .before .before .args .g) (c .before .before .before .before .before .args .mem .now) 3 (c .before .before .before .before .before .args .g .segments * 4096 + 1040) (c .before .before .before .before .before .args .g .segments * 4096 + 1040 + c .before .before .before .before .before .args .g .segments * 4) _ (c .before .before .zero .ensures) (omega arith) (c .before .before .before .before .before .pre .is) (omega arith)
 
 pub clear-segments-spec : {M : Type 1} → statement M
 clear-segments-spec =

@@ -45,7 +45,7 @@ same-length c = search needs
 returns : tie.Need-returns
 unfolding segmentBytes
 returns c =
-    cleared-at (c .before .before .before .before .before .args .g) (c .before .before .before .before .before .args .mem .now) 4 (c .before .before .before .before .before .args .g .segments * 4100 + 1026) (c .before .before .before .before .before .args .g .segments * 4100 + 1026 + (1 + c .before .before .before .before .before .args .g .segments) * 11) _ (c .before .before .zero .ensures) (omega arith) (c .before .before .before .before .before .pre .is) (omega arith)
+    cleared-at (c .before .before .before .before .before .args .g) (c .before .before .before .before .before .args .mem .now) 4 (c .before .before .before .before .before .args .g .segments * 4100 + 1040) (c .before .before .before .before .before .args .g .segments * 4100 + 1040 + (1 + c .before .before .before .before .before .args .g .segments) * 11) _ (c .before .before .zero .ensures) (omega arith) (c .before .before .before .before .before .pre .is) (omega arith)
 
 pub clear-stacks-spec : {M : Type 1} → statement M
 clear-stacks-spec =

@@ -28,7 +28,7 @@ same-length c = search needs
 
 returns : tie.Need-returns
 unfolding segmentBytes setTrace
-returns c = set-at _ _ 8 _ _ _ (omega arith)
+returns c = set-at _ _ 7 _ _ _ (omega arith)
 
 pub set-trace-spec : {M : Type 1} → statement M
 set-trace-spec =

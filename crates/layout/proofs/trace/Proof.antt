@@ -24,7 +24,7 @@ shared-slice-read-result c = search needs
 
 returns : tie.Need-returns
 unfolding segmentBytes
-returns c = get-at _ _ 8 _ _ (omega arith)
+returns c = get-at _ _ 7 _ _ (omega arith)
 
 pub trace-spec : {M : Type 1} → statement M
 trace-spec =

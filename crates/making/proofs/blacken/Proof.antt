@@ -1,36 +1,52 @@
--- `making::blacken` meets its contract. Assumes nothing.
-use Rattle.layout.proofs.Sizes.{within}
+use native.Mathlib.Omega.{arith}
+use Rattle.layout.proofs.Sizes.{marks-words}
 use Rattle.making.proofs.HandingOut.{born-black, born-white}
 use borrow.Author.Needs.{needs}
 use Rattle.making.proofs.blacken.Statement.{statement}
 use Rattle.making.proofs.blacken.Tie as tie
+use Rattle.making.proofs.blacken.Reads as reads
+use Rattle.making.proofs.blacken.Lts as lts
+use Rattle.layout.proofs.mark_bit.Reads as mark-bit-reads
+use Rattle.model.proofs.Phase.black.Reads as black-reads
+use Rattle.mutators.proofs.acks.Reads as acks-reads
+use Rattle.mutators.proofs.phase.Reads as phase-reads
+use Rattle.tracing.proofs.mark_bit.Reads as mark-bit-reads′
 
+-- src/lib.rt:131:9
 phase-requires : tie.Need-phase-requires
 phase-requires c κs = search needs
 
+-- src/lib.rt:132:20
 acks-requires : tie.Need-acks-requires
 acks-requires c κs = search needs
 
+-- src/lib.rt:132:8
 black-requires : tie.Need-black-requires
 black-requires c κs = search needs
 
-bit-in-requires : tie.Need-bit-in-requires
-bit-in-requires c κs = search needs
-
+-- src/lib.rt:133:35
 mark-bit-requires : tie.Need-mark-bit-requires
-mark-bit-requires c κs = (c .before .before .before .before .before .before .before .before .before .pre .0, rw (c .bit-in .ensures) (within _ _ _ _ (c .before .before .before .before .before .before .before .before .before .pre .2) (c .before .before .before .before .before .before .before .before .before .pre .3)))
+mark-bit-requires c κs = search needs
 
+-- src/lib.rt:133:9
+mark-bit-requires-2 : tie.Need-mark-bit-requires-2
+mark-bit-requires-2 c κs = let a = c .before .before .before .before .before .before .before .before .before in let w = marks-words (a .args .g) (a .args .g .segments) in let e = c .mark-bit .ensures in (a .pre .0, omega (arith, a .pre .2))
+
+-- src/lib.rt:134:9
 same-length : tie.Need-same-length
 same-length c = search needs
 
+-- src/lib.rt:134:9
 returns : tie.Need-returns
-returns c = born-black _ _ _ _ _ _ _ _ (c .before .before .before .before .before .before .before .before .before .phase .ensures) (c .before .before .before .before .before .before .before .acks .ensures) (c .before .before .before .before .before .before .black .ensures) (c .before .before .before .before .before .if1 .taken) _ (c .before .before .before .bit-in .ensures) _ (c .before .before .mark-bit .ensures)
+returns c = born-black _ _ _ _ _ _ _ (c .before .before .before .before .before .before .before .before .before .phase .ensures) (c .before .before .before .before .before .before .before .acks .ensures) (c .before .before .before .before .before .before .black .ensures) (c .before .before .before .before .before .if1 .taken) _ (c .before .before .before .mark-bit .ensures) _ (c .before .before .mark-bit2 .ensures)
 
+-- src/lib.rt:127:1
 same-length-2 : tie.Need-same-length-2
 same-length-2 c = search needs
 
+-- src/lib.rt:127:1
 returns-2 : tie.Need-returns-2
-returns-2 c = born-white _ _ _ _ _ _ _ _ (c .before .before .before .before .phase .ensures) (c .before .before .acks .ensures) (c .before .black .ensures) (c .if1 .left)
+returns-2 c = born-white _ _ _ _ _ _ _ (c .before .before .before .before .phase .ensures) (c .before .before .acks .ensures) (c .before .black .ensures) (c .if1 .left)
 
 pub blacken-spec : {M : Type 1} → statement M
 blacken-spec =
@@ -39,8 +55,8 @@ blacken-spec =
     phase-requires
     acks-requires
     black-requires
-    bit-in-requires
     mark-bit-requires
+    mark-bit-requires-2
     same-length
     returns
     same-length-2

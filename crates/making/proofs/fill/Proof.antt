@@ -1,6 +1,7 @@
 -- `making::fill` meets its contract. Assumes nothing.
 use native.Mathlib.Omega.{arith}
 use Rattle.laws.proofs.Headers.{class-halves}
+use Rattle.layout.proofs.Regions.{resized}
 use Rattle.making.proofs.Placing.{of-class, block-small, offset-in, offset-small, record-in, name-fits}
 use Rattle.making.proofs.HandingOut.{filled}
 use borrow.Author.Needs.{needs}
@@ -20,7 +21,7 @@ write-requires : tie.Need-write-requires
 write-requires c κs = (c .before .before .before .before .pre .0 .0, class-halves _ _ (c .before .before .before .before .pre .1 .1), record-in (c .before .before .before .before .args .g) (c .before .before .before .before .args .class) (c .before .before .before .before .args .s) (c .before .before .before .before .args .b) _ (c .before .before .before .before .args .shape) (c .before .before .before .before .pre .1 .1) (c .before .before .before .before .pre .1 .0) (c .before .before .before .before .pre .0 .3) (c .before .before .before .before .pre .0 .0 .few) (c .before .before .block-words .ensures) _ (c .before .word-in .ensures))
 
 blacken-requires : tie.Need-blacken-requires
-blacken-requires c κs = let b = block-small _ _ _ (of-class (c .before .before .before .before .before .before .before .before .args .shape) _ (c .before .before .before .before .before .before .before .before .pre .1 .1)) (c .before .before .before .before .before .before .before .before .pre .1 .0) .0 in search needs
+blacken-requires c κs = let r = record-in (c .before .before .before .before .before .before .before .before .args .g) (c .before .before .before .before .before .before .before .before .args .class) (c .before .before .before .before .before .before .before .before .args .s) (c .before .before .before .before .before .before .before .before .args .b) _ (c .before .before .before .before .before .before .before .before .args .shape) (c .before .before .before .before .before .before .before .before .pre .1 .1) (c .before .before .before .before .before .before .before .before .pre .1 .0) (c .before .before .before .before .before .before .before .before .pre .0 .3) (c .before .before .before .before .before .before .before .before .pre .0 .0 .few) (c .before .before .before .before .before .before .block-words .ensures) _ (c .before .before .before .before .before .word-in .ensures) in (resized _ _ _ (c .before .before .before .before .before .before .before .before .pre .0 .0) (c .before .before .before .write .kept .1 .0), c .before .before .before .before .before .before .before .before .pre .0 .1, omega arith)
 
 cast-set-root : tie.Need-cast-set-root
 cast-set-root c = let n = name-fits (c .before .before .before .before .before .before .before .before .before .before .before .before .args .g) (c .before .before .before .before .before .before .before .before .before .before .before .before .args .class) (c .before .before .before .before .before .before .before .before .before .before .before .before .args .s) (c .before .before .before .before .before .before .before .before .before .before .before .before .args .b) _ (c .before .before .before .before .before .before .before .before .before .before .before .before .args .shape) (c .before .before .before .before .before .before .before .before .before .before .before .before .pre .1 .1) (c .before .before .before .before .before .before .before .before .before .before .before .before .pre .1 .0) (c .before .before .before .before .before .before .before .before .before .before .before .before .pre .0 .3) (c .before .before .before .before .before .before .before .before .before .before .before .before .pre .0 .0 .few) (c .before .before .before .before .before .before .before .before .before .before .block-words .ensures) _ (c .before .before .before .before .before .before .before .before .before .word-in .ensures) in omega arith

@@ -25,30 +25,27 @@ clear-segments-requires c κs = resized _ _ _ (resized _ _ _ (sized _ _ (sym (c 
 clear-stacks-requires : tie.Need-clear-stacks-requires
 clear-stacks-requires c κs = resized _ _ _ (resized _ _ _ (resized _ _ _ (sized _ _ (sym (c .before .before .before .before .before .before .before .before .before .before .before .before .before .before .wrong-size .ensures) ∙ c .before .before .before .before .before .before .before .before .before .before .before .before .before .if1 .left)) (c .before .before .before .before .before .before .before .before .before .before .before .clear-control .kept .1 .0)) (c .before .before .before .before .before .before .before .clear-mutators .kept .1 .0)) (c .before .before .before .clear-segments .kept .1 .0)
 
-clear-queued-requires : tie.Need-clear-queued-requires
-clear-queued-requires c κs = resized _ _ _ (resized _ _ _ (resized _ _ _ (resized _ _ _ (sized _ _ (sym (c .before .before .before .before .before .before .before .before .before .before .before .before .before .before .before .before .before .before .wrong-size .ensures) ∙ c .before .before .before .before .before .before .before .before .before .before .before .before .before .before .before .before .before .if1 .left)) (c .before .before .before .before .before .before .before .before .before .before .before .before .before .before .before .clear-control .kept .1 .0)) (c .before .before .before .before .before .before .before .before .before .before .before .clear-mutators .kept .1 .0)) (c .before .before .before .before .before .before .before .clear-segments .kept .1 .0)) (c .before .before .before .clear-stacks .kept .1 .0)
-
 cast-set-stack : tie.Need-cast-set-stack
 cast-set-stack c =
-    let z = (sized _ _ (sym (c .before .before .before .before .before .before .before .before .before .before .before .before .before .before .before .before .before .before .before .before .before .before .before .wrong-size .ensures) ∙ c .before .before .before .before .before .before .before .before .before .before .before .before .before .before .before .before .before .before .before .before .before .before .if1 .left)) in
+    let z = (sized _ _ (sym (c .before .before .before .before .before .before .before .before .before .before .before .before .before .before .before .before .before .before .before .wrong-size .ensures) ∙ c .before .before .before .before .before .before .before .before .before .before .before .before .before .before .before .before .before .before .if1 .left)) in
     omega (arith, z .few)
 
 set-stack-requires : tie.Need-set-stack-requires
-set-stack-requires c κs = ((resized _ _ _ (resized _ _ _ (resized _ _ _ (resized _ _ _ (resized _ _ _ (sized _ _ (sym (c .before .before .before .before .before .before .before .before .before .before .before .before .before .before .before .before .before .before .before .before .before .before .before .wrong-size .ensures) ∙ c .before .before .before .before .before .before .before .before .before .before .before .before .before .before .before .before .before .before .before .before .before .before .if1 .left)) (c .before .before .before .before .before .before .before .before .before .before .before .before .before .before .before .before .before .before .before .before .clear-control .kept .1 .0)) (c .before .before .before .before .before .before .before .before .before .before .before .before .before .before .before .before .clear-mutators .kept .1 .0)) (c .before .before .before .before .before .before .before .before .before .before .before .before .clear-segments .kept .1 .0)) (c .before .before .before .before .before .before .before .before .clear-stacks .kept .1 .0)) (c .before .before .before .before .clear-queued .kept .1 .0)), omega arith)
+set-stack-requires c κs = ((resized _ _ _ (resized _ _ _ (resized _ _ _ (resized _ _ _ (sized _ _ (sym (c .before .before .before .before .before .before .before .before .before .before .before .before .before .before .before .before .before .before .before .wrong-size .ensures) ∙ c .before .before .before .before .before .before .before .before .before .before .before .before .before .before .before .before .before .before .if1 .left)) (c .before .before .before .before .before .before .before .before .before .before .before .before .before .before .before .before .clear-control .kept .1 .0)) (c .before .before .before .before .before .before .before .before .before .before .before .before .clear-mutators .kept .1 .0)) (c .before .before .before .before .before .before .before .before .clear-segments .kept .1 .0)) (c .before .before .before .before .clear-stacks .kept .1 .0)), omega arith)
 
 stack-down-requires : tie.Need-stack-down-requires
 stack-down-requires c κs =
-    let z = (sized _ _ (sym (c .before .before .before .before .before .before .before .before .before .before .before .before .before .before .before .before .before .before .before .before .before .before .before .before .before .before .before .wrong-size .ensures) ∙ c .before .before .before .before .before .before .before .before .before .before .before .before .before .before .before .before .before .before .before .before .before .before .before .before .before .before .if1 .left)) in
-    ((resized _ _ _ (resized _ _ _ (resized _ _ _ (resized _ _ _ (resized _ _ _ (resized _ _ _ (sized _ _ (sym (c .before .before .before .before .before .before .before .before .before .before .before .before .before .before .before .before .before .before .before .before .before .before .before .before .before .before .before .wrong-size .ensures) ∙ c .before .before .before .before .before .before .before .before .before .before .before .before .before .before .before .before .before .before .before .before .before .before .before .before .before .before .if1 .left)) (c .before .before .before .before .before .before .before .before .before .before .before .before .before .before .before .before .before .before .before .before .before .before .before .before .clear-control .kept .1 .0)) (c .before .before .before .before .before .before .before .before .before .before .before .before .before .before .before .before .before .before .before .before .clear-mutators .kept .1 .0)) (c .before .before .before .before .before .before .before .before .before .before .before .before .before .before .before .before .clear-segments .kept .1 .0)) (c .before .before .before .before .before .before .before .before .before .before .before .before .clear-stacks .kept .1 .0)) (c .before .before .before .before .before .before .before .before .clear-queued .kept .1 .0)) (c .before .before .before .set-stack .kept .1 .0)), omega (arith, z .few), z .few)
+    let z = (sized _ _ (sym (c .before .before .before .before .before .before .before .before .before .before .before .before .before .before .before .before .before .before .before .before .before .before .before .wrong-size .ensures) ∙ c .before .before .before .before .before .before .before .before .before .before .before .before .before .before .before .before .before .before .before .before .before .before .if1 .left)) in
+    ((resized _ _ _ (resized _ _ _ (resized _ _ _ (resized _ _ _ (resized _ _ _ (sized _ _ (sym (c .before .before .before .before .before .before .before .before .before .before .before .before .before .before .before .before .before .before .before .before .before .before .before .wrong-size .ensures) ∙ c .before .before .before .before .before .before .before .before .before .before .before .before .before .before .before .before .before .before .before .before .before .before .if1 .left)) (c .before .before .before .before .before .before .before .before .before .before .before .before .before .before .before .before .before .before .before .before .clear-control .kept .1 .0)) (c .before .before .before .before .before .before .before .before .before .before .before .before .before .before .before .before .clear-mutators .kept .1 .0)) (c .before .before .before .before .before .before .before .before .before .before .before .before .clear-segments .kept .1 .0)) (c .before .before .before .before .before .before .before .before .clear-stacks .kept .1 .0)) (c .before .before .before .set-stack .kept .1 .0)), omega (arith, z .few), z .few)
 
 same-length : tie.Need-same-length
 same-length c = search needs
 
 returns-2 : tie.Need-returns-2
 returns-2 c =
-    open-ok _ _ (sym (c .before .before .before .before .before .before .before .before .before .before .before .before .before .before .before .before .before .before .before .before .before .before .before .before .before .before .before .before .before .before .wrong-size .ensures) ∙ c .before .before .before .before .before .before .before .before .before .before .before .before .before .before .before .before .before .before .before .before .before .before .before .before .before .before .before .before .before .if1 .left)
-    (opened-by _ _ (c .before .before .before .before .before .before .before .before .before .before .before .before .before .before .before .before .before .before .before .before .before .before .before .before .before .before .before .clear-control .ensures) (c .before .before .before .before .before .before .before .before .before .before .before .before .before .before .before .before .before .before .before .before .before .before .before .clear-mutators .ensures) (c .before .before .before .before .before .before .before .before .before .before .before .before .before .before .before .before .before .before .before .clear-segments .ensures)
-    (c .before .before .before .before .before .before .before .before .before .before .before .before .before .before .before .clear-stacks .ensures) (c .before .before .before .before .before .before .before .before .before .before .before .clear-queued .ensures) (c .before .before .before .before .before .before .set-stack .ensures) (c .before .before .stack-down .ensures))
+    open-ok _ _ (sym (c .before .before .before .before .before .before .before .before .before .before .before .before .before .before .before .before .before .before .before .before .before .before .before .before .before .before .wrong-size .ensures) ∙ c .before .before .before .before .before .before .before .before .before .before .before .before .before .before .before .before .before .before .before .before .before .before .before .before .before .if1 .left)
+    (opened-by _ _ (c .before .before .before .before .before .before .before .before .before .before .before .before .before .before .before .before .before .before .before .before .before .before .before .clear-control .ensures) (c .before .before .before .before .before .before .before .before .before .before .before .before .before .before .before .before .before .before .before .clear-mutators .ensures) (c .before .before .before .before .before .before .before .before .before .before .before .before .before .before .before .clear-segments .ensures)
+    (c .before .before .before .before .before .before .before .before .before .before .before .clear-stacks .ensures) (c .before .before .before .before .before .before .set-stack .ensures) (c .before .before .stack-down .ensures))
 
 pub open-spec : {M : Type 1} → statement M
 open-spec =
@@ -60,7 +57,6 @@ open-spec =
     clear-mutators-requires
     clear-segments-requires
     clear-stacks-requires
-    clear-queued-requires
     cast-set-stack
     set-stack-requires
     stack-down-requires

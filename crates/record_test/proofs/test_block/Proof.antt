@@ -29,11 +29,11 @@ is-used-requires c κs = let a = c .before .before .before .before in (a .pre .0
 is-of-class-requires : tie.Need-is-of-class-requires
 is-of-class-requires c κs = let a = c .before .before .before .before .before .before in (a .pre .0, a .pre .1, a .pre .3 .class)
 
-bit-in-requires : tie.Need-bit-in-requires
-bit-in-requires c κs = let a = c .before .before .before .before .before .before .before .before in let l = head-segment _ (memOf (a .args .g) (a .args .mem .now)) _ _ _ (a .pre .2) (a .pre .3) _ _ (c .before .before .before .before .before .before .offset-of .ensures) (c .before .before .before .before .before .block-words .ensures) (a .pre .1) in (omega (arith, a .pre .0 .few), head-block _ (memOf (a .args .g) (a .args .mem .now)) _ _ _ (a .pre .2) (a .pre .3) _ _ (c .before .before .before .before .before .before .offset-of .ensures) (c .before .before .before .before .before .block-words .ensures))
+mark-bit-requires : tie.Need-mark-bit-requires
+mark-bit-requires c κs = search needs
 
 returns-2 : tie.Need-returns-2
-returns-2 c = let a = c .before .before .before .before .before .before .before .before .before in passes _ _ _ _ _ (a .pre .2) (a .pre .3) _ _ (c .before .before .before .before .before .before .before .offset-of .ensures) (c .before .before .before .before .before .before .block-words .ensures) (a .pre .1) (c .before .before .before .before .before .if1 .left) (c .before .before .before .before .is-used .ensures .sound (c .before .before .before .if2 .taken)) (c .before .before .is-of-class .ensures .sound (c .before .if3 .taken)) _ (c .bit-in .ensures)
+returns-2 c = let a = c .before .before .before .before .before .before .before .before .before in passes _ _ _ _ _ (a .pre .2) (a .pre .3) _ _ (c .before .before .before .before .before .before .before .offset-of .ensures) (c .before .before .before .before .before .before .block-words .ensures) (a .pre .1) (c .before .before .before .before .before .if1 .left) (c .before .before .before .before .is-used .ensures .sound (c .before .before .before .if2 .taken)) (c .before .before .is-of-class .ensures .sound (c .before .if3 .taken)) _ (c .mark-bit .ensures)
 
 returns-3 : tie.Need-returns-3
 returns-3 c = let a = c .before .before .before .before .before .before .before .before in not-sized _ _ _ _ _ (a .pre .2) (a .pre .3) _ _ (c .before .before .before .before .before .before .offset-of .ensures) (c .before .before .before .before .before .block-words .ensures) (refuted (c .before .is-of-class .ensures) (c .if3 .left))
@@ -42,4 +42,4 @@ returns-4 : tie.Need-returns-4
 returns-4 c = let a = c .before .before .before .before .before .before in not-used _ _ _ _ _ (a .pre .2) (a .pre .3) _ _ (c .before .before .before .before .offset-of .ensures) (c .before .before .before .block-words .ensures) (refuted (c .before .is-used .ensures) (c .if2 .left))
 
 pub test-block-spec : {M : Type 1} → statement M
-test-block-spec = tie.close (tie.spec offset-of-requires block-words-requires rem-if1 returns div-b is-used-requires is-of-class-requires bit-in-requires returns-2 returns-3 returns-4)
+test-block-spec = tie.close (tie.spec offset-of-requires block-words-requires rem-if1 returns div-b is-used-requires is-of-class-requires mark-bit-requires returns-2 returns-3 returns-4)

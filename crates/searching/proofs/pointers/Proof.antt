@@ -17,17 +17,17 @@ enum-told c = search needs
 enum-told-2 : tie.Need-enum-told-2
 enum-told-2 c = search needs
 
-is-marked-requires : tie.Need-is-marked-requires
-is-marked-requires c κs = search needs
+is-entered-requires : tie.Need-is-entered-requires
+is-entered-requires c κs = search needs
 
 returns : tie.Need-returns
-returns c = rw (c .before .before .enum-told2 .given .1, sym (c .before .is-marked .ensures) ∙ c .if1 .taken) refl
+returns c = rw (c .before .before .enum-told2 .given .1, sym (c .before .is-entered .ensures) ∙ c .if1 .taken) refl
 
 returns-2 : tie.Need-returns-2
 returns-2 c = rw (c .enum-told .given .1) (ap pointerCountOf (c .before .before .before .shape .ensures .shape))
 
 returns-3 : tie.Need-returns-3
-returns-3 c = rw (c .before .before .enum-told2 .given .1, sym (c .before .is-marked .ensures) ∙ c .if1 .left) (ap pointerCountOf (c .before .before .before .before .before .shape .ensures .shape))
+returns-3 c = rw (c .before .before .enum-told2 .given .1, sym (c .before .is-entered .ensures) ∙ c .if1 .left) (ap pointerCountOf (c .before .before .before .before .before .shape .ensures .shape))
 
 pub pointers-spec : {M : Type 1} → statement M
-pointers-spec = tie.close (tie.spec shape-requires cast-n enum-told enum-told-2 is-marked-requires returns returns-2 returns-3)
+pointers-spec = tie.close (tie.spec shape-requires cast-n enum-told enum-told-2 is-entered-requires returns returns-2 returns-3)

@@ -1,7 +1,8 @@
 -- `sweeping::sweep` meets its contract. Assumes nothing.
-use mathlib.Core.Path.{sym, _∙_}
+use mathlib.Core.Path.{subst}
 use borrow.Author.Needs.{needs}
 use Rattle.sweeping.proofs.Sweeping.{lowest-condemned, sweep-sweeps, sweep-done}
+use Rattle.sweeping.specs.Sweeping.{Finds}
 use Rattle.sweeping.proofs.sweep.Tie as tie
 use Rattle.sweeping.proofs.sweep.Statement.{statement}
 
@@ -12,7 +13,7 @@ enum-known-s : tie.Need-enum-known-s
 enum-known-s c = search needs
 
 sweep-segment-requires : tie.Need-sweep-segment-requires
-sweep-segment-requires c κs = let h = lowest-condemned _ _ _ (sym (c .before .before .s .given .1) ∙ c .before .before .before .before .lowest-condemned .ensures) in ((c .before .before .before .before .before .before .before .pre, h .0), h .1)
+sweep-segment-requires c κs = let h = lowest-condemned _ _ _ (subst (Finds _ _) (c .before .before .s .given .1) (c .before .before .before .before .lowest-condemned .ensures)) in ((c .before .before .before .before .before .before .before .pre, h .0), h .1)
 
 enum-told : tie.Need-enum-told
 enum-told c = search needs
@@ -24,13 +25,13 @@ same-length : tie.Need-same-length
 same-length c = search needs
 
 returns : tie.Need-returns
-returns c = sweep-sweeps _ _ _ (sym (c .before .before .before .before .before .s .given .1) ∙ c .before .before .before .before .before .before .before .lowest-condemned .ensures) _ _ (c .before .before .sweep-segment .ensures)
+returns c = sweep-sweeps _ _ _ (subst (Finds _ _) (c .before .before .before .before .before .s .given .1) (c .before .before .before .before .before .before .before .lowest-condemned .ensures)) _ _ (c .before .before .sweep-segment .ensures)
 
 same-length-2 : tie.Need-same-length-2
 same-length-2 c = search needs
 
 returns-2 : tie.Need-returns-2
-returns-2 c = sweep-done _ _ (sym (c .before .before .before .before .enum-told .given .1) ∙ c .before .before .before .before .before .before .lowest-condemned .ensures) _ (c .before .before .set-phase .ensures)
+returns-2 c = sweep-done _ _ (subst (Finds _ _) (c .before .before .before .before .enum-told .given .1) (c .before .before .before .before .before .before .lowest-condemned .ensures)) _ (c .before .before .set-phase .ensures)
 
 pub sweep-spec : {M : Type 1} → statement M
 sweep-spec =

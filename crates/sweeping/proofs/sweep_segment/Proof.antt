@@ -1,5 +1,6 @@
 -- `sweeping::sweep_segment` meets its contract. Assumes nothing.
 use mathlib.Core.Path.{sym, _∙_}
+use native.Mathlib.Omega.{arith}
 use borrow.Author.Needs.{needs}
 use Rattle.classes.proofs.Every.{class-passed}
 use Rattle.layout.proofs.Regions.{resized}
@@ -20,17 +21,26 @@ place-requires c κs = search needs
 in-use-requires : tie.Need-in-use-requires
 in-use-requires c κs = (c .before .before .before .before .before .before .before .before .pre .0, class-passed _ (sym (c .before .before .before .before .is-class .ensures) ∙ c .before .before .before .if1 .taken))
 
-kept-requires : tie.Need-kept-requires
-kept-requires c κs = (c .before .before .before .before .before .before .before .before .before .before .pre .0, class-passed _ (sym (c .before .before .before .before .before .before .is-class .ensures) ∙ c .before .before .before .before .before .if1 .taken))
-
 adopt-requires : tie.Need-adopt-requires
-adopt-requires c κs = (c .before .before .before .before .before .before .before .before .before .before .before .before .pre .0, class-passed _ (sym (c .before .before .before .before .before .before .before .before .is-class .ensures) ∙ c .before .before .before .before .before .before .before .if1 .taken))
+adopt-requires c κs = (c .before .before .before .before .before .before .before .before .before .before .pre .0, class-passed _ (sym (c .before .before .before .before .before .before .is-class .ensures) ∙ c .before .before .before .before .before .if1 .taken))
+
+kept-requires : tie.Need-kept-requires
+kept-requires c κs = ((resized _ _ _ (c .before .before .before .before .before .before .before .before .before .before .before .before .before .before .pre .0 .0) (c .before .before .before .adopt .kept .1 .0), c .before .before .before .before .before .before .before .before .before .before .before .before .before .before .pre .0 .1), class-passed _ (sym (c .before .before .before .before .before .before .before .before .before .before .is-class .ensures) ∙ c .before .before .before .before .before .before .before .before .before .if1 .taken))
 
 settle-requires : tie.Need-settle-requires
-settle-requires c κs = ((resized _ _ _ (c .before .before .before .before .before .before .before .before .before .before .before .before .before .before .before .before .pre .0 .0) (c .before .before .before .adopt .kept .1 .0), c .before .before .before .before .before .before .before .before .before .before .before .before .before .before .before .before .pre .0 .1), class-passed _ (sym (c .before .before .before .before .before .before .before .before .before .before .before .before .is-class .ensures) ∙ c .before .before .before .before .before .before .before .before .before .before .before .if1 .taken))
+settle-requires c κs = ((resized _ _ _ (c .before .before .before .before .before .before .before .before .before .before .before .before .before .before .before .before .pre .0 .0) (c .before .before .before .before .before .adopt .kept .1 .0), c .before .before .before .before .before .before .before .before .before .before .before .before .before .before .before .before .pre .0 .1), class-passed _ (sym (c .before .before .before .before .before .before .before .before .before .before .before .before .is-class .ensures) ∙ c .before .before .before .before .before .before .before .before .before .before .before .if1 .taken))
 
-cast-t23 : tie.Need-cast-t23
-cast-t23 c = search needs
+cast-set-control : tie.Need-cast-set-control
+cast-set-control c = search needs
+
+add-set-control : tie.Need-add-set-control
+add-set-control c = search needs
+
+set-control-requires : tie.Need-set-control-requires
+set-control-requires c κs = search needs
+
+cast-t26 : tie.Need-cast-t26
+cast-t26 c = let l = c .before .before .before .before .before .before .before .before .before .before .before .before .before .before .before .before .before .before .before .before .before .before .before .before .pre .0 .0 .few in let h = c .before .before .before .before .before .before .before .before .before .before .before .before .before .before .before .before .before .before .before .before .before .before .before .before .pre .0 .1 in omega arith
 
 less-requires : tie.Need-less-requires
 less-requires c κs = search needs
@@ -39,19 +49,19 @@ same-length : tie.Need-same-length
 same-length c = search needs
 
 returns : tie.Need-returns
-returns c = swept-done _ _ _ (sizes-of _ _ (c .before .before .before .before .before .before .before .before .before .before .before .before .before .before .before .before .before .before .before .before .before .pre .0 .0)) (c .before .before .before .before .before .before .before .before .before .before .before .before .before .before .before .before .before .before .before .before .before .pre .0 .1) (c .before .before .before .before .before .before .before .before .before .before .before .before .before .before .before .before .before .before .before .before .before .pre .1) _ (c .before .before .before .before .before .before .before .before .before .before .before .before .before .before .before .before .before .before .condemned-class .ensures) (sym (c .before .before .before .before .before .before .before .before .before .before .before .before .before .before .before .before .before .is-class .ensures) ∙ c .before .before .before .before .before .before .before .before .before .before .before .before .before .before .before .before .if1 .taken) _ _ _ (c .before .before .before .before .before .before .before .before .before .before .before .before .before .before .place .ensures) (c .before .before .before .before .before .before .before .before .before .before .before .before .in-use .ensures) (c .before .before .before .before .before .before .before .before .before .before .kept .ensures) _ (c .before .before .before .before .before .before .before .before .adopt .ensures) _ _ (c .before .before .before .before .settle .ensures) (c .before .if2 .taken) _ (c .less .ensures)
+returns c = let p = c .before .before .before .before .before .before .before .before .before .before .before .before .before .before .before .before .before .before .before .before .before .before .before .before .before .pre in swept-done _ _ _ (sizes-of _ _ (p .0 .0)) (p .0 .1) (p .1) _ (c .before .before .before .before .before .before .before .before .before .before .before .before .before .before .before .before .before .before .before .before .before .before .condemned-class .ensures) (sym (c .before .before .before .before .before .before .before .before .before .before .before .before .before .before .before .before .before .before .before .before .before .is-class .ensures) ∙ c .before .before .before .before .before .before .before .before .before .before .before .before .before .before .before .before .before .before .before .before .if1 .taken) _ _ _ (c .before .before .before .before .before .before .before .before .before .before .before .before .before .before .before .before .before .before .place .ensures) (c .before .before .before .before .before .before .before .before .before .before .before .before .before .before .before .before .in-use .ensures) _ (c .before .before .before .before .before .before .before .before .before .before .before .before .before .before .adopt .ensures) (c .before .before .before .before .before .before .before .before .before .before .kept .ensures) _ _ (c .before .before .before .before .before .before .before .before .settle .ensures) (c .before .before .before .before .before .if2 .taken) _ (c .before .before .before .set-control .ensures) _ (c .less .ensures)
 
 same-length-2 : tie.Need-same-length-2
 same-length-2 c = search needs
 
 returns-2 : tie.Need-returns-2
-returns-2 c = swept-full _ _ _ (sizes-of _ _ (c .before .before .before .before .before .before .before .before .before .before .before .before .before .before .before .before .before .before .before .before .pre .0 .0)) (c .before .before .before .before .before .before .before .before .before .before .before .before .before .before .before .before .before .before .before .before .pre .0 .1) (c .before .before .before .before .before .before .before .before .before .before .before .before .before .before .before .before .before .before .before .before .pre .1) _ (c .before .before .before .before .before .before .before .before .before .before .before .before .before .before .before .before .before .condemned-class .ensures) (sym (c .before .before .before .before .before .before .before .before .before .before .before .before .before .before .before .before .is-class .ensures) ∙ c .before .before .before .before .before .before .before .before .before .before .before .before .before .before .before .if1 .taken) _ _ _ (c .before .before .before .before .before .before .before .before .before .before .before .before .before .place .ensures) (c .before .before .before .before .before .before .before .before .before .before .before .in-use .ensures) (c .before .before .before .before .before .before .before .before .before .kept .ensures) _ (c .before .before .before .before .before .before .before .adopt .ensures) _ _ (c .before .before .before .settle .ensures) (c .if2 .left)
+returns-2 c = let p = c .before .before .before .before .before .before .before .before .before .before .before .before .before .before .before .before .before .before .before .before .pre in swept-full _ _ _ (sizes-of _ _ (p .0 .0)) (p .0 .1) (p .1) _ (c .before .before .before .before .before .before .before .before .before .before .before .before .before .before .before .before .before .condemned-class .ensures) (sym (c .before .before .before .before .before .before .before .before .before .before .before .before .before .before .before .before .is-class .ensures) ∙ c .before .before .before .before .before .before .before .before .before .before .before .before .before .before .before .if1 .taken) _ _ _ (c .before .before .before .before .before .before .before .before .before .before .before .before .before .place .ensures) (c .before .before .before .before .before .before .before .before .before .before .before .in-use .ensures) _ (c .before .before .before .before .before .before .before .before .before .adopt .ensures) (c .before .before .before .before .before .kept .ensures) _ _ (c .before .before .before .settle .ensures) (c .if2 .left)
 
 same-length-3 : tie.Need-same-length-3
 same-length-3 c = search needs
 
 returns-3 : tie.Need-returns-3
-returns-3 c = swept-no-class _ _ _ (sizes-of _ _ (c .before .before .before .before .before .pre .0 .0)) (c .before .before .before .before .before .pre .0 .1) (c .before .before .before .before .before .pre .1) _ (c .before .before .condemned-class .ensures) (sym (c .before .is-class .ensures) ∙ c .if1 .left) _
+returns-3 c = let p = c .before .before .before .before .before .pre in swept-no-class _ _ _ (sizes-of _ _ (p .0 .0)) (p .0 .1) (p .1) _ (c .before .before .condemned-class .ensures) (sym (c .before .is-class .ensures) ∙ c .if1 .left) _
 
 pub sweep-segment-spec : {M : Type 1} → statement M
 sweep-segment-spec =
@@ -61,10 +71,13 @@ sweep-segment-spec =
     is-class-requires
     place-requires
     in-use-requires
-    kept-requires
     adopt-requires
+    kept-requires
     settle-requires
-    cast-t23
+    cast-set-control
+    add-set-control
+    set-control-requires
+    cast-t26
     less-requires
     same-length
     returns

@@ -1,0 +1,98 @@
+// The examination's part on the bits among the marks, over memory of any content: each is of the head of a block in use; in handshake 1 each is of an
+// entry of the trace stack, which is in order: then there are as many as entries.
+use layout::Geometry;
+use model::Segment;
+ghost use mathlib.Core.Path.{_≡_};
+ghost use Prim.Native.Nat.{_*_, _<_};
+ghost use lib.ListN.{length};
+ghost use Rattle.rules.specs.Decides.{Decides};
+ghost use Rattle.layout.specs.Geometry.{Sized, len, segmentOf, mostBlocks};
+ghost use Rattle.layout.specs.Mem.{memOf};
+ghost use Rattle.model.specs.Consistent.{HeadInUse};
+ghost use Rattle.record_test.specs.Tests.{Classed};
+ghost use Rattle.examine_trace.specs.Traced.{Traced};
+ghost use Rattle.examine_marks.specs.Heads.{Classes, Asked, BitFine, MarksIn, OnlyEntries};
+ghost use Rattle.layout.specs.Region as Region;
+
+// Whether a word in a segment of a class is the head of a block in use.
+fn head_in(g: Geometry, mem: &[u32], at: usize, s: usize, class: u32) -> bool
+    requires { ⌜ (Sized g (length (now mem))) × (at < len g Region.heap) × (s ≡ segmentOf g at) × Classed (memOf g (now mem)) s class ⌝ }
+    ensures { λ r. ⌜ Decides r (HeadInUse g (memOf g (now (mem .entry))) at) ⌝ }
+{
+    let offset = layout::offset_of(g, at);
+    let words = classes::block_words(class);
+    if offset % words != 0 {
+        return false;
+    }
+    record_test::is_used(g, mem, s, offset / words)
+}
+
+// The same in a segment that may be free.
+fn head(g: Geometry, mem: &[u32], at: usize, s: usize) -> bool
+    requires { ⌜ (Sized g (length (now mem))) × (at < len g Region.heap) × (s ≡ segmentOf g at) × Classes g (memOf g (now mem)) ⌝ }
+    ensures { λ r. ⌜ Decides r (HeadInUse g (memOf g (now (mem .entry))) at) ⌝ }
+{
+    let tag = segments::tag(g, mem, s);
+    if tag == Segment::TAG_FREE {
+        return false;
+    }
+    let class = segments::class(g, mem, s);
+    head_in(g, mem, at, s, class)
+}
+
+// Whether segment s is asked.
+fn asked(g: Geometry, mem: &[u32], s: usize, condemned_only: bool) -> bool
+    requires { ⌜ (Sized g (length (now mem))) × (s < g .segments) ⌝ }
+    ensures { λ r. ⌜ Decides r (Asked «condemned_only» (memOf g (now (mem .entry))) s) ⌝ }
+{
+    if !condemned_only {
+        return true;
+    }
+    let tag = segments::tag(g, mem, s);
+    tag == Segment::TAG_CONDEMNED
+}
+
+// Whether bit k, if it is 1 and asked of, is of the head of a block in use.
+fn bit_fine(g: Geometry, mem: &[u32], k: usize, condemned_only: bool) -> bool
+    requires { ⌜ (Sized g (length (now mem))) × (k < g .segments * mostBlocks g) × Classes g (memOf g (now mem)) ⌝ }
+    ensures { λ r. ⌜ Decides r (BitFine «condemned_only» g (memOf g (now (mem .entry))) k) ⌝ }
+{
+    let set = examine_trace::mark_bit(g, mem, k);
+    if !set {
+        return true;
+    }
+    let at = k * classes::block_words(classes::FIRST_CLASS);
+    let s = layout::segment_of(g, at);
+    let ask = asked(g, mem, s, condemned_only);
+    if !ask {
+        return true;
+    }
+    head(g, mem, at, s)
+}
+
+// Whether every bit is.
+pub fn marks(g: Geometry, mem: &[u32], condemned_only: bool) -> bool
+    requires { ⌜ (Sized g (length (now mem))) × Classes g (memOf g (now mem)) ⌝ }
+    ensures { λ r. ⌜ Decides r (MarksIn «condemned_only» g (memOf g (now (mem .entry)))) ⌝ }
+{
+    let n = layout::trace_words(g);
+    let mut k = 0;
+    while k < n {
+        let ok = bit_fine(g, mem, k, condemned_only);
+        if !ok {
+            return false;
+        }
+        k += 1;
+    }
+    true
+}
+
+// Whether every bit is of an entry of the trace stack, which is in order.
+pub fn only_entries(g: Geometry, mem: &[u32]) -> bool
+    requires { ⌜ (Sized g (length (now mem))) × Traced g (memOf g (now mem)) ⌝ }
+    ensures { λ r. ⌜ Decides r (OnlyEntries g (memOf g (now (mem .entry)))) ⌝ }
+{
+    let n = layout::control(g, mem, 1);
+    let ones = examine_trace::mark_count(g, mem);
+    ones == n
+}

@@ -1,0 +1,36 @@
+-- `searching::follow_pointers` meets its contract. Assumes nothing.
+use Prim.Native.Nat.{_-_}
+use Rattle.layout.specs.Mem.{memOf}
+use Rattle.searching.specs.Scratch.{stateOf}
+use Rattle.searching.proofs.Rooting.{pointers-room, pointed-none, pointed-run}
+use native.Mathlib.Omega.{arith}
+use borrow.Author.Needs.{needs}
+use Rattle.searching.proofs.follow_pointers.Tie as tie
+use Rattle.searching.proofs.follow_pointers.Statement.{statement}
+
+returns : tie.Need-returns
+returns c = let a = c .before .before .before in pointed-none (a .args .g) (memOf (a .args .g) (a .args .mem .now)) (stateOf (a .args .g) (a .args .scratch .now) (a .args .top)) (a .args .w) (c .if1 .taken) (a .pre .1)
+
+sub-at : tie.Need-sub-at
+sub-at c = search needs
+
+cast-at : tie.Need-cast-at
+cast-at c = search needs
+
+pointers-requires : tie.Need-pointers-requires
+pointers-requires c κs = let a = c .before .before .before in (a .pre .0 .sized, a .pre .2 (a .args .w - 1) (omega (arith, c .if1 .left)))
+
+add-follow-run : tie.Need-add-follow-run
+add-follow-run c = search needs
+
+follow-run-requires : tie.Need-follow-run-requires
+follow-run-requires c κs = let a = c .before .before .before .before .before in (a .pre .0, a .pre .1, pointers-room (a .args .g) (memOf (a .args .g) (a .args .mem .now)) (a .args .w - 1) _ (a .pre .2 (a .args .w - 1) (omega (arith, c .before .before .if1 .left))) (c .before .pointers .ensures))
+
+same-length : tie.Need-same-length
+same-length c = search needs
+
+returns-2 : tie.Need-returns-2
+returns-2 c = let a = c .before .before .before .before .before .before .before .before in pointed-run (a .args .g) (memOf (a .args .g) (a .args .mem .now)) (stateOf (a .args .g) (a .args .scratch .now) (a .args .top)) (a .args .w) (c .before .before .before .before .before .if1 .left) _ (c .before .before .before .before .pointers .ensures) (c .before .before .follow-run .result) (c .before .before .follow-run .last .1 .1 .1 .1 .1 .0) (c .before .before .follow-run .ensures)
+
+pub follow-pointers-spec : {M : Type 1} → statement M
+follow-pointers-spec = tie.close (tie.spec returns sub-at cast-at pointers-requires add-follow-run follow-run-requires same-length returns-2)

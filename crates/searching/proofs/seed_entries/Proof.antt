@@ -1,0 +1,59 @@
+-- `searching::seed_entries` meets its contract. Assumes nothing.
+use mathlib.Core.Path.{_∙_, _≡_, subst, sym}
+use Prim.Native.Nat.{ℕ, _-_, _≤_}
+use lib.ListN.{length}
+use Rattle.layout.specs.Mem.{memOf}
+use Rattle.layout.proofs.Sizes.{trace-most}
+use Rattle.searching.specs.Graph.{SeedBelow}
+use Rattle.searching.specs.Scratch.{searchWords, stateOf, Came}
+use Rattle.searching.proofs.Steps.{came-ready, start-valid}
+use Rattle.searching.proofs.Rooting.{seeds-none, seeds-more, seeds-all}
+use native.Mathlib.Omega.{arith}
+use Rattle.searching.proofs.seed_entries.Tie as tie
+use Rattle.searching.proofs.seed_entries.Statement.{statement}
+
+abbrev Inv-loop : tie.InvT-loop
+Inv-loop g mem scratch₀ count met₀ i₀ scratch met i = (i ≤ count) × (length scratch ≡ searchWords g) × Came g (memOf g mem) (SeedBelow (memOf g mem) i) (stateOf g scratch₀ 0) met scratch
+
+abbrev μ-loop : tie.MeasureT-loop
+μ-loop g mem scratch₀ count met₀ i₀ scratch met i = count - i
+
+entry-count-requires : tie.Need-entry-count-requires Inv-loop μ-loop
+entry-count-requires c κs = c .before .before .pre .0 .sized
+
+loop-holds : tie.Need-loop-holds Inv-loop μ-loop
+loop-holds c = let a = c .before .before .before in let m = memOf (a .args .g) (a .args .mem .now) in (omega arith, a .pre .0 .room, seeds-none (a .args .g) m (stateOf (a .args .g) (a .args .scratch .now) 0) (start-valid (a .args .g) m (SeedBelow m 0) (a .args .scratch .now) (a .pre .1)))
+
+trace-requires : tie.Need-trace-requires Inv-loop μ-loop
+trace-requires c κs = (c .before .before .before .before .before .pre .0 .sized, omega (arith, c .loop-test .taken, c .before .before .entry-count .ensures .room))
+
+seed-requires : tie.Need-seed-requires Inv-loop μ-loop
+seed-requires c κs = let a = c .before .before .before .before .before .before .before in let m = memOf (a .args .g) (a .args .mem .now) in let l = c .before .before .before .loop in (record { sized = a .pre .0 .sized; room = l .inv .1 }, came-ready (a .args .g) m (stateOf (a .args .g) (a .args .scratch .now) 0) (SeedBelow m (l .i)) (l .met) (l .scratch) (l .inv .2))
+
+add-i : tie.Need-add-i Inv-loop μ-loop
+add-i c = let a = c .before .before .before .before .before .before .before .before .before .before in omega (arith, c .before .before .before .before .before .loop-test .taken, c .before .before .before .before .before .before .before .entry-count .ensures .room, trace-most (a .args .g) (a .pre .0 .sized .few))
+
+loop-less : tie.Need-loop-less Inv-loop μ-loop
+loop-less c = omega (arith, c .before .before .before .before .before .loop-test .taken)
+
+loop-again : tie.Need-loop-again Inv-loop μ-loop
+loop-again c =
+    let a = c .before .before .before .before .before .before .before .before .before .before in
+    let m = memOf (a .args .g) (a .args .mem .now) in
+    let l = c .before .before .before .before .before .before .loop in
+    let q = c .before .before .seed in
+    (omega (arith, c .before .before .before .before .before .loop-test .taken), q .kept .1 .1 .1 .0 ∙ l .inv .1, seeds-more (a .args .g) m (stateOf (a .args .g) (a .args .scratch .now) 0) (l .i) (c .before .before .before .before .trace .result) (c .before .before .before .before .trace .ensures) (l .met) (q .result) (l .scratch) (q .last .1 .1 .1 .0) (l .inv .2) (q .ensures))
+
+same-length : tie.Need-same-length Inv-loop μ-loop
+same-length c = c .before .loop .inv .1 ∙ sym (c .before .before .before .before .before .pre .0 .room)
+
+returns : tie.Need-returns Inv-loop μ-loop
+returns c =
+    let a = c .before .before .before .before .before in
+    let m = memOf (a .args .g) (a .args .mem .now) in
+    let l = c .before .loop in
+    let s = stateOf (a .args .g) (a .args .scratch .now) 0 in
+    seeds-all (a .args .g) (a .args .mem .now) (a .pre .0 .sized) s _ (c .before .before .entry-count .ensures) (l .met) (l .scratch) (subst (λ (k : ℕ). Came (a .args .g) m (SeedBelow m k) s (l .met) (l .scratch)) (omega (arith, c .loop-test .left, l .inv .0)) (l .inv .2))
+
+pub seed-entries-spec : {M : Type 1} → statement M
+seed-entries-spec = tie.close (tie.spec Inv-loop μ-loop entry-count-requires loop-holds trace-requires seed-requires add-i loop-less loop-again same-length returns)
