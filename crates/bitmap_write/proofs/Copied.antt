@@ -1,19 +1,21 @@
 -- Level 0 cleared, or copied from elsewhere, and the tree over it: its bits, that it is one, and its length. Assumes nothing.
 use mathlib.Core.Path.{_≡_, refl, sym, ap, ap₂, _∙_}
-use mathlib.Core.List.{List, _++_}
-use Prim.Native.Nat.{ℕ, suc, _+_, _/_, _%_, _≤_, _<_}
+use mathlib.Core.List.{List, _∷_, _++_}
+use Prim.Native.Nat.{ℕ, zero, suc, _+_, _*_, _/_, _%_, _≤_, _<_}
 use native.Mathlib.Nat.{zero-add}
 use native.Mathlib.Numerals.{add-one}
 use native.Mathlib.Omega.{arith}
 use lib.ListN.{length, getD, set, take, drop, replicate, length-append, length-drop, length-replicate, getD-replicate, List·getD-append}
-use lib.Seq.{getD-take, getD-drop, length-take-le, getD-append-add, paste, paste-suc}
+use lib.Seq.{take-all, getD-take, getD-drop, length-take-le, getD-append-add, paste, paste-suc}
 use Rattle.words.specs.Bits.{bitOf, bitAt}
 use Rattle.words.specs.Levels.{wordsFor, treeWords, Height}
 use Rattle.words.specs.Tree.{Tree}
 use Rattle.words.proofs.Word.{bit-zero}
 use Rattle.words.proofs.Lists.{bit-split, bits-same}
 use Rattle.words.proofs.Trees.{words-in}
-use Rattle.bitmap_write.specs.Ready.{cleared, copied, fresh, adopted}
+use Rattle.bitmap_write.specs.Rebuild.{packed}
+use Rattle.bitmap_write.specs.Ready.{completed, cleared, copied, fresh, adopted}
+use Rattle.bitmap_write.proofs.Packed.{word-zeros}
 use Rattle.bitmap_write.proofs.Ready.{completed-tree, completed-bit, length-completed}
 
 -- ---- cleared
@@ -76,3 +78,16 @@ module _ (a n : ℕ) (marks ws : List ℕ) (there : wordsFor n ≤ length marks)
   pub length-adopted : length (adopted a n marks ws) ≡ length ws
   unfolding adopted
   length-adopted = length-completed a n (copied (wordsFor n) marks ws) copy-room ∙ length-copied (wordsFor n) marks ws there (omega (arith, words-in a n))
+
+-- ---- marks of which none is set: the tree is a fresh one
+
+packed-zeros : (bit : ℕ → ℕ) → ((k : ℕ) → bit k ≡ 0) → (c j : ℕ) → packed bit c j ≡ replicate c 0
+unfolding packed
+packed-zeros bit f zero j = refl
+packed-zeros bit f (suc c) j = ap₂ (λ (w : ℕ) (l : List ℕ). w ∷ l) (word-zeros bit 32 (j * 32) (λ i h. f i)) (packed-zeros bit f c (suc j))
+
+pub adopted-none : (bit : ℕ → ℕ) → ((k : ℕ) → bit k ≡ 0) → (a n : ℕ) (ws : List ℕ) → fresh a n ws ≡ adopted a n (packed bit (wordsFor n) 0) ws
+unfolding fresh adopted cleared copied
+adopted-none bit f a n ws =
+    let e = length-replicate {A = ℕ} (wordsFor n) 0 in
+    ap (λ (l : List ℕ). completed a n (l ++ drop (wordsFor n) ws)) (sym (ap (take (wordsFor n)) (packed-zeros bit f (wordsFor n) 0) ∙ take-all (wordsFor n) (replicate (wordsFor n) 0) (omega arith)))

@@ -1,13 +1,13 @@
 -- A fresh tree level by level: words of zeros, their bits past the end set, sum up to words of zeros likewise. Assumes nothing.
-use mathlib.Core.Path.{_≡_, refl, sym, ap, _∙_}
+use mathlib.Core.Path.{_≡_, refl, sym, ap, ap₂, _∙_}
 use mathlib.Core.Logic.{_⊎_, inl, inr}
-use mathlib.Core.List.{List, _++_}
+use mathlib.Core.List.{List, _∷_, _++_}
 use Prim.Native.Nat.{ℕ, zero, suc, _+_, _-_, _*_, _/_, _%_, _^_, _≤_, _<_}
 use native.Mathlib.Nat.{not-suc-le-zero}
 use native.Mathlib.Omega.{arith}
-use lib.Bits.{bitOr}
-use lib.ListN.{length, getD, take, drop, replicate, length-replicate, getD-replicate}
-use lib.Seq.{ext-getD, getD-set-same, drop-at, drop-drop}
+use lib.Bits.{bitOr, or-zero-l}
+use lib.ListN.{length, getD, set, take, drop, replicate, length-replicate, getD-replicate}
+use lib.Seq.{ext-getD, getD-set-same, set-split, drop-at, drop-drop}
 use borrow.Author.Tests.{ne-eqb}
 use Rattle.rules.proofs.Order.{le-or-lt, same-or-not}
 use Rattle.rules.proofs.Parts.{tail-part, put-tail}
@@ -117,3 +117,37 @@ fresh-put a n words ws xs ys h w room e f =
     ∙ ap (λ (m : ℕ). take m (padded n (cleared m ws)) ++ fresh (a - 1) m (drop m (padded n (cleared m ws)))) w
     ∙ ap (λ (l : List ℕ). take (wordsFor n) (padded n (cleared (wordsFor n) ws)) ++ fresh (a - 1) (wordsFor n) l) (behind-level n ws)
     ∙ fresh-more a n ws h room
+
+-- ---- a level of one word
+
+one-word : (m : ℕ) → 1 ≤ m → m ≤ 32 → wordsFor m ≡ 1
+one-word m l h = go (same-or-not (m % 32) 0)
+  where
+    go : (m % 32 ≡ 0) ⊎ (m % 32 ≡ 0 → ⊥) → wordsFor m ≡ 1
+    go (inl e) = omega arith
+    go (inr f) = omega (arith, part-word m f)
+
+module _ (m : ℕ) (ws : List ℕ) (l : 1 ≤ m) (h : m ≤ 32) (room : wordsFor m ≤ length ws) where
+  pub one-inside : 0 < length ws
+  one-inside = omega (arith, one-word m l h)
+
+  -- its word is 0, with its bits past the end set
+  pub one-level : set ws 0 (2 ^ 32 - 2 ^ m) ≡ padded m (cleared (wordsFor m) ws)
+  unfolding cleared
+  one-level = set-split ws 0 (2 ^ 32 - 2 ^ m) one-inside ∙ sym (ap (λ (k : ℕ). padded m (cleared k ws)) (one-word m l h) ∙ go (same-or-not (m % 32) 0))
+    where
+      go : (m % 32 ≡ 0) ⊎ (m % 32 ≡ 0 → ⊥) → padded m (0 ∷ drop 1 ws) ≡ (2 ^ 32 - 2 ^ m) ∷ drop 1 ws
+      go (inl e) =
+          let q : m ≡ 32 = omega arith in
+          padded-whole m (0 ∷ drop 1 ws) e ∙ ap (λ (k : ℕ). (2 ^ 32 - 2 ^ k) ∷ drop 1 ws) (sym q)
+      go (inr f) =
+          let q : m / 32 ≡ 0 = omega arith in
+          let r : m % 32 ≡ m = omega arith in
+          sym (padded-part m (0 ∷ drop 1 ws) f)
+          ∙ ap₂ (λ (i k : ℕ). set (0 ∷ drop 1 ws) i (bitOr (getD (0 ∷ drop 1 ws) i 0) (2 ^ 32 - 2 ^ k))) q r
+          ∙ ap (λ (w : ℕ). w ∷ drop 1 ws) (or-zero-l (2 ^ 32 - 2 ^ m))
+
+-- the level above the last but one: what the code leaves, as `fresh-put`
+pub fresh-last : (a n words : ℕ) (ws xs ys : List ℕ) → a ≡ 1 → words ≡ wordsFor n → treeWords a n ≤ length ws → xs ≡ padded n (cleared words ws)
+    → ys ≡ padded words (cleared (wordsFor words) (take (length xs - words) (drop words xs))) → take words xs ++ (ys ++ drop (length xs - words) (drop words xs)) ≡ fresh a n ws
+fresh-last a n words ws xs ys o w room e f = fresh-put a n words ws xs ys (omega arith) w room e (f ∙ fresh-none (a - 1) words (take (length xs - words) (drop words xs)) (omega arith))

@@ -2,13 +2,13 @@
 use mathlib.Core.Path.{_≡_, refl, sym, ap, ap₂, _∙_}
 use mathlib.Core.Logic.{_⊎_, inl, inr}
 use mathlib.Core.Bool.{Bool, true, false}
-use mathlib.Core.List.{List, _∷_, _++_}
+use mathlib.Core.List.{List, _++_}
 use Prim.Native.Nat.{ℕ, zero, suc, _+_, _-_, _*_, _/_, _^_, _≤_, _<_}
 use native.Mathlib.Nat.{pow-suc, zero-add, suc-mul, mul-le-mul-right, mul-le-mul-left}
 use native.Mathlib.Numerals.{add-one}
 use native.Mathlib.Omega.{arith}
 use lib.Dec.{ltb}
-use lib.ListN.{length, getD, set, take, drop, replicate, length-append, length-drop}
+use lib.ListN.{length, getD, set, take, drop, length-append, length-drop}
 use lib.Seq.{take-all, getD-drop, length-take-le, getD-append-add, paste, paste-suc}
 use borrow.Author.Tests.{lt-ltb, le-ltb}
 use Rattle.rules.specs.Pick.{pick}
@@ -18,7 +18,7 @@ use Rattle.words.specs.Levels.{wordsFor}
 use Rattle.words.proofs.Lists.{at-lt, bits-same}
 use Rattle.words.proofs.Word.{zero-of-not-one}
 use Rattle.bitmap_write.specs.Rebuild.{wordFrom, packed}
-use Rattle.bitmap_write.specs.Ready.{cleared, copied, gatheredBit, gathered}
+use Rattle.bitmap_write.specs.Ready.{copied, gatheredBit, gathered}
 use Rattle.bitmap_write.proofs.Packed.{length-packed, packed-at, word-alike, word-same, word-zeros, word-less}
 use Rattle.bitmap_write.proofs.Copied.{length-copied}
 
@@ -166,23 +166,3 @@ module _ (from n step : ℕ) (s : List ℕ) (apart : wordsFor n ≤ from) (room 
 
       same : (k : ℕ) → gatheredBit (drop from t) step n k ≡ gatheredBit (drop from s) step n k
       same k = ap (λ (z : ℕ). pick (ltb k n) z 0) (bit (k * step))
-
--- ---- where no bit is 1 the words are 0
-
-packed-zeros : (bit : ℕ → ℕ) → ((k : ℕ) → bit k ≡ 0) → (c j : ℕ) → packed bit c j ≡ replicate c 0
-unfolding packed
-packed-zeros bit f zero j = refl
-packed-zeros bit f (suc c) j = ap₂ (λ (w : ℕ) (l : List ℕ). w ∷ l) (word-zeros bit 32 (j * 32) (λ i h. f i)) (packed-zeros bit f c (suc j))
-
-pub gathered-unset : (from n step : ℕ) (s : List ℕ) → ((k : ℕ) → bitAt (drop from s) k ≡ 0) → cleared (wordsFor n) s ≡ copied (wordsFor n) (gathered (drop from s) step n) s
-unfolding cleared copied gatheredBit
-gathered-unset from n step s f =
-    let e = length-packed (gatheredBit (drop from s) step n) (wordsFor n) 0 in
-    ap (λ (l : List ℕ). l ++ drop (wordsFor n) s) (sym (take-all (wordsFor n) (gathered (drop from s) step n) (omega arith) ∙ packed-zeros (gatheredBit (drop from s) step n) zero-bit (wordsFor n) 0))
-  where
-    zero-bit : (b : ℕ) → gatheredBit (drop from s) step n b ≡ 0
-    zero-bit b = go (ltb b n)
-      where
-        go : (t : Bool) → pick t (bitAt (drop from s) (b * step)) 0 ≡ 0
-        go true = f (b * step)
-        go false = refl

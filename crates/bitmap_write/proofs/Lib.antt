@@ -6,6 +6,8 @@ pub mod Rebuilt
 pub mod Ready
 pub mod Copied
 pub mod Gathered
+pub mod Halves
+pub mod Pressed
 pub mod Unset
 pub mod Local
 pub mod Fresh

@@ -1,5 +1,7 @@
 -- A level 0 made a tree: of free blocks, or of given marks. Document 01: of a free segment that is taken, "whose blocks' bits
 -- are all 0"; of a sweep, "its level 0 becomes the marks, upper levels rebuilt"; "Bits past a level's end are 1."
+use mathlib.Core.Path.{_≡_}
+use mathlib.Core.Logic.{_⊎_}
 use mathlib.Core.List.{List, _++_}
 use Prim.Native.Nat.{ℕ, _-_, _*_, _/_, _%_, _^_}
 use lib.Bits.{bitOr}
@@ -7,8 +9,8 @@ use lib.Dec.{eqb, ltb}
 use lib.ListN.{getD, set, take, drop, replicate}
 use Rattle.rules.specs.Pick.{pick}
 use Rattle.words.specs.Levels.{wordsFor}
-use Rattle.words.specs.Bits.{bitAt}
-use Rattle.bitmap_write.specs.Rebuild.{packed, rebuilt}
+use Rattle.words.specs.Bits.{bitOf, bitAt}
+use Rattle.bitmap_write.specs.Rebuild.{wordFrom, packed, rebuilt}
 
 -- the bits past the end of a level of n bits are 1: those of its last word from bit n % 32 on, if it is not whole
 unfoldable pub padded : ℕ → List ℕ → List ℕ
@@ -32,6 +34,18 @@ gatheredBit ws step n b = pick (ltb b n) (bitAt ws (b * step)) 0
 
 abbrev pub gathered : List ℕ → ℕ → ℕ → List ℕ
 gathered ws step n = packed (gatheredBit ws step n) (wordsFor n) 0
+
+-- every step-th bit of one word, side by side: `count` of them
+abbrev pub pressed : ℕ → ℕ → ℕ → ℕ
+pressed step count x = wordFrom (λ i. bitOf x (i * step)) count 0
+
+-- the steps that divide a word so, and how many of its bits a word has then
+abbrev pub Pressable : ℕ → ℕ → Type 0
+Pressable step count = ((step ≡ 1) × (count ≡ 32)) ⊎ (((step ≡ 2) × (count ≡ 16)) ⊎ (((step ≡ 4) × (count ≡ 8)) ⊎ ((step ≡ 8) × (count ≡ 4))))
+
+-- n bits are gathered bit by bit, or by whole words
+abbrev pub Ways : ℕ → ℕ → ℕ → Type 0
+Ways n step count = (count ≡ 0) ⊎ ((n % 32 ≡ 0) × Pressable step count)
 
 -- a tree of n bits that are all 0
 unfoldable pub fresh : ℕ → ℕ → List ℕ → List ℕ

@@ -7,10 +7,10 @@ ghost use mathlib.Core.Logic.{_⊎_};
 ghost use mathlib.Core.Bool.{true};
 ghost use Prim.Native.Nat.{ℕ, _+_, _-_, _*_, _^_, _≤_, _<_};
 ghost use lib.ListN.{length, drop};
-ghost use Rattle.words.specs.Bits.{bitAt};
+ghost use Rattle.words.specs.Bits.{bitAt, onesAmong};
 ghost use Rattle.words.specs.Levels.{wordsFor, treeWords};
 ghost use Rattle.bitmap_write.specs.Rebuild.{fullBit, wordFrom, summed, rebuilt};
-ghost use Rattle.bitmap_write.specs.Ready.{padded, cleared, copied, completed, fresh, gatheredBit, gathered, adopted};
+ghost use Rattle.bitmap_write.specs.Ready.{padded, cleared, copied, completed, fresh, gatheredBit, gathered, pressed, Pressable, Ways, adopted};
 
 // Bit k of the level above the first m words, one of which word k is.
 fn full_bit(s: &[u32], m: u32, k: u32) -> u32
@@ -115,17 +115,49 @@ pub fn clear_words(s: &mut [u32], m: u32)
     }
 }
 
-// A tree of n free blocks: every level cleared, and its bits past the end set.
+// The one word of a level of n free bits, where it has one.
+fn free_word(n: u32) -> u32
+    requires { ⌜ n ≤ 32 ⌝ }
+    ensures { λ r. ⌜ r ≡ 2 ^ 32 - 2 ^ n ⌝ }
+{
+    let one = 1u64 << n;
+    (4294967296 - one) as u32
+}
+
+// A level of n free bits: its words cleared, and its bits past the end set.
+fn free_level(s: &mut [u32], n: u32)
+    requires { ⌜ wordsFor n ≤ length (now s) ⌝ }
+    ensures { λ _. ⌜ now (s .exit) ≡ padded n (cleared (wordsFor n) (now (s .entry))) ⌝ }
+{
+    clear_words(s, words_for(n));
+    pad(s, n);
+}
+
+// The same, where it has often one word, which is written at once.
+fn last_level(s: &mut [u32], n: u32)
+    requires { ⌜ wordsFor n ≤ length (now s) ⌝ }
+    ensures { λ _. ⌜ now (s .exit) ≡ padded n (cleared (wordsFor n) (now (s .entry))) ⌝ }
+{
+    match n {
+        1..=32 => s[0] = free_word(n),
+        _ => free_level(s, n),
+    }
+}
+
+// A tree of n free blocks: a level of free bits, and those above it.
 pub fn make_fresh(s: &mut [u32], n: u32, above: u32)
     requires { ⌜ treeWords above n ≤ length (now s) ⌝ }
     ensures { λ _. ⌜ now (s .exit) ≡ fresh above n (now (s .entry)) ⌝ }
 {
-    let words = words_for(n);
-    clear_words(s, words);
-    pad(s, n);
+    free_level(s, n);
     if above != 0 {
+        let words = words_for(n);
         let i = words as usize;
-        make_fresh(&mut s[i..], words, above - 1);
+        if above == 1 {
+            last_level(&mut s[i..], words);
+        } else {
+            make_fresh(&mut s[i..], words, above - 1);
+        }
     }
 }
 
@@ -149,18 +181,98 @@ fn gathered_word(s: &[u32], from: usize, n: u32, step: u32, j: u32) -> u32
     w
 }
 
+// The even bits of a word, side by side.
+fn half(x: u32) -> u32
+    ensures { λ r. ⌜ r ≡ pressed 2 16 x ⌝ }
+{
+    let a = x & 1431655765;
+    let b = (a | (a >> 1)) & 858993459;
+    let c = (b | (b >> 2)) & 252645135;
+    let d = (c | (c >> 4)) & 16711935;
+    (d | (d >> 8)) & 65535
+}
+
+// Every eighth bit of a word, side by side.
+fn eighth(x: u32) -> u32
+    ensures { λ r. ⌜ r ≡ pressed 8 4 x ⌝ }
+{
+    words::bit_of(x, 0)
+        + words::bit_of(x, 8) * 2
+        + words::bit_of(x, 16) * 4
+        + words::bit_of(x, 24) * 8
+}
+
+// Every step-th bit of a word, side by side.
+fn press(x: u32, step: u32, count: u32) -> u32
+    requires { ⌜ Pressable step count ⌝ }
+    ensures { λ r. ⌜ r ≡ pressed step count x ⌝ }
+{
+    match step {
+        1 => x,
+        2 => half(x),
+        4 => half(half(x)),
+        _ => eighth(x),
+    }
+}
+
+// The same as `gathered_word` where the word is whole, and a word has `count` of the bits.
+fn pressed_word(s: &[u32], from: usize, n: u32, step: u32, count: u32, j: u32) -> u32
+    requires { ⌜ (j * 32 + 32 ≤ n) × (from ≤ length (now s)) × (n * step ≤ (length (now s) - from) * 32) × (n * step ≤ 2 ^ 20) × Pressable step count ⌝ }
+    ensures { λ r. ⌜ r ≡ wordFrom (gatheredBit (drop from (now (s .entry))) step n) 32 (j * 32) ⌝ }
+{
+    let at = from + (j * step) as usize;
+    let mut w: u32 = 0;
+    let mut k: u32 = 0;
+    while k < step {
+        let i = at + k as usize;
+        let bits = press(s[i], step, count);
+        w += bits << (k * count);
+        k += 1;
+    }
+    w
+}
+
+// Word j by words, or, where no word's bits can be had at once, bit by bit.
+fn next_word(s: &[u32], from: usize, n: u32, step: u32, count: u32, j: u32) -> u32
+    requires { ⌜ (j < wordsFor n) × (from ≤ length (now s)) × (n * step ≤ (length (now s) - from) * 32) × (n * step ≤ 2 ^ 20) × (1 ≤ step) × Ways n step count ⌝ }
+    ensures { λ r. ⌜ r ≡ wordFrom (gatheredBit (drop from (now (s .entry))) step n) 32 (j * 32) ⌝ }
+{
+    if count == 0 {
+        return gathered_word(s, from, n, step, j);
+    }
+    pressed_word(s, from, n, step, count, j)
+}
+
 // The n bits that stand from a word on, one for each step bits, side by side from the first word on.
-fn gather(s: &mut [u32], from: usize, n: u32, step: u32)
-    requires { ⌜ (wordsFor n ≤ from) × (from ≤ length (now s)) × (n * step ≤ (length (now s) - from) * 32) × (n * step ≤ 2 ^ 20) × (1 ≤ step) ⌝ }
+fn gather_by(s: &mut [u32], from: usize, n: u32, step: u32, count: u32)
+    requires { ⌜ (wordsFor n ≤ from) × (from ≤ length (now s)) × (n * step ≤ (length (now s) - from) * 32) × (n * step ≤ 2 ^ 20) × (1 ≤ step) × Ways n step count ⌝ }
     ensures { λ _. ⌜ now (s .exit) ≡ copied (wordsFor n) (gathered (drop from (now (s .entry))) step n) (now (s .entry)) ⌝ }
 {
     let words = words_for(n);
     let mut j: u32 = 0;
     while j < words {
-        let w = gathered_word(&s[..], from, n, step, j);
+        let w = next_word(&s[..], from, n, step, count, j);
         let i = j as usize;
         s[i] = w;
         j += 1;
+    }
+}
+
+// By whole words where the step and n allow it. The step is a constant in each call, so that each loop is compiled for its own.
+fn gather(s: &mut [u32], from: usize, n: u32, step: u32)
+    requires { ⌜ (wordsFor n ≤ from) × (from ≤ length (now s)) × (n * step ≤ (length (now s) - from) * 32) × (n * step ≤ 2 ^ 20) × (1 ≤ step) ⌝ }
+    ensures { λ _. ⌜ now (s .exit) ≡ copied (wordsFor n) (gathered (drop from (now (s .entry))) step n) (now (s .entry)) ⌝ }
+{
+    if n % 32 != 0 {
+        gather_by(s, from, n, step, 0);
+        return;
+    }
+    match step {
+        1 => gather_by(s, from, n, 1, 32),
+        2 => gather_by(s, from, n, 2, 16),
+        4 => gather_by(s, from, n, 4, 8),
+        8 => gather_by(s, from, n, 8, 4),
+        _ => gather_by(s, from, n, step, 0),
     }
 }
 
@@ -177,23 +289,13 @@ pub fn none_set(s: &[u32]) -> bool
     any == 0
 }
 
-// The same, where often none of them is 1: then no bit is looked at by itself.
-fn gather_some(s: &mut [u32], from: usize, n: u32, step: u32)
-    requires { ⌜ (wordsFor n ≤ from) × (from ≤ length (now s)) × (n * step ≤ (length (now s) - from) * 32) × (n * step ≤ 2 ^ 20) × (1 ≤ step) ⌝ }
-    ensures { λ _. ⌜ now (s .exit) ≡ copied (wordsFor n) (gathered (drop from (now (s .entry))) step n) (now (s .entry)) ⌝ }
-{
-    if none_set(&s[from..]) {
-        clear_words(s, words_for(n));
-    } else {
-        gather(s, from, n, step);
-    }
-}
-
-// A tree whose level 0 is the n mark bits that stand in the same slice behind the tree, from a word of it on, one for each step bits.
-pub fn adopt(s: &mut [u32], marks_at: usize, n: u32, step: u32, above: u32)
+// A tree whose level 0 is the n mark bits that stand in the same slice behind the tree, from a word of it on, one for each step bits; how many of them are 1.
+pub fn adopt(s: &mut [u32], marks_at: usize, n: u32, step: u32, above: u32) -> u32
     requires { ⌜ (treeWords above n ≤ «marks_at») × («marks_at» ≤ length (now s)) × (n * step ≤ (length (now s) - «marks_at») * 32) × (n * step ≤ 2 ^ 20) × (1 ≤ step) ⌝ }
     ensures { λ _. ⌜ now (s .exit) ≡ adopted above n (gathered (drop «marks_at» (now (s .entry))) step n) (now (s .entry)) ⌝ }
+    ensures ones { λ r. ⌜ r ≡ onesAmong (bitAt (now (s .exit))) n ⌝ }
 {
-    gather_some(s, marks_at, n, step);
+    gather(s, marks_at, n, step);
     complete(s, n, above);
+    words::ones_among(&s[..], n)
 }

@@ -4,7 +4,8 @@ use mathlib.Core.Bool.{Bool, true, false}
 use lib.Dec.{ltb}
 use borrow.Author.Tests.{ltb-true}
 use Rattle.rules.specs.Pick.{pick}
-use Rattle.words.specs.Bits.{bitAt}
+use Rattle.words.specs.Bits.{bitAt, onesAmong}
+use Rattle.words.proofs.Ones.{among-same}
 use Rattle.classes.proofs.Filling.{two-words}
 use Rattle.bitmap_write.proofs.Packed.{length-packed, packed-same}
 use Rattle.bitmap_write.proofs.Gathered.{bit-inside}
@@ -26,12 +27,13 @@ use Rattle.layout.specs.Mem.{memOf, readRun}
 use Rattle.layout.proofs.Regions.{read-at, part-at}
 use Rattle.layout.proofs.Sizes.{class-fits, marks-are, marks-words, most-small}
 use Rattle.bitmap_write.specs.Ready.{adopted, gatheredBit, gathered}
-use Rattle.bitmap_write.proofs.Copied.{length-adopted}
+use Rattle.bitmap_write.proofs.Copied.{length-adopted, adopted-bit}
 use Rattle.bitmap_write.proofs.Local.{adopted-append}
 use Rattle.model.specs.Segments.{above, bitmap, setBitmap, marksIn}
 use Rattle.model.specs.Records.{headerOf, entered}
 use Rattle.laws.proofs.Lengths.{sizes-of}
 use Rattle.laws.proofs.Bitmaps.{tree-room}
+use Rattle.bitmaps.specs.Given.{Unmarked}
 use Rattle.layout.specs.Region as Region
 
 -- ---- lists
@@ -126,6 +128,10 @@ module _ (g : Geometry) (l : List ℕ) (z : Sized g (length l)) (s : ℕ) (h : s
     marks-part : midOf a (b - a) l ≡ markRun
     marks-part = read-at g l Region.marks (s * markWords g) (markWords g) a b (at, marks-end .0, row (markWords g), omega arith)
 
+    -- none of them is 1
+    pub unmarked-part : ((k : ℕ) → bitAt (midOf a (b - a) l) k ≡ 0) → Unmarked g (memOf g l) s
+    unmarked-part f c i k h = sym (bit-of c k i h) ∙ ap (λ (ws : List ℕ). bitAt ws (i * (blockWords c / 2))) (sym marks-part) ∙ f (i * (blockWords c / 2))
+
   -- from the bitmap to the end of the marks
   module _ (a m b : ℕ) (tree : a ≡ from g Region.bitmaps + s * bitmapWords g) (at : m ≡ from g Region.marks + s * markWords g) (end : b ≡ from g Region.marks + (s + 1) * markWords g) where
     pub span : (a + bitmapWords g ≤ m) × (b ≡ m + markWords g) × (b ≤ length l)
@@ -190,3 +196,18 @@ module _ (g : Geometry) (l : List ℕ) (z : Sized g (length l)) (s : ℕ) (h : s
             ap (λ (v : List ℕ). adopted (above g c) (blocksIn g c) v (midOf a (b - a) l)) (ap (λ (v : List ℕ). gathered v ((blockWords c / 2)) (blocksIn g c)) behind ∙ marks-gathered c k)
             ∙ ap make (sym (take-append-drop (bitmapWords g) (midOf a (b - a) l)) ∙ ap (λ (v : List ℕ). v ++ drop (bitmapWords g) (midOf a (b - a) l)) head)
             ∙ adopted-append (drop (bitmapWords g) (midOf a (b - a) l)) (above g c) (blocksIn g c) (marksIn g (memOf g l) s c) (bitmap g (memOf g l) s) marks-long (tree-room g (memOf g l) (sizes-of g l z) s h c k)
+
+    -- how many bits of the tree's level 0 are 1
+    pub span-ones : (c : ℕ) → IsClass c → (ys : List ℕ) → ys ≡ adopted (above g c) (blocksIn g c) (gathered (drop (m - a) (midOf a (b - a) l)) (blockWords c / 2) (blocksIn g c)) (midOf a (b - a) l)
+        → onesAmong (bitAt ys) (blocksIn g c) ≡ onesAmong (bitAt (marksIn g (memOf g l) s c)) (blocksIn g c)
+    span-ones c k ys t = among-same (bitAt ys) (bitAt (marksIn g (memOf g l) s c)) (blocksIn g c) same
+      where
+        are : gathered (drop (m - a) (midOf a (b - a) l)) (blockWords c / 2) (blocksIn g c) ≡ marksIn g (memOf g l) s c
+        are = ap (λ (v : List ℕ). gathered v (blockWords c / 2) (blocksIn g c)) behind ∙ marks-gathered c k
+
+        same : (i : ℕ) → i < blocksIn g c → bitAt ys i ≡ bitAt (marksIn g (memOf g l) s c) i
+        same i q =
+            let e = length-packed (λ b. pick (ltb b (blocksIn g c)) (entered g (memOf g l) (headerOf g s c b)) 0) (wordsFor (blocksIn g c)) 0 in
+            let f = span-fits c k in
+            ap (λ (v : List ℕ). bitAt v i) (t ∙ ap (λ (v : List ℕ). adopted (above g c) (blocksIn g c) v (midOf a (b - a) l)) are)
+            ∙ adopted-bit (above g c) (blocksIn g c) (marksIn g (memOf g l) s c) (midOf a (b - a) l) (omega arith) (omega (arith, f .0, f .1)) i q

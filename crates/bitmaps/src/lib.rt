@@ -1,9 +1,10 @@
 // A segment's bitmap tree and its marks in the lent slice: a fresh tree, the next free block and whether another remains, the tree whose level 0
-// becomes the marks, and how many blocks are in use and how many are marked.
+// becomes the marks and how many they are, whether there is none, and how many blocks are in use.
 use bitmap_search::Near;
 use bitmap_search::Two;
 use layout::Geometry;
 ghost use mathlib.Core.Path.{_≡_};
+ghost use mathlib.Core.Bool.{true};
 ghost use Prim.Native.Nat.{_≤_, _<_};
 ghost use lib.ListN.{length};
 ghost use Rattle.words.specs.Bits.{bitAt, onesAmong};
@@ -13,8 +14,8 @@ ghost use Rattle.bitmap_search.specs.Twice.{TwoPromise};
 ghost use Rattle.layout.specs.Geometry.{Sized, blocksIn};
 ghost use Rattle.layout.specs.Mem.{memOf};
 ghost use Rattle.model.specs.Making.{freshened};
-ghost use Rattle.model.specs.Segments.{above, bitmap};
-ghost use Rattle.bitmaps.specs.Given.{adoptedAs, usedBits};
+ghost use Rattle.model.specs.Segments.{above, bitmap, marksIn};
+ghost use Rattle.bitmaps.specs.Given.{adoptedAs, Unmarked, usedBits};
 
 // Segment s gets a tree of free blocks of a class.
 pub fn fresh(g: Geometry, mem: &mut [u32], s: usize, class: u32)
@@ -64,11 +65,12 @@ pub fn next_two(g: Geometry, mem: &[u32], s: usize, class: u32, place: u32) -> T
     }
 }
 
-// Level 0 of segment s becomes its marks, and the levels above it are rebuilt.
-pub fn adopt(g: Geometry, mem: &mut [u32], s: usize, class: u32)
+// Level 0 of segment s becomes its marks, and the levels above it are rebuilt; how many blocks are marked.
+pub fn adopt(g: Geometry, mem: &mut [u32], s: usize, class: u32) -> u32
     requires { ⌜ (Sized g (length (now mem))) × (s < g .segments) ⌝ }
     requires { ⌜ IsClass class ⌝ }
     ensures { λ _. ⌜ memOf g (now (mem .exit)) ≡ adoptedAs g (memOf g (now (mem .entry))) s class ⌝ }
+    ensures ones { λ r. ⌜ r ≡ onesAmong (bitAt (marksIn g (memOf g (now (mem .entry))) s class)) (blocksIn g class) ⌝ }
 {
     let shape = layout::shape_in(g, class);
     let step = layout::mark_bit(classes::block_words(class)) as u32;
@@ -81,7 +83,17 @@ pub fn adopt(g: Geometry, mem: &mut [u32], s: usize, class: u32)
         shape.blocks,
         step,
         shape.levels - 1,
-    );
+    )
+}
+
+// Whether no word of the marks of segment s has a bit.
+pub fn unmarked(g: Geometry, mem: &[u32], s: usize) -> bool
+    requires { ⌜ (Sized g (length (now mem))) × (s < g .segments) ⌝ }
+    ensures { λ r. ⌜ (r ≡ true → Unmarked g (memOf g (now (mem .entry))) s) ⌝ }
+{
+    let a = layout::marks_from(g, s);
+    let b = layout::marks_from(g, s + 1);
+    bitmap_write::none_set(&mem[a..b])
 }
 
 // How many of the first n bits are 1, where those before a place count as 1.
@@ -107,27 +119,4 @@ pub fn in_use(g: Geometry, mem: &[u32], s: usize, class: u32, place: u32) -> u32
     let a = layout::bitmap_from(g, s);
     let b = layout::bitmap_from(g, s + 1);
     used_among(&mem[a..b], blocks, place)
-}
-
-// How many of the first n bits are 1; often none of them is.
-fn marked_among(s: &[u32], n: u32) -> u32
-    requires { ⌜ wordsFor n ≤ length (now s) ⌝ }
-    ensures { λ r. ⌜ r ≡ onesAmong (bitAt (now (s .entry))) n ⌝ }
-{
-    if bitmap_write::none_set(s) {
-        return 0;
-    }
-    words::ones_among(s, n)
-}
-
-// How many blocks of segment s have their bit.
-pub fn kept(g: Geometry, mem: &[u32], s: usize, class: u32) -> u32
-    requires { ⌜ (Sized g (length (now mem))) × (s < g .segments) ⌝ }
-    requires { ⌜ IsClass class ⌝ }
-    ensures { λ r. ⌜ r ≡ onesAmong (bitAt (bitmap g (memOf g (now (mem .entry))) s)) (blocksIn g class) ⌝ }
-{
-    let blocks = layout::blocks_in(g, class);
-    let a = layout::bitmap_from(g, s);
-    let b = layout::bitmap_from(g, s + 1);
-    marked_among(&mem[a..b], blocks)
 }

@@ -100,11 +100,13 @@ pub fn step(g: Geometry, mem: &mut [u32]) -> Step
     }
     let phase = mutators::phase(g, mem);
     let number = phase.number;
+    if number == Phase::MARK {
+        return marking::trace(g, mem);
+    }
     match number {
         Phase::IDLE => Step::Idle,
         Phase::SYNC1 => handshake(g, mem, Phase::SYNC2),
         Phase::SYNC2 => handshake(g, mem, Phase::MARK),
-        Phase::MARK => marking::trace(g, mem),
         Phase::SWEEP => sweeping::sweep(g, mem),
         _ => Step::Refused(13),
     }

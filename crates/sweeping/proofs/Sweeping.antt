@@ -1,5 +1,5 @@
 -- The sweep of a segment, and a step in sweep: in consistent memory nothing hinders it. Assumes nothing.
-use mathlib.Core.Path.{_≡_, refl, sym, _∙_, ap, subst}
+use mathlib.Core.Path.{_≡_, refl, sym, _∙_, ap, ap₂, subst}
 use mathlib.Core.Bool.{Bool, true, false, true≢false}
 use mathlib.Core.Logic.{_⊎_, inl, inr}
 use mathlib.Core.Option.{Option, none, some}
@@ -20,8 +20,8 @@ use Rattle.model.specs.declared.Step.{Step}
 use Rattle.model.specs.declared.Step.the-variants.{Swept, Done, Refused}
 use Rattle.model.specs.Answers.{isSwept, isDone}
 use Rattle.model.specs.declared.SegmentState.{SegmentState}
-use Rattle.model.specs.Fields.{tag, class, place, owner}
-use Rattle.model.specs.Segments.{stateOf, segment, freeStack, partStack, count, bitmap, inUse}
+use Rattle.model.specs.Fields.{setCursor, tag, class, place, owner}
+use Rattle.model.specs.Segments.{stateOf, segment, freeStack, partStack, count, bitmap, marksIn, inUse}
 use Rattle.model.specs.Collector.{lowest, keptBy, rebuiltBy, swept, sweeps, settledBy}
 use Rattle.model.specs.Consistent.{Consistent, isFree, isPart}
 use Rattle.model.specs.StepParts.{StepsAs}
@@ -30,12 +30,10 @@ use Rattle.laws.proofs.Blocks.{blocks-most, blocks-some}
 use Rattle.laws.proofs.Segments.{in-use-le, not-free, not-part}
 use Rattle.laws.proofs.Stacks.{stack-room}
 use Rattle.laws.proofs.Swept.{swept-use}
-use Rattle.laws.proofs.Rebuilding.{rebuilt-mark}
-use Rattle.words.proofs.Ones.{among-same}
 use Rattle.laws.proofs.StepParts.{steps-done, steps-13}
 use Rattle.bitmaps.specs.Given.{adoptedAs, usedBits}
 use Rattle.sweeping.specs.declared.Lowest.the-variants.{Segment, Nothing}
-use Rattle.sweeping.specs.Sweeping.{lowestOf, Finds, stateAfter, stackAfter, settled, Settles, SweepFails, Sweeps}
+use Rattle.sweeping.specs.Sweeping.{lowestOf, Finds, stateAfter, stackAfter, settled, Settles, Finishes, SweepFails, Sweeps}
 use Rattle.theory.specs.Calls as theory
 use Rattle.model.specs.Tag as Tag
 
@@ -62,7 +60,7 @@ module _ (g : Geometry) (m : Mem) (s : ℕ) (z : Sizes g m) (l : s < g .segments
   swept-no-class f m′ = record { either = inr (refl, inl (λ k. true≢false (sym (class-passes _ (subst IsClass (sym ec) k)) ∙ f))) }
 
   module _ (k : classTest c ≡ true) (p u n : ℕ) (ep : p ≡ place m s) (eu : u ≡ onesAmong (usedBits (bitAt (bitmap g m s)) p) (blocksIn g c))
-      (m₁ : Mem) (e : m₁ ≡ adoptedAs g m s c) (en : n ≡ onesAmong (bitAt (bitmap g m₁ s)) (blocksIn g c)) (r : Bool) (m₂ : Mem) (q : Settles g m₁ s c n r m₂) where
+      (m₁ : Mem) (e : m₁ ≡ adoptedAs g m s c) (en : n ≡ onesAmong (bitAt (marksIn g m s c)) (blocksIn g c)) where
     is-class : IsClass (class m s)
     is-class = subst IsClass ec (class-passed c k)
 
@@ -71,25 +69,33 @@ module _ (g : Geometry) (m : Mem) (s : ℕ) (z : Sizes g m) (l : s < g .segments
         ∙ sym (ap (λ b. pick b 0 (onesAmong (usedBits (bitAt (bitmap g m s)) (place m s)) (blocksIn g (class m s)))) (ne-eqb (tag m s) Tag.free (λ x. omega arith)))
 
     kept-is : n ≡ keptBy g m s
-    kept-is =
-        en ∙ ap (λ x. onesAmong (bitAt (bitmap g x s)) (blocksIn g c)) (e ∙ ap (adoptedAs g m s) ec)
-        ∙ ap (λ x. onesAmong (bitAt (bitmap g (rebuiltBy g m s) s)) (blocksIn g x)) ec
-        ∙ among-same _ _ (blocksIn g (class m s)) (λ b h. rebuilt-mark g m z s l is-class b h)
+    kept-is = en ∙ ap (λ x. onesAmong (bitAt (marksIn g m s x)) (blocksIn g x)) ec
 
-    settles : Settles g (rebuiltBy g m s) s (class m s) (keptBy g m s) r m₂
-    settles = subst (λ x. Settles g (rebuiltBy g m s) s x (keptBy g m s) r m₂) ec
-        (subst (λ x. Settles g (rebuiltBy g m s) s c x r m₂) kept-is
-        (subst (λ x. Settles g x s c n r m₂) (e ∙ ap (adoptedAs g m s) ec) q))
+    pub swept-finished : (r : Step) (m₂ : Mem) → Finishes g m₁ s c u n r m₂ → Sweeps g m s r m₂
+    unfolding swept setRun
+    swept-finished r m₂ q = go (finishes .either)
+      where
+        finishes : Finishes g (rebuiltBy g m s) s (class m s) u (keptBy g m s) r m₂
+        finishes = subst (λ x. Finishes g (rebuiltBy g m s) s x u (keptBy g m s) r m₂) ec
+            (subst (λ x. Finishes g (rebuiltBy g m s) s c u x r m₂) kept-is
+            (subst (λ x. Finishes g x s c u n r m₂) (e ∙ ap (adoptedAs g m s) ec) q))
 
-    pub swept-done : r ≡ true → (m₃ : Mem) → m₃ ≡ setControl m₂ 2 (s + 1) → (f : ℕ) → f ≡ u - n → Sweeps g m s (Swept s f) m₃
-    unfolding swept
-    swept-done y m₃ e₃ f ef =
-        let x : f ≡ inUse g m s - inUse g (swept g m s) s = ef ∙ ap (λ w. w - n) used-is ∙ ap (λ w. inUse g m s - w) (kept-is ∙ sym (swept-use g m z s l is-class)) in
-        record { either = inl (ap (Swept s) x, e₃ ∙ ap (λ w. setControl w 2 (s + 1)) (settles .done y ∙ settled-is g m s is-class) ∙ ap (setControl (settledBy g m s) 2) (let w : s + 1 ≡ suc s = omega arith in w), is-class) }
+        freed : u - keptBy g m s ≡ inUse g m s - inUse g (swept g m s) s
+        freed = ap (λ w. w - keptBy g m s) used-is ∙ ap (λ w. inUse g m s - w) (sym (swept-use g m z s l is-class))
 
-    pub swept-full : r ≡ false → Sweeps g m s (Refused 13) m₂
-    unfolding setRun
-    swept-full y = record { either = inr (refl, inr (settles .full y)) }
+        go : ((r ≡ Swept s (u - keptBy g m s)) × (m₂ ≡ setCursor (settled g (rebuiltBy g m s) s (class m s) (keptBy g m s)) (suc s)))
+            ⊎ ((r ≡ Refused 13) × (g .segments ≤ count g (rebuiltBy g m s) (stackAfter (class m s) (keptBy g m s)))) → Sweeps g m s r m₂
+        go (inl (a, b)) = record { either = inl (a ∙ ap (Swept s) freed, b ∙ ap (λ w. setCursor w (suc s)) (settled-is g m s is-class), is-class) }
+        go (inr (a, b)) = record { either = inr (a, inr b) }
+
+-- ---- a settled segment, and the cursor past it
+
+module _ (g : Geometry) (m : Mem) (s c u n : ℕ) (r : Bool) (m₁ : Mem) (q : Settles g m s c n r m₁) where
+  pub finished : r ≡ true → (m₂ : Mem) → m₂ ≡ setControl m₁ 2 (s + 1) → (f : ℕ) → f ≡ u - n → Finishes g m s c u n (Swept s f) m₂
+  finished y m₂ e f ef = record { either = inl (ap (Swept s) ef, e ∙ ap₂ (λ x y. setControl x 2 y) (q .done y) (let w : s + 1 ≡ suc s = omega arith in w)) }
+
+  pub no-room : r ≡ false → Finishes g m s c u n (Refused 13) m₁
+  no-room y = record { either = inr (refl, q .full y) }
 
 -- ---- nothing hinders a sweep in consistent memory
 

@@ -4,7 +4,7 @@ use mathlib.Core.Path.{_≡_}
 use mathlib.Core.Bool.{Bool, true, false}
 use mathlib.Core.Logic.{_⊎_}
 use mathlib.Core.Option.{Option, none, some}
-use Prim.Native.Nat.{ℕ, _-_, _≤_, _<_}
+use Prim.Native.Nat.{ℕ, suc, _-_, _≤_, _<_}
 use lib.Dec.{eqb}
 use Rattle.rules.specs.Pick.{pick}
 use Rattle.classes.specs.Class.{IsClass}
@@ -14,7 +14,7 @@ use Rattle.layout.specs.Mem.{Mem}
 use Rattle.model.specs.declared.SegmentState.{SegmentState}
 use Rattle.model.specs.declared.Step.{Step}
 use Rattle.model.specs.declared.Step.the-variants.{Swept, Refused}
-use Rattle.model.specs.Fields.{class, tag}
+use Rattle.model.specs.Fields.{class, tag, setCursor}
 use Rattle.model.specs.Segments.{setSegmentState, freeStack, partStack, count, stacked, inUse}
 use Rattle.model.specs.Collector.{keptBy, swept, lowest}
 use Rattle.sweeping.specs.declared.Lowest.{Lowest}
@@ -55,6 +55,10 @@ settled g m s c n =
 pub record Settles (g : Geometry) (m : Mem) (s c n : ℕ) (r : Bool) (after : Mem) : Type 0 where
   pub done : r ≡ true → after ≡ settled g m s c n
   pub full : r ≡ false → g .segments ≤ count g m (stackAfter c n)
+
+-- the same, then the cursor passes it, and the answer is Swept with what was in use less what is marked
+pub record Finishes (g : Geometry) (m : Mem) (s c used n : ℕ) (r : Step) (after : Mem) : Type 0 where
+  pub either : ((r ≡ Swept s (used - n)) × (after ≡ setCursor (settled g m s c n) (suc s))) ⊎ ((r ≡ Refused 13) × (g .segments ≤ count g m (stackAfter c n)))
 
 -- what hinders a sweep: the segment has no class, or its stack no room
 abbrev pub SweepFails : Geometry → Mem → ℕ → Type 0

@@ -15,7 +15,7 @@ ghost use Rattle.model.specs.Fields.{tag, class};
 ghost use Rattle.model.specs.Collector.{lowest, sweeps};
 ghost use Rattle.model.specs.StepParts.{StepsAs};
 ghost use Rattle.model.specs.Tag as Tag;
-ghost use Rattle.sweeping.specs.Sweeping.{Next, Finds, stateAfter, stackAfter, Settles, Sweeps};
+ghost use Rattle.sweeping.specs.Sweeping.{Next, Finds, stateAfter, stackAfter, Settles, Finishes, Sweeps};
 
 // The lowest condemned segment, or none.
 pub enum Lowest {
@@ -120,7 +120,21 @@ fn condemned_class(g: Geometry, mem: &[u32], s: usize) -> u32
     }
 }
 
-// Segment s is swept: its level 0 becomes the marks, it is free, full or part by their number, and the cursor passes it.
+// Segment s, whose tree is written, of which so many blocks were in use and so many are marked: it gets its state, and the cursor passes it.
+fn finish(g: Geometry, mem: &mut [u32], s: usize, class: u32, used: u32, kept: u32) -> Step
+    requires { ⌜ (Sized g (length (now mem))) × (s < g .segments) ⌝ }
+    requires { ⌜ IsClass class ⌝ }
+    ensures { λ r. ⌜ Finishes g (memOf g (now (mem .entry))) s class used kept r (memOf g (now (mem .exit))) ⌝ }
+{
+    if settle(g, mem, s, class, kept) {
+        layout::set_control(g, mem, 2, s as u32 + 1);
+        return Step::Swept(s as u32, less(used, kept));
+    }
+    Step::Refused(13)
+}
+
+// Segment s is swept: its level 0 becomes the marks, it is free, full or part by their number, and the cursor passes it. One without a mark gets a
+// tree of free blocks by whole words, and no bit is looked at.
 fn sweep_segment(g: Geometry, mem: &mut [u32], s: usize) -> Step
     requires { ⌜ (Sized g (length (now mem))) × (s < g .segments) ⌝ }
     requires { ⌜ tag (memOf g (now mem)) s ≡ Tag.condemned ⌝ }
@@ -130,12 +144,12 @@ fn sweep_segment(g: Geometry, mem: &mut [u32], s: usize) -> Step
     if classes::is_class(class) {
         let place = segments::place(g, mem, s);
         let used = bitmaps::in_use(g, mem, s, class, place);
-        bitmaps::adopt(g, mem, s, class);
-        let kept = bitmaps::kept(g, mem, s, class);
-        if settle(g, mem, s, class, kept) {
-            layout::set_control(g, mem, 2, s as u32 + 1);
-            return Step::Swept(s as u32, less(used, kept));
+        if bitmaps::unmarked(g, mem, s) {
+            bitmaps::fresh(g, mem, s, class);
+            return finish(g, mem, s, class, used, 0);
         }
+        let kept = bitmaps::adopt(g, mem, s, class);
+        return finish(g, mem, s, class, used, kept);
     }
     Step::Refused(13)
 }

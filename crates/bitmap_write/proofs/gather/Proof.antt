@@ -1,85 +1,110 @@
--- `bitmap_write::gather` meets its contract. The loop's invariant: the words before word `j` are gathered. Assumes nothing.
-use mathlib.Core.Path.{_≡_, ap, _∙_}
-use Prim.Native.Nat.{ℕ, _-_, _≤_, _<_}
-use native.Mathlib.Omega.{arith}
+-- `bitmap_write::gather` meets its contract: each arm's step is the one that was asked.
+use mathlib.Core.Path.{_≡_, refl, sym, subst, _∙_, ap}
+use mathlib.Core.Logic.{inl, inr}
+use mathlib.Core.List.{List}
+use Prim.Native.Nat.{ℕ, _-_, _*_, _^_, _%_, _≤_, _<_}
 use lib.ListN.{length, drop}
 use borrow.Author.Needs.{needs}
 use Rattle.words.specs.Levels.{wordsFor}
-use Rattle.bitmap_write.specs.Ready.{copied, gathered}
-use Rattle.bitmap_write.proofs.Gathered.{copied-none, part-length, part-turn, count-small}
-use Rattle.bitmap_write.proofs.gather.Tie as tie
+use Rattle.bitmap_write.specs.Ready.{Pressable, Ways, copied, gathered}
 use Rattle.bitmap_write.proofs.gather.Statement.{statement}
+use Rattle.bitmap_write.proofs.gather.Tie as tie
 
-abbrev Inv-loop : tie.InvT-loop
-Inv-loop s₀ from n step words j₀ s j = (j ≤ wordsFor n) × (s ≡ copied j (gathered (drop from s₀) step n) s₀)
+-- what is asked of a call, and what is told of it, by the step
+abbrev Asks : ℕ → ℕ → ℕ → ℕ → Type 0
+Asks n from most step = (wordsFor n ≤ from) × (from ≤ most) × (n * step ≤ (most - from) * 32) × (n * step ≤ 2 ^ 20) × (1 ≤ step)
 
-abbrev μ-loop : tie.MeasureT-loop
-μ-loop s₀ from n step words j₀ s j = wordsFor n - j
+asked : (n from most step k count : ℕ) → step ≡ k → Asks n from most step → n % 32 ≡ 0 → Pressable k count → (wordsFor n ≤ from) × (from ≤ most) × (n * k ≤ (most - from) * 32) × (n * k ≤ 2 ^ 20) × (1 ≤ k) × Ways n k count
+asked n from most step k count e p w q = let a = subst (Asks n from most) e p in (a .0, a .1, a .2, a .3, a .4, inr (w, q))
 
--- the slice keeps its length
-kept : (c : tie.At-loop Inv-loop μ-loop) → length (c .loop .s) ≡ length (c .before .before .before .args .s .now)
-kept c =
-    let a = c .before .before .before in
-    ap length (c .loop .inv .1) ∙ part-length (a .args .from) (a .args .n) (a .args .step) (a .args .s .now) (a .pre .0) (a .pre .1) (c .loop .j) (c .loop .inv .0)
+told : (s t : List ℕ) (from n step k : ℕ) → step ≡ k → t ≡ copied (wordsFor n) (gathered (drop from s) k n) s → t ≡ copied (wordsFor n) (gathered (drop from s) step n) s
+told s t from n step k e q = q ∙ ap (λ (x : ℕ). copied (wordsFor n) (gathered (drop from s) x n) s) (sym e)
 
-words-for-requires : tie.Need-words-for-requires Inv-loop μ-loop
-words-for-requires c κs = let h = count-small _ _ (c .before .pre .4) (c .before .pre .3) in omega arith
+gather-by-requires : tie.Need-gather-by-requires
+gather-by-requires c κs = let p = c .before .before .before .pre in (p .0, p .1, p .2, p .3, p .4, inl refl)
 
-loop-holds : tie.Need-loop-holds Inv-loop μ-loop
-loop-holds c = (omega arith, copied-none _ _)
+same-length : tie.Need-same-length
+same-length c = search needs
 
-gathered-word-requires : tie.Need-gathered-word-requires Inv-loop μ-loop
-gathered-word-requires c κs =
-    let a = c .before .before .before .before .before in
-    let k = kept (c .before .before) in
-    let h = a .pre .2 in
-    (omega (arith, c .before .loop-test .taken, c .before .before .before .words-for .ensures), omega (arith, a .pre .1), rw k h, a .pre .3, a .pre .4)
+returns : tie.Need-returns
+returns c = search needs
 
-cast-i : tie.Need-cast-i Inv-loop μ-loop
-cast-i c = search needs
+gather-by-requires-2 : tie.Need-gather-by-requires-2
+gather-by-requires-2 c κs = let met = c .before in asked _ _ _ _ 1 32 (met .match .keys1) (met .before .before .before .pre) (c .before .before .if1 .left) (inl (refl, refl))
 
-mul-s : tie.Need-mul-s Inv-loop μ-loop
-mul-s c = let a = c .before .before .before .before .before .before in omega (arith, a .good .0 .1, a .pre .0, a .pre .1, c .before .before .loop-test .taken, c .before .before .before .before .words-for .ensures)
+gather-by-requires-3 : tie.Need-gather-by-requires-3
+gather-by-requires-3 c κs = let met = c .before in asked _ _ _ _ 2 16 (met .match .keys2) (met .before .before .before .pre) (c .before .before .if1 .left) (inr (inl (refl, refl)))
 
-slice-write-s : tie.Need-slice-write-s Inv-loop μ-loop
-slice-write-s c = let a = c .before .before .before .before .before .before in omega (arith, a .pre .0, a .pre .1, kept (c .before .before .before), c .before .before .loop-test .taken, c .before .before .before .before .words-for .ensures)
+gather-by-requires-4 : tie.Need-gather-by-requires-4
+gather-by-requires-4 c κs = let met = c .before in asked _ _ _ _ 4 8 (met .match .keys3) (met .before .before .before .pre) (c .before .before .if1 .left) (inr (inr (inl (refl, refl))))
 
-add-j : tie.Need-add-j Inv-loop μ-loop
-add-j c = omega (arith, c .before .before .loop-test .taken, c .before .before .before .before .words-for .ensures)
+gather-by-requires-5 : tie.Need-gather-by-requires-5
+gather-by-requires-5 c κs = let met = c .before in asked _ _ _ _ 8 4 (met .match .keys4) (met .before .before .before .pre) (c .before .before .if1 .left) (inr (inr (inr (refl, refl))))
 
-loop-less : tie.Need-loop-less Inv-loop μ-loop
-loop-less c = omega (arith, c .before .before .loop-test .taken, c .before .before .before .before .words-for .ensures)
+gather-by-requires-6 : tie.Need-gather-by-requires-6
+gather-by-requires-6 c κs = let p = c .before .before .before .before .pre in (p .0, p .1, p .2, p .3, p .4, inl refl)
 
-loop-again : tie.Need-loop-again Inv-loop μ-loop
-loop-again c =
-    let a = c .before .before .before .before .before .before in
-    let l = c .before .before .before .loop in
-    let h : l .j < wordsFor (a .args .n) = omega (arith, c .before .before .loop-test .taken, c .before .before .before .before .words-for .ensures) in
-    (omega arith, part-turn (a .args .from) (a .args .n) (a .args .step) (a .args .s .now) (a .pre .0) (a .pre .1) (l .s) (l .j) h (l .inv .1) (c .gathered-word .result) (c .gathered-word .ensures))
+same-length-2 : tie.Need-same-length-2
+same-length-2 c = search needs
 
-same-length : tie.Need-same-length Inv-loop μ-loop
-same-length c = kept (c .before)
+returns-2 : tie.Need-returns-2
+returns-2 c =
+    let met = c .before .before .before .before in
+    let a = met .before .before .before .args in
+    told (a .s .now) (c .before .before .gather-by2 .last .0) (a .from) (a .n) (a .step) 1 (met .match .keys1) (c .before .before .gather-by2 .ensures)
 
-returns : tie.Need-returns Inv-loop μ-loop
-returns c =
-    let a = c .before .before .before .before .args in
-    let e : c .before .loop .j ≡ wordsFor (a .n) = omega (arith, c .loop-test .left, c .before .loop .inv .0, c .before .before .words-for .ensures) in
-    c .before .loop .inv .1 ∙ ap (λ (k : ℕ). copied k (gathered (drop (a .from) (a .s .now)) (a .step) (a .n)) (a .s .now)) e
+same-length-3 : tie.Need-same-length-3
+same-length-3 c = search needs
+
+returns-3 : tie.Need-returns-3
+returns-3 c =
+    let met = c .before .before .before .before in
+    let a = met .before .before .before .args in
+    told (a .s .now) (c .before .before .gather-by3 .last .0) (a .from) (a .n) (a .step) 2 (met .match .keys2) (c .before .before .gather-by3 .ensures)
+
+same-length-4 : tie.Need-same-length-4
+same-length-4 c = search needs
+
+returns-4 : tie.Need-returns-4
+returns-4 c =
+    let met = c .before .before .before .before in
+    let a = met .before .before .before .args in
+    told (a .s .now) (c .before .before .gather-by4 .last .0) (a .from) (a .n) (a .step) 4 (met .match .keys3) (c .before .before .gather-by4 .ensures)
+
+same-length-5 : tie.Need-same-length-5
+same-length-5 c = search needs
+
+returns-5 : tie.Need-returns-5
+returns-5 c =
+    let met = c .before .before .before .before in
+    let a = met .before .before .before .args in
+    told (a .s .now) (c .before .before .gather-by5 .last .0) (a .from) (a .n) (a .step) 8 (met .match .keys4) (c .before .before .gather-by5 .ensures)
+
+same-length-6 : tie.Need-same-length-6
+same-length-6 c = search needs
+
+returns-6 : tie.Need-returns-6
+returns-6 c = search needs
 
 pub gather-spec : {M : Type 1} → statement M
 gather-spec =
     tie.close
     (tie.spec
-    Inv-loop
-    μ-loop
-    words-for-requires
-    loop-holds
-    gathered-word-requires
-    cast-i
-    mul-s
-    slice-write-s
-    add-j
-    loop-less
-    loop-again
+    gather-by-requires
     same-length
-    returns)
+    returns
+    gather-by-requires-2
+    gather-by-requires-3
+    gather-by-requires-4
+    gather-by-requires-5
+    gather-by-requires-6
+    same-length-2
+    returns-2
+    same-length-3
+    returns-3
+    same-length-4
+    returns-4
+    same-length-5
+    returns-5
+    same-length-6
+    returns-6)

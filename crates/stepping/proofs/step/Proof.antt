@@ -16,53 +16,53 @@ returns c = step-1 _ _ (sym (c .before .wrong-size .ensures) ∙ c .if1 .taken)
 phase-requires : tie.Need-phase-requires
 phase-requires c κs = sized _ _ (sym (c .before .before .wrong-size .ensures) ∙ c .before .if1 .left)
 
-handshake-requires : tie.Need-handshake-requires
-handshake-requires c κs = (sized _ _ (sym (c .before .before .before .before .before .wrong-size .ensures) ∙ c .before .before .before .before .if1 .left), omega arith)
-
-handshake-requires-2 : tie.Need-handshake-requires-2
-handshake-requires-2 c κs = (sized _ _ (sym (c .before .before .before .before .before .wrong-size .ensures) ∙ c .before .before .before .before .if1 .left), omega arith)
-
 trace-requires : tie.Need-trace-requires
 trace-requires c κs = sized _ _ (sym (c .before .before .before .before .before .wrong-size .ensures) ∙ c .before .before .before .before .if1 .left)
-
-sweep-requires : tie.Need-sweep-requires
-sweep-requires c κs = sized _ _ (sym (c .before .before .before .before .before .wrong-size .ensures) ∙ c .before .before .before .before .if1 .left)
 
 same-length : tie.Need-same-length
 same-length c = search needs
 
 returns-2 : tie.Need-returns-2
-returns-2 c = step-idle _ _ (sym (c .before .before .before .before .wrong-size .ensures) ∙ c .before .before .before .if1 .left) _ (c .before .phase .ensures) (c .match .keys1)
+returns-2 c = step-as _ _ (sym (c .before .before .before .before .before .before .before .before .wrong-size .ensures) ∙ c .before .before .before .before .before .before .before .if1 .left) _ (c .before .before .before .before .before .phase .ensures) _ 3 refl (c .before .before .before .before .if2 .taken) _ _ (c .before .before .trace .ensures)
+
+handshake-requires : tie.Need-handshake-requires
+handshake-requires c κs = (sized _ _ (sym (c .before .before .before .before .before .before .wrong-size .ensures) ∙ c .before .before .before .before .before .if1 .left), omega arith)
+
+handshake-requires-2 : tie.Need-handshake-requires-2
+handshake-requires-2 c κs = (sized _ _ (sym (c .before .before .before .before .before .before .wrong-size .ensures) ∙ c .before .before .before .before .before .if1 .left), omega arith)
+
+sweep-requires : tie.Need-sweep-requires
+sweep-requires c κs = sized _ _ (sym (c .before .before .before .before .before .before .wrong-size .ensures) ∙ c .before .before .before .before .before .if1 .left)
 
 same-length-2 : tie.Need-same-length-2
 same-length-2 c = search needs
 
 returns-3 : tie.Need-returns-3
-returns-3 c = step-as _ _ (sym (c .before .before .before .before .before .before .before .before .wrong-size .ensures) ∙ c .before .before .before .before .before .before .before .if1 .left) _ (c .before .before .before .before .before .phase .ensures) _ 1 refl (c .before .before .before .before .match .keys2) _ _ (c .before .before .handshake .ensures)
+returns-3 c = step-idle _ _ (sym (c .before .before .before .before .before .wrong-size .ensures) ∙ c .before .before .before .before .if1 .left) _ (c .before .before .phase .ensures) (c .match .keys1)
 
 same-length-3 : tie.Need-same-length-3
 same-length-3 c = search needs
 
 returns-4 : tie.Need-returns-4
-returns-4 c = step-as _ _ (sym (c .before .before .before .before .before .before .before .before .wrong-size .ensures) ∙ c .before .before .before .before .before .before .before .if1 .left) _ (c .before .before .before .before .before .phase .ensures) _ 2 refl (c .before .before .before .before .match .keys3) _ _ (c .before .before .handshake2 .ensures)
+returns-4 c = step-as _ _ (sym (c .before .before .before .before .before .before .before .before .before .wrong-size .ensures) ∙ c .before .before .before .before .before .before .before .before .if1 .left) _ (c .before .before .before .before .before .before .phase .ensures) _ 1 refl (c .before .before .before .before .match .keys2) _ _ (c .before .before .handshake .ensures)
 
 same-length-4 : tie.Need-same-length-4
 same-length-4 c = search needs
 
 returns-5 : tie.Need-returns-5
-returns-5 c = step-as _ _ (sym (c .before .before .before .before .before .before .before .before .wrong-size .ensures) ∙ c .before .before .before .before .before .before .before .if1 .left) _ (c .before .before .before .before .before .phase .ensures) _ 3 refl (c .before .before .before .before .match .keys4) _ _ (c .before .before .trace .ensures)
+returns-5 c = step-as _ _ (sym (c .before .before .before .before .before .before .before .before .before .wrong-size .ensures) ∙ c .before .before .before .before .before .before .before .before .if1 .left) _ (c .before .before .before .before .before .before .phase .ensures) _ 2 refl (c .before .before .before .before .match .keys3) _ _ (c .before .before .handshake2 .ensures)
 
 same-length-5 : tie.Need-same-length-5
 same-length-5 c = search needs
 
 returns-6 : tie.Need-returns-6
-returns-6 c = step-as _ _ (sym (c .before .before .before .before .before .before .before .before .wrong-size .ensures) ∙ c .before .before .before .before .before .before .before .if1 .left) _ (c .before .before .before .before .before .phase .ensures) _ 4 refl (c .before .before .before .before .match .keys5) _ _ (c .before .before .sweep .ensures)
+returns-6 c = step-as _ _ (sym (c .before .before .before .before .before .before .before .before .before .wrong-size .ensures) ∙ c .before .before .before .before .before .before .before .before .if1 .left) _ (c .before .before .before .before .before .before .phase .ensures) _ 4 refl (c .before .before .before .before .match .keys4) _ _ (c .before .before .sweep .ensures)
 
 same-length-6 : tie.Need-same-length-6
 same-length-6 c = search needs
 
 returns-7 : tie.Need-returns-7
-returns-7 c = let r = c .match .rest in step-13 _ _ (sym (c .before .before .before .before .wrong-size .ensures) ∙ c .before .before .before .if1 .left) _ (c .before .phase .ensures) (r .0 .0 .0 .0 .1) (r .0 .0 .0 .1) (r .0 .0 .1) (r .0 .1) (r .1)
+returns-7 c = let r = c .match .rest in step-13 _ _ (sym (c .before .before .before .before .before .wrong-size .ensures) ∙ c .before .before .before .before .if1 .left) _ (c .before .before .phase .ensures) (r .0 .0 .0 .1) (r .0 .0 .1) (r .0 .1) (c .before .if2 .left) (r .1)
 
 pub step-spec : {M : Type 1} → statement M
 step-spec =
@@ -71,12 +71,12 @@ step-spec =
     wrong-size-requires
     returns
     phase-requires
-    handshake-requires
-    handshake-requires-2
     trace-requires
-    sweep-requires
     same-length
     returns-2
+    handshake-requires
+    handshake-requires-2
+    sweep-requires
     same-length-2
     returns-3
     same-length-3
