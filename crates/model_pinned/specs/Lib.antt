@@ -4,3 +4,4 @@ pub mod Parts
 pub mod Sides
 pub mod Words
 pub mod Sizes
+pub mod Orders
