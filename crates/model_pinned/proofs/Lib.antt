@@ -5,3 +5,4 @@ pub mod Sides
 pub mod Words
 pub mod Sizes
 pub mod Orders
+pub mod Quiet
