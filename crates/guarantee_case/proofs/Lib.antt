@@ -7,3 +7,4 @@ pub mod Along
 pub mod Consequences
 pub mod OverNothing
 pub mod SoundOnly
+pub mod RefusedStand

@@ -3,3 +3,4 @@ pub mod Columns
 pub mod Instance
 pub mod Consequences
 pub mod OverNothing
+pub mod RefusedStand
