@@ -15,6 +15,7 @@ pub mod Freeing
 pub mod Guarantee
 pub mod Keeping
 pub mod OneNumber
+pub mod OnlyNumbers
 pub mod SweptOnce
 pub mod Growing
 pub mod Stepping

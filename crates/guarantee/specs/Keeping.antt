@@ -1,4 +1,4 @@
--- What stands beside the guarantee: a refusal is one number of the table; the opening establishes consistency, every call keeps it, over memory
+-- What stands beside the guarantee: a refusal is one number of the table, and one that its call may give, 1 exactly for a size; the opening establishes consistency, every call keeps it, over memory
 -- that passes the examination and not only along lists from an opening; such memory never meets 13 and a refusal changes no word of it; "no room" comes
 -- exactly when document 01 says so; and a cycle sweeps each full segment once.
 use mathlib.Core.Path.{_≡_}
@@ -24,12 +24,57 @@ use Rattle.model.specs.Collector.{isFull}
 use Rattle.model.specs.Opening.{opened}
 use Rattle.model.specs.Run.{Command, run}
 use Rattle.model.specs.Consistent.{Consistent}
-use Rattle.model.specs.Lists.{stepCall, Element, callElement, startElement, stepElement, Meets, KeepsLength, Gets, wrongSized, numberOf, Chain, wordsAfter, Ghost, Opened, Begins}
+use Rattle.model.specs.Looks.{Look, sawPhase, sawStates, examinedBy}
+use Rattle.model.specs.Lists.{Event, mutatorCall, startCall, stepCall, openingCall, lookCall, Element, callElement, startElement, stepElement, Meets, KeepsLength, Gets, wrongSized, numberOf, Chain, wordsAfter, Ghost, Opened, Begins}
 
 -- "The answer to every call, over lent memory of any length and content, is a result or one number of the table in document 01": whatever the call
 -- was lent, a refusal is one of the numbers 1 to 13
 abbrev pub OneNumber : Type 0
 OneNumber = (e : Element) → Meets e → (n : ℕ) → numberOf e ≡ some n → (1 ≤ n) × (n ≤ 13)
+
+-- "13, torn: memory that fails the examination led the call astray"; "1, size"
+abbrev pub SizeOrTorn : ℕ → Type 0
+SizeOrTorn n = (n ≡ 1) ⊎ (n ≡ 13)
+
+abbrev pub LookRefuses : Look → ℕ → Type 0
+LookRefuses (sawPhase r) n = SizeOrTorn n
+LookRefuses (sawStates output r after) n = SizeOrTorn n
+LookRefuses (examinedBy scratch r after) n = n ≡ 1
+
+abbrev pub Refuses : Event → ℕ → Type 0
+Refuses (mutatorCall c r) n = (1 ≤ n) × (n ≤ 13)
+Refuses (startCall r) n = (n ≡ 11) ⊎ SizeOrTorn n
+Refuses (stepCall r) n = SizeOrTorn n
+Refuses (openingCall r) n = n ≡ 1
+Refuses (lookCall l) n = LookRefuses l n
+
+-- "step refuses only with 1 and 13, an opening and the examination only with 1": the other looks as step, and start "not now" too; whatever the
+-- call was lent, and so at every call of every list
+abbrev pub OnlyNumbers : Type 0
+OnlyNumbers = (e : Element) → Meets e → (n : ℕ) → numberOf e ≡ some n → Refuses (e .event) n
+
+-- what a call was lent beside the memory is as it was: a look's output, and the examination's scratch
+abbrev pub LentStays : Event → Type 0
+LentStays (mutatorCall c r) = Unit
+LentStays (startCall r) = Unit
+LentStays (stepCall r) = Unit
+LentStays (openingCall r) = Unit
+LentStays (lookCall (sawPhase r)) = Unit
+LentStays (lookCall (sawStates output r after)) = after ≡ output
+LentStays (lookCall (examinedBy scratch r after)) = after ≡ scratch
+
+-- "1, size: segment count not 1 to 256, or a slice not of its length (any call)": whatever the call was lent
+pub record SizeRefusal (e : Element) : Type 0 where
+  -- then it is refused 1, and with 1 only then
+  pub whenever : wrongSized e ≡ true → numberOf e ≡ some 1
+  pub only : numberOf e ≡ some 1 → wrongSized e ≡ true
+  -- "A call refused 1 .. changes no word of the memory."
+  pub memory : numberOf e ≡ some 1 → e .after ≡ e .before
+  -- "Refused, it leaves the output unchanged; refused 1, the scratch too."
+  pub lent : (n : ℕ) → numberOf e ≡ some n → LentStays (e .event)
+
+abbrev pub SizeExactly : Type 0
+SizeExactly = (e : Element) → Meets e → SizeRefusal e
 
 -- "the consistency definition that an opening establishes and every call keeps"
 abbrev pub OpeningEstablishes : Type 0

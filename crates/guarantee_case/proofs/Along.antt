@@ -14,7 +14,8 @@ use Rattle.refine_run.proofs.Elements.{size-number}
 use Rattle.guarantee.specs.Keeping.{Applied}
 use Rattle.guarantee.proofs.Walks.{walk}
 use Rattle.guarantee.proofs.Beginning.{first-point}
-use Rattle.guarantee.proofs.OneNumber.{one-number}
+use Rattle.guarantee.proofs.OneNumber.{one-number, never-twelve}
+use Rattle.guarantee.proofs.OnlyNumbers.{only-numbers, size-exactly}
 use Rattle.guarantee.proofs.Keeping.{always-consistent, every-call-keeps, never-torn, refused-unchanged}
 use Rattle.guarantee_case.specs.Consequences.{Along}
 
@@ -60,6 +61,9 @@ module _ (g : Geometry) (words : List ℕ) (w : Ghost) (es : List Element) (b : 
     consistent = λ xs ys i. always-consistent g words w xs ys b (subst (Chain g words) i ch);
     kept = λ xs ys e i h. every-call-keeps g (wordsAfter words xs) e (applied xs ys e i h);
     oneNumber = λ xs ys e n i t. one-number e (rest xs ys e i .0) n t;
+    onlyNumbers = λ xs ys e n i t. only-numbers e (rest xs ys e i .0) n t;
+    sizeExactly = λ xs ys e i. size-exactly e (rest xs ys e i .0);
+    neverTwelve = λ xs ys e i t. never-twelve e (rest xs ys e i .0) t;
     neverTorn = λ xs ys e i t. not-torn xs ys e i (rest xs ys e i .2) t;
     unchanged = λ xs ys e n i t. same xs ys e i n (rest xs ys e i .2) t;
   }

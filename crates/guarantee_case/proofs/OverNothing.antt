@@ -27,12 +27,12 @@ use Rattle.guarantee.specs.Keeping.{Applied, EndedIn}
 use Rattle.guarantee.specs.EmptyCycle.{OverNothing, StepsIn, moves, empties}
 use Rattle.guarantee.proofs.Beginning.{opened-point}
 use Rattle.guarantee.proofs.SweptOnce.{swept-once}
-use Rattle.guarantee.proofs.EmptyCycle.{empty-cycle}
+use Rattle.guarantee.proofs.EmptyCycle.{empty-cycle, idle-accepts}
 use Rattle.model_cases.specs.Replies.{Reply, replies, inputs, outputs, Holds, geometry, sevens}
 use Rattle.guarantee_case.specs.OverNothing.{overNothing, OfOverNothing}
 use Rattle.guarantee_case.proofs.CaseRun.{commandsIn, elementsOf, CaseRun, memoryAt, case-known}
 use Rattle.guarantee_case.proofs.Instance.{anyOf, has-any, anyStart, has-start, sizes-sevens}
-use Rattle.guarantee_case.proofs.Along.{applied-to, chain-to}
+use Rattle.guarantee_case.proofs.Along.{applied-to, chain-to, along}
 use Rattle.model.specs.declared.Step.the-variants as stepAnswer
 use Rattle.model.specs.Tag as Tag
 
@@ -131,6 +131,7 @@ module _ (g : Geometry) (p : CaseRun g asked replied) (used : BlockInUse g (memO
     calls = elements;
     opened = p .opened;
     chain = p .chain;
+    along = along g (at 0) ghostStart elements (byOpening (p .opened)) (p .chain);
     remaining = refl;
     answers = refl;
     before = take 5 elements;
@@ -140,6 +141,7 @@ module _ (g : Geometry) (p : CaseRun g asked replied) (used : BlockInUse g (memO
     starts = refl;
     over = over;
     opens = c .opens .1;
+    accepted = λ r after q. idle-accepts g (at 5) after r (first .sized) (first .consistent) (c .opens .0) q;
     toSweep = take 14 (drop 6 elements);
     fromSweep = drop 21 elements;
     moveBefore = at 20;

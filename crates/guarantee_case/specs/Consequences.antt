@@ -10,7 +10,7 @@ use Rattle.model.specs.declared.Answer.the-variants.{Ok, Refused}
 use Rattle.model.specs.Consistent.{Consistent}
 use Rattle.model.specs.Lists.{Element, callElement, Gets, numberOf, Chain, wordsAfter, Opened, ghostStart, Begins, remainingCalls, remainingAnswers}
 use Rattle.guarantee.specs.Demand3.{struckOut, BlockFree}
-use Rattle.guarantee.specs.Keeping.{OutOfRoom, EndedIn, OnceSwept}
+use Rattle.guarantee.specs.Keeping.{Refuses, SizeRefusal, OutOfRoom, EndedIn, OnceSwept}
 use Rattle.model_cases.specs.Replies.{Line}
 use Rattle.model_cases.specs.Whole.{whole}
 use Rattle.model_cases.specs.Refusals.{refusals}
@@ -24,11 +24,15 @@ Answered ls =
     (g : Geometry) (words : List ℕ) (es : List Element) → Begins g words ghostStart → Chain g words es → remainingCalls struckOut es ≡ leftColumn ls
     → remainingAnswers struckOut es ≡ rightColumn ls
 
--- along a list: the memory passes the examination everywhere, a refusal is one number of the table and not 13, and it leaves the memory as it was
+-- along a list: the memory passes the examination everywhere; a refusal is one number of the table that its call may give, neither 12 nor 13, and 1 exactly
+-- for a size; and it leaves the memory as it was
 pub record Along (g : Geometry) (words : List ℕ) (es : List Element) : Type 0 where
   pub consistent : (xs ys : List Element) → es ≡ xs ++ ys → Consistent g (memOf g (wordsAfter words xs))
   pub kept : (xs ys : List Element) (e : Element) → es ≡ xs ++ (e ∷ ys) → Gets g (wordsAfter words xs) e → Consistent g (memOf g (e .after))
   pub oneNumber : (xs ys : List Element) (e : Element) (n : ℕ) → es ≡ xs ++ (e ∷ ys) → numberOf e ≡ some n → (1 ≤ n) × (n ≤ 13)
+  pub onlyNumbers : (xs ys : List Element) (e : Element) (n : ℕ) → es ≡ xs ++ (e ∷ ys) → numberOf e ≡ some n → Refuses (e .event) n
+  pub sizeExactly : (xs ys : List Element) (e : Element) → es ≡ xs ++ (e ∷ ys) → SizeRefusal e
+  pub neverTwelve : (xs ys : List Element) (e : Element) → es ≡ xs ++ (e ∷ ys) → numberOf e ≡ some 12 → ⊥
   pub neverTorn : (xs ys : List Element) (e : Element) → es ≡ xs ++ (e ∷ ys) → numberOf e ≡ some 13 → ⊥
   pub unchanged : (xs ys : List Element) (e : Element) (n : ℕ) → es ≡ xs ++ (e ∷ ys) → numberOf e ≡ some n → e .after ≡ e .before
 

@@ -8,16 +8,19 @@ use Rattle.layout.specs.declared.Geometry.{Geometry}
 use Rattle.layout.specs.Mem.{memOf}
 use Rattle.theory.specs.Phases.{mark, sweep, inHandshake}
 use Rattle.theory.specs.Calls.{c-attach, c-check, c-clear, c-make, c-store, c-put, c-get, a-ok, a-num, a-no}
+use Rattle.model.specs.declared.Answer.{Answer}
 use Rattle.model.specs.declared.Answer.the-variants.{Ok, Refused}
 use Rattle.model.specs.declared.Step.the-variants.{Waiting, Moved, Traced, Done, Idle}
 use Rattle.model.specs.Fields.{phase, traceCount}
 use Rattle.model.specs.Collector.{started}
 use Rattle.model.specs.Consistent.{BlockInUse}
+use Rattle.model.specs.Promise.{StartPromise}
 use Rattle.model.specs.Lists.{Element, callElement, startElement, stepElement, Chain, wordsAfter, Opened, remainingCalls, remainingAnswers}
 use Rattle.guarantee.specs.Demand3.{struckOut}
 use Rattle.guarantee.specs.EmptyCycle.{heapAnswers, leftOut, OverNothing}
 use Rattle.guarantee.specs.Keeping.{NeverSwept}
 use Rattle.guarantee_case.specs.Columns.{leftColumn, rightColumn}
+use Rattle.guarantee_case.specs.Consequences.{Along}
 use Rattle.model_cases.specs.Replies.{Line, _⇒_, opening, start, step, call, answer, stepped, ok, no}
 
 abbrev pub overNothing : List Line
@@ -57,6 +60,8 @@ pub record OfOverNothing : Type 0 where
   pub calls : List Element
   pub opened : Opened geometry content words
   pub chain : Chain geometry words calls
+  -- no call of it is refused 12, the start with nothing full among them
+  pub along : Along geometry words calls
   pub remaining : remainingCalls struckOut calls ≡ leftColumn overNothing
   pub answers : remainingAnswers struckOut calls ≡ rightColumn overNothing
   -- the start, and what follows it
@@ -67,6 +72,8 @@ pub record OfOverNothing : Type 0 where
   pub starts : calls ≡ before ++ (startElement geometry startBefore Ok startAfter ∷ during)
   pub over : OverNothing geometry startBefore startAfter during
   pub opens : memOf geometry startAfter ≡ started geometry (memOf geometry startBefore)
+  -- no other answer keeps the promise of a start there
+  pub accepted : (r : Answer) (after : List ℕ) → StartPromise geometry startBefore r after → r ≡ Ok
   -- the marking ends with an empty trace stack; the cycle comes to its done in sweep, and no segment is swept
   pub toSweep : List Element
   pub fromSweep : List Element
