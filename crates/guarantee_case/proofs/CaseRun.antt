@@ -39,6 +39,8 @@ commandIn input.look = some (look ofPhase)
 commandIn input.opening = none
 commandIn (input.acknowledgements n) = none
 commandIn (input.marks s) = none
+commandIn (input.enteredIn s) = none
+commandIn (input.bits s) = none
 commandIn (input.heap i n) = none
 
 abbrev pub commandsIn : List Input → List Command

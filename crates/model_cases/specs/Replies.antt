@@ -18,8 +18,8 @@ use Rattle.model.specs.declared.Step.{Step}
 use Rattle.model.specs.declared.SegmentState.{SegmentState}
 use Rattle.model.specs.Answers.{stepAnswerOf}
 use Rattle.model.specs.Fields.{phase, traceCount, acks, class}
-use Rattle.model.specs.Segments.{setSegmentState, segment}
-use Rattle.model.specs.Records.{headerShape, headerOf, setEntered, onStack, marked}
+use Rattle.model.specs.Segments.{setSegmentState, segment, bitmap}
+use Rattle.model.specs.Records.{headerShape, headerOf, entered, setEntered, onStack, marked}
 use Rattle.model.specs.Tracing.{push, pushRoots, pushPointers}
 use Rattle.model.specs.Mutators.{acknowledged, attached, released, detached}
 use Rattle.model.specs.Making.{handedOut, made}
@@ -29,12 +29,14 @@ use Rattle.model.specs.Opening.{downTo0, opened}
 use Rattle.layout.specs.Region as Region
 
 -- an opening, one of the collector's calls, a look, or a mutator's call; and words to be shown: the acknowledgements of the first mutators, a
--- segment's first word of marks, and words of the heap
+-- segment's first word of marks, the same with what is on the trace stack, its first word of level 0, and words of the heap
 pub data Input : Type 0 where
   opening start step look : Input
   call : Call → Input
   acknowledgements : (mutators : ℕ) → Input
   marks : (segment : ℕ) → Input
+  enteredIn : (segment : ℕ) → Input
+  bits : (segment : ℕ) → Input
   heap : (from words : ℕ) → Input
 
 -- an answer; what is seen of the memory: the phase, the segments' states, and the trace stack, its last entry last (which no look of document 01
@@ -64,6 +66,10 @@ answered r = (answer (r .0), r .1)
 abbrev pub stepped : Step → Reply
 stepped r = answer (stepAnswerOf r)
 
+-- a bit of each of the first 32 blocks of a segment, by the word of a block's head
+abbrev pub blockBits : Geometry → Mem → ℕ → (ℕ → ℕ) → List ℕ
+blockBits g m s bit = packed (λ b. pick (ltb b (blocksIn g (class m s))) (bit (headerOf g s (class m s) b)) 0) 1 0
+
 -- one input: its reply, and the memory after it
 abbrev pub does : Geometry → Mem → Input → Reply × Mem
 does g m opening = (answer a-ok, opened g m)
@@ -72,7 +78,9 @@ does g m step = answered (stepOf g m)
 does g m look = (shown g m, m)
 does g m (call c) = answered (exec g m c)
 does g m (acknowledgements n) = (words (acksOf m n), m)
-does g m (marks s) = (words (packed (λ b. pick (ltb b (blocksIn g (class m s))) (marked g m (headerOf g s (class m s) b)) 0) 1 0), m)
+does g m (marks s) = (words (blockBits g m s (marked g m)), m)
+does g m (enteredIn s) = (words (blockBits g m s (entered g m)), m)
+does g m (bits s) = (words (take 1 (bitmap g m s)), m)
 does g m (heap i n) = (words (take n (drop i (m .heap))), m)
 
 -- the replies to a list of inputs, in order; to unfold it is to unfold every definition that it stands on

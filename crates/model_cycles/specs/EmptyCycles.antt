@@ -12,7 +12,7 @@ use Rattle.model.specs.declared.Step.the-variants.{Waiting, Moved, Traced, Swep
 use Rattle.model.specs.declared.SegmentState.the-variants.{Free, Part, Held, Full, Condemned}
 use Rattle.model.specs.Answers.{refusalIn}
 use Rattle.model.specs.Lists.{keep, struck}
-use Rattle.model_cases.specs.Replies.{Line, _⇒_, Input, opening, start, step, look, call, acknowledgements, marks, heap, Reply, answer, seen, words, stepped, ok, no}
+use Rattle.model_cases.specs.Replies.{Line, _⇒_, Input, opening, start, step, look, call, acknowledgements, marks, enteredIn, bits, heap, Reply, answer, seen, words, stepped, ok, no}
 
 -- one segment, no mutator: four steps from the start to done, and a start in each phase
 abbrev pub nobody : List Line
@@ -178,6 +178,8 @@ lineInIdle step r = none
 lineInIdle look r = none
 lineInIdle (acknowledgements n) r = none
 lineInIdle (marks s) r = none
+lineInIdle (enteredIn s) r = none
+lineInIdle (bits s) r = none
 lineInIdle (heap i n) r = none
 
 -- a case without its other lines: no start, so its phase is idle throughout

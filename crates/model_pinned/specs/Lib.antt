@@ -6,3 +6,4 @@ pub mod Words
 pub mod Sizes
 pub mod Orders
 pub mod Quiet
+pub mod Bitmaps
