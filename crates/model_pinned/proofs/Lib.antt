@@ -7,3 +7,4 @@ pub mod Sizes
 pub mod Orders
 pub mod Quiet
 pub mod Bitmaps
+pub mod Freed
