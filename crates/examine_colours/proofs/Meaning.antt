@@ -17,7 +17,7 @@ use Rattle.layout.proofs.Sizes.{segment-below}
 use Rattle.theory.specs.Reach.{root, next}
 use Rattle.theory.proofs.Graph.{reach-map}
 use Rattle.model.specs.Fields.{tag, class}
-use Rattle.model.specs.Records.{recordBit, entered, blockOf, headerOf}
+use Rattle.model.specs.Records.{entered, blockOf, headerOf}
 use Rattle.model.specs.Reaching.{IsRoot, PointsTo, Live, Reached, Covered}
 use Rattle.model.specs.Consistent.{RecordOk}
 use Rattle.laws.proofs.Apart.{class-of}
@@ -48,14 +48,14 @@ module _ (g : Geometry) (m : Mem) (Set : ℕ → Type 0) where
   pub bits-as : (s t : List ℕ) → ((k : ℕ) → k < g .segments * mostBlocks g → bitAt t k ≡ bitAt s k) → BitsOf g m Set s → BitsOf g m Set t
   bits-as s t e b = record {
     passes = b .passes;
-    found = λ at q. e (recordBit g m at) (placed g m .small at (b .passes at q)) ∙ b .found at q;
-    only = λ at ok q. b .only at ok (sym (e (recordBit g m at) (placed g m .small at ok)) ∙ q);
+    found = λ at q. e (markBit at) (placed g m .small at (b .passes at q)) ∙ b .found at q;
+    only = λ at ok q. b .only at ok (sym (e (markBit at) (placed g m .small at ok)) ∙ q);
     records = λ k l q. b .records k l (sym (e k l) ∙ q);
   }
 
   -- a record of the set, by its block
   module _ (asked : Asked) (bits cover : List ℕ) (b : BitsOf g m Set bits) (j : Judged asked g m bits cover) where
-    pub judged-at : (x : ℕ) → Set x → RecordFine asked g m cover (segmentOf g x) x (recordBit g m x)
+    pub judged-at : (x : ℕ) → Set x → RecordFine asked g m cover (segmentOf g x) x (markBit x)
     judged-at x q =
         let ok = b .passes x q in
         let k = class-of g m x ok in
@@ -63,7 +63,7 @@ module _ (g : Geometry) (m : Mem) (Set : ℕ → Type 0) where
         subst (λ (z : ℕ). RecordFine asked g m cover (segmentOf g x) z (markBit z)) (sym e) (j (segmentOf g x) (segment-below g x (ok .inside)) k (blockOf g m x) (of-block g m x k) (subst (λ (z : ℕ). bitAt bits (markBit z) ≡ 1) e (b .found x q)))
 
   -- and back
-  module _ (asked : Asked) (bits cover : List ℕ) (b : BitsOf g m Set bits) (room : len g Region.marks ≤ length bits) (h : (x : ℕ) → Set x → RecordFine asked g m cover (segmentOf g x) x (recordBit g m x)) where
+  module _ (asked : Asked) (bits cover : List ℕ) (b : BitsOf g m Set bits) (room : len g Region.marks ≤ length bits) (h : (x : ℕ) → Set x → RecordFine asked g m cover (segmentOf g x) x (markBit x)) where
     pub judged-all : Judged asked g m bits cover
     judged-all s l k i w e = subst (λ (z : ℕ). RecordFine asked g m cover z at (markBit at)) here (h at (b .only at ok e))
       where

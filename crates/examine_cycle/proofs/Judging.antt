@@ -20,7 +20,7 @@ use Rattle.layout.specs.Geometry.{len, segmentWords, mostBlocks, blocksIn, mark
 use Rattle.layout.specs.Mem.{Mem}
 use Rattle.layout.proofs.Sizes.{marks-words, bytes-are, mark-word}
 use Rattle.model.specs.Fields.{class}
-use Rattle.model.specs.Records.{recordBit, entered, headerOf, pointerCount}
+use Rattle.model.specs.Records.{entered, headerOf, pointerCount}
 use Rattle.model.specs.Consistent.{RecordOk}
 use Rattle.laws.proofs.Apart.{class-of, field-inside}
 use Rattle.laws.proofs.Blocks.{block-within, header-inside, header-is-class, header-head, same-bit}
@@ -40,7 +40,7 @@ module _ (g : Geometry) (m : Mem) (cover : List ℕ) (w : ℕ) where
   pub fine-torn : (w ≡ 0 → ⊥) → (RecordOk g m (w - 1) → ⊥) → Decides false ((x : ℕ) → w ≡ suc x → Fine g m cover x)
   fine-torn f d = fails (λ h. d (h (w - 1) (omega arith) .0))
 
-  pub fine-by : (w ≡ 0 → ⊥) → RecordOk g m (w - 1) → (k : ℕ) → k ≡ recordBit g m (w - 1) → (r : Bool) → Decides r ((bitAt (m .marks) k ≡ 1) ⊎ (bitAt cover k ≡ 1)) → Decides r ((x : ℕ) → w ≡ suc x → Fine g m cover x)
+  pub fine-by : (w ≡ 0 → ⊥) → RecordOk g m (w - 1) → (k : ℕ) → k ≡ markBit (w - 1) → (r : Bool) → Decides r ((bitAt (m .marks) k ≡ 1) ⊎ (bitAt cover k ≡ 1)) → Decides r ((x : ℕ) → w ≡ suc x → Fine g m cover x)
   fine-by f ok k ek r d =
       let at : ℕ = w - 1 in
       let to : (bitAt (m .marks) k ≡ 1) ⊎ (bitAt cover k ≡ 1) → Fine g m cover at = λ q. (ok, subst (λ (z : ℕ). (bitAt (m .marks) z ≡ 1) ⊎ (bitAt cover z ≡ 1)) ek q) in
@@ -69,7 +69,7 @@ module _ (g : Geometry) (m : Mem) (s c b : ℕ) (ec : c ≡ class m s) (kc : IsC
   offset-small = let h = block-within g c kc b l in let p = two-words c kc in omega arith
 
   -- the record of its bit
-  pub record-of : (x : ℕ) → RecordOk g m x → recordBit g m x ≡ markBit (headerOf g s c b) → x ≡ headerOf g s c b
+  pub record-of : (x : ℕ) → RecordOk g m x → markBit x ≡ markBit (headerOf g s c b) → x ≡ headerOf g s c b
   record-of x ok e = same-bit g m x (headerOf g s c b) (class-of g m x ok) (header-is-class g c kc s b l m (sym ec)) (ok .aligned) (header-head g c kc s b l m (sym ec)) e
 
   pub known-record : (bits : List ℕ) → Known g m bits → s < g .segments → bitAt bits (markBit (headerOf g s c b)) ≡ 1 → RecordOk g m (headerOf g s c b)

@@ -10,7 +10,7 @@ use Rattle.layout.specs.declared.Geometry.{Geometry}
 use Rattle.layout.specs.Geometry.{len, mostBlocks, blocksIn, markBit, mutatorCount, mutatorWords, rootCount}
 use Rattle.layout.specs.Mem.{Mem}
 use Rattle.model.specs.Fields.{absent, state, acks, tag, class}
-use Rattle.model.specs.Records.{recordBit, entered, headerOf, pointerCount}
+use Rattle.model.specs.Records.{entered, headerOf, pointerCount}
 use Rattle.model.specs.Consistent.{RecordOk}
 use Rattle.walk.specs.Walk.{At}
 use Rattle.searching.specs.Graph.{recordsOf, InRun}
@@ -30,7 +30,7 @@ OfClass m s c = (c ≡ class m s) × IsClass c
 
 -- a record that passes the test and is covered: its bit is 1, or its cover bit
 abbrev pub Fine : Geometry → Mem → List ℕ → ℕ → Type 0
-Fine g m cover x = RecordOk g m x × ((entered g m x ≡ 1) ⊎ (bitAt cover (recordBit g m x) ≡ 1))
+Fine g m cover x = RecordOk g m x × ((entered g m x ≡ 1) ⊎ (bitAt cover (markBit x) ≡ 1))
 
 abbrev pub FineRun : Geometry → Mem → List ℕ → List ℕ → ℕ → ℕ → Type 0
 FineRun g m cover ws from count = (x : ℕ) → InRun ws from count x → Fine g m cover x

@@ -16,12 +16,12 @@ use Rattle.words.proofs.Lists.{at-lt}
 use Rattle.words.proofs.Counts.{lt-of, among-change, places-all, no-ones}
 use Rattle.classes.specs.Class.{IsClass, firstClass, blockWords}
 use Rattle.layout.specs.declared.Geometry.{Geometry}
-use Rattle.layout.specs.Geometry.{len, segmentWords, mostBlocks, segmentOf}
+use Rattle.layout.specs.Geometry.{len, segmentWords, mostBlocks, segmentOf, markBit}
 use Rattle.layout.specs.Mem.{Mem, traceWord}
 use Rattle.layout.proofs.Sizes.{marks-words, segment-below}
 use Rattle.model.specs.Fields.{tag, class, traceCount}
 use Rattle.model.specs.Segments.{usedBit}
-use Rattle.model.specs.Records.{blockOf, recordBit}
+use Rattle.model.specs.Records.{blockOf}
 use Rattle.model.specs.Reaching.{IsEntry}
 use Rattle.model.specs.Consistent.{RecordOk, HeadInUse, bitWord}
 use Rattle.laws.proofs.Blocks.{head-word, bit-below}
@@ -174,9 +174,9 @@ module _ (g : Geometry) (m : Mem) (t : Traced g m) where
       found k l e = let r = h k l e in (r .index, r .within, back r)
         where
           back : (r : IsEntry m (bitWord k)) → entryBit g m (r .index) ≡ k
-          back r = let z : entryAt m (r .index) ≡ bitWord k = omega (arith, r .names) in ap (recordBit g m) z ∙ half
+          back r = let z : entryAt m (r .index) ≡ bitWord k = omega (arith, r .names) in ap markBit z ∙ half
             where
-              half : recordBit g m (bitWord k) ≡ k
+              half : markBit (bitWord k) ≡ k
               half = omega arith
 
   pub entries-by : (ones n : ℕ) → ones ≡ onesAmong (bitAt (m .marks)) (g .segments * mostBlocks g) → n ≡ traceCount m → Decides (eqb ones n) (OnlyEntries g m)

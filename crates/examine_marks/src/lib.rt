@@ -3,7 +3,7 @@
 use layout::Geometry;
 use model::Segment;
 ghost use mathlib.Core.Path.{_≡_};
-ghost use Prim.Native.Nat.{_*_, _<_};
+ghost use Prim.Native.Nat.{ℕ, _+_, _*_, _<_};
 ghost use lib.ListN.{length};
 ghost use Rattle.rules.specs.Decides.{Decides};
 ghost use Rattle.layout.specs.Geometry.{Sized, len, segmentOf, mostBlocks};
@@ -70,19 +70,38 @@ fn bit_fine(g: Geometry, mem: &[u32], k: usize, condemned_only: bool) -> bool
     head(g, mem, at, s)
 }
 
+// Whether the bits of word q are. A word of 0 has none, and is passed at once.
+fn word_fine(g: Geometry, mem: &[u32], q: usize, condemned_only: bool) -> bool
+    requires { ⌜ (Sized g (length (now mem))) × (q < len g Region.marks) × Classes g (memOf g (now mem)) ⌝ }
+    ensures { λ r. ⌜ Decides r ((i : ℕ) → i < 32 → BitFine «condemned_only» g (memOf g (now (mem .entry))) (q * 32 + i)) ⌝ }
+{
+    if layout::mark(g, mem, q) == 0 {
+        return true;
+    }
+    let mut i = 0;
+    while i < 32 {
+        let ok = bit_fine(g, mem, q * 32 + i, condemned_only);
+        if !ok {
+            return false;
+        }
+        i += 1;
+    }
+    true
+}
+
 // Whether every bit is.
 pub fn marks(g: Geometry, mem: &[u32], condemned_only: bool) -> bool
     requires { ⌜ (Sized g (length (now mem))) × Classes g (memOf g (now mem)) ⌝ }
     ensures { λ r. ⌜ Decides r (MarksIn «condemned_only» g (memOf g (now (mem .entry)))) ⌝ }
 {
-    let n = layout::trace_words(g);
-    let mut k = 0;
-    while k < n {
-        let ok = bit_fine(g, mem, k, condemned_only);
+    let words = layout::trace_words(g) / 32;
+    let mut q = 0;
+    while q < words {
+        let ok = word_fine(g, mem, q, condemned_only);
         if !ok {
             return false;
         }
-        k += 1;
+        q += 1;
     }
     true
 }

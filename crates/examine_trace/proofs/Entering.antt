@@ -20,13 +20,12 @@ use Rattle.words.proofs.Lists.{bit-split, at-lt, set-there, set-elsewhere, leng
 use Rattle.words.proofs.Ones.{among-le}
 use Rattle.words.proofs.Zeros.{zeros-bit}
 use Rattle.layout.specs.declared.Geometry.{Geometry}
-use Rattle.layout.specs.Geometry.{Sized, len, from, markWords, mostBlocks}
+use Rattle.layout.specs.Geometry.{Sized, len, from, markWords, mostBlocks, markBit}
 use Rattle.layout.specs.Mem.{Mem, memOf, traceWord, readRun}
 use Rattle.layout.proofs.Regions.{read-at}
 use Rattle.layout.proofs.Sizes.{mark-word, marks-are}
 use Rattle.laws.proofs.Lengths.{sizes-of}
 use Rattle.model.specs.Fields.{traceCount}
-use Rattle.model.specs.Records.{recordBit}
 use Rattle.model.specs.Reaching.{IsEntry}
 use Rattle.model.specs.Consistent.{RecordOk, TraceOk}
 use Rattle.searching.proofs.Steps.{placed}
@@ -81,14 +80,14 @@ module _ (g : Geometry) (m : Mem) (i : ℕ) (before : List ℕ) (w : ℕ) (ew : 
   pub enter-torn : (RecordOk g m (w - 1) → ⊥) → Enters g m i before false before
   enter-torn d = record { new = λ t. absurd (true≢false (sym t)); wrong = λ _ o _. d (subst (λ (x : ℕ). RecordOk g m (x - 1)) (sym ew) (o .passes)) }
 
-  pub enter-by : (w ≡ 0 → ⊥) → RecordOk g m (w - 1) → (k : ℕ) → k ≡ recordBit g m (w - 1) → (r : Bool) (after : List ℕ) → BitEnters m k before r after → Enters g m i before r after
+  pub enter-by : (w ≡ 0 → ⊥) → RecordOk g m (w - 1) → (k : ℕ) → k ≡ markBit (w - 1) → (r : Bool) (after : List ℕ) → BitEnters m k before r after → Enters g m i before r after
   enter-by f ok k ek r after q = record {
     new = λ t. let n = q .new t in (record { named = omega arith; passes = subst (λ (x : ℕ). RecordOk g m (x - 1)) ew ok; bit = ap (bitAt (m .marks)) (sym is) ∙ n .0 }, ap (bitAt before) (sym is) ∙ n .1, n .2 ∙ ap (setBit before) is);
     wrong = λ t o z. q .wrong t (ap (bitAt (m .marks)) is ∙ o .bit) (ap (bitAt before) is ∙ z);
   }
     where
       is : k ≡ entryBit g m i
-      is = ek ∙ ap (λ (x : ℕ). recordBit g m (x - 1)) ew
+      is = ek ∙ ap (λ (x : ℕ). markBit (x - 1)) ew
 
 -- ---- the entries so far
 
@@ -127,7 +126,7 @@ module _ (g : Geometry) (m : Mem) where
 
         twice : (j k : ℕ) → j < k → k < i + 1 → (k ≡ i) ⊎ (k ≡ i → ⊥) → traceWord m j ≡ traceWord m k → ⊥
         twice j k x h (inl y) w =
-            let a : bitAt bits (entryBit g m j) ≡ bitAt bits at = ap (λ (z : ℕ). bitAt bits (recordBit g m (z - 1))) (w ∙ ap (traceWord m) y) in
+            let a : bitAt bits (entryBit g m j) ≡ bitAt bits at = ap (λ (z : ℕ). bitAt bits (markBit (z - 1))) (w ∙ ap (traceWord m) y) in
             let b = p .there j (omega arith) in
             let c = q .new e .1 in
             omega arith
@@ -183,7 +182,7 @@ module _ (g : Geometry) (m : Mem) where
       trace = record {
         named = λ i l. p .entries i l .named;
         once = p .once;
-        bits = λ at x. ap (λ (z : ℕ). bitAt (m .marks) (recordBit g m z)) (entry-is at x) ∙ p .entries (x .index) (x .within) .bit;
+        bits = λ at x. ap (λ (z : ℕ). bitAt (m .marks) (markBit z)) (entry-is at x) ∙ p .entries (x .index) (x .within) .bit;
         number = omega arith;
       };
       records = λ at x. subst (RecordOk g m) (sym (entry-is at x)) (p .entries (x .index) (x .within) .passes);
@@ -198,5 +197,5 @@ pub clear-bits : (n : ℕ) (s : List ℕ) → s ≡ replicate n 0 → (k : ℕ) 
 clear-bits n s e k = ap (λ (l : List ℕ). bitAt l k) e ∙ zeros-bit n k
 
 -- the bit of a record that passes the test
-pub tested-small : (g : Geometry) (m : Mem) (at k : ℕ) → RecordOk g m at → k ≡ recordBit g m at → k < g .segments * mostBlocks g
+pub tested-small : (g : Geometry) (m : Mem) (at k : ℕ) → RecordOk g m at → k ≡ markBit at → k < g .segments * mostBlocks g
 tested-small g m at k ok e = subst (λ z. z < g .segments * mostBlocks g) (sym e) (placed g m .small at ok)

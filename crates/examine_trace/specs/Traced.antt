@@ -6,10 +6,10 @@ use Prim.Native.Nat.{ℕ, _-_, _≤_, _<_}
 use lib.ListN.{length}
 use Rattle.words.specs.Bits.{bitAt, setBit}
 use Rattle.layout.specs.declared.Geometry.{Geometry}
-use Rattle.layout.specs.Geometry.{len}
+use Rattle.layout.specs.Geometry.{len, markBit}
 use Rattle.layout.specs.Mem.{Mem, traceWord}
 use Rattle.model.specs.Fields.{traceCount}
-use Rattle.model.specs.Records.{recordBit, entered}
+use Rattle.model.specs.Records.{entered}
 use Rattle.model.specs.Reaching.{IsEntry}
 use Rattle.model.specs.Consistent.{RecordOk, TraceOk}
 use Rattle.layout.specs.Region as Region
@@ -24,7 +24,7 @@ abbrev pub entryAt : Mem → ℕ → ℕ
 entryAt m i = traceWord m i - 1
 
 abbrev pub entryBit : Geometry → Mem → ℕ → ℕ
-entryBit g m i = recordBit g m (entryAt m i)
+entryBit g m i = markBit (entryAt m i)
 
 -- entry i by itself: "Entering nil, a marked record, or one already on the stack does nothing."
 pub record EntryOk (g : Geometry) (m : Mem) (i : ℕ) : Type 0 where

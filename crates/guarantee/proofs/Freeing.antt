@@ -10,14 +10,14 @@ use Rattle.rules.proofs.Order.{same-or-not}
 use Rattle.words.proofs.Word.{one-of-not-zero}
 use Rattle.words.proofs.Lists.{at-lt}
 use Rattle.layout.specs.declared.Geometry.{Geometry}
-use Rattle.layout.specs.Geometry.{segmentWords, blocksIn, segmentOf}
+use Rattle.layout.specs.Geometry.{segmentWords, blocksIn, segmentOf, markBit}
 use Rattle.layout.specs.Mem.{Mem, memOf}
 use Rattle.theory.proofs.CycleKeeps.{quiet-reached}
 use Rattle.theory.proofs.Invariant.{Quiet}
 use Rattle.theory.proofs.Simulation.{reach-up}
 use Rattle.model.specs.Fields.{traceCount, tag, class}
 use Rattle.model.specs.Segments.{usedBit}
-use Rattle.model.specs.Records.{headerOf, recordBit, entered}
+use Rattle.model.specs.Records.{headerOf, entered}
 use Rattle.model.specs.Consistent.{InPhase}
 use Rattle.model.specs.Reaching.{isMarked}
 use Rattle.model.specs.Collector.{swept}
@@ -59,7 +59,7 @@ module _ (g : Geometry) (words : List ℕ) (w : Ghost) (es : List Element) (c : 
         go : (entered g m (headerOf g s (class m s) b) ≡ 0) ⊎ (entered g m (headerOf g s (class m s) b) ≡ 0 → ⊥) → entered g m (headerOf g s (class m s) b) ≡ 0
         go (inl z) = z
         go (inr n) =
-            let one : entered g m (headerOf g s (class m s) b) ≡ 1 = one-of-not-zero _ (at-lt (m .marks) (recordBit g m (headerOf g s (class m s) b))) n in
+            let one : entered g m (headerOf g s (class m s) b) ≡ 1 = one-of-not-zero _ (at-lt (m .marks) (markBit (headerOf g s (class m s) b))) n in
             let bit : isMarked g m (headerOf g s (class m s) b) ≡ true = eq-eqb _ _ (all-marked g m (headerOf g s (class m s) b) quiet ∙ one) in
             absurd (f (was-reached (headerOf g s (class m s) b) (y .during .point .couples .comp .black (headerOf g s (class m s) b) (and-both _ _ head bit) (eq-eqb _ _ (ap (tag m) there ∙ e)))))
 

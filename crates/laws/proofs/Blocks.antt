@@ -8,11 +8,11 @@ use native.Mathlib.Omega.{arith}
 use lib.Arith.{digits-div, digits-mod}
 use Rattle.classes.proofs.Filling.{two-words}
 use Rattle.layout.specs.declared.Geometry.{Geometry}
-use Rattle.layout.specs.Geometry.{segmentWords, mostBlocks, blocksIn, segmentOf}
+use Rattle.layout.specs.Geometry.{segmentWords, mostBlocks, blocksIn, segmentOf, markBit}
 use Rattle.layout.specs.Mem.{Mem}
 use Rattle.layout.proofs.Sizes.{marks-words, whole, words-some}
 use Rattle.model.specs.Fields.{class}
-use Rattle.model.specs.Records.{blockOf, headerOf, recordBit}
+use Rattle.model.specs.Records.{blockOf, headerOf}
 use Rattle.model.specs.Consistent.{bitWord}
 use Rattle.classes.specs.Class.{IsClass, blockWords}
 use Rattle.classes.proofs.Every.{at-class}
@@ -98,7 +98,7 @@ module _ (g : Geometry) (m : Mem) (at : ℕ) (k : IsClass (class m (segmentOf g 
   pub of-block : blockOf g m at < blocksIn g (class m (segmentOf g at))
   of-block = block-below g (class m (segmentOf g at)) k (at % segmentWords g) (mod-lt at (words-some g))
 
-  pub bit-below : at < g .segments * segmentWords g → recordBit g m at < g .segments * mostBlocks g
+  pub bit-below : at < g .segments * segmentWords g → markBit at < g .segments * mostBlocks g
   bit-below l = let e = marks-words g (g .segments) in omega arith
 
   pub is-header : at % segmentWords g % blockWords (class m (segmentOf g at)) ≡ 0 → at ≡ headerOf g (segmentOf g at) (class m (segmentOf g at)) (blockOf g m at)
@@ -108,7 +108,7 @@ module _ (g : Geometry) (m : Mem) (at : ℕ) (k : IsClass (class m (segmentOf g 
       omega arith
 
   -- the head of a block is the word of its bit
-  pub head-word : at % segmentWords g % blockWords (class m (segmentOf g at)) ≡ 0 → bitWord (recordBit g m at) ≡ at
+  pub head-word : at % segmentWords g % blockWords (class m (segmentOf g at)) ≡ 0 → bitWord (markBit at) ≡ at
   head-word a =
       let h = is-header a in
       let p = marks-words g (segmentOf g at) in
@@ -117,5 +117,5 @@ module _ (g : Geometry) (m : Mem) (at : ℕ) (k : IsClass (class m (segmentOf g 
       omega arith
 
 -- two heads with one bit are one
-pub same-bit : (g : Geometry) (m : Mem) (x y : ℕ) → IsClass (class m (segmentOf g x)) → IsClass (class m (segmentOf g y)) → x % segmentWords g % blockWords (class m (segmentOf g x)) ≡ 0 → y % segmentWords g % blockWords (class m (segmentOf g y)) ≡ 0 → recordBit g m x ≡ recordBit g m y → x ≡ y
+pub same-bit : (g : Geometry) (m : Mem) (x y : ℕ) → IsClass (class m (segmentOf g x)) → IsClass (class m (segmentOf g y)) → x % segmentWords g % blockWords (class m (segmentOf g x)) ≡ 0 → y % segmentWords g % blockWords (class m (segmentOf g y)) ≡ 0 → markBit x ≡ markBit y → x ≡ y
 same-bit g m x y k l a b e = sym (head-word g m x k a) ∙ ap bitWord e ∙ head-word g m y l b

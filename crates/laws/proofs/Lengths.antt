@@ -6,12 +6,12 @@ use native.Mathlib.Omega.{arith}
 use lib.ListN.{length, length-set}
 use Rattle.words.proofs.Lists.{length-setBit}
 use Rattle.layout.specs.declared.Geometry.{Geometry}
-use Rattle.layout.specs.Geometry.{Sized}
+use Rattle.layout.specs.Geometry.{Sized, markBit}
 use Rattle.layout.specs.Mem.{Mem, memOf, setControl, setMutator, setSegment, setStack, setTrace, setHeap, setRun, Sizes}
 use Rattle.layout.proofs.Regions.{length-region}
 use Rattle.model.specs.declared.SegmentState.{SegmentState}
 use Rattle.model.specs.Segments.{setSegmentState}
-use Rattle.model.specs.Records.{setEntered, recordBit}
+use Rattle.model.specs.Records.{setEntered}
 use Rattle.laws.proofs.Words.{state-is}
 use Rattle.layout.specs.Region as Region
 use Rattle.laws.proofs.Windows.{length-spliced}
@@ -56,7 +56,7 @@ module _ (g : Geometry) (m : Mem) (s : Sizes g m) where
 
   pub sizes-entered : (at : ℕ) → Sizes g (setEntered g m at)
   unfolding setEntered
-  sizes-entered at = record { control = s .control; mutators = s .mutators; segments = s .segments; stacks = s .stacks; bitmaps = s .bitmaps; marks = length-setBit (m .marks) (recordBit g m at) ∙ s .marks; trace = s .trace; heap = s .heap }
+  sizes-entered at = record { control = s .control; mutators = s .mutators; segments = s .segments; stacks = s .stacks; bitmaps = s .bitmaps; marks = length-setBit (m .marks) (markBit at) ∙ s .marks; trace = s .trace; heap = s .heap }
 
   pub sizes-trace : (i v : ℕ) → Sizes g (setTrace m i v)
   unfolding setTrace

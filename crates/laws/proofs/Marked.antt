@@ -8,6 +8,7 @@ use native.Mathlib.Omega.{arith}
 use lib.Dec.{eqb}
 use lib.ListN.{getD}
 use borrow.Author.Tests.{eq-eqb, ne-eqb, eqb-true}
+use Rattle.layout.specs.Geometry.{markBit}
 use Rattle.rules.specs.Pick.{pick}
 use Rattle.rules.proofs.Order.{same-or-not}
 use Rattle.words.proofs.Counts.{lt-of}
@@ -15,7 +16,7 @@ use Rattle.words.proofs.Lists.{at-lt}
 use Rattle.layout.specs.declared.Geometry.{Geometry}
 use Rattle.layout.specs.Mem.{Mem}
 use Rattle.model.specs.Fields.{traceCount}
-use Rattle.model.specs.Records.{recordBit, entered, onStack, marked}
+use Rattle.model.specs.Records.{entered, onStack, marked}
 use Rattle.model.specs.Reaching.{IsEntry, isMarked}
 
 -- ---- on the stack
@@ -92,7 +93,7 @@ module _ (g : Geometry) (m : Mem) (at : ℕ) where
     where
       go : (b : Bool) → pick b 0 (entered g m at) < 2
       go true = omega arith
-      go false = at-lt (m .marks) (recordBit g m at)
+      go false = at-lt (m .marks) (markBit at)
 
   -- a bit that is 1 is of an entry or of a marked record, and no other
   pub entered-as : entered g m at ≡ 1 → IsEntry m at ⊎ (marked g m at ≡ 1)

@@ -13,11 +13,11 @@ use Rattle.words.proofs.Word.{zero-of-not-one}
 use Rattle.words.proofs.Counts.{set-count}
 use Rattle.words.proofs.Lists.{at-lt, length-setBit}
 use Rattle.layout.specs.declared.Geometry.{Geometry}
-use Rattle.layout.specs.Geometry.{mostBlocks, len}
+use Rattle.layout.specs.Geometry.{mostBlocks, len, markBit}
 use Rattle.layout.specs.Mem.{Mem, Sizes, controlWord, setTrace, setControl}
 use Rattle.layout.proofs.Sizes.{marks-are}
 use Rattle.model.specs.Fields.{traceCount, root}
-use Rattle.model.specs.Records.{record?, recordBit, pointer, entered, setEntered}
+use Rattle.model.specs.Records.{record?, pointer, entered, setEntered}
 use Rattle.model.specs.Tracing.{push, onTop, pushRoots, pushPointers}
 use Rattle.model.specs.Consistent.{RecordOk, Consistent}
 use Rattle.laws.proofs.Blocks.{bit-below}
@@ -98,20 +98,20 @@ module _ (g : Geometry) (m : Mem) where
 
   module _ (y : Ready g m) where
     module _ (at : ℕ) (r : RecordOk g m at) (free : entered g m at ≡ 1 → ⊥) where
-      below : recordBit g m at < g .segments * mostBlocks g
+      below : markBit at < g .segments * mostBlocks g
       below = bit-below g m at (class-of g m at r) (r .inside)
 
-      in-words : recordBit g m at / 32 < length (m .marks)
+      in-words : markBit at / 32 < length (m .marks)
       in-words = let l = below in let z = marks-are g (g .segments) in let q = y .marks in omega arith
 
       ready-top : Ready g (onTop g m at)
       unfolding setTrace setControl setEntered
       ready-top = record {
         control = subst (λ z. 1 < z) (sym (length-set (m .control) 1 (traceCount m + 1))) (y .control);
-        marks = length-setBit (m .marks) (recordBit g m at) ∙ y .marks;
+        marks = length-setBit (m .marks) (markBit at) ∙ y .marks;
         number =
             let c = getD-set-same (m .control) 1 (traceCount m + 1) 0 (y .control) in
-            let n = set-count (m .marks) (recordBit g m at) (g .segments * mostBlocks g) in-words below (zero-of-not-one _ (at-lt (m .marks) (recordBit g m at)) free) in
+            let n = set-count (m .marks) (markBit at) (g .segments * mostBlocks g) in-words below (zero-of-not-one _ (at-lt (m .marks) (markBit at)) free) in
             let k = y .number in omega arith;
       }
 

@@ -8,13 +8,13 @@ use Rattle.words.specs.Bits.{bitAt}
 use Rattle.words.specs.Levels.{wordsFor, treeWords}
 use Rattle.words.specs.Tree.{Tree}
 use Rattle.layout.specs.declared.Geometry.{Geometry}
-use Rattle.layout.specs.Geometry.{blocksIn, bitmapWords}
+use Rattle.layout.specs.Geometry.{blocksIn, bitmapWords, markBit}
 use Rattle.layout.specs.Mem.{Mem, setRun, Sizes}
 use Rattle.bitmap_write.specs.Ready.{adopted}
 use Rattle.bitmap_write.proofs.Copied.{adopted-tree, adopted-bit, length-adopted}
 use Rattle.model.specs.Fields.{class}
 use Rattle.model.specs.Segments.{above, bitmap, marksOf}
-use Rattle.model.specs.Records.{headerOf, entered, recordBit}
+use Rattle.model.specs.Records.{headerOf, entered}
 use Rattle.model.specs.Collector.{rebuiltBy}
 use Rattle.classes.specs.Class.{IsClass}
 use Rattle.layout.proofs.Sizes.{class-height}
@@ -38,7 +38,7 @@ module _ (g : Geometry) (m : Mem) (s : Sizes g m) (r : ℕ) (l : r < g .segments
   bit-small b = go (ltb b (blocksIn g (class m r)))
     where
       go : (x : Bool) → pick x (entered g m (headerOf g r (class m r) b)) 0 < 2
-      go true = at-lt (m .marks) (recordBit g m (headerOf g r (class m r) b))
+      go true = at-lt (m .marks) (markBit (headerOf g r (class m r) b))
       go false = omega arith
 
   marks-room : wordsFor (blocksIn g (class m r)) ≤ length (marksOf g m r)

@@ -74,15 +74,12 @@ blockOf g m at = at % segmentWords g / blockWords (class m (segmentOf g at))
 
 -- ---- its mark: one bit says that it is marked or on the trace stack, and the stack itself says which
 
-abbrev pub recordBit : Geometry → Mem → ℕ → ℕ
-recordBit g m at = markBit at
-
 -- document 01: marked, or on the trace stack
 abbrev pub entered : Geometry → Mem → ℕ → ℕ
-entered g m at = bitAt (m .marks) (recordBit g m at)
+entered g m at = bitAt (m .marks) (markBit at)
 
 unfoldable pub setEntered : Geometry → Mem → ℕ → Mem
-setEntered g m at = withRegion m Region.marks (setBit (m .marks) (recordBit g m at))
+setEntered g m at = withRegion m Region.marks (setBit (m .marks) (markBit at))
 
 -- whether one of the first n entries of the trace stack names it
 unfoldable pub onStack : List ℕ → ℕ → ℕ → Bool

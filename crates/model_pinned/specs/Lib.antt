@@ -8,3 +8,4 @@ pub mod Orders
 pub mod Quiet
 pub mod Bitmaps
 pub mod Freed
+pub mod Entering

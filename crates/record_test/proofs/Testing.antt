@@ -24,7 +24,7 @@ use Rattle.layout.specs.Geometry.{Sized, len, from, segmentWords, mostBlocks, b
 use Rattle.layout.specs.Mem.{Mem, markWord}
 use Rattle.model.specs.Fields.{tag, class, place}
 use Rattle.model.specs.Segments.{above, bitmap, usedBit}
-use Rattle.model.specs.Records.{shapeOf, blockOf, recordBit, entered}
+use Rattle.model.specs.Records.{shapeOf, blockOf, entered}
 use Rattle.model.specs.Consistent.{RecordOk}
 use Rattle.layout.proofs.Sizes.{words-some, segment-below}
 use Rattle.laws.proofs.Blocks.{block-most, bit-below}
@@ -80,7 +80,7 @@ module _ (g : Geometry) (m : Mem) (at s c : ℕ) (es : s ≡ segmentOf g at) (k 
   pub not-sized : (classOfRecord (shapeOf m at) ≡ Class c → ⊥) → RecordOk g m at → ⊥
   not-sized f r = f (r .sized ∙ ap Class (sym class-is))
 
-  pub passes : at < len g Region.heap → o % w ≡ 0 → usedBit g m s (o / w) ≡ 1 → classOfRecord (shapeOf m at) ≡ Class c → (b : ℕ) → b ≡ markBit at → RecordOk g m at × (b ≡ recordBit g m at)
+  pub passes : at < len g Region.heap → o % w ≡ 0 → usedBit g m s (o / w) ≡ 1 → classOfRecord (shapeOf m at) ≡ Class c → (b : ℕ) → b ≡ markBit at → RecordOk g m at × (b ≡ markBit at)
   passes l a u q b e = (
     record {
       inside = l;

@@ -20,7 +20,7 @@ use Rattle.model.specs.Records.{blockOf, headerOf, entered}
 use Rattle.model.specs.Reaching.{IsEntry, Live}
 use Rattle.model.specs.Consistent.{MutatorOk, StackOk, isFree, isPart, RecordOk, HeadInUse, MarksOf, bitWord}
 use Rattle.refine_view.specs.View.{view}
-use Rattle.refine_view.specs.Kept.{Ordered, QueuedOk, MarksIn, Structure}
+use Rattle.refine_view.specs.Kept.{Ordered, EntriesOk, MarksIn, Structure}
 use Rattle.laws.proofs.Blocks.{header-inside, bit-below, head-word}
 use Rattle.laws.proofs.Apart.{class-of}
 use Rattle.words.proofs.Counts.{among-change}
@@ -110,7 +110,7 @@ module _ (g : Geometry) (m : Mem) (s : Sizes g m) (c : Ordered g m) (m′ : Mem)
   head-bit : markBit h < g .segments * mostBlocks g
   head-bit = bit-below g m′ h (class-of g m′ h new-record) (new-record .inside)
 
-  trace-ok : QueuedOk g m′
+  trace-ok : EntriesOk g m′
   trace-ok = let o = c .trace in record {
     named = λ i l. subst (λ z. 1 ≤ z) (sym (standing.trace-same g m m′ k d cl r b shape q a i)) (o .named i (subst (λ z. i < z) (standing.count-same g m m′ k d cl r b shape q a) l));
     bits = λ x e. let z = o .bits x (entry-back x e) in let y = bit-up (markBit x) in let w = at-lt (m′ .marks) (markBit x) in omega arith;

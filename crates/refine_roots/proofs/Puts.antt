@@ -24,7 +24,7 @@ use Rattle.refine_view.specs.View.{view, valuesOf}
 use Rattle.refine_view.specs.Kept.{Ordered, Structure, Moves, ActKept}
 use Rattle.refine_view.proofs.Seeing.{entries-same, live-on}
 use Rattle.laws.proofs.Rooted.{named}
-use Rattle.refine_view.proofs.Carried.{queued-by}
+use Rattle.refine_view.proofs.Carried.{entries-by}
 use Rattle.refine_view.proofs.Frames.{held-self, mutator-beside, marks-beside, structure-beside}
 use Rattle.laws.proofs.Tables.{tab-set}
 use Rattle.theory.proofs.Updates.{upd-by}
@@ -49,7 +49,7 @@ module _ (g : Geometry) (m : Mem) (i v : ℕ) (o : Structure g m) (heads : (x : 
       (held-self g m (m .control) (m .marks) (m .trace) (now .heap))
       (λ k h. mutator-beside g m (m .control) (m .marks) (m .trace) (now .heap) k (o .mutators k h))
       (λ x h. (o .records x (live x h), heads x (live x h)))
-      (queued-by g m now (o .trace) refl (λ i. refl) refl)
+      (entries-by g m now (o .trace) refl (λ i. refl) refl)
       (marks-beside g m (m .control) (m .mutators) (now .heap) refl (phase m) (o .marks))
 
 -- ---- a field of a live record

@@ -10,7 +10,7 @@ use borrow.Author.Tests.{ne-eqb, eq-eqb, eqb-true, eqb-false}
 use Rattle.rules.proofs.Order.{same-or-not}
 use Rattle.rules.specs.Pick.{pick}
 use Rattle.layout.specs.declared.Geometry.{Geometry}
-use Rattle.layout.specs.Geometry.{mutatorWords, entryWords, rootCount, blocksIn, segmentOf}
+use Rattle.layout.specs.Geometry.{mutatorWords, entryWords, rootCount, blocksIn, segmentOf, markBit}
 use Rattle.layout.specs.Mem.{Mem, mutatorWord, heapWord, Sizes}
 use Rattle.theory.specs.Phases.{idle, sync1}
 use Rattle.theory.specs.Machine.{start}
@@ -18,14 +18,14 @@ use Rattle.theory.proofs.Agree.{Agree}
 use Rattle.model.specs.Rules.{phaseOf}
 use Rattle.model.specs.Fields.{phase, traceCount, absent, stateAt, acksAt, state, tag, class, place, owner, root, holding}
 use Rattle.model.specs.Segments.{freeStack, partStack, usedBit}
-use Rattle.model.specs.Records.{record?, pointerCount, pointer, blockOf, recordBit}
+use Rattle.model.specs.Records.{record?, pointerCount, pointer, blockOf}
 use Rattle.model.specs.Collector.{isFull, collects, started}
 use Rattle.model.proofs.Collecting.{collects-full}
 use Rattle.model.specs.Reaching.{Live, isMarked}
 use Rattle.classes.specs.Class.{IsClass}
 use Rattle.model.specs.Consistent.{InPhase, SegmentOk, Occupied, MutatorOk, RecordOk, isFree, isPart}
 use Rattle.refine_view.specs.View.{view, stackOf, isHead, isUsed}
-use Rattle.refine_view.specs.Kept.{Ordered, EachOccupied, QueuedOk, MarksIn, Structure, StartKept}
+use Rattle.refine_view.specs.Kept.{Ordered, EachOccupied, EntriesOk, MarksIn, Structure, StartKept}
 use Rattle.laws.proofs.Bools.{and-false, test-same}
 use Rattle.refine_view.proofs.Contents.{pointers-by, fields-by}
 use Rattle.refine_view.proofs.Seeing.{root-was, edge-was, live-was}
@@ -175,7 +175,7 @@ module _ (g : Geometry) (m m′ : Mem) (z : Sizes g m) (ok : Ordered g m) (quiet
 
   -- ---- the trace stack
 
-  trace-ok : QueuedOk g m′
+  trace-ok : EntriesOk g m′
   trace-ok = let n = none-left in record { named = λ i l. absurd (omega arith); bits = λ at e. absurd (let l = e .within in omega arith); number = omega arith }
 
   structure : Structure g m′
@@ -195,7 +195,7 @@ module _ (g : Geometry) (m m′ : Mem) (z : Sizes g m) (ok : Ordered g m) (quiet
 
   no-mark : (at : ℕ) → (isHead g m′ at && isMarked g m′ at) ≡ false
   no-mark at =
-      let e : isMarked g m′ at ≡ false = ap (λ z. eqb z 1) (unentered g m′ at (b .marks (recordBit g m′ at))) in
+      let e : isMarked g m′ at ≡ false = ap (λ z. eqb z 1) (unentered g m′ at (b .marks (markBit at))) in
       ap (λ x. isHead g m′ at && x) e ∙ and-false (isHead g m′ at)
 
   used-test : (at : ℕ) → isUsed g m′ at ≡ isUsed g m at

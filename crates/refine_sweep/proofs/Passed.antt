@@ -23,7 +23,7 @@ use Rattle.laws.proofs.Marked.{marked-by}
 use Rattle.refine_view.specs.View.{view, stackOf, isHead}
 use Rattle.refine_view.specs.Kept.{Ordered, Structure, MarksIn, Moves}
 use Rattle.refine_view.proofs.Seeing.{entries-same, root-was, entry-was, edge-was, live-was}
-use Rattle.refine_view.proofs.Carried.{queued-by}
+use Rattle.refine_view.proofs.Carried.{entries-by}
 use Rattle.refine_view.proofs.Frames.{beside, held-self, mutator-beside, marks-beside, structure-beside}
 use Rattle.refine_sweep.proofs.Outcome.{Outcome}
 use Rattle.refine_sweep.proofs.Agreeing.{moves-after}
@@ -55,7 +55,7 @@ module _ (g : Geometry) (m m′ : Mem) (st : State) (v : Moves g m m′ st) (n :
       (held-self g m′ words (m′ .marks) (m′ .trace) (m′ .heap))
       (λ k l. mutator-beside g m′ words (m′ .marks) (m′ .trace) (m′ .heap) k (o .mutators k l))
       (λ x q. (o .records x (was-live q), refl))
-      (queued-by g m′ now (o .trace) count-same (λ i. refl) refl)
+      (entries-by g m′ now (o .trace) count-same (λ i. refl) refl)
       (subst (λ z. MarksIn (phaseOf z) g now) (sym phase-word) (marks-beside g m′ words (m′ .mutators) (m′ .heap) count-same (phase m′) (o .marks)))
 
   same-mark : (b : ℕ) → view g now .marked b ≡ view g m′ .marked b

@@ -17,7 +17,7 @@ use Rattle.model.specs.Records.{blockOf}
 use Rattle.model.specs.Consistent.{InPhase, SegmentOk, Occupied, TreeOk, MutatorOk, RecordOk, HeadInUse, bitWord}
 use Rattle.refine_view.specs.Kept.{Ordered, EachOccupied, Structure, MarksIn, Steady}
 use Rattle.laws.proofs.Segments.{segment-same, tree-same, occupied-by}
-use Rattle.refine_view.proofs.Carried.{record-by, use-by, queued-by}
+use Rattle.refine_view.proofs.Carried.{record-by, use-by, entries-by}
 use Rattle.refine_view.proofs.Invariants.{structure-of}
 use Rattle.refine_sweep.proofs.Frames.{mutator-same, heap-same}
 use Rattle.refine_sweep.proofs.Outcome.{Outcome}
@@ -75,6 +75,6 @@ module _ (g : Geometry) (m : Mem) (s : Sizes g m) (c : Ordered g m) (ph : phase 
     freeSegments = o .stacks .0;
     partSegments = o .stacks .1;
     records = λ x p. record-after x (live-was g m s c ph m′ r l t o p);
-    trace = queued-by g m m′ (structure-of g m c .trace) (control-same g m s c ph m′ r l t o 1) (λ i. ap (λ (z : List ℕ). getD z i 0) (o .left .trace)) (o .left .marks);
+    trace = entries-by g m m′ (structure-of g m c .trace) (control-same g m s c ph m′ r l t o 1) (λ i. ap (λ (z : List ℕ). getD z i 0) (o .left .trace)) (o .left .marks);
     marks = subst (λ p. MarksIn p g m′) (sym (phase-after g m s c ph m′ r l t o)) marks-after;
   }

@@ -20,11 +20,11 @@ use Rattle.model.specs.Records.{blockOf}
 use Rattle.model.specs.Reaching.{IsRoot, Live, isMarked}
 use Rattle.model.specs.Consistent.{RecordOk, MarksOf, bitWord}
 use Rattle.refine_view.specs.View.{view, isHead}
-use Rattle.refine_view.specs.Kept.{Ordered, QueuedOk, MarksIn, Steady}
+use Rattle.refine_view.specs.Kept.{Ordered, EntriesOk, MarksIn, Steady}
 use Rattle.laws.proofs.Bools.{ne-not, test-same}
 use Rattle.refine_view.proofs.Seeing.{entry-was, edge-was, live-was}
 use Rattle.laws.proofs.Segments.{used-same}
-use Rattle.refine_view.proofs.Carried.{block-by, record-by, use-by, queued-by, marks-by}
+use Rattle.refine_view.proofs.Carried.{block-by, record-by, use-by, entries-by, marks-by}
 use Rattle.refine_view.proofs.Invariants.{structure-of}
 use Rattle.model.specs.Tag as Tag
 
@@ -93,8 +93,8 @@ module _ (g : Geometry) (m : Mem) (s : Sizes g m) (c : Ordered g m) (mu se st bi
         let z = h .stood (segmentOf g at) (r .used) in
         record-by g m m₁ at (z .class) r (z .used) (use-same (segmentOf g at) (blockOf g m at) (r .used) ∙ r .block) refl
 
-  pub trace-stands : QueuedOk g m₁
-  trace-stands = queued-by g m m₁ (structure-of g m c .trace) refl (λ i. refl) refl
+  pub trace-stands : EntriesOk g m₁
+  trace-stands = entries-by g m m₁ (structure-of g m c .trace) refl (λ i. refl) refl
 
   marks-of : (test : ℕ → Type 0) → MarksOf g m test → MarksOf g m₁ test
   marks-of test o k l w e =

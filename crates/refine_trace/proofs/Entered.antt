@@ -17,15 +17,15 @@ use Rattle.words.proofs.Word.{zero-of-not-one}
 use Rattle.words.proofs.Lists.{at-lt, set-there, set-elsewhere, length-setBit}
 use Rattle.words.proofs.Ones.{among-words-le}
 use Rattle.layout.specs.declared.Geometry.{Geometry}
-use Rattle.layout.specs.Geometry.{len, mutatorCount, mostBlocks, segmentOf}
+use Rattle.layout.specs.Geometry.{len, mutatorCount, mostBlocks, segmentOf, markBit}
 use Rattle.layout.specs.Mem.{Mem, controlWord, heapWord}
 use Rattle.model.specs.Rules.{phaseOf}
 use Rattle.model.specs.Fields.{phase, cursor, class}
-use Rattle.model.specs.Records.{recordBit, onStack, marked}
+use Rattle.model.specs.Records.{onStack, marked}
 use Rattle.model.specs.Reaching.{IsEntry, Live}
 use Rattle.model.specs.Consistent.{MutatorOk, RecordOk, HeadInUse, MarksOf, bitWord}
 use Rattle.refine_view.specs.View.{view, stackOf, isHead}
-use Rattle.refine_view.specs.Kept.{QueuedOk, MarksIn, Structure}
+use Rattle.refine_view.specs.Kept.{EntriesOk, MarksIn, Structure}
 use Rattle.layout.proofs.Sizes.{marks-are}
 use Rattle.laws.proofs.Blocks.{bit-below, same-bit, head-word}
 use Rattle.laws.proofs.Marked.{stack-same, stack-other, entry-unmarked, unentered}
@@ -45,36 +45,36 @@ pub record Entered (g : Geometry) (m : Mem) (c q t : List ℕ) : Type 0 where
   pub cursor : getD c 2 0 ≡ cursor m
   pub named : (i : ℕ) → i < getD c 1 0 → 1 ≤ getD t i 0
   pub records : (i : ℕ) → i < getD c 1 0 → RecordOk g m (getD t i 0 - 1)
-  pub bits : (i : ℕ) → i < getD c 1 0 → bitAt q (recordBit g m (getD t i 0 - 1)) ≡ 1
+  pub bits : (i : ℕ) → i < getD c 1 0 → bitAt q (markBit (getD t i 0 - 1)) ≡ 1
   pub number : getD c 1 0 ≤ onesAmong (bitAt q) (g .segments * mostBlocks g)
   pub marks : MarksIn (phaseOf (controlWord m 0)) g (over m c q t)
   -- what is marked is what was marked
   pub same : (x : ℕ) → IsClass (class m (segmentOf g x)) → view g (over m c q t) .marked x ≡ view g m .marked x
 
 module _ (g : Geometry) (m : Mem) (c q t : List ℕ) (e : Entered g m c q t) where
-  pub queued-over : (mu he : List ℕ) → QueuedOk g (beside m c mu q t he)
-  queued-over mu he = record {
+  pub entries-over : (mu he : List ℕ) → EntriesOk g (beside m c mu q t he)
+  entries-over mu he = record {
     named = e .named;
-    bits = λ at n. subst (λ z. bitAt q (recordBit g m z) ≡ 1) (let w = n .names in omega arith) (e .bits (n .index) (n .within));
+    bits = λ at n. subst (λ z. bitAt q (markBit z) ≡ 1) (let w = n .names in omega arith) (e .bits (n .index) (n .within));
     number = e .number;
   }
 
   -- put into the memory, where the mutators and the live records are in order
   pub structure-entered : (mu he : List ℕ) → Structure g m → Held g m c mu q t he → ((k : ℕ) → k < mutatorCount → MutatorOk g (beside m c mu q t he) k) → ((at : ℕ) → Live (beside m c mu q t he) at → RecordOk g m at × (getD he at 0 ≡ heapWord m at)) → Structure g (beside m c mu q t he)
   structure-entered mu he o h u r =
-      structure-beside g m c mu q t he o (subst (λ z. z ≤ 4) (sym (e .phase)) (o .phases)) h u r (queued-over mu he)
+      structure-beside g m c mu q t he o (subst (λ z. z ≤ 4) (sym (e .phase)) (o .phases)) h u r (entries-over mu he)
       (subst (λ z. MarksIn (phaseOf z) g (beside m c mu q t he)) (sym (e .phase)) (marks-beside g (over m c q t) c mu he refl (phase m) (e .marks)))
 
   module _ (f : Segments g m) (at : ℕ) (r : RecordOk g m at) where
-    below : recordBit g m at < g .segments * mostBlocks g
+    below : markBit at < g .segments * mostBlocks g
     below = bit-below g m at (class-of g m at r) (r .inside)
 
-    pub entry-bit : List·Memᴰ at (stackOf (over m c q t) (getD c 1 0)) → bitAt q (recordBit g m at) ≡ 1
-    entry-bit h = let x = entry-of (over m c q t) (getD c 1 0) at h in subst (λ z. bitAt q (recordBit g m z) ≡ 1) (x .2) (e .bits (x .0) (x .1))
+    pub entry-bit : List·Memᴰ at (stackOf (over m c q t) (getD c 1 0)) → bitAt q (markBit at) ≡ 1
+    entry-bit h = let x = entry-of (over m c q t) (getD c 1 0) at h in subst (λ z. bitAt q (markBit z) ≡ 1) (x .2) (e .bits (x .0) (x .1))
 
     -- ---- one record more
 
-    module _ (free : bitAt q (recordBit g m at) ≡ 1 → ⊥) where
+    module _ (free : bitAt q (markBit at) ≡ 1 → ⊥) where
       abbrev count : ℕ
       count = getD c 1 0
 
@@ -82,19 +82,19 @@ module _ (g : Geometry) (m : Mem) (c q t : List ℕ) (e : Entered g m c q t) whe
       c′ = set c 1 (count + 1)
 
       abbrev q′ : List ℕ
-      q′ = setBit q (recordBit g m at)
+      q′ = setBit q (markBit at)
 
       abbrev t′ : List ℕ
       t′ = set t count (suc at)
 
-      zero-bit : bitAt q (recordBit g m at) ≡ 0
-      zero-bit = zero-of-not-one _ (at-lt q (recordBit g m at)) free
+      zero-bit : bitAt q (markBit at) ≡ 0
+      zero-bit = zero-of-not-one _ (at-lt q (markBit at)) free
 
-      in-words : recordBit g m at / 32 < length q
+      in-words : markBit at / 32 < length q
       in-words = let b = below in let l = e .lengthMarks in let w = marks-are g (g .segments) in omega arith
 
       more : count + 1 ≤ onesAmong (bitAt q′) (g .segments * mostBlocks g)
-      more = let z = set-count q (recordBit g m at) (g .segments * mostBlocks g) in-words below zero-bit in let n = e .number in omega arith
+      more = let z = set-count q (markBit at) (g .segments * mostBlocks g) in-words below zero-bit in let n = e .number in omega arith
 
       room : count < length t
       room = let a = more in let b = among-words-le q′ (g .segments * mostBlocks g) in let l = e .lengthTrace in omega arith
@@ -115,22 +115,22 @@ module _ (g : Geometry) (m : Mem) (c q t : List ℕ) (e : Entered g m c q t) whe
           go (inl h) = let a = count-after in let z : i ≡ count = omega arith in inr (z, ap (λ x. getD t′ x 0) z ∙ new-word)
           go (inr h) = inl (h, old-word i h)
 
-      bit-there : bitAt q′ (recordBit g m at) ≡ 1
-      bit-there = set-there q (recordBit g m at) in-words
+      bit-there : bitAt q′ (markBit at) ≡ 1
+      bit-there = set-there q (markBit at) in-words
 
       bit-kept : (k : ℕ) → bitAt q k ≡ 1 → bitAt q′ k ≡ 1
-      bit-kept k b = go (same-or-not k (recordBit g m at))
+      bit-kept k b = go (same-or-not k (markBit at))
         where
-          go : (k ≡ recordBit g m at) ⊎ (k ≡ recordBit g m at → ⊥) → bitAt q′ k ≡ 1
+          go : (k ≡ markBit at) ⊎ (k ≡ markBit at → ⊥) → bitAt q′ k ≡ 1
           go (inl z) = ap (bitAt q′) z ∙ bit-there
-          go (inr z) = set-elsewhere q (recordBit g m at) in-words k z ∙ b
+          go (inr z) = set-elsewhere q (markBit at) in-words k z ∙ b
 
-      bit-was : (k : ℕ) → bitAt q′ k ≡ 1 → (k ≡ recordBit g m at) ⊎ (bitAt q k ≡ 1)
-      bit-was k b = go (same-or-not k (recordBit g m at))
+      bit-was : (k : ℕ) → bitAt q′ k ≡ 1 → (k ≡ markBit at) ⊎ (bitAt q k ≡ 1)
+      bit-was k b = go (same-or-not k (markBit at))
         where
-          go : (k ≡ recordBit g m at) ⊎ (k ≡ recordBit g m at → ⊥) → (k ≡ recordBit g m at) ⊎ (bitAt q k ≡ 1)
+          go : (k ≡ markBit at) ⊎ (k ≡ markBit at → ⊥) → (k ≡ markBit at) ⊎ (bitAt q k ≡ 1)
           go (inl z) = inl z
-          go (inr z) = inr (sym (set-elsewhere q (recordBit g m at) in-words k z) ∙ b)
+          go (inr z) = inr (sym (set-elsewhere q (markBit at) in-words k z) ∙ b)
 
       abbrev now : Mem
       now = over m c q t
@@ -144,13 +144,13 @@ module _ (g : Geometry) (m : Mem) (c q t : List ℕ) (e : Entered g m c q t) whe
       old-entry : (x : ℕ) → IsEntry now x → IsEntry then x
       old-entry x n = let l = n .within in record { index = n .index; within = let z = count-after in omega arith; names = old-word (n .index) l ∙ n .names }
 
-      at-word : bitWord (recordBit g m at) ≡ at
+      at-word : bitWord (markBit at) ≡ at
       at-word = head-word g m at (class-of g m at r) (r .aligned)
 
       used-more : (test : ℕ → Type 0) → MarksOf g now test → MarksOf g then test
       used-more test h k l u b = go (bit-was k b)
         where
-          go : (k ≡ recordBit g m at) ⊎ (bitAt q k ≡ 1) → HeadInUse g then (bitWord k)
+          go : (k ≡ markBit at) ⊎ (bitAt q k ≡ 1) → HeadInUse g then (bitWord k)
           go (inl z) = subst (HeadInUse g then) (sym (ap bitWord z ∙ at-word)) (record { used = r .used; aligned = r .aligned; block = r .block })
           go (inr o) = use-beside g now c′ (m .mutators) q′ t′ (m .heap) (bitWord k) (h k l u o)
 
@@ -166,7 +166,7 @@ module _ (g : Geometry) (m : Mem) (c q t : List ℕ) (e : Entered g m c q t) whe
           go (inr d) =
               ap₂ (λ b w. pick b 0 w)
               (ap (λ n. onStack t′ n x) count-after ∙ stack-other t′ count x (λ z. d (let w = new-word in omega arith)) ∙ stack-same t t′ count x old-word)
-              (set-elsewhere q (recordBit g m at) in-words (recordBit g m x) (λ z. d (same-bit g m x at k (class-of g m at r) (eqb-true _ _ h) (r .aligned) z)))
+              (set-elsewhere q (markBit at) in-words (markBit x) (λ z. d (same-bit g m x at k (class-of g m at r) (eqb-true _ _ h) (r .aligned) z)))
 
       same-more : (x : ℕ) → IsClass (class m (segmentOf g x)) → view g then .marked x ≡ view g m .marked x
       same-more x k = go (isHead g m x) refl ∙ e .same x k
@@ -178,13 +178,13 @@ module _ (g : Geometry) (m : Mem) (c q t : List ℕ) (e : Entered g m c q t) whe
       pub entered-more : Entered g m c′ q′ t′
       entered-more = record {
         lengthControl = length-set c 1 (count + 1) ∙ e .lengthControl;
-        lengthMarks = length-setBit q (recordBit g m at) ∙ e .lengthMarks;
+        lengthMarks = length-setBit q (markBit at) ∙ e .lengthMarks;
         lengthTrace = length-set t count (suc at) ∙ e .lengthTrace;
         phase = getD-set-other c 1 0 (count + 1) 0 (λ z. omega arith) ∙ e .phase;
         cursor = getD-set-other c 1 2 (count + 1) 0 (λ z. omega arith) ∙ e .cursor;
         named = λ i l. ⊎-elim (λ h. let n = e .named i (h .0) in let w = h .1 in omega arith) (λ h. let w = h .1 in omega arith) (word i l);
         records = λ i l. ⊎-elim (λ h. subst (λ z. RecordOk g m (z - 1)) (sym (h .1)) (e .records i (h .0))) (λ h. subst (λ z. RecordOk g m z) (let w = h .1 in omega arith) r) (word i l);
-        bits = λ i l. ⊎-elim (λ h. subst (λ z. bitAt q′ (recordBit g m (z - 1)) ≡ 1) (sym (h .1)) (bit-kept _ (e .bits i (h .0)))) (λ h. subst (λ z. bitAt q′ (recordBit g m z) ≡ 1) (let w = h .1 in omega arith) bit-there) (word i l);
+        bits = λ i l. ⊎-elim (λ h. subst (λ z. bitAt q′ (markBit (z - 1)) ≡ 1) (sym (h .1)) (bit-kept _ (e .bits i (h .0)))) (λ h. subst (λ z. bitAt q′ (markBit z) ≡ 1) (let w = h .1 in omega arith) bit-there) (word i l);
         number = let z = count-after in let y = more in omega arith;
         marks = marks-more (e .marks);
         same = same-more;

@@ -4,7 +4,7 @@ use mathlib.Core.Bool.{true}
 use native.Mathlib.Omega.{arith}
 use borrow.Author.Tests.{eqb-true}
 use Rattle.classes.specs.Class.{IsClass}
-use Rattle.layout.specs.Geometry.{segmentOf}
+use Rattle.layout.specs.Geometry.{segmentOf, markBit}
 use Rattle.model.specs.Fields.{tag, class}
 use Rattle.laws.proofs.Segments.{in-range}
 use Rattle.model.specs.Tag as Tag
@@ -17,7 +17,7 @@ use Rattle.rules.specs.Pick.{pick}
 use Rattle.words.specs.Bits.{bitAt, setBit}
 use Rattle.layout.specs.declared.Geometry.{Geometry}
 use Rattle.layout.specs.Mem.{Mem, Sizes, setControl, setTrace, setMutator, setHeap}
-use Rattle.model.specs.Records.{recordBit, setEntered}
+use Rattle.model.specs.Records.{setEntered}
 use Rattle.model.specs.Tracing.{push}
 use Rattle.model.specs.Consistent.{SegmentOk}
 use Rattle.refine_view.proofs.Frames.{beside}
@@ -29,7 +29,7 @@ over m c q t = beside m c (m .mutators) q t (m .heap)
 pub over-self : (m : Mem) → m ≡ over m (m .control) (m .marks) (m .trace)
 over-self m = refl
 
-pub push-over : (g : Geometry) (m : Mem) (c q t : List ℕ) (at : ℕ) → push g (over m c q t) (some at) ≡ pick (eqb (bitAt q (recordBit g m at)) 1) (over m c q t) (over m (set c 1 (getD c 1 0 + 1)) (setBit q (recordBit g m at)) (set t (getD c 1 0) (suc at)))
+pub push-over : (g : Geometry) (m : Mem) (c q t : List ℕ) (at : ℕ) → push g (over m c q t) (some at) ≡ pick (eqb (bitAt q (markBit at)) 1) (over m c q t) (over m (set c 1 (getD c 1 0 + 1)) (setBit q (markBit at)) (set t (getD c 1 0) (suc at)))
 unfolding push setTrace setControl setEntered
 push-over g m c q t at = refl
 

@@ -8,12 +8,13 @@ use Prim.Native.Nat.{ℕ, suc, _+_}
 use lib.Dec.{eqb}
 use lib.ListN.{getD, set}
 use borrow.Author.Tests.{eq-eqb, eqb-true, eqb-false}
+use Rattle.layout.specs.Geometry.{markBit}
 use Rattle.rules.specs.Pick.{pick}
 use Rattle.words.specs.Bits.{bitAt, setBit}
 use Rattle.layout.specs.declared.Geometry.{Geometry}
 use Rattle.layout.specs.Mem.{Mem}
 use Rattle.theory.specs.TraceStack.{mem?, pushIf, push}
-use Rattle.model.specs.Records.{recordBit, entered, marked}
+use Rattle.model.specs.Records.{entered, marked}
 use Rattle.model.specs.Reaching.{IsEntry, isMarked}
 use Rattle.laws.proofs.Marked.{unentered, entered-as}
 use Rattle.laws.proofs.Apart.{class-of}
@@ -53,14 +54,14 @@ module _ (g : Geometry) (m : Mem) (f : Segments g m) where
     now = over m (p .control) (p .marks) (p .trace)
 
     abbrev next : ℕ → Mem
-    next at = over m (set (p .control) 1 (getD (p .control) 1 0 + 1)) (setBit (p .marks) (recordBit g m at)) (set (p .trace) (getD (p .control) 1 0) (suc at))
+    next at = over m (set (p .control) 1 (getD (p .control) 1 0 + 1)) (setBit (p .marks) (markBit at)) (set (p .trace) (getD (p .control) 1 0) (suc at))
 
     push-one : (at : ℕ) → RecordOk g m at → Pushed g m (tracing.push g m′ (some at)) (push (view g m .marked) (some at) l)
     push-one at r =
         subst (λ z. Pushed g m z (push (view g m .marked) (some at) l)) (sym (ap (λ z. tracing.push g z (some at)) (p .is) ∙ push-over g m (p .control) (p .marks) (p .trace) at))
-        (subst (λ z. Pushed g m (pick (eqb (bitAt (p .marks) (recordBit g m at)) 1) now (next at)) z)
+        (subst (λ z. Pushed g m (pick (eqb (bitAt (p .marks) (markBit at)) 1) now (next at)) z)
         (sym (push-is (view g m .marked) at l ∙ ap (λ b. pushIf b (mem? at l) at l) (sym (p .entered .same at (class-of g m at r)) ∙ ap (λ b. b && isMarked g now at) (eq-eqb _ _ (r .aligned)))))
-        (go (eqb (bitAt (p .marks) (recordBit g m at)) 1) refl (mem? at l)))
+        (go (eqb (bitAt (p .marks) (markBit at)) 1) refl (mem? at l)))
       where
         same : Pushed g m now l
         same = record { control = p .control; marks = p .marks; trace = p .trace; is = refl; entered = p .entered; stack = p .stack }
@@ -75,11 +76,11 @@ module _ (g : Geometry) (m : Mem) (f : Segments g m) where
         unmarked : entered g now at ≡ 0 → isMarked g now at ≡ false
         unmarked z = ap (λ w. eqb w 1) (unentered g now at z)
 
-        go : (d : Bool) → eqb (bitAt (p .marks) (recordBit g m at)) 1 ≡ d → (k : Dec (List·Memᴰ at l)) → Pushed g m (pick d now (next at)) (pushIf (isMarked g now at) k at l)
+        go : (d : Bool) → eqb (bitAt (p .marks) (markBit at)) 1 ≡ d → (k : Dec (List·Memᴰ at l)) → Pushed g m (pick d now (next at)) (pushIf (isMarked g now at) k at l)
         go true e k = found (isMarked g now at) refl (entered-as g now at (eqb-true _ _ e)) k
-        go false e k = rw (unmarked (zero-of-not-one _ (at-lt (p .marks) (recordBit g m at)) (eqb-false _ _ e))) (new e k)
+        go false e k = rw (unmarked (zero-of-not-one _ (at-lt (p .marks) (markBit at)) (eqb-false _ _ e))) (new e k)
           where
-            new : eqb (bitAt (p .marks) (recordBit g m at)) 1 ≡ false → (k : Dec (List·Memᴰ at l)) → Pushed g m (next at) (pushIf false k at l)
+            new : eqb (bitAt (p .marks) (markBit at)) 1 ≡ false → (k : Dec (List·Memᴰ at l)) → Pushed g m (next at) (pushIf false k at l)
             new e (yes k) = absurd (eqb-false _ _ e (entry-bit g m (p .control) (p .marks) (p .trace) (p .entered) f at r (subst (List·Memᴰ at) (sym (p .stack)) k)))
             new e (no k) = record {
               control = _;

@@ -32,7 +32,7 @@ use Rattle.laws.proofs.Apart.{class-of}
 use Rattle.refine_view.proofs.Frames.{held-self, mutator-beside, structure-beside}
 use Rattle.refine_view.proofs.Phasing.{phase-moves}
 use Rattle.refine_trace.proofs.Over.{over, condemned-class}
-use Rattle.refine_trace.proofs.Entered.{Entered, queued-over}
+use Rattle.refine_trace.proofs.Entered.{Entered, entries-over}
 use Rattle.refine_trace.proofs.Push.{Pushed}
 use Rattle.theory.proofs.Updates.{pushes-alike}
 use Rattle.refine_trace.proofs.Folds.{pointers-pushed}
@@ -124,7 +124,7 @@ module _ (g : Geometry) (m : Mem) (s : Sizes g m) (c : Ordered g m) (marking : p
           (held-self g m control q t (m .heap))
           (λ j l. mutator-beside g m control q t (m .heap) j (c .mutators j l))
           (λ x p. (to-record g m s c x (was-live (agreeing.live-back (segmentOf g) next-state (view g next-memory) trace-agree (live-on g next-memory p))), refl))
-          (queued-over g base control q t e (m .mutators) (m .heap))
+          (entries-over g base control q t e (m .mutators) (m .heap))
           (subst (λ z. MarksIn (phaseOf z) g next-memory) (sym (e .phase)) (e .marks))
 
       trace-over : Moves g m next-memory next-state

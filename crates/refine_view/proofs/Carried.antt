@@ -8,15 +8,15 @@ use Rattle.classes.specs.declared.SizeClass.the-variants.{Class}
 use Rattle.classes.specs.Record.{classOfRecord}
 use Rattle.laws.proofs.Headers.{shape-by}
 use Rattle.layout.specs.declared.Geometry.{Geometry}
-use Rattle.layout.specs.Geometry.{segmentWords, mostBlocks, segmentOf}
+use Rattle.layout.specs.Geometry.{segmentWords, mostBlocks, segmentOf, markBit}
 use Rattle.layout.specs.Mem.{Mem, traceWord, heapWord}
 use Rattle.theory.specs.Phases.{Phase, idle, sync1, sync2, mark, sweep}
 use Rattle.model.specs.Fields.{traceCount, tag, class}
 use Rattle.model.specs.Segments.{usedBit}
-use Rattle.model.specs.Records.{blockOf, recordBit}
+use Rattle.model.specs.Records.{blockOf}
 use Rattle.model.specs.Reaching.{IsEntry}
 use Rattle.model.specs.Consistent.{RecordOk, HeadInUse, MarksOf}
-use Rattle.refine_view.specs.Kept.{QueuedOk, MarksIn}
+use Rattle.refine_view.specs.Kept.{EntriesOk, MarksIn}
 use Rattle.refine_view.proofs.Seeing.{entry-was}
 use Rattle.model.specs.Tag as Tag
 
@@ -38,10 +38,10 @@ module _ (g : Geometry) (m m′ : Mem) (at : ℕ) (c : class m′ (segmentOf g a
   use-by u t h = record { used = t; aligned = ap (λ z. at % segmentWords g % blockWords z) c ∙ u .aligned; block = ap (usedBit g m′ (segmentOf g at)) block-by ∙ h }
 
 -- the trace stack's words stay, and the marks
-pub queued-by : (g : Geometry) (m m′ : Mem) → QueuedOk g m → traceCount m′ ≡ traceCount m → ((i : ℕ) → traceWord m′ i ≡ traceWord m i) → m′ .marks ≡ m .marks → QueuedOk g m′
-queued-by g m m′ o n t q = record {
+pub entries-by : (g : Geometry) (m m′ : Mem) → EntriesOk g m → traceCount m′ ≡ traceCount m → ((i : ℕ) → traceWord m′ i ≡ traceWord m i) → m′ .marks ≡ m .marks → EntriesOk g m′
+entries-by g m m′ o n t q = record {
   named = λ i l. subst (λ z. 1 ≤ z) (sym (t i)) (o .named i (subst (λ z. i < z) n l));
-  bits = λ at e. let x = entry-was m m′ n t at e in ap (λ (l : List ℕ). bitAt l (recordBit g m at)) q ∙ o .bits at x;
+  bits = λ at e. let x = entry-was m m′ n t at e in ap (λ (l : List ℕ). bitAt l (markBit at)) q ∙ o .bits at x;
   number = rw (n, q) (o .number);
 }
 

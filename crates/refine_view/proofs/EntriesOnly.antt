@@ -16,7 +16,7 @@ use Rattle.model.specs.Consistent.{MutatorOk}
 use Rattle.refine_view.specs.View.{view}
 use Rattle.refine_view.specs.Kept.{Structure, Moves}
 use Rattle.refine_view.proofs.Seeing.{entries-same, live-on, live-back}
-use Rattle.refine_view.proofs.Carried.{queued-by}
+use Rattle.refine_view.proofs.Carried.{entries-by}
 use Rattle.refine_view.proofs.Frames.{beside, Held, structure-beside, marks-beside}
 use Rattle.theory.specs.Machine as machine
 use Rattle.theory.proofs.Agree as agreeing
@@ -62,7 +62,7 @@ module _ (g : Geometry) (m : Mem) (l : List ℕ) (A I : ℕ → Bool) (K : ℕ �
     pub entries-moves : Moves g m now after
     entries-moves = record {
       structure = structure-beside g m (m .control) l (m .marks) (m .trace) (m .heap) o (o .phases) (e .held) (e .mutators) (λ x p. (o .records x (was-live x p), refl))
-          (queued-by g m now (o .trace) refl (λ i. refl) refl) (marks-beside g m (m .control) l (m .heap) refl (phase m) (o .marks));
+          (entries-by g m now (o .trace) refl (λ i. refl) refl) (marks-beside g m (m .control) l (m .heap) refl (phase m) (o .marks));
       agree = agree;
       occupied = λ u. u;
       behind = λ u. u;

@@ -16,7 +16,7 @@ use Rattle.model.specs.Rules.{phaseOf}
 use Rattle.model.specs.Fields.{traceCount, absent, state, holding}
 use Rattle.model.specs.Reaching.{Live}
 use Rattle.model.specs.Consistent.{SegmentOk, MutatorOk, StackOk, RecordOk, HeadInUse, bitWord}
-use Rattle.refine_view.specs.Kept.{Structure, QueuedOk, MarksIn}
+use Rattle.refine_view.specs.Kept.{Structure, EntriesOk, MarksIn}
 use Rattle.refine_view.proofs.Carried.{marks-by}
 use Rattle.refine_view.proofs.Seeing.{entry-was}
 
@@ -61,7 +61,7 @@ module _ (g : Geometry) (m : Mem) (co mu ma tr he : List ℕ) where
   pub use-beside : (at : ℕ) → HeadInUse g m at → HeadInUse g now at
   use-beside at u = record { used = u .used; aligned = u .aligned; block = u .block }
 
-  pub structure-beside : Structure g m → getD co 0 0 ≤ 4 → Held → ((k : ℕ) → k < mutatorCount → MutatorOk g now k) → ((at : ℕ) → Live now at → RecordOk g m at × (heapWord now at ≡ heapWord m at)) → QueuedOk g now → MarksIn (phaseOf (getD co 0 0)) g now → Structure g now
+  pub structure-beside : Structure g m → getD co 0 0 ≤ 4 → Held → ((k : ℕ) → k < mutatorCount → MutatorOk g now k) → ((at : ℕ) → Live now at → RecordOk g m at × (heapWord now at ≡ heapWord m at)) → EntriesOk g now → MarksIn (phaseOf (getD co 0 0)) g now → Structure g now
   structure-beside o p h u r q k = record {
     phases = p;
     segments = λ s l. segment-beside h s (o .segments s l);

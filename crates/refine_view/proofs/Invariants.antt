@@ -9,7 +9,7 @@ use lib.ListN.{List·getD-eq-default}
 use borrow.Author.Tests.{eq-eqb, ne-eqb, eqb-true, eqb-false}
 use Rattle.rules.proofs.Order.{le-or-lt, same-or-not}
 use Rattle.words.proofs.Word.{zero-of-not-one}
-use Rattle.layout.specs.Geometry.{segmentOf}
+use Rattle.layout.specs.Geometry.{segmentOf, markBit}
 use Rattle.layout.specs.declared.Geometry.{Geometry}
 use Rattle.layout.specs.Mem.{Mem, traceWord, Sizes}
 use Rattle.theory.specs.Phases.{Phase, idle, sync1, sync2, mark, sweep}
@@ -18,7 +18,7 @@ use Rattle.theory.proofs.Invariant.{Inv, Core, Tracing, Quiet}
 use Rattle.theory.proofs.Updates.{Nodup}
 use Rattle.theory.proofs.Graph.{reach-map}
 use Rattle.model.specs.Fields.{phase, traceCount, absent, acksAt, state, acks}
-use Rattle.model.specs.Records.{recordBit, marked}
+use Rattle.model.specs.Records.{marked}
 use Rattle.model.specs.Calls.{isAttached}
 use Rattle.model.specs.Reaching.{IsRoot, IsEntry, Live, Reached, Covered, isMarked}
 use Rattle.model.specs.Consistent.{Consistent, Behind, InPhase, AcksIn, Tricolour, RecordOk}
@@ -146,7 +146,7 @@ module _ (g : Geometry) (m : Mem) (s : Sizes g m) (c : Ordered g m) where
           let r = c .records x l in
           let i = r .inside in
           let k = c .segments (segmentOf g x) (segment-below g x i) .classes (r .used) in
-          let q = subst (IsEntry m) (head-word g m x k (r .aligned)) (h (recordBit g m x) (bit-below g m x k i) (marked-entered g m x e)) in
+          let q = subst (IsEntry m) (head-word g m x k (r .aligned)) (h (markBit x) (bit-below g m x k i) (marked-entered g m x e)) in
           entry-unmarked g m x q
 
   -- before anything is marked, nothing can hide

@@ -22,7 +22,7 @@ use Rattle.model.specs.Reaching.{Live}
 use Rattle.refine_view.specs.View.{view, stackOf, isHead}
 use Rattle.refine_view.specs.Kept.{Structure, Moves, MarksIn}
 use Rattle.refine_view.proofs.Seeing.{entries-same, root-was, entry-was, edge-was, live-was}
-use Rattle.refine_view.proofs.Carried.{queued-by}
+use Rattle.refine_view.proofs.Carried.{entries-by}
 use Rattle.refine_view.proofs.Frames.{beside, held-self, mutator-beside, marks-beside, structure-beside}
 use Rattle.theory.specs.Machine as machine
 
@@ -67,7 +67,7 @@ module _ (g : Geometry) (m m′ : Mem) (st : State) (v : Moves g m m′ st) (s :
       (held-self g m′ words (m′ .marks) (m′ .trace) (m′ .heap))
       (λ k l. mutator-beside g m′ words (m′ .marks) (m′ .trace) (m′ .heap) k (o .mutators k l))
       (λ x q. (o .records x (was-live q), refl))
-      (queued-by g m′ now (o .trace) count-same (λ i. refl) refl)
+      (entries-by g m′ now (o .trace) count-same (λ i. refl) refl)
       (subst (λ z. MarksIn z g now) (sym (ap phaseOf phase-word ∙ numbered p)) (marks-beside g m′ words (m′ .mutators) (m′ .heap) count-same p marks))
 
   same-mark : (b : ℕ) → view g now .marked b ≡ view g m′ .marked b

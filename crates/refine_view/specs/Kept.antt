@@ -40,7 +40,7 @@ pub record Ordered (g : Geometry) (m : Mem) : Type 0 where
 
 -- ---- the parts of consistency that the abstract machine does not see
 
-pub record QueuedOk (g : Geometry) (m : Mem) : Type 0 where
+pub record EntriesOk (g : Geometry) (m : Mem) : Type 0 where
   pub named : (i : ℕ) → i < traceCount m → 1 ≤ traceWord m i
   pub bits : (at : ℕ) → IsEntry m at → entered g m at ≡ 1
   pub number : traceCount m ≤ onesAmong (bitAt (m .marks)) (g .segments * mostBlocks g)
@@ -60,7 +60,7 @@ pub record Structure (g : Geometry) (m : Mem) : Type 0 where
   pub freeSegments : StackOk g m freeStack (isFree m)
   pub partSegments : (c : ℕ) → IsClass c → StackOk g m (partStack c) (isPart m c)
   pub records : (at : ℕ) → Live m at → RecordOk g m at
-  pub trace : QueuedOk g m
+  pub trace : EntriesOk g m
   pub marks : MarksIn (phase m) g m
 
 -- the parts that are left out of both: `Behind`, and this

@@ -7,13 +7,14 @@ use Prim.Native.Nat.{ℕ}
 use native.Mathlib.Omega.{arith}
 use lib.Dec.{eqb}
 use borrow.Author.Tests.{eq-eqb, ne-eqb, eqb-true, eqb-false}
+use Rattle.layout.specs.Geometry.{markBit}
 use Rattle.words.proofs.Word.{zero-of-not-one}
 use Rattle.words.proofs.Lists.{at-lt}
 use Rattle.layout.specs.declared.Geometry.{Geometry}
 use Rattle.layout.specs.Mem.{Mem}
 use Rattle.theory.specs.Reach.{Protected, root, next}
 use Rattle.theory.proofs.Graph.{reach-ind}
-use Rattle.model.specs.Records.{recordBit, entered, marked}
+use Rattle.model.specs.Records.{entered, marked}
 use Rattle.model.specs.Reaching.{IsEntry, PointsTo, Live, Covered, isMarked}
 use Rattle.laws.proofs.Marked.{entry-unmarked, entered-as, marked-entered, unentered}
 use Rattle.searching.specs.Graph.{ByEntry}
@@ -44,7 +45,7 @@ module _ (g : Geometry) (m : Mem) where
       first x (inr n) = next (root (n .1)) (entry-white (n .0) (n .1), n .2)
 
       white : (x : ℕ) → isEntered g m x ≡ false → isMarked g m x ≡ false
-      white x e = ap (λ z. eqb z 1) (unentered g m x (zero-of-not-one _ (at-lt (m .marks) (recordBit g m x)) (eqb-false _ _ e)))
+      white x e = ap (λ z. eqb z 1) (unentered g m x (zero-of-not-one _ (at-lt (m .marks) (markBit x)) (eqb-false _ _ e)))
 
   -- covered, by the bits
   pub covered-bits : (x : ℕ) → Covered g m x → (entered g m x ≡ 1) ⊎ Protected (ByEntry m) (isEntered g m) (PointsTo m) x

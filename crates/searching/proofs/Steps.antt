@@ -16,11 +16,11 @@ use Rattle.words.proofs.Word.{zero-of-not-one, bit-zero}
 use Rattle.words.proofs.Lists.{at-lt, bit-split, bits-same, set-there, set-elsewhere, length-setBit}
 use Rattle.words.proofs.Counts.{lt-of}
 use Rattle.layout.specs.declared.Geometry.{Geometry}
-use Rattle.layout.specs.Geometry.{len}
+use Rattle.layout.specs.Geometry.{len, markBit}
 use Rattle.layout.specs.Mem.{Mem}
 use Rattle.layout.proofs.Sizes.{mark-word}
 use Rattle.theory.specs.Reach.{root}
-use Rattle.model.specs.Records.{pointerCount, recordBit}
+use Rattle.model.specs.Records.{pointerCount}
 use Rattle.searching.proofs.Covering.{isEntered}
 use Rattle.model.specs.Consistent.{RecordOk}
 use Rattle.laws.proofs.Blocks.{bit-below, same-bit}
@@ -52,9 +52,9 @@ set-word s k j d = getD-set-other s (k / 32) j (withBit (getD s (k / 32) 0) (k %
 pub bit-word : (g : Geometry) (k : ℕ) → k < len g Region.trace → k / 32 < len g Region.marks
 bit-word g k l = mark-word g k l
 
-module _ (g : Geometry) (m : Mem) (s : List ℕ) (top at k : ℕ) (f : Valid (recordsOf g m) (stateOf g s top)) (ok : RecordOk g m at) (ek : k ≡ recordBit g m at) where
-  here : (bitAt s k ≡ 1 → ⊥) → bitAt s (recordBit g m at) ≡ 0
-  here d = zero-of-not-one (bitAt s (recordBit g m at)) (at-lt s (recordBit g m at)) (λ e. d (ap (bitAt s) ek ∙ e))
+module _ (g : Geometry) (m : Mem) (s : List ℕ) (top at k : ℕ) (f : Valid (recordsOf g m) (stateOf g s top)) (ok : RecordOk g m at) (ek : k ≡ markBit at) where
+  here : (bitAt s k ≡ 1 → ⊥) → bitAt s (markBit at) ≡ 0
+  here d = zero-of-not-one (bitAt s (markBit at)) (at-lt s (markBit at)) (λ e. d (ap (bitAt s) ek ∙ e))
 
   pub enter-room : (bitAt s k ≡ 1 → ⊥) → top < len g Region.trace
   enter-room d = push-room (placed g m) f at ok (here d)

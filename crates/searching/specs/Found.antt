@@ -5,10 +5,10 @@ use mathlib.Core.List.{List}
 use Prim.Native.Nat.{ℕ, _*_, _<_}
 use Rattle.words.specs.Bits.{bitAt}
 use Rattle.layout.specs.declared.Geometry.{Geometry}
-use Rattle.layout.specs.Geometry.{mostBlocks}
+use Rattle.layout.specs.Geometry.{mostBlocks, markBit}
 use Rattle.layout.specs.Mem.{Mem}
 use Rattle.theory.specs.Reach.{Protected}
-use Rattle.model.specs.Records.{recordBit, entered}
+use Rattle.model.specs.Records.{entered}
 use Rattle.model.specs.Reaching.{PointsTo}
 use lib.Dec.{eqb}
 use Rattle.model.specs.Consistent.{RecordOk}
@@ -18,8 +18,8 @@ use Rattle.searching.specs.Graph.{recordsOf, ByEntry}
 -- every record of the set passes the test, and a bit is 1 exactly when it is that of a record of the set
 pub record BitsOf (g : Geometry) (m : Mem) (Set : ℕ → Type 0) (bits : List ℕ) : Type 0 where
   pub passes : (at : ℕ) → Set at → RecordOk g m at
-  pub found : (at : ℕ) → Set at → bitAt bits (recordBit g m at) ≡ 1
-  pub only : (at : ℕ) → RecordOk g m at → bitAt bits (recordBit g m at) ≡ 1 → Set at
+  pub found : (at : ℕ) → Set at → bitAt bits (markBit at) ≡ 1
+  pub only : (at : ℕ) → RecordOk g m at → bitAt bits (markBit at) ≡ 1 → Set at
   pub records : (k : ℕ) → k < g .segments * mostBlocks g → bitAt bits k ≡ 1 → At (recordsOf g m) k
 
 -- a record of the set that fails the test

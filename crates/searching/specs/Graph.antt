@@ -7,10 +7,10 @@ use Prim.Native.Nat.{ℕ, suc, _+_, _*_, _≤_, _<_}
 use lib.ListN.{getD}
 use Rattle.rules.specs.Pick.{pick}
 use Rattle.layout.specs.declared.Geometry.{Geometry}
-use Rattle.layout.specs.Geometry.{mostBlocks, len, mutatorWords, rootCount}
+use Rattle.layout.specs.Geometry.{mostBlocks, len, mutatorWords, rootCount, markBit}
 use Rattle.layout.specs.Mem.{Mem}
 use Rattle.model.specs.Fields.{traceCount, absent, state}
-use Rattle.model.specs.Records.{pointerCount, recordBit, entered}
+use Rattle.model.specs.Records.{pointerCount, entered}
 use lib.Dec.{eqb}
 use Rattle.model.specs.Reaching.{IsEntry, PointsTo}
 use Rattle.model.specs.Consistent.{RecordOk}
@@ -22,7 +22,7 @@ use Rattle.searching.specs.declared.Source.the-variants.{Roots, Pointers
 use Rattle.layout.specs.Region as Region
 
 abbrev pub recordsOf : Geometry → Mem → Nodes
-recordsOf g m = record { size = g .segments * mostBlocks g; Ok = RecordOk g m; place = recordBit g m }
+recordsOf g m = record { size = g .segments * mostBlocks g; Ok = RecordOk g m; place = markBit }
 
 -- how many pointers of a record are followed: all of them, or, of one whose bit is 1, none
 abbrev pub followed : Edges → Geometry → Mem → ℕ → ℕ

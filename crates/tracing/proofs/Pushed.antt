@@ -10,10 +10,10 @@ use lib.Bits.{bitOr}
 use borrow.Author.Tests.{eq-eqb, ne-eqb}
 use Rattle.words.specs.Bits.{bitAt, setBit}
 use Rattle.layout.specs.declared.Geometry.{Geometry}
-use Rattle.layout.specs.Geometry.{len}
+use Rattle.layout.specs.Geometry.{len, markBit}
 use Rattle.layout.specs.Mem.{Mem, markWord, setMarkWord, setTrace, setControl}
 use Rattle.model.specs.Fields.{traceCount}
-use Rattle.model.specs.Records.{record?, recordBit}
+use Rattle.model.specs.Records.{record?}
 use Rattle.model.specs.Tracing.{push}
 use Rattle.model.specs.declared.Duty.{Duty}
 use Rattle.tracing.specs.declared.Bit.the-variants.{At, Torn}
@@ -67,7 +67,7 @@ marked-bit m k x e m′ u = u ∙ ap (setMarkWord m (k / 32)) (mask-or x (k % 32
 
 -- ---- a push of a word
 
-pushed-is : (g : Geometry) (m : Mem) (at k : ℕ) → k ≡ recordBit g m at → pushedBit m (suc at) k ≡ push g m (some at)
+pushed-is : (g : Geometry) (m : Mem) (at k : ℕ) → k ≡ markBit at → pushedBit m (suc at) k ≡ push g m (some at)
 unfolding push pushedBit withMark records.setEntered
 pushed-is g m at k e = rw e refl
 

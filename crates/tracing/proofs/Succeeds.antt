@@ -12,10 +12,10 @@ use Rattle.words.proofs.Word.{zero-of-not-one}
 use Rattle.words.proofs.Counts.{zero-less}
 use Rattle.words.proofs.Lists.{at-lt}
 use Rattle.layout.specs.declared.Geometry.{Geometry}
-use Rattle.layout.specs.Geometry.{mostBlocks, markWords, len}
+use Rattle.layout.specs.Geometry.{mostBlocks, markWords, len, markBit}
 use Rattle.layout.specs.Mem.{Mem}
 use Rattle.model.specs.Fields.{traceCount}
-use Rattle.model.specs.Records.{record?, recordBit, entered}
+use Rattle.model.specs.Records.{record?, entered}
 use Rattle.model.specs.Tracing.{push}
 use Rattle.model.specs.Consistent.{RecordOk, Consistent}
 use Rattle.laws.proofs.Blocks.{bit-below}
@@ -32,15 +32,15 @@ module _ (g : Geometry) (m : Mem) (number : Counted g m) where
   module _ (at : ℕ) (r : RecordOk g m at) where
     pub has-bit : recordBitAt g at ≡ Torn → ⊥
     unfolding recordBitAt
-    has-bit e = let z : At (recordBit g m at) ≡ Torn = sym placed ∙ e in true≢false (ap isAt z)
+    has-bit e = let z : At (markBit at) ≡ Torn = sym placed ∙ e in true≢false (ap isAt z)
       where
-        placed : recordBitAt g at ≡ At (recordBit g m at)
+        placed : recordBitAt g at ≡ At (markBit at)
         placed = rw (lt-ltb _ _ (r .inside)) refl
 
     room : (entered g m at ≡ 1 → ⊥) → traceCount m < len g Region.trace
     room f =
         let b = bit-below g m at (class-of g m at r) (r .inside) in
-        let h = zero-less (bitAt (m .marks)) (at-lt (m .marks)) (g .segments * mostBlocks g) (recordBit g m at) b (zero-of-not-one _ (at-lt (m .marks) (recordBit g m at)) f) in
+        let h = zero-less (bitAt (m .marks)) (at-lt (m .marks)) (g .segments * mostBlocks g) (markBit at) b (zero-of-not-one _ (at-lt (m .marks) (markBit at)) f) in
         omega arith
 
   pub succeeds : (w : ℕ) → ((at : ℕ) → w ≡ suc at → RecordOk g m at) → PushFails g m w → ⊥
