@@ -99,12 +99,17 @@
 //!
 //! [`Heap`] and [`Mutator`] take typed numbers: an opened heap's calls are not refused 2 or 6, and 1 only where the output or scratch of
 //! a look has another length (or the memory does not lend the same words each time). [`raw`] has every call over slices and plain numbers, with every refusal. The crate is `no_std`. The
-//! feature `alloc`, on by default, adds `Heap::new`, which owns its memory.
+//! feature `alloc`, on by default, adds `Heap::new`, which owns its memory. The feature `port` says that the library linked is one
+//! of bindings/port/build, whose wrappers widen the lengths: it is asked for where usize has 32 bits (docs/PORTS.md).
 //!
 //! An answer that is none of document 01's cannot come from the library; that is proved of it. Were one to come, from another
 //! library, this crate would take it for [`Refusal::Torn`].
 
 #![no_std]
+
+// The library's own lengths have 64 bits: over the plain library a 32-bit caller would silently pass its arguments wrongly.
+#[cfg(all(any(target_pointer_width = "16", target_pointer_width = "32"), not(feature = "port")))]
+compile_error!("usize has not 64 bits: link the library that bindings/port/build makes for this target, with the feature \"port\"");
 
 #[cfg(feature = "alloc")]
 extern crate alloc;
