@@ -93,7 +93,8 @@
 //! [`Heap::start`] when segments have become full, then a few [`Heap::step`]s between the mutators' calls until one answers
 //! [`Step::Done`]. A cycle needs the mutators: each one that is inside must [`check`](Mutator::check) now and then, or
 //! [`leave`](Mutator::leave) when it will be away for long. [`Heap::finish_cycle`] runs a cycle to its end in one call, which is the
-//! pause that steps avoid.
+//! pause that steps avoid. A [`Pacer`] does all of it after each make: it decides when a cycle begins, and takes a bounded number of
+//! steps (`examples/paced.rs`).
 //!
 //! # Layers and features
 //!
@@ -120,6 +121,7 @@ mod heap;
 mod looks;
 mod mutator;
 mod numbers;
+mod pacer;
 pub mod raw;
 mod refusal;
 mod segments;
@@ -130,8 +132,13 @@ pub use heap::Heap;
 pub use looks::{Phase, SegmentState, States};
 pub use mutator::Mutator;
 pub use numbers::{MutatorId, Root, Shape};
+pub use pacer::Pacer;
 pub use refusal::{NoRefusal, Refusal, Refused, Result};
 pub use segments::Segments;
+
+/// The number of the layout of the lent words, as include/borvukhai.h has it (`BORVUKHAI_LAYOUT`). A landing that moves a word raises it:
+/// keep it beside memory that outlives a restart, and take up only memory of the same number.
+pub const LAYOUT: u32 = 1;
 
 /// The Rust example of bindings/README.md, so that it is run.
 #[cfg(doctest)]
