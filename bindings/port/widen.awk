@@ -4,7 +4,7 @@
 # takes 32-bit lengths and widens them (a length that is answered is at most 6 million and is cut). extend: what the target's C convention says
 # of a 32-bit result in a wider register (signext on riscv64), or nothing.
 
-function exported(line) { return line ~ /^define [a-z0-9 ]*@borvukhai_[a-z_]+\(/ }
+function exported(line) { return line ~ /^define [a-z0-9_ ]*@borvukhai_[a-z_]+\(/ }
 
 function name_of(line) { match(line, /@borvukhai_[a-z_]+/); return substr(line, RSTART + 1, RLENGTH - 1) }
 
@@ -18,6 +18,7 @@ function parameters_of(line,    from, rest) {
 
 function wrapper(line,    name, result, count, given, k, word, n, type, taken, body, passed, answer) {
     name = name_of(line); result = result_of(line); answer = name ~ /_length$/ ? "i32" : result
+    if (parameters_of(line) ~ /[()]/) { print "port: the parameters of " name " are not plain numbers and pointers" >"/dev/stderr"; exit bad = 1 }
     count = split(parameters_of(line), given, /, /)
     for (k = 1; k <= count; k++) {
         n = split(given[k], word, " "); type = word[1]
@@ -37,4 +38,4 @@ exported($0) && bits == 32 {
 }
 exported($0) && extend != "" { sub(/i32 @borvukhai_/, extend " &") }
 { print }
-END { printf "\n%s", added }
+END { if (bad) exit bad; printf "\n%s", added }
