@@ -1,5 +1,5 @@
-/* The trap of a 32-bit target: one call, whose length and mutator a plain library reads wrongly and a widened one rightly.
- * The number that it ends with is the refusal of an attach that nothing refuses. */
+/* The trap of a 32-bit target: one call, whose length and mutator a plain library reads wrongly and a widened one
+ * rightly. The number that it ends with is the refusal of an attach that nothing refuses. */
 #include "borvukhai.h"
 
 #define SEGMENTS 1u

@@ -1,6 +1,6 @@
-/* The same calls on every processor: a list that follows from one seed, by four mutators and the collector, with looks and refusals among them.
- * After each part of it, one line: two hashes, of every answer so far and of the lent slice as it is. No C library.
- * A program that has this gives `say`, which writes a text, and calls `play`. */
+/* The same calls on every processor: a list that follows from one seed, by four mutators and the collector, with looks
+ * and refusals among them. After each part of it, one line: two hashes, of every answer so far and of the lent slice.
+ * No C library. A program that has this gives `say`, which writes a text, and calls `play`. */
 #ifndef PLAY_H
 #define PLAY_H
 

@@ -1,8 +1,9 @@
 # Makes the exported functions of the module those of the target's C interface.
 #   awk -v bits=32 -v extend=ATTRIBUTE -f widen.awk MODULE.ll
-# bits=32: size_t has 32 bits, and the module's lengths have 64. Each exported function becomes internal, and one around it under its name
-# takes 32-bit lengths and widens them (a length that is answered is at most 6 million and is cut). extend: what the target's C convention says
-# of a 32-bit result in a wider register (signext on riscv64), or nothing.
+# bits=32: size_t has 32 bits, and the module's lengths have 64. Each exported function becomes internal, and one
+# around it under its name takes 32-bit lengths and widens them (a length that is answered is at most 6 million and is
+# cut). extend: what the target's C convention says of a 32-bit result in a wider register (signext on riscv64), or
+# nothing.
 
 function exported(line) { return line ~ /^define [a-z0-9_ ]*@borvukhai_[a-z_]+\(/ }
 

@@ -1,6 +1,7 @@
-//! Finds libborvukhai.a and links it: in the folder that BORVUKHAI_LIB_DIR names; else, for x86-64, in target/staticlib/ at the top of the
-//! repository, where `rt staticlib borvukhai` is run if the library is missing or older than a source, and the toolchain is on the
-//! path; else in target/port/TARGET/, where bindings/port/build puts it.
+//! Finds libborvukhai.a and links it: in the folder that BORVUKHAI_LIB_DIR names; else, for x86-64, in
+//! target/staticlib/ at the top of the repository, where `rt staticlib borvukhai` is run if the library is missing or
+//! older than a source, and the toolchain is on the path; else in target/port/TARGET/, where bindings/port/build puts
+//! it.
 
 use std::env;
 use std::path::{Path, PathBuf};
@@ -53,7 +54,8 @@ fn built(top: &Path) -> PathBuf {
     folder
 }
 
-/// Proves the library and writes it. A toolchain that is not there, or fails, leaves the folder as it is. Its output is no word to cargo.
+/// Proves the library and writes it. A toolchain that is not there, or fails, leaves the folder as it is. Its output
+/// is no word to cargo.
 fn prove(top: &Path) {
     println!("cargo::warning=proving libborvukhai.a: `rt staticlib borvukhai` takes minutes where crates are not proved yet");
     let begun = Instant::now();

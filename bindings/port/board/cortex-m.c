@@ -1,4 +1,5 @@
-/* The start of a Cortex-M: the vectors, and the debugger's call by its breakpoint. A fault ends the emulator with status 3. */
+/* The start of a Cortex-M: the vectors, and the debugger's call by its breakpoint. A fault ends the emulator with
+ * status 3. */
 #include "board.h"
 
 void reset(void);

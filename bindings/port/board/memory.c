@@ -1,4 +1,5 @@
-/* What the library asks of a C library, for a program that has none: memset, and what a compiler for a board may put in its place. */
+/* What the library asks of a C library, for a program that has none: memset, and what a compiler for a board may put in
+ * its place. */
 #include <stddef.h>
 #include <stdint.h>
 

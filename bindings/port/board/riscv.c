@@ -1,4 +1,5 @@
-/* The start of a RISC-V core, and the debugger's call by its three instructions. A trap ends the emulator with status 3. */
+/* The start of a RISC-V core, and the debugger's call by its three instructions. A trap ends the emulator with
+ * status 3. */
 #include "board.h"
 
 __attribute__((naked, section(".vectors"), used)) void reset(void) {

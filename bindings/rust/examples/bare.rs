@@ -1,5 +1,5 @@
-//! A program without an allocator: static memory, a main loop, and an interrupt that leaves its wish to that loop. It keeps the last EVENTS
-//! events as a list of records; a pacer takes two steps after each event.
+//! A program without an allocator: static memory, a main loop, and an interrupt that leaves its wish to that loop. It
+//! keeps the last EVENTS events as a list of records; a pacer takes two steps after each event.
 //!
 //! Only core and this crate are used. A board has its own start and panic handler; here std lends them.
 #![no_std]

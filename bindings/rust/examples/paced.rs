@@ -1,8 +1,9 @@
-//! A heap kept in room by pacing: ten million calls of a mutator over 8 segments, records of three classes in a steady mix, half of
-//! the heap alive, and never a make refused NoRoom. After each make the collector does at most STEPS steps ([`Pacer`]).
+//! A heap kept in room by pacing: ten million calls of a mutator over 8 segments, records of three classes in a
+//! steady mix, half of the heap alive, and never a make refused NoRoom. After each make the collector does at most
+//! STEPS steps ([`Pacer`]).
 //!
-//! The live records hang on two directories of directories; each turn replaces one of them at random. `paced late` is the trap: a cycle
-//! begins when a make is refused, and runs to its end while the mutator waits.
+//! The live records hang on two directories of directories; each turn replaces one of them at random. `paced late` is
+//! the trap: a cycle begins when a make is refused, and runs to its end while the mutator waits.
 
 use std::time::Instant;
 

@@ -1,8 +1,9 @@
 //! Memory that outlives the program: saved in the middle of a cycle, loaded by another run, examined, and used on.
 //! `restart save FILE` fills a heap and saves it while a cycle marks; `restart load FILE` takes it up.
 //!
-//! Nothing is kept beside the lent words: which events the list has is read from the list. The file is examples/restart.c's: the layout's
-//! number, the count of segments, the words. One of another layout or count, or one that fails the examination, is refused.
+//! Nothing is kept beside the lent words: which events the list has is read from the list. The file is
+//! examples/restart.c's: the layout's number, the count of segments, the words. One of another layout or count, or
+//! one that fails the examination, is refused.
 
 use std::error::Error;
 use std::{env, fs};

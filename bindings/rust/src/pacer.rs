@@ -8,15 +8,16 @@ use crate::looks::{Phase, SegmentState};
 use crate::numbers::{MutatorId, Root, Shape};
 use crate::refusal::Result;
 
-/// Runs the collector beside the makes: at most so many steps after each of them, and a cycle begun as late as that pace allows, so that
-/// it finds the most to free. docs/PACING.md says why and when this holds.
+/// Runs the collector beside the makes: at most so many steps after each of them, and a cycle begun as late as that
+/// pace allows, so that it finds the most to free. docs/PACING.md says why and when this holds.
 ///
-/// It counts the blocks in use of each class (makes, less what sweeps freed), as no call answers them, and looks at the segments'
-/// states now and then, through an output that it keeps. So it has two bounds: the makes that are certain to find room, whatever classes
-/// they have, and the steps that a cycle begun now can take. Once the makes times the pace are no more than the steps, it starts a cycle.
+/// It counts the blocks in use of each class (makes, less what sweeps freed), as no call answers them, and looks at
+/// the segments' states now and then, through an output that it keeps. So it has two bounds: the makes that are
+/// certain to find room, whatever classes they have, and the steps that a cycle begun now can take. Once the makes
+/// times the pace are no more than the steps, it starts a cycle.
 ///
-/// Every make, and every step of the heap, goes through it. Records of a class that is no longer made may lie dead in segments that are
-/// not full, which no cycle collects: such a mix no pace can hold.
+/// Every make, and every step of the heap, goes through it. Records of a class that is no longer made may lie dead in
+/// segments that are not full, which no cycle collects: such a mix no pace can hold.
 ///
 /// ```
 /// use borvukhai::{Heap, MutatorId, Pacer, Root, Segments, Shape};
@@ -127,10 +128,11 @@ impl<O> fmt::Debug for Pacer<O> {
 }
 
 impl<O: AsRef<[u32]> + AsMut<[u32]>> Pacer<O> {
-    /// A pacer of a heap that was opened, or taken up from memory, in a cycle or not: there every block that may be in use counts so until
-    /// a sweep says more. `output` has [`Segments::states_length`](crate::Segments::states_length) words, `steps` is the most after a make,
-    /// and `mutators` how many are inside at most, each of which checks after its makes. Refused Size where the output has another
-    /// length, and Torn.
+    /// A pacer of a heap that was opened, or taken up from memory, in a cycle or not: there every block that may be
+    /// in use counts so until a sweep says more. `output` has
+    /// [`Segments::states_length`](crate::Segments::states_length) words, `steps` is the most after a make, and
+    /// `mutators` how many are inside at most, each of which checks after its makes. Refused Size where the output
+    /// has another length, and Torn.
     pub fn new<M: AsRef<[u32]> + AsMut<[u32]>>(heap: &Heap<M>, output: O, steps: u32, mutators: u32) -> Result<Pacer<O>> {
         let running = heap.phase()? != Phase::Idle;
         let delay = mutators.saturating_mul(2);
@@ -144,8 +146,8 @@ impl<O: AsRef<[u32]> + AsMut<[u32]>> Pacer<O> {
         self.running
     }
 
-    /// A make, a check by the mutator that made, and the collector's share. Refused as [`make`](crate::Mutator::make) is; then neither
-    /// follows.
+    /// A make, a check by the mutator that made, and the collector's share. Refused as [`make`](crate::Mutator::make)
+    /// is; then neither follows.
     pub fn make<M: AsRef<[u32]> + AsMut<[u32]>>(&mut self, heap: &mut Heap<M>, id: MutatorId, to: Root, shape: Shape) -> Result<()> {
         let mut mutator = heap.mutator(id);
         mutator.make(to, shape)?;
@@ -153,7 +155,8 @@ impl<O: AsRef<[u32]> + AsMut<[u32]>> Pacer<O> {
         self.made(heap, shape)
     }
 
-    /// The collector's share after a make that was done elsewhere: at most so many steps as [`new`](Pacer::new) was told.
+    /// The collector's share after a make that was done elsewhere: at most so many steps as [`new`](Pacer::new) was
+    /// told.
     pub fn made<M: AsRef<[u32]> + AsMut<[u32]>>(&mut self, heap: &mut Heap<M>, shape: Shape) -> Result<()> {
         if let Some(in_use) = shape.class().and_then(|class| self.in_use.get_mut(class as usize)) {
             if *in_use == 0 {
@@ -182,7 +185,8 @@ impl<O: AsRef<[u32]> + AsMut<[u32]>> Pacer<O> {
         Ok(())
     }
 
-    /// The states, and how many makes may pass before the next look: each takes one of the room and adds one to the work.
+    /// The states, and how many makes may pass before the next look: each takes one of the room and adds one to the
+    /// work.
     fn look<M: AsRef<[u32]> + AsMut<[u32]>>(&mut self, heap: &Heap<M>) -> Result<Look> {
         let mut look = Look::default();
         heap.states(self.output.as_mut())?.for_each(|state| look.see(state));
@@ -195,7 +199,8 @@ impl<O: AsRef<[u32]> + AsMut<[u32]>> Pacer<O> {
         Ok(look)
     }
 
-    /// Makes that are certain to find room: the least that a class has of its own, and of the free segments those beyond one for each.
+    /// Makes that are certain to find room: the least that a class has of its own, and of the free segments those
+    /// beyond one for each.
     fn room(&self, look: &Look) -> u32 {
         let made = (0..CLASSES).filter(|&class| self.in_use[class] != 0);
         let least = made.clone().map(|class| look.classes[class].own(self.in_use[class])).min();

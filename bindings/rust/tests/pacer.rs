@@ -1,5 +1,5 @@
-//! The pacer: never a make refused NoRoom in a steady mix, whatever the order of the turns, with several mutators, and after a restart in
-//! the middle of a cycle; and the trap without it.
+//! The pacer: never a make refused NoRoom in a steady mix, whatever the order of the turns, with several mutators,
+//! and after a restart in the middle of a cycle; and the trap without it.
 #![cfg(feature = "alloc")]
 
 mod common;
@@ -118,7 +118,8 @@ fn after_a_restart() -> Result<()> {
     Ok(())
 }
 
-/// Which mix no pace can hold: segments of a class that is no longer made, not full and all dead, are in no collect set.
+/// Which mix no pace can hold: segments of a class that is no longer made, not full and all dead, are in no collect
+/// set.
 #[test]
 fn a_class_that_is_no_longer_made() -> Result<()> {
     const TWO: Segments = Segments::new(2).unwrap();
