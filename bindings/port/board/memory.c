@@ -22,9 +22,12 @@ void *memcpy(void *to, const void *from, size_t count) {
 }
 
 #ifdef __ARM_EABI__
-/* The names and orders of ARM's run-time interface. */
-void __aeabi_memset4(void *to, size_t count, int byte) { memset(to, byte, count); }
-void __aeabi_memclr4(void *to, size_t count) { memset(to, 0, count); }
-void __aeabi_memcpy(void *to, const void *from, size_t count) { memcpy(to, from, count); }
-void __aeabi_memcpy4(void *to, const void *from, size_t count) { memcpy(to, from, count); }
+/* The names and orders of ARM's run-time interface, for any alignment and for those of 4 and 8. */
+#define ARM(what)                                                                                       \
+    void __aeabi_memset##what(void *to, size_t count, int byte) { memset(to, byte, count); }            \
+    void __aeabi_memclr##what(void *to, size_t count) { memset(to, 0, count); }                         \
+    void __aeabi_memcpy##what(void *to, const void *from, size_t count) { memcpy(to, from, count); }
+ARM()
+ARM(4)
+ARM(8)
 #endif
