@@ -19,9 +19,22 @@
 #include <stddef.h>
 #include <stdint.h>
 
+/* The library's own lengths have 64 bits. Where size_t has 32, a caller and the plain library would silently misread
+ * each other's arguments; the library that bindings/port/build makes has wrappers that widen them, and BORVUKHAI_PORT
+ * says that it is the one that is linked. */
+#if SIZE_MAX < 0xffffffffffffffffu && !defined(BORVUKHAI_PORT)
+#error "size_t has 32 bits: link the library that bindings/port/build makes for this target, and compile with -DBORVUKHAI_PORT"
+#endif
+
 #ifdef __cplusplus
 extern "C" {
 #endif
+
+/* The version of this interface, and the number of the layout of the lent slice. A landing that moves a word of the
+ * layout raises the number: lengths are compiled into callers, and memory may outlive a restart into a program that was
+ * linked with another library. CHANGELOG.md has an entry for each. */
+#define BORVUKHAI_VERSION "0.3.0"
+#define BORVUKHAI_LAYOUT 2u
 
 /* Refusals, by document 01's words. The lowest number that applies is given. On memory that passes the examination a refusal
  * changes no word, and is never BORVUKHAI_TORN. */
@@ -36,11 +49,53 @@ enum {
     BORVUKHAI_DARK = 7,      /* nil in the root whose record is wanted */
     BORVUKHAI_FIELD = 8,     /* the record has no such pointer or value */
     BORVUKHAI_TOO_BIG = 9,   /* make with more than 1,023 pointers and values together */
-    BORVUKHAI_NO_ROOM = 10,  /* make: no segment of the class has room for this mutator, and none is free */
+    BORVUKHAI_NO_ROOM = 10,  /* make: no segment of the class has room for this mutator, and none is free. Memory of
+                              * zeros that was never opened looks so too: attach is not refused, and every make is */
     BORVUKHAI_NOT_NOW = 11,  /* attach, spawn or detach in a handshake; start while a cycle runs */
     /* 12 is a number that no call gives: a start while no segment is full is not refused. */
     BORVUKHAI_TORN = 13      /* memory that fails the examination led the call astray */
 };
+
+/* The same three by this header's own terms. */
+enum {
+    BORVUKHAI_BAD_MUTATOR = BORVUKHAI_SCRIPT,
+    BORVUKHAI_BAD_ROOT = BORVUKHAI_SLOT,
+    BORVUKHAI_NIL = BORVUKHAI_DARK
+};
+
+/* A sentence for a refusal, for a log; "ok" for 0. */
+static inline const char *borvukhai_refusal_text(uint32_t number) {
+    switch (number) {
+    case BORVUKHAI_OK:
+        return "ok";
+    case BORVUKHAI_SIZE:
+        return "the segment count is not 1 to 256, or a slice is not of its length";
+    case BORVUKHAI_BAD_MUTATOR:
+        return "the mutator's number is over 31";
+    case BORVUKHAI_TAKEN:
+        return "the mutator's number is in use";
+    case BORVUKHAI_ABSENT:
+        return "the mutator is not attached";
+    case BORVUKHAI_SIDE:
+        return "the mutator is outside where it must be inside, or enters while it is inside";
+    case BORVUKHAI_BAD_ROOT:
+        return "the root's number is over 15";
+    case BORVUKHAI_NIL:
+        return "the root whose record is wanted is nil";
+    case BORVUKHAI_FIELD:
+        return "the record has no such pointer or value";
+    case BORVUKHAI_TOO_BIG:
+        return "a record has at most 1,023 pointers and values together";
+    case BORVUKHAI_NO_ROOM:
+        return "no segment of the record's class has room for this mutator, and none is free (or the memory was never opened)";
+    case BORVUKHAI_NOT_NOW:
+        return "a handshake runs, or a cycle that was to start runs already";
+    case BORVUKHAI_TORN:
+        return "the memory fails the examination and led the call astray";
+    default:
+        return "no refusal has this number";
+    }
+}
 
 /* Phases, as borvukhai_phase answers them. */
 enum {
@@ -74,10 +129,12 @@ enum {
 
 /* ---- lengths, in words */
 
-/* As constants, for arrays, of a count that is 1 to 256. */
-#define BORVUKHAI_LENGTH(segments) (6290u * (segments) + 1051u)
-#define BORVUKHAI_STATES_LENGTH(segments) (4u * (segments))
-#define BORVUKHAI_SCRATCH_LENGTH(segments) (2176u * (segments))
+/* Whether a number is a count of segments: 1 for 1 to 256, else 0. */
+#define BORVUKHAI_IS_COUNT(segments) ((segments) - 1u < 256u)
+/* As constants, for arrays; 0 for a count that is not 1 to 256, as the functions below. The argument is named twice. */
+#define BORVUKHAI_LENGTH(segments) (BORVUKHAI_IS_COUNT(segments) * (6290u * (segments) + 1051u))
+#define BORVUKHAI_STATES_LENGTH(segments) (BORVUKHAI_IS_COUNT(segments) * (4u * (segments)))
+#define BORVUKHAI_SCRATCH_LENGTH(segments) (BORVUKHAI_IS_COUNT(segments) * (2176u * (segments)))
 
 /* As functions, which answer 0 for a count that is not 1 to 256. The slice that every call is lent: 6290 n + 1051 words for n segments. */
 size_t borvukhai_length(uint32_t segments);
@@ -85,6 +142,16 @@ size_t borvukhai_length(uint32_t segments);
 size_t borvukhai_states_length(uint32_t segments);
 /* The scratch of borvukhai_examine: 2176 n words. */
 size_t borvukhai_scratch_length(uint32_t segments);
+
+/* ---- size classes, as constants */
+
+/* The class of a record by its pointers and values together: 3 to 12, or 0 for more than 1,023, which make refuses. */
+#define BORVUKHAI_CLASS_OF(fields) \
+    ((fields) <= 1 ? 3u : (fields) <= 3 ? 4u : (fields) <= 7 ? 5u : (fields) <= 15 ? 6u : (fields) <= 31 ? 7u \
+     : (fields) <= 63 ? 8u : (fields) <= 127 ? 9u : (fields) <= 255 ? 10u : (fields) <= 511 ? 11u \
+     : (fields) <= 1023 ? 12u : 0u)
+/* The blocks of a segment of a class, one record each: 2048 of class 3 down to 4 of class 12; 0 where it is no class. */
+#define BORVUKHAI_BLOCKS(number) ((number) - 3u < 10u ? 16384u >> (number) % 32u : 0u)
 
 /* ---- calls that answer 0 or a refusal */
 
@@ -146,7 +213,8 @@ uint64_t borvukhai_step(uint32_t segments, uint32_t *mem, size_t length);
 /* The phase. Refused SIZE, TORN. */
 uint64_t borvukhai_phase(uint32_t segments, const uint32_t *mem, size_t length);
 /* 1 where the memory is consistent, else 0, over memory of any content; the scratch, of borvukhai_scratch_length words, ends all 0.
- * Refused SIZE only, and then the scratch is unchanged. */
+ * Refused SIZE only, and then the scratch is unchanged. The result stands above the refusal, so consistent memory
+ * answers 2^32, and torn memory answers 0: test it with borvukhai_is_sound below, never with == 0. */
 uint64_t borvukhai_examine(uint32_t segments, const uint32_t *mem, size_t length, uint32_t *scratch, size_t scratch_length);
 
 /* ---- an answer of 64 bits taken apart */
@@ -164,6 +232,66 @@ static inline uint32_t borvukhai_step_kind(uint64_t answer) { return (uint32_t)(
 static inline uint32_t borvukhai_step_waiting(uint64_t answer) { return (uint32_t)(answer >> 40 & 0xffu); }
 static inline uint32_t borvukhai_step_segment(uint64_t answer) { return (uint32_t)(answer >> 40 & 0xffu); }
 static inline uint32_t borvukhai_step_freed(uint64_t answer) { return (uint32_t)(answer >> 48); }
+
+/* ---- the same calls with the refusal returned and the result written: where 0 is returned the result stands where the
+ * pointers show; where a refusal is, nothing was written there */
+
+/* 1 where the memory passes the examination, else 0, also where the count or a length is refused. */
+static inline int borvukhai_is_sound(uint32_t segments, const uint32_t *mem, size_t length, uint32_t *scratch,
+                                     size_t scratch_length) {
+    return borvukhai_examine(segments, mem, length, scratch, scratch_length) == (uint64_t)1 << 32;
+}
+
+/* The result of an answer, where it is not refused. */
+static inline uint32_t borvukhai_answer_to(uint64_t answer, uint32_t *result) {
+    if (borvukhai_refusal(answer) == BORVUKHAI_OK) {
+        *result = borvukhai_result(answer);
+    }
+    return borvukhai_refusal(answer);
+}
+
+/* get, the value; same, 0 or 1; phase, the phase. */
+static inline uint32_t borvukhai_get_to(uint32_t segments, const uint32_t *mem, size_t length, uint32_t mutator,
+                                        uint32_t root, uint32_t field, uint32_t *value) {
+    return borvukhai_answer_to(borvukhai_get(segments, mem, length, mutator, root, field), value);
+}
+static inline uint32_t borvukhai_same_to(uint32_t segments, const uint32_t *mem, size_t length, uint32_t mutator,
+                                         uint32_t root, uint32_t other, uint32_t *same) {
+    return borvukhai_answer_to(borvukhai_same(segments, mem, length, mutator, root, other), same);
+}
+static inline uint32_t borvukhai_phase_to(uint32_t segments, const uint32_t *mem, size_t length, uint32_t *phase) {
+    return borvukhai_answer_to(borvukhai_phase(segments, mem, length), phase);
+}
+
+/* shape, both counts. */
+static inline uint32_t borvukhai_shape_to(uint32_t segments, const uint32_t *mem, size_t length, uint32_t mutator,
+                                          uint32_t root, uint32_t *pointers, uint32_t *values) {
+    uint64_t answer = borvukhai_shape(segments, mem, length, mutator, root);
+    if (borvukhai_refusal(answer) == BORVUKHAI_OK) {
+        *pointers = borvukhai_pointers(answer);
+        *values = borvukhai_values(answer);
+    }
+    return borvukhai_refusal(answer);
+}
+
+/* step: what it did; a part that its kind does not have is 0. */
+struct borvukhai_stepped {
+    uint32_t kind;    /* BORVUKHAI_STEP_IDLE to BORVUKHAI_STEP_DONE */
+    uint32_t waiting; /* of a waiting one, the mutators waited for */
+    uint32_t segment; /* of a swept one, the segment */
+    uint32_t freed;   /* of a swept one, the blocks that became free */
+};
+static inline uint32_t borvukhai_step_to(uint32_t segments, uint32_t *mem, size_t length, struct borvukhai_stepped *stepped) {
+    uint64_t answer = borvukhai_step(segments, mem, length);
+    uint32_t swept = borvukhai_step_kind(answer) == BORVUKHAI_STEP_SWEPT;
+    if (borvukhai_refusal(answer) == BORVUKHAI_OK) {
+        stepped->kind = borvukhai_step_kind(answer);
+        stepped->waiting = stepped->kind == BORVUKHAI_STEP_WAITING ? borvukhai_step_waiting(answer) : 0;
+        stepped->segment = swept ? borvukhai_step_segment(answer) : 0;
+        stepped->freed = swept ? borvukhai_step_freed(answer) : 0;
+    }
+    return borvukhai_refusal(answer);
+}
 
 #ifdef __cplusplus
 }

@@ -38,10 +38,10 @@ static const char *const names[CALLS] = {"attach", "spawn", "detach", "make",  "
 static int checks;
 static int failures;
 
-static void expect(const char *what, const char *who, unsigned long got, unsigned long wanted) {
+static void expect(const char *what, const char *who, uint64_t got, uint64_t wanted) {
     checks++;
     if (got != wanted) {
-        fprintf(stderr, "%s %s: %lu, expected %lu\n", what, who, got, wanted);
+        fprintf(stderr, "%s %s: %llu, expected %llu\n", what, who, (unsigned long long)got, (unsigned long long)wanted);
         failures++;
     }
 }
@@ -279,7 +279,7 @@ static void torn(void) {
     fresh();
     memory[PHASE_AT] = BORVUKHAI_SWEEP + 1;
     expect("torn", "step", borvukhai_refusal(borvukhai_step(HEAP)), BORVUKHAI_TORN);
-    expect("torn", "phase", (unsigned long)borvukhai_phase(HEAP), BORVUKHAI_TORN);
+    expect("torn", "phase", borvukhai_phase(HEAP), BORVUKHAI_TORN);
     fresh();
     memory[TAG_AT] = BORVUKHAI_SEGMENT_CONDEMNED + 1;
     output[0] = MANY;
@@ -304,6 +304,9 @@ static void lengths(void) {
         expect("lengths", "memory", (unsigned long)borvukhai_length(none[i]), 0);
         expect("lengths", "output", (unsigned long)borvukhai_states_length(none[i]), 0);
         expect("lengths", "scratch", (unsigned long)borvukhai_scratch_length(none[i]), 0);
+        expect("lengths", "constant of the memory", BORVUKHAI_LENGTH(none[i]), 0);
+        expect("lengths", "constant of the output", BORVUKHAI_STATES_LENGTH(none[i]), 0);
+        expect("lengths", "constant of the scratch", BORVUKHAI_SCRATCH_LENGTH(none[i]), 0);
     }
 }
 
@@ -319,7 +322,7 @@ static void state(const char *who, uint32_t tag, uint32_t class_, uint32_t place
 }
 
 static void phase(uint32_t wanted) {
-    expect("phase", "of", (unsigned long)borvukhai_phase(HEAP), (unsigned long)((uint64_t)wanted << 32));
+    expect("phase", "of", borvukhai_phase(HEAP), (uint64_t)wanted << 32);
 }
 
 /* One step does this and leads to this phase. */
@@ -409,7 +412,7 @@ static void results(void) {
     full();
     ok("put", borvukhai_put(HEAP, 0, 2, 599, MANY));
     expect("get", "a large value", borvukhai_result(borvukhai_get(HEAP, 0, 2, 599)), MANY);
-    expect("same", "two records", (unsigned long)borvukhai_same(HEAP, 0, 0, 1), 0);
+    expect("same", "two records", borvukhai_same(HEAP, 0, 0, 1), 0);
     expect("same", "one record", borvukhai_result(borvukhai_same(HEAP, 0, 1, 1)), 1);
     expect("same", "nil and nil", borvukhai_result(borvukhai_same(HEAP, 0, 14, 15)), 1);
     answer = borvukhai_shape(HEAP, 0, 3);

@@ -93,18 +93,24 @@
 //! [`Heap::start`] when segments have become full, then a few [`Heap::step`]s between the mutators' calls until one answers
 //! [`Step::Done`]. A cycle needs the mutators: each one that is inside must [`check`](Mutator::check) now and then, or
 //! [`leave`](Mutator::leave) when it will be away for long. [`Heap::finish_cycle`] runs a cycle to its end in one call, which is the
-//! pause that steps avoid.
+//! pause that steps avoid. A [`Pacer`] does all of it after each make: it decides when a cycle begins, and takes a bounded number of
+//! steps (`examples/paced.rs`).
 //!
 //! # Layers and features
 //!
 //! [`Heap`] and [`Mutator`] take typed numbers: an opened heap's calls are not refused 2 or 6, and 1 only where the output or scratch of
 //! a look has another length (or the memory does not lend the same words each time). [`raw`] has every call over slices and plain numbers, with every refusal. The crate is `no_std`. The
-//! feature `alloc`, on by default, adds `Heap::new`, which owns its memory.
+//! feature `alloc`, on by default, adds `Heap::new`, which owns its memory. The feature `port` says that the library linked is one
+//! of bindings/port/build, whose wrappers widen the lengths: it is asked for where usize has 32 bits (docs/PORTS.md).
 //!
 //! An answer that is none of document 01's cannot come from the library; that is proved of it. Were one to come, from another
 //! library, this crate would take it for [`Refusal::Torn`].
 
 #![no_std]
+
+// The library's own lengths have 64 bits: over the plain library a 32-bit caller would silently pass its arguments wrongly.
+#[cfg(all(any(target_pointer_width = "16", target_pointer_width = "32"), not(feature = "port")))]
+compile_error!("usize has not 64 bits: link the library that bindings/port/build makes for this target, with the feature \"port\"");
 
 #[cfg(feature = "alloc")]
 extern crate alloc;
@@ -115,6 +121,7 @@ mod heap;
 mod looks;
 mod mutator;
 mod numbers;
+mod pacer;
 pub mod raw;
 mod refusal;
 mod segments;
@@ -125,8 +132,13 @@ pub use heap::Heap;
 pub use looks::{Phase, SegmentState, States};
 pub use mutator::Mutator;
 pub use numbers::{MutatorId, Root, Shape};
+pub use pacer::Pacer;
 pub use refusal::{NoRefusal, Refusal, Refused, Result};
 pub use segments::Segments;
+
+/// The number of the layout of the lent words, as include/borvukhai.h has it (`BORVUKHAI_LAYOUT`). A landing that moves a word raises it:
+/// keep it beside memory that outlives a restart, and take up only memory of the same number.
+pub const LAYOUT: u32 = 2;
 
 /// The Rust example of bindings/README.md, so that it is run.
 #[cfg(doctest)]

@@ -117,6 +117,19 @@ impl Shape {
         Shape { pointers, values }
     }
 
+    /// The class of a record of this shape, 3 to 12: its block has 2^class bytes. None where a make is refused
+    /// [`TooBig`](Refusal::TooBig).
+    pub const fn class(self) -> Option<u32> {
+        let mut class = 3;
+        while class <= 12 {
+            if self.pointers as u64 + (self.values as u64) < (1 << class) / 4 {
+                return Some(class);
+            }
+            class += 1;
+        }
+        None
+    }
+
     /// The upper 32 bits of the answer of shape: pointers above values, 16 bits each.
     pub(crate) const fn unpack(bits: u32) -> Shape {
         Shape { pointers: bits >> 16, values: bits & 0xffff }

@@ -27,7 +27,8 @@ pub enum Refusal {
     Field = 8,
     /// A make with more than 1,023 pointers and values together.
     TooBig = 9,
-    /// A make for which no segment of the class has room for this mutator, and none is free.
+    /// A make for which no segment of the class has room for this mutator, and none is free. Memory of zeros that was never opened, taken up
+    /// without examination, looks so too.
     NoRoom = 10,
     /// An attach, a spawn or a detach in a handshake, or a start while a cycle runs.
     NotNow = 11,
@@ -39,6 +40,13 @@ pub enum Refusal {
 pub type Result<T> = core::result::Result<T, Refusal>;
 
 impl Refusal {
+    /// [`Script`](Refusal::Script) by this crate's own term, as the header's `BORVUKHAI_BAD_MUTATOR`.
+    pub const BAD_MUTATOR: Refusal = Refusal::Script;
+    /// [`Slot`](Refusal::Slot) by this crate's own term, as the header's `BORVUKHAI_BAD_ROOT`.
+    pub const BAD_ROOT: Refusal = Refusal::Slot;
+    /// [`Dark`](Refusal::Dark) by this crate's own term, as the header's `BORVUKHAI_NIL`.
+    pub const NIL: Refusal = Refusal::Dark;
+
     /// Every refusal, in the order of the numbers.
     pub const ALL: [Refusal; 12] = [
         Refusal::Size,

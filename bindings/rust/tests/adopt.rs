@@ -48,6 +48,15 @@ fn another_length_is_refused() {
     assert_eq!(refused.refusal, Refusal::Size);
 }
 
+/// Zeros that nobody opened: a mutator attaches, and every make is refused NoRoom. The examination finds it.
+#[test]
+fn memory_that_was_never_opened() {
+    let mut heap = Heap::adopt_unexamined(ONE, vec![0; ONE.length()]).unwrap();
+    assert_eq!(heap.attach(id(0)).unwrap().make(Root::R0, Shape::new(1, 2)), Err(Refusal::NoRoom));
+    let refused = Heap::adopt(ONE, vec![0; ONE.length()], &mut [7; SCRATCH]).unwrap_err();
+    assert_eq!(refused.refusal, Refusal::Torn);
+}
+
 /// Numbers by a xorshift.
 struct Dice(u64);
 

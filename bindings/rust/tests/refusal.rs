@@ -31,6 +31,11 @@ fn numbers_and_words_of_document_01() {
 }
 
 #[test]
+fn second_names() {
+    assert_eq!([Refusal::BAD_MUTATOR, Refusal::BAD_ROOT, Refusal::NIL].map(Refusal::number), [2, 6, 7]);
+}
+
+#[test]
 fn other_numbers_are_no_refusal() {
     for number in [0, 12, 14, u32::MAX] {
         assert_eq!(Refusal::try_from(number), Err(NoRefusal(number)));

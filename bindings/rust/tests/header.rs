@@ -1,0 +1,29 @@
+//! What include/borvukhai.h and this crate both say: the version, the layout's number, and the classes of records.
+
+use borvukhai::{LAYOUT, Shape};
+
+const HEADER: &str = include_str!("../../../include/borvukhai.h");
+
+/// What the header defines a name to be.
+fn defined(name: &str) -> Option<&'static str> {
+    HEADER.lines().find_map(|line| line.strip_prefix("#define ")?.strip_prefix(name)?.strip_prefix(' '))
+}
+
+#[test]
+fn version_and_layout() {
+    assert_eq!(defined("BORVUKHAI_VERSION"), Some(concat!("\"", env!("CARGO_PKG_VERSION"), "\"")));
+    assert_eq!(defined("BORVUKHAI_LAYOUT"), Some(format!("{LAYOUT}u").as_str()));
+}
+
+/// Document 01's table, and numbers whose sum would wrap.
+#[test]
+fn classes() {
+    let table = [(0, 3), (1, 3), (2, 4), (3, 4), (4, 5), (511, 11), (512, 12), (1023, 12)];
+    for (fields, class) in table {
+        assert_eq!(Shape::new(0, fields).class(), Some(class));
+        assert_eq!(Shape::new(fields, 0).class(), Some(class));
+    }
+    for shape in [Shape::new(1023, 1), Shape::new(u32::MAX, 2), Shape::new(u32::MAX, u32::MAX)] {
+        assert_eq!(shape.class(), None);
+    }
+}
