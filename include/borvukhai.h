@@ -143,6 +143,13 @@ size_t borvukhai_states_length(uint32_t segments);
 /* The scratch of borvukhai_examine: 2176 n words. */
 size_t borvukhai_scratch_length(uint32_t segments);
 
+/* ---- the layout */
+
+/* The number of the layout that the library has, as BORVUKHAI_LAYOUT is this header's. Nothing is refused. */
+uint32_t borvukhai_layout(void);
+/* 1 where the two are the same, else 0: ask once, before the first call. Lengths of one layout are refused by another. */
+static inline int borvukhai_check_layout(void) { return borvukhai_layout() == BORVUKHAI_LAYOUT; }
+
 /* ---- size classes, as constants */
 
 /* The class of a record by its pointers and values together: 3 to 12, or 0 for more than 1,023, which make refuses. */

@@ -127,6 +127,13 @@ static void never_opened(void) {
     expect("after: the examination says so", (uint64_t)borvukhai_is_sound(HEAP, scratch, SCRATCH), 0);
 }
 
+/* A caller compiled for one layout and linked with a library of another: its lengths are refused at best. */
+static void another_layout(void) {
+    expect("before: words of another layout", borvukhai_open(SEGMENTS, memory, WORDS - 1), BORVUKHAI_SIZE);
+    expect("after: the library says its number", borvukhai_layout(), BORVUKHAI_LAYOUT);
+    expect("after: and the header compares it", (uint64_t)borvukhai_check_layout(), 1);
+}
+
 /* Every refusal has a sentence of its own. */
 static void texts(void) {
     uint32_t a, b;
@@ -179,6 +186,7 @@ int main(void) {
                  {"a step's parts", step_parts},
                  {"a length of no count", length_of_no_count},
                  {"memory that was never opened", never_opened},
+                 {"a library of another layout", another_layout},
                  {"texts and names", texts},
                  {"classes and blocks, as the library has them", classes}};
     size_t i;

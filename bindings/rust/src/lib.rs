@@ -140,6 +140,11 @@ pub use segments::Segments;
 /// keep it beside memory that outlives a restart, and take up only memory of the same number.
 pub const LAYOUT: u32 = 2;
 
+/// Whether the library that is linked has the layout of this crate: to be asked once, before the first call.
+pub fn check_layout() -> bool {
+    raw::layout() == LAYOUT
+}
+
 /// The Rust example of bindings/README.md, so that it is run.
 #[cfg(doctest)]
 #[doc = include_str!("../../README.md")]

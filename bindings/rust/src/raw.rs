@@ -32,6 +32,12 @@ pub fn scratch_length(segments: u32) -> usize {
     sys::borvukhai_scratch_length(segments)
 }
 
+/// The number of the layout that the library has: [`LAYOUT`](crate::LAYOUT) where it is this crate's.
+#[inline]
+pub fn layout() -> u32 {
+    sys::borvukhai_layout()
+}
+
 /// An empty heap in memory of any content. Refused Size only.
 #[inline]
 pub fn open(segments: u32, memory: &mut [u32]) -> Result<()> {

@@ -7,6 +7,7 @@ unsafe extern "C" {
     pub safe fn borvukhai_length(segments: u32) -> usize;
     pub safe fn borvukhai_states_length(segments: u32) -> usize;
     pub safe fn borvukhai_scratch_length(segments: u32) -> usize;
+    pub safe fn borvukhai_layout() -> u32;
 
     pub fn borvukhai_open(segments: u32, mem: *mut u32, length: usize) -> u32;
 

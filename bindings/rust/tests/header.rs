@@ -13,6 +13,7 @@ fn defined(name: &str) -> Option<&'static str> {
 fn version_and_layout() {
     assert_eq!(defined("BORVUKHAI_VERSION"), Some(concat!("\"", env!("CARGO_PKG_VERSION"), "\"")));
     assert_eq!(defined("BORVUKHAI_LAYOUT"), Some(format!("{LAYOUT}u").as_str()));
+    assert!(borvukhai::check_layout(), "the library has layout {}", borvukhai::raw::layout());
 }
 
 /// Document 01's table, and numbers whose sum would wrap.

@@ -2,9 +2,17 @@
 // packed in a number; `unpack` and its like in packing's specs say which answer a number stands for.
 ghost use mathlib.Core.Path.{_≡_};
 ghost use Rattle.theory.specs.Calls.{c-attach, c-spawn, c-detach, c-check, c-leave, c-enter, c-make, c-load, c-store, c-copy, c-clear, c-put, c-get, c-same, c-shape};
-ghost use Rattle.layout.specs.Geometry.{total, scratchWords};
+ghost use Rattle.layout.specs.Geometry.{layoutNumber, total, scratchWords};
 ghost use Rattle.model.specs.Promise.{Promise, OpenPromise, StartPromise, StepPromise, PhasePromise, StatesPromise, ExaminePromise};
 ghost use Rattle.packing.specs.Packed.{geometryOf, lengthFor, statesWords, unpack, unpackNumber, unpackSame, unpackShape, unpackStep, unpackPhase, unpackExamined};
+
+// The number of the layout of the lent words.
+#[no_mangle]
+pub extern "C" fn borvukhai_layout() -> u32
+    ensures { λ r. ⌜ r ≡ layoutNumber ⌝ }
+{
+    layout::LAYOUT_NUMBER
+}
 
 // The words of the slice to lend for so many segments; 0 for a number that is not 1 to 256.
 #[no_mangle]

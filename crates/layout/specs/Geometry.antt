@@ -91,6 +91,10 @@ from g k = start (lens g) k
 abbrev pub regionCount : ℕ
 regionCount = 8
 
+-- the number of this layout: a change that moves a word of the lent slice raises it
+abbrev pub layoutNumber : ℕ
+layoutNumber = 2
+
 -- the length of the lent slice
 abbrev pub total : Geometry → ℕ
 total g = from g regionCount

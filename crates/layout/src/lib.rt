@@ -17,6 +17,9 @@ pub struct Geometry {
     pub segments: usize,
 }
 
+// The number of this layout: a change that moves a word of the lent slice raises it.
+pub const LAYOUT_NUMBER: u32 = 2;
+
 pub const MUTATORS: u32 = 32;
 
 pub const ROOTS: u32 = 16;
