@@ -39,7 +39,8 @@ pub fn tweak(rng: &mut Rng, memory: &mut [u32], base: &[u32], segments: u32) {
                 let stack = layout::regions(segments)[4] + rng.below(11) as usize * (1 + segments as usize);
                 exchange(rng, memory, stack, stack + 1);
             }
-            4 | 5 => set_bits(rng, memory, layout::regions(segments)[6], segments),
+            4 => set_bits(rng, memory, layout::regions(segments)[6], segments),
+            5 => memory[layout::CURSOR] = rng.below(segments + 2),
             6 => segment_word(rng, memory, segments),
             _ => bitmap_bit(rng, memory, segments),
         }
@@ -88,7 +89,7 @@ fn bitmap_bit(rng: &mut Rng, memory: &mut [u32], segments: u32) {
 /// A region, most often one of the small ones: begin and end.
 fn region(rng: &mut Rng, memory: &[u32], segments: u32) -> (usize, usize) {
     let starts = layout::regions(segments);
-    let number = rng.pick(&[0, 1, 1, 1, 2, 2, 3, 3, 4, 4, 5, 6, 7, 8]);
+    let number = rng.pick(&[0, 1, 1, 1, 2, 2, 3, 3, 4, 4, 5, 6, 6, 7]);
     (starts[number].min(memory.len() - 1), starts[number + 1].min(memory.len()))
 }
 

@@ -1,6 +1,8 @@
 //! Where docs/LAYOUT.md puts the verified library's words: for damage to torn memory, for coverage counters, and to see which block a
 //! make handed out.
 
+/// The word of the sweep's cursor.
+pub const CURSOR: usize = 2;
 pub const MUTATORS: usize = 16;
 pub const HEAP: usize = 1040;
 pub const SEGMENT_WORDS: usize = 4096;
