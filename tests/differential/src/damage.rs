@@ -93,11 +93,12 @@ fn region(rng: &mut Rng, memory: &[u32], segments: u32) -> (usize, usize) {
     (starts[number].min(memory.len() - 1), starts[number + 1].min(memory.len()))
 }
 
-/// A place in a region; in the trace entries, the stacks and the heap the first words are those in use.
+/// A place in a region; in the control, the trace entries, the stacks and the heap the first words are those in use.
 fn place(rng: &mut Rng, memory: &[u32], segments: u32) -> usize {
     let (begin, end) = region(rng, memory, segments);
     let length = ((end - begin) as u32).max(1);
     let length = match rng.below(3) {
+        0 | 1 if begin == 0 => length.min(3),
         0 => length.min(64),
         1 => length.min(1024),
         _ => length,
