@@ -283,8 +283,14 @@ fn mark_cases(mem: &mut [u32], scratch: &mut [u32]) {
         scratch,
         9408,
         4294967295,
-        b"marks of blocks not in use",
+        b"bits inside a block of a large class",
     );
+}
+
+// Blocks 0 and 1 of segment 1, of class 4, are in use: their bits are 0 and 2.
+fn bit_cases(mem: &mut [u32], scratch: &mut [u32]) {
+    broken(mem, scratch, 9471, 21, b"a bit of a block not in use");
+    broken(mem, scratch, 9471, 7, b"a bit inside a block");
 }
 
 // Then the last record is traced, and the phase is sweep.
@@ -304,6 +310,13 @@ fn covered_cases(mem: &mut [u32], scratch: &mut [u32]) {
 fn sweep_cases(mem: &mut [u32], scratch: &mut [u32]) {
     say(mem, scratch, b"in sweep");
     broken(mem, scratch, 2, 1, b"a condemned segment before the cursor");
+    broken(
+        mem,
+        scratch,
+        2,
+        4294967295,
+        b"a cursor past all segments, one of them condemned",
+    );
     broken(
         mem,
         scratch,
@@ -343,6 +356,7 @@ fn handshakes(mem: &mut [u32], scratch: &mut [u32]) {
 
 fn marking(mem: &mut [u32], scratch: &mut [u32]) {
     mark_cases(mem, scratch);
+    bit_cases(mem, scratch);
     covered_cases(mem, scratch);
     sweep_cases(mem, scratch);
 }

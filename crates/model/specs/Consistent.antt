@@ -116,7 +116,7 @@ pub record TraceOk (g : Geometry) (m : Mem) : Type 0 where
 
 -- ---- marks: of blocks in use only, so that a block that is handed out has none yet
 
--- block b of segment s is in use
+-- block b of segment s is in use (no part of consistency: what a cycle frees is said by it)
 pub record BlockInUse (g : Geometry) (m : Mem) (s b : ℕ) : Type 0 where
   pub used : tag m s ≡ Tag.free → ⊥
   pub within : b < blocksIn g (class m s)

@@ -81,7 +81,7 @@ bitmap g m s = readRun m Region.bitmaps (s * bitmapWords g) (bitmapWords g)
 abbrev pub setBitmap : Geometry → Mem → ℕ → List ℕ → Mem
 setBitmap g m s ws = setRun m Region.bitmaps (s * bitmapWords g) ws
 
--- the marks of the blocks of class c of a segment, 32 to a word
+-- the bits of the blocks of class c of a segment, 32 to a word: in sweep the trace stack is empty, so they are document 01's marks
 abbrev pub marksIn : Geometry → Mem → ℕ → ℕ → List ℕ
 marksIn g m s c = packed (λ b. pick (ltb b (blocksIn g c)) (entered g m (headerOf g s c b)) 0) (wordsFor (blocksIn g c)) 0
 

@@ -35,7 +35,7 @@ unfoldable pub pushPointers : Geometry → Mem → ℕ → ℕ → Mem
 pushPointers g m at zero = m
 pushPointers g m at (suc n) = push g (pushPointers g m at n) (record? (pointer m at n))
 
--- "takes the last entered record, marks it, enters its links in field order": off the stack, what its bit says is that it is marked
+-- "takes the last entered record, marks it, enters its links in field order": an entry has its bit (`TraceOk`), so off the stack it is marked
 abbrev pub popped : Geometry → Mem → ℕ → Mem
 popped g m at = setTraceCount m (traceCount m - 1)
 

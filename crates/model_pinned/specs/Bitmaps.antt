@@ -5,7 +5,7 @@ use mathlib.Core.List.{List, [], _∷_}
 use Rattle.theory.specs.Phases.{idle}
 use Rattle.theory.specs.Calls.{c-attach, c-detach, c-check, c-make, c-clear}
 use Rattle.model.specs.declared.Step.the-variants.{Moved, Traced, Swept, Done}
-use Rattle.model.specs.declared.SegmentState.the-variants.{Part, Held, Full}
+use Rattle.model.specs.declared.SegmentState.the-variants.{Free, Part, Held, Full}
 use Rattle.model_cases.specs.Replies.{Line, _⇒_, opening, start, step, look, call, bits, stepped, seen, words, ok}
 
 abbrev pub bitmaps : List Line
@@ -47,4 +47,35 @@ bitmaps =
     ∷ call (c-make 1 0 1 511) ⇒ ok
     ∷ look ⇒ seen idle (Full 12 ∷ []) []
     ∷ bits 0 ⇒ words (4294967282 ∷ [])
+    -- swept to free, no mark: level 0 becomes the marks all the same
+    ∷ call (c-clear 1 0) ⇒ ok
+    ∷ start ⇒ ok
+    ∷ call (c-check 1) ⇒ ok
+    ∷ step ⇒ stepped Moved
+    ∷ call (c-check 1) ⇒ ok
+    ∷ step ⇒ stepped Moved
+    ∷ step ⇒ stepped Moved
+    ∷ step ⇒ stepped (Swept 0 4)
+    ∷ step ⇒ stepped Done
+    ∷ look ⇒ seen idle (Free ∷ []) []
+    ∷ bits 0 ⇒ words (4294967280 ∷ [])
+    -- swept to full, all blocks marked
+    ∷ call (c-make 1 0 1 511) ⇒ ok
+    ∷ call (c-make 1 1 1 511) ⇒ ok
+    ∷ call (c-make 1 2 1 511) ⇒ ok
+    ∷ call (c-make 1 3 1 511) ⇒ ok
+    ∷ start ⇒ ok
+    ∷ call (c-check 1) ⇒ ok
+    ∷ step ⇒ stepped Moved
+    ∷ call (c-check 1) ⇒ ok
+    ∷ step ⇒ stepped Moved
+    ∷ step ⇒ stepped Traced
+    ∷ step ⇒ stepped Traced
+    ∷ step ⇒ stepped Traced
+    ∷ step ⇒ stepped Traced
+    ∷ step ⇒ stepped Moved
+    ∷ step ⇒ stepped (Swept 0 0)
+    ∷ step ⇒ stepped Done
+    ∷ look ⇒ seen idle (Full 12 ∷ []) []
+    ∷ bits 0 ⇒ words (4294967295 ∷ [])
     ∷ []

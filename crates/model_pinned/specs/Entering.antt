@@ -44,9 +44,10 @@ entering =
     ∷ marks 0 ⇒ words (1 ∷ [])
     ∷ step ⇒ stepped Traced
     ∷ marks 0 ⇒ words (9 ∷ [])
-    -- in mark a store of a marked record over one on the stack, and back, enters nothing
+    -- in mark a store over nil, over a record on the stack and over a marked one enters nothing
     ∷ call (c-store 0 3 0 2) ⇒ ok
     ∷ call (c-store 0 3 0 0) ⇒ ok
+    ∷ call (c-store 0 3 0 2) ⇒ ok
     ∷ look ⇒ seen mark (Condemned 12 ∷ []) (2049 ∷ 1025 ∷ [])
     ∷ enteredIn 0 ⇒ words (15 ∷ [])
     ∷ step ⇒ stepped Traced

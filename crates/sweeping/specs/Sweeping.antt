@@ -32,7 +32,8 @@ pub record Next (g : Geometry) (m : Mem) (from r : ℕ) : Type 0 where
   pub passed : (x : ℕ) → from ≤ x → x < r → tag m x ≡ Tag.condemned → ⊥
   pub found : r < g .segments → tag m r ≡ Tag.condemned
 
--- what the search answers: a condemned segment, which is the lowest where none stands before the cursor; none only where there is none
+-- what the search answers: a condemned segment or none; where no condemned segment stands before the cursor, the lowest, and none where there is
+-- none
 pub record Finds (g : Geometry) (m : Mem) (r : Lowest) : Type 0 where
   pub found : (s : ℕ) → r ≡ Segment s → (s < g .segments) × (tag m s ≡ Tag.condemned)
   pub exact : Behind g m → r ≡ lowestOf (lowest m (g .segments))
