@@ -1,11 +1,15 @@
 """What the documents say of definitions, against the definitions: that each one named with its file is there, that the refusals of each call
-are those that it may give, that the lengths are the header's, and that no line of prose is longer than 120 characters."""
+are those that it may give, that the lengths are the header's, that no line of prose is longer than 120 characters, and that docs/PROOF.md's picture
+and table are what their programs write."""
 import re
 import sys
+import tempfile
 from pathlib import Path
 
 TOP = Path(__file__).resolve().parents[2]
-PAGES = ["SPEC", "FORMS", "GLOSSARY", "EVENING"]
+PAGES = ["SPEC", "FORMS", "GLOSSARY", "EVENING", "PROOF"]
+sys.dont_write_bytecode = True
+sys.path += [str(TOP / "tests/documents"), str(TOP / "docs/pictures")]
 wrong = []
 
 
@@ -14,22 +18,54 @@ def text(name):
 
 
 def defined(path, name):
-    """Whether a file of definitions has the name: a definition, a record, or a constructor."""
+    """Whether a file of definitions has the name: a definition, a record, a field; of proofs, a lemma that is not public too; of code, a function."""
     n = re.escape(name)
-    return re.search(rf"(?m)^\s*(?:(?:abbrev|unfoldable) )?pub (?:(?:record|data) )?{n}(?= )", path.read_text())
+    if path.suffix == ".rt":
+        return re.search(rf"(?m)^\s*(?:pub )?fn {n}\(", path.read_text())
+    pub = "(?:pub )?" if path.parent.name == "proofs" else "pub "
+    return re.search(rf"(?m)^\s*(?:(?:abbrev|unfoldable) )?{pub}(?:(?:record|data) )?{n}(?= (?:.* )?:| .*where)", path.read_text())
+
+
+def place(crate, part, file):
+    """The file that "(crate/File)", "(crate/proofs/File)" or "(crate/src)" names."""
+    return TOP / f"crates/{crate}/src/lib.rt" if file == "src" else TOP / f"crates/{crate}/{part or 'specs/'}{file}.antt"
 
 
 def names():
     count = 0
     for page in PAGES:
         flat = re.sub(r"\s+", " ", text(f"docs/{page}.md"))
-        for listed, crate, file in re.findall(r"((?:`[^`]+`(?:, | and )?)+) \(([a-z_]+)/([A-Za-z0-9]+)\)", flat):
-            path = TOP / f"crates/{crate}/specs/{file}.antt"
+        for listed, crate, part, file in re.findall(r"((?:`[^`]+`(?:, | and )?)+) \(([a-z_]+)/(proofs/)?([A-Za-z0-9]+)\)", flat):
+            path = place(crate, part, file)
             for name in re.findall(r"`([^`]+)`", listed):
                 count += 1
                 if not path.exists() or not defined(path, name):
-                    wrong.append(f"docs/{page}.md: no {name} in {crate}/{file}")
+                    wrong.append(f"docs/{page}.md: no {name} in {crate}/{part}{file}")
     return count
+
+
+def proof():
+    """docs/PROOF.md: every word in code letters is a name that is there, a file, or a word of the language; its table and its picture."""
+    import believed
+    import proof as picture
+    page = text("docs/PROOF.md")
+    known = {"ensures", "requires", "use"} | {d.name for d in TOP.glob("crates/*")} | {d.stem for d in TOP.glob("crates/*/must-fail/*.edit")}
+    for path in [*TOP.glob("crates/*/specs/*.antt"), *TOP.glob("crates/*/proofs/*.antt")]:
+        known |= set(re.findall(r"(?m)^\s*(?:(?:abbrev|unfoldable) )?pub (?:(?:record|data) )?(\S+)(?= (?:.* )?:| .*where)", path.read_text()))
+        known |= {word for line in re.findall(r"(?m)^  ((?:\S+ )+): Duty$", path.read_text()) for word in line.split()}
+    said = set(re.findall(r"`([^`]+)`", re.sub(r"\s+", " ", page)))
+    located = set(re.findall(r"`([^`]+)`", " ".join(re.findall(r"(?:`[^`]+`(?:, | and )?)+ \([a-z_]+/[A-Za-z0-9/]+\)", re.sub(r"\s+", " ", page)))))
+    for word in sorted(said - known - located):
+        path = word.removeprefix("python3 ")
+        if not word.startswith("--") and not (TOP / path).exists():
+            wrong.append(f"docs/PROOF.md: nothing has the name {word}")
+    if believed.table() not in page:
+        wrong.append("docs/PROOF.md: its table is not the one that tests/documents/believed.py prints")
+    with tempfile.TemporaryDirectory() as scratch:
+        drawn = Path(scratch) / "proof.svg"
+        picture.draw(drawn)
+        if drawn.read_text() != text("docs/pictures/proof.svg"):
+            wrong.append("docs/pictures/proof.svg is not the one that docs/pictures/proof.py draws")
 
 
 def refusals():
@@ -54,7 +90,7 @@ def refusals():
 def lengths():
     header = text("include/borvukhai.h")
     for macro, row in (("LENGTH", "the memory"), ("STATES_LENGTH", "the output"), ("SCRATCH_LENGTH", "the scratch")):
-        by = re.search(rf"define BORVUKHAI_{macro}\(segments\) \((\d+)u \* \(segments\)(?: \+ (\d+)u)?\)", header)
+        by = re.search(rf"define BORVUKHAI_{macro}\(segments\) .*\((\d+)u \* \(segments\)(?: \+ (\d+)u)?\)", header)
         a, b = int(by[1]), int(by[2] or 0)
         cells = re.search(rf"(?m)^\| {row} \|.*$", text("docs/SPEC.md"))[0].split(" | ")[2:]
         right = [f"{a:,} n" + (f" + {b:,}" if b else "")] + [f"{a * n + b:,}" for n in (1, 2, 256)]
@@ -72,6 +108,7 @@ def prose():
 count, calls = names(), refusals()
 lengths()
 prose()
+proof()
 for line in wrong:
     print(line)
 if wrong:
