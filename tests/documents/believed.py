@@ -17,12 +17,13 @@ TOP = Path(__file__).resolve().parents[2]
 DEMAND3 = ("guarantee", "Demand3")
 KEEPING = ("guarantee", "Keeping")
 PROMISE = ("model", "Promise")
+BESIDE = [(("guarantee", file), None) for file in ("Demand3", "Keeping", "EmptyCycle", "Independent", "Elements")]
 # a claim, the statements that it begins with (a file's all where no name is given), and the files that are cut
 CLAIMS = [
     ("demand 3, each promise taken as the code's `ensures`", [(DEMAND3, "Demand3")], [PROMISE]),
     ("demand 3 and demand 2", [(DEMAND3, "Demand3"), (KEEPING, "NoRoomExactly")], []),
-    ("all theorems beside the guarantee too", [(DEMAND3, None), (KEEPING, None), (("guarantee", "EmptyCycle"), None), (("guarantee", "Independent"), None), (("guarantee", "Elements"), None)], []),
-    ("the exported functions' numbers too", [(DEMAND3, None), (KEEPING, None), (("guarantee", "EmptyCycle"), None), (("guarantee", "Independent"), None), (("guarantee", "Elements"), None), (("packing", "Packed"), None)], []),
+    ("all theorems beside the guarantee too", BESIDE, []),
+    ("the exported functions' numbers too", BESIDE + [(("packing", "Packed"), None)], []),
 ]
 HEAD = re.compile(r"^(?:(?:abbrev|unfoldable) +)?(?:pub +)?(?:(data|record) +)?(\S+)")
 
