@@ -45,15 +45,28 @@ bit-at-requires c κs = let a = c .before .before .before .before .before .befor
 
 -- src/lib.rt:167:9
 returns : tie.Need-returns
-returns c = let a = c .before .before .before .before .before .before .before .before in holds (λ e. absurd (c .if1 .taken (c .before .bit-at .ensures ∙ ap (bitAt (a .args .bits .now)) (c .before .before .mark-bit .ensures ∙ ap markBit (c .before .before .before .word-in .ensures ∙ ap (λ z. a .args .s * segmentWords (a .args .g) + a .args .b * z) (c .before .before .before .before .block-words .ensures))) ∙ e)))
+returns c =
+    let did-word-in = c .before .before .before in
+    let did-block-words = did-word-in .before in
+    let entry = did-block-words .before .before .before .before in
+    let a = entry in holds (λ e. absurd (c .if1 .taken (c .before .bit-at .ensures ∙ ap (bitAt (a .args .bits .now)) (c .before .before .mark-bit .ensures ∙ ap markBit (did-word-in .word-in .ensures ∙ ap (λ z. a .args .s * segmentWords (a .args .g) + a .args .b * z) (did-block-words .block-words .ensures))) ∙ e)))
 
 -- src/lib.rt:169:5
 record-fine-requires : tie.Need-record-fine-requires
-record-fine-requires c κs = let a = c .before .before .before .before .before .before .before .before in let g = a .args .g in let m = memOf g (a .args .mem .now) in let p = a .pre .1 in let h = c .before .before .before .word-in .ensures ∙ ap (λ z. a .args .s * segmentWords (a .args .g) + a .args .b * z) (c .before .before .before .before .block-words .ensures) in let e = c .before .before .mark-bit .ensures ∙ ap markBit h in (a .pre .0 .0, a .pre .0 .1, p .0, subst (λ (z : ℕ). z < g .segments * mostBlocks g) (sym e) (bit-small g m (a .args .s) (a .args .class) (a .args .b) (p .1 .0) (p .1 .1) (p .2) (p .0)), subst (RecordOk g m) (sym h) (known-record g m (a .args .s) (a .args .class) (a .args .b) (p .1 .0) (p .1 .1) (p .2) (a .args .bits .now) (a .pre .0 .2) (p .0) (ap (bitAt (a .args .bits .now)) (sym e) ∙ sym (c .before .bit-at .ensures) ∙ c .if1 .left)))
+record-fine-requires c κs =
+    let did-word-in = c .before .before .before in
+    let did-block-words = did-word-in .before in
+    let entry = did-block-words .before .before .before .before in
+    let a = entry in let g = a .args .g in let m = memOf g (a .args .mem .now) in let p = a .pre .1 in let h = did-word-in .word-in .ensures ∙ ap (λ z. a .args .s * segmentWords (a .args .g) + a .args .b * z) (did-block-words .block-words .ensures) in let e = c .before .before .mark-bit .ensures ∙ ap markBit h in (a .pre .0 .0, a .pre .0 .1, p .0, subst (λ (z : ℕ). z < g .segments * mostBlocks g) (sym e) (bit-small g m (a .args .s) (a .args .class) (a .args .b) (p .1 .0) (p .1 .1) (p .2) (p .0)), subst (RecordOk g m) (sym h) (known-record g m (a .args .s) (a .args .class) (a .args .b) (p .1 .0) (p .1 .1) (p .2) (a .args .bits .now) (a .pre .0 .2) (p .0) (ap (bitAt (a .args .bits .now)) (sym e) ∙ sym (c .before .bit-at .ensures) ∙ c .if1 .left)))
 
 -- src/lib.rt:149:1
 returns-2 : tie.Need-returns-2
-returns-2 c = let a = c .before .before .before .before .before .before .before .before .before in let g = a .args .g in let m = memOf g (a .args .mem .now) in let p = a .pre .1 in let h = c .before .before .before .before .word-in .ensures ∙ ap (λ z. a .args .s * segmentWords (a .args .g) + a .args .b * z) (c .before .before .before .before .before .block-words .ensures) in block-by g m (a .args .s) (a .args .class) (a .args .b) (p .1 .0) (p .1 .1) (p .2) (a .args .asked) (a .args .bits .now) (a .args .cover .now) _ _ (c .before .before .before .mark-bit .ensures ∙ ap markBit h) h (sym (c .before .before .bit-at .ensures) ∙ c .before .if1 .left) _ (c .record-fine .ensures)
+returns-2 c =
+    let did-mark-bit = c .before .before .before in
+    let did-word-in = did-mark-bit .before in
+    let did-block-words = did-word-in .before in
+    let entry = did-block-words .before .before .before .before in
+    let a = entry in let g = a .args .g in let m = memOf g (a .args .mem .now) in let p = a .pre .1 in let h = did-word-in .word-in .ensures ∙ ap (λ z. a .args .s * segmentWords (a .args .g) + a .args .b * z) (did-block-words .block-words .ensures) in block-by g m (a .args .s) (a .args .class) (a .args .b) (p .1 .0) (p .1 .1) (p .2) (a .args .asked) (a .args .bits .now) (a .args .cover .now) _ _ (did-mark-bit .mark-bit .ensures ∙ ap markBit h) h (sym (c .before .before .bit-at .ensures) ∙ c .before .if1 .left) _ (c .record-fine .ensures)
 
 pub block-judged-spec : {M : Type 1} → statement M
 block-judged-spec =

@@ -36,7 +36,13 @@ head-requires : tie.Need-head-requires
 head-requires c κs = let a = c .before .before .before .before .before .before .before in (a .pre .0, at-inside (a .args .g) (a .args .k) _ (a .pre .1) _ (c .before .before .before .block-words .ensures) refl, c .before .before .segment-of .ensures, a .pre .2)
 
 returns-3 : tie.Need-returns-3
-returns-3 c = let a = c .before .before .before .before .before .before .before .before in fine-by (a .args .g) (a .args .k) _ (a .pre .1) _ (c .before .before .before .before .block-words .ensures) refl (memOf (a .args .g) (a .args .mem .now)) (a .args .condemned-only) _ (c .before .before .before .segment-of .ensures) _ (c .before .before .asked .ensures) (not-false _ (c .before .if2 .left)) (c .before .before .before .before .before .before .mark-bit .ensures .sound (not-false _ (c .before .before .before .before .before .if1 .left))) _ (c .head .ensures)
+returns-3 c =
+    let did-segment-of = c .before .before .before in
+    let did-block-words = did-segment-of .before in
+    let branched1 = did-block-words .before in
+    let did-mark-bit = branched1 .before in
+    let entry = did-mark-bit .before .before in
+    let a = entry in fine-by (a .args .g) (a .args .k) _ (a .pre .1) _ (did-block-words .block-words .ensures) refl (memOf (a .args .g) (a .args .mem .now)) (a .args .condemned-only) _ (did-segment-of .segment-of .ensures) _ (c .before .before .asked .ensures) (not-false _ (c .before .if2 .left)) (did-mark-bit .mark-bit .ensures .sound (not-false _ (branched1 .if1 .left))) _ (c .head .ensures)
 
 pub bit-fine-spec : {M : Type 1} → statement M
 bit-fine-spec = tie.close (tie.spec mark-bit-requires returns block-words-requires mul-at segment-of-requires asked-requires returns-2 head-requires returns-3)

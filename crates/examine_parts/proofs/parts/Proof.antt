@@ -28,7 +28,13 @@ mutators-requires : tie.Need-mutators-requires
 mutators-requires c κs = search needs
 
 returns-4 : tie.Need-returns-4
-returns-4 c = let a = c .before .before .before .before .before .before .before .before .args in parts-all (a .g) (memOf (a .g) (a .mem .now)) _ (c .before .before .before .before .before .before .control .ensures) (c .before .before .before .before .before .if1 .left) _ (c .before .before .before .before .segments .ensures) (not-false _ (c .before .before .before .if2 .left)) _ (c .before .before .behind .ensures) (not-false _ (c .before .if3 .left)) _ (c .mutators .ensures)
+returns-4 c =
+    let branched2 = c .before .before .before in
+    let did-segments = branched2 .before in
+    let branched1 = did-segments .before in
+    let did-control = branched1 .before in
+    let entry = did-control .before .before in
+    let a = entry .args in parts-all (a .g) (memOf (a .g) (a .mem .now)) _ (did-control .control .ensures) (branched1 .if1 .left) _ (did-segments .segments .ensures) (not-false _ (branched2 .if2 .left)) _ (c .before .before .behind .ensures) (not-false _ (c .before .if3 .left)) _ (c .mutators .ensures)
 
 pub parts-spec : {M : Type 1} → statement M
 parts-spec =

@@ -41,7 +41,10 @@ returns-2 c = bit-again _ _ _ (sym (c .before .bit-at .ensures) ∙ c .if2 .take
 
 -- src/lib.rt:49:5
 set-bit-requires : tie.Need-set-bit-requires
-set-bit-requires c κs = let a = c .before .before .before .before .before .before .before .before in omega (arith, mark-word (a .args .g) (a .args .k) (a .pre .1), a .pre .2)
+set-bit-requires c κs =
+    let did-mark-bit = c .before .before .before .before .before in
+    let entry = did-mark-bit .before .before .before in
+    let a = entry in omega (arith, mark-word (a .args .g) (a .args .k) (a .pre .1), a .pre .2)
 
 -- src/lib.rt:37:1
 same-length-2 : tie.Need-same-length-2
@@ -49,7 +52,13 @@ same-length-2 c = search needs
 
 -- src/lib.rt:37:1
 returns-3 : tie.Need-returns-3
-returns-3 c = let a = c .before .before .before .before .before .before .before .before .before .before .before in let m = memOf (a .args .g) (a .args .mem .now) in subst (BitEnters m (a .args .k) (a .args .scratch .now) _) (sym (c .before .before .set-bit .ensures)) (bit-new m (a .args .k) (a .args .scratch .now) (c .before .before .before .before .before .before .before .before .mark-bit .ensures .sound (not-false _ (c .before .before .before .before .before .before .before .if1 .left))) (λ q. c .before .before .before .before .if2 .left (c .before .before .before .before .before .bit-at .ensures ∙ q)))
+returns-3 c =
+    let branched2 = c .before .before .before .before in
+    let did-bit-at = branched2 .before in
+    let branched1 = did-bit-at .before .before in
+    let did-mark-bit = branched1 .before in
+    let entry = did-mark-bit .before .before .before in
+    let a = entry in let m = memOf (a .args .g) (a .args .mem .now) in subst (BitEnters m (a .args .k) (a .args .scratch .now) _) (sym (c .before .before .set-bit .ensures)) (bit-new m (a .args .k) (a .args .scratch .now) (did-mark-bit .mark-bit .ensures .sound (not-false _ (branched1 .if1 .left))) (λ q. branched2 .if2 .left (did-bit-at .bit-at .ensures ∙ q)))
 
 pub enter-bit-spec : {M : Type 1} → statement M
 enter-bit-spec =

@@ -26,13 +26,25 @@ cast-enter-all : tie.Need-cast-enter-all
 cast-enter-all c = search needs
 
 enter-all-requires : tie.Need-enter-all-requires
-enter-all-requires c κs = let a = c .before .before .before .before .before .before .before .before .before .before in let m = memOf (a .args .g) (a .args .mem .now) in ((a .pre .0, c .before .before .before .before .before .before .before .control .ensures, count-few (a .args .g) m _ _ (c .before .before .before .before .before .before .before .control .ensures) (c .before .before .before .before .before .before .mark-count .ensures) (c .before .before .before .before .before .if1 .left)), (subst (λ (n : ℕ). len (a .args .g) Region.marks ≤ n) (sym (c .before .before .before .clear-all .kept .0)) (a .pre .1), clear-bits (length (a .args .scratch .now)) _ (c .before .before .before .clear-all .ensures)))
+enter-all-requires c κs =
+    let did-clear-all = c .before .before .before in
+    let branched1 = did-clear-all .before .before in
+    let did-mark-count = branched1 .before in
+    let did-control = did-mark-count .before in
+    let entry = did-control .before .before .before in
+    let a = entry in let m = memOf (a .args .g) (a .args .mem .now) in ((a .pre .0, did-control .control .ensures, count-few (a .args .g) m _ _ (did-control .control .ensures) (did-mark-count .mark-count .ensures) (branched1 .if1 .left)), (subst (λ (n : ℕ). len (a .args .g) Region.marks ≤ n) (sym (did-clear-all .clear-all .kept .0)) (a .pre .1), clear-bits (length (a .args .scratch .now)) _ (did-clear-all .clear-all .ensures)))
 
 same-length : tie.Need-same-length
 same-length c = search needs
 
 returns-2 : tie.Need-returns-2
-returns-2 c = let a = c .before .before .before .before .before .before .before .before .before .before .before .before .before in let m = memOf (a .args .g) (a .args .mem .now) in count-right (a .args .g) m _ _ (c .before .before .before .before .before .before .before .before .before .before .control .ensures) (c .before .before .before .before .before .before .before .before .before .mark-count .ensures) (c .before .before .before .before .before .before .before .before .if1 .left) _ _ (c .before .before .enter-all .ensures)
+returns-2 c =
+    let did-clear-all = c .before .before .before .before .before .before in
+    let branched1 = did-clear-all .before .before in
+    let did-mark-count = branched1 .before in
+    let did-control = did-mark-count .before in
+    let entry = did-control .before .before .before in
+    let a = entry in let m = memOf (a .args .g) (a .args .mem .now) in count-right (a .args .g) m _ _ (did-control .control .ensures) (did-mark-count .mark-count .ensures) (branched1 .if1 .left) _ _ (c .before .before .enter-all .ensures)
 
 pub trace-ok-spec : {M : Type 1} → statement M
 trace-ok-spec =

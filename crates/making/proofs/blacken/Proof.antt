@@ -30,7 +30,10 @@ mark-bit-requires c κs = search needs
 
 -- src/lib.rt:133:9
 mark-bit-requires-2 : tie.Need-mark-bit-requires-2
-mark-bit-requires-2 c κs = let a = c .before .before .before .before .before .before .before .before .before in let w = marks-words (a .args .g) (a .args .g .segments) in let e = c .mark-bit .ensures in (a .pre .0, omega (arith, a .pre .2))
+mark-bit-requires-2 c κs =
+    let did-phase = c .before .before .before .before .before .before in
+    let entry = did-phase .before .before .before in
+    let a = entry in let w = marks-words (a .args .g) (a .args .g .segments) in let e = c .mark-bit .ensures in (a .pre .0, omega (arith, a .pre .2))
 
 -- src/lib.rt:134:9
 same-length : tie.Need-same-length
@@ -38,7 +41,13 @@ same-length c = search needs
 
 -- src/lib.rt:134:9
 returns : tie.Need-returns
-returns c = born-black _ _ _ _ _ _ _ (c .before .before .before .before .before .before .before .before .before .phase .ensures) (c .before .before .before .before .before .before .before .acks .ensures) (c .before .before .before .before .before .before .black .ensures) (c .before .before .before .before .before .if1 .taken) _ (c .before .before .before .mark-bit .ensures) _ (c .before .before .mark-bit2 .ensures)
+returns c =
+    let did-mark-bit = c .before .before .before in
+    let branched1 = did-mark-bit .before .before in
+    let did-black = branched1 .before in
+    let did-acks = did-black .before in
+    let did-phase = did-acks .before .before in
+    born-black _ _ _ _ _ _ _ (did-phase .phase .ensures) (did-acks .acks .ensures) (did-black .black .ensures) (branched1 .if1 .taken) _ (did-mark-bit .mark-bit .ensures) _ (c .before .before .mark-bit2 .ensures)
 
 -- src/lib.rt:127:1
 same-length-2 : tie.Need-same-length-2

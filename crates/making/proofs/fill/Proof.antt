@@ -21,13 +21,28 @@ write-requires : tie.Need-write-requires
 write-requires c κs = (c .before .before .before .before .pre .0 .0, class-halves _ _ (c .before .before .before .before .pre .1 .1), record-in (c .before .before .before .before .args .g) (c .before .before .before .before .args .class) (c .before .before .before .before .args .s) (c .before .before .before .before .args .b) _ (c .before .before .before .before .args .shape) (c .before .before .before .before .pre .1 .1) (c .before .before .before .before .pre .1 .0) (c .before .before .before .before .pre .0 .3) (c .before .before .before .before .pre .0 .0 .few) (c .before .before .block-words .ensures) _ (c .before .word-in .ensures))
 
 blacken-requires : tie.Need-blacken-requires
-blacken-requires c κs = let r = record-in (c .before .before .before .before .before .before .before .before .args .g) (c .before .before .before .before .before .before .before .before .args .class) (c .before .before .before .before .before .before .before .before .args .s) (c .before .before .before .before .before .before .before .before .args .b) _ (c .before .before .before .before .before .before .before .before .args .shape) (c .before .before .before .before .before .before .before .before .pre .1 .1) (c .before .before .before .before .before .before .before .before .pre .1 .0) (c .before .before .before .before .before .before .before .before .pre .0 .3) (c .before .before .before .before .before .before .before .before .pre .0 .0 .few) (c .before .before .before .before .before .before .block-words .ensures) _ (c .before .before .before .before .before .word-in .ensures) in (resized _ _ _ (c .before .before .before .before .before .before .before .before .pre .0 .0) (c .before .before .before .write .kept .1 .0), c .before .before .before .before .before .before .before .before .pre .0 .1, omega arith)
+blacken-requires c κs =
+    let did-write = c .before .before .before in
+    let did-word-in = did-write .before .before in
+    let did-block-words = did-word-in .before in
+    let entry = did-block-words .before .before in
+    let r = record-in (entry .args .g) (entry .args .class) (entry .args .s) (entry .args .b) _ (entry .args .shape) (entry .pre .1 .1) (entry .pre .1 .0) (entry .pre .0 .3) (entry .pre .0 .0 .few) (did-block-words .block-words .ensures) _ (did-word-in .word-in .ensures) in (resized _ _ _ (entry .pre .0 .0) (did-write .write .kept .1 .0), entry .pre .0 .1, omega arith)
 
 cast-set-root : tie.Need-cast-set-root
-cast-set-root c = let n = name-fits (c .before .before .before .before .before .before .before .before .before .before .before .before .args .g) (c .before .before .before .before .before .before .before .before .before .before .before .before .args .class) (c .before .before .before .before .before .before .before .before .before .before .before .before .args .s) (c .before .before .before .before .before .before .before .before .before .before .before .before .args .b) _ (c .before .before .before .before .before .before .before .before .before .before .before .before .args .shape) (c .before .before .before .before .before .before .before .before .before .before .before .before .pre .1 .1) (c .before .before .before .before .before .before .before .before .before .before .before .before .pre .1 .0) (c .before .before .before .before .before .before .before .before .before .before .before .before .pre .0 .3) (c .before .before .before .before .before .before .before .before .before .before .before .before .pre .0 .0 .few) (c .before .before .before .before .before .before .before .before .before .before .block-words .ensures) _ (c .before .before .before .before .before .before .before .before .before .word-in .ensures) in omega arith
+cast-set-root c =
+    let did-write = c .before .before .before .before .before .before .before in
+    let did-word-in = did-write .before .before in
+    let did-block-words = did-word-in .before in
+    let entry = did-block-words .before .before in
+    let n = name-fits (entry .args .g) (entry .args .class) (entry .args .s) (entry .args .b) _ (entry .args .shape) (entry .pre .1 .1) (entry .pre .1 .0) (entry .pre .0 .3) (entry .pre .0 .0 .few) (did-block-words .block-words .ensures) _ (did-word-in .word-in .ensures) in omega arith
 
 add-set-root : tie.Need-add-set-root
-add-set-root c = let n = name-fits (c .before .before .before .before .before .before .before .before .before .before .before .before .args .g) (c .before .before .before .before .before .before .before .before .before .before .before .before .args .class) (c .before .before .before .before .before .before .before .before .before .before .before .before .args .s) (c .before .before .before .before .before .before .before .before .before .before .before .before .args .b) _ (c .before .before .before .before .before .before .before .before .before .before .before .before .args .shape) (c .before .before .before .before .before .before .before .before .before .before .before .before .pre .1 .1) (c .before .before .before .before .before .before .before .before .before .before .before .before .pre .1 .0) (c .before .before .before .before .before .before .before .before .before .before .before .before .pre .0 .3) (c .before .before .before .before .before .before .before .before .before .before .before .before .pre .0 .0 .few) (c .before .before .before .before .before .before .before .before .before .before .block-words .ensures) _ (c .before .before .before .before .before .before .before .before .before .word-in .ensures) in omega arith
+add-set-root c =
+    let did-write = c .before .before .before .before .before .before .before in
+    let did-word-in = did-write .before .before in
+    let did-block-words = did-word-in .before in
+    let entry = did-block-words .before .before in
+    let n = name-fits (entry .args .g) (entry .args .class) (entry .args .s) (entry .args .b) _ (entry .args .shape) (entry .pre .1 .1) (entry .pre .1 .0) (entry .pre .0 .3) (entry .pre .0 .0 .few) (did-block-words .block-words .ensures) _ (did-word-in .word-in .ensures) in omega arith
 
 set-root-requires : tie.Need-set-root-requires
 set-root-requires c κs = search needs
@@ -36,7 +51,12 @@ same-length : tie.Need-same-length
 same-length c = search needs
 
 returns : tie.Need-returns
-returns c = filled _ _ _ _ _ _ _ _ _ _ (c .before .before .before .before .before .before .before .before .before .before .before .before .before .block-words .ensures) (c .before .before .before .before .before .before .before .before .before .before .before .before .word-in .ensures) _ _ _ (c .before .before .before .before .before .before .before .before .before .before .write .ensures) (c .before .before .before .before .before .before .blacken .ensures) (c .before .before .set-root .ensures)
+returns c =
+    let did-blacken = c .before .before .before .before .before .before in
+    let did-write = did-blacken .before .before .before .before in
+    let did-word-in = did-write .before .before in
+    let did-block-words = did-word-in .before in
+    filled _ _ _ _ _ _ _ _ _ _ (did-block-words .block-words .ensures) (did-word-in .word-in .ensures) _ _ _ (did-write .write .ensures) (did-blacken .blacken .ensures) (c .before .before .set-root .ensures)
 
 pub fill-spec : {M : Type 1} → statement M
 fill-spec =

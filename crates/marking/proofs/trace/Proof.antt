@@ -26,7 +26,11 @@ same-length c = search needs
 
 -- src/lib.rt:69:9
 returns : tie.Need-returns
-returns c = trace-moved _ _ (sizes-of _ _ (c .before .before .before .before .before .before .before .before .pre)) _ (c .before .before .before .before .before .control .ensures) (c .before .before .before .before .if1 .taken) _ (c .before .before .set-phase .ensures)
+returns c =
+    let branched1 = c .before .before .before .before in
+    let did-control = branched1 .before in
+    let entry = did-control .before .before .before in
+    trace-moved _ _ (sizes-of _ _ (entry .pre)) _ (did-control .control .ensures) (branched1 .if1 .taken) _ (c .before .before .set-phase .ensures)
 
 -- src/lib.rt:71:17
 sub-last : tie.Need-sub-last
@@ -58,7 +62,11 @@ same-length-3 c = search needs
 
 -- src/lib.rt:77:9
 returns-3 : tie.Need-returns-3
-returns-3 c = trace-nil _ _ (sizes-of _ _ (c .before .before .before .before .before .before .before .before .before .pre)) _ (c .before .before .before .before .before .before .control .ensures) (c .before .before .before .before .before .if1 .left) _ (c .before .trace .ensures) (c .if3 .taken) _
+returns-3 c =
+    let branched1 = c .before .before .before .before .before in
+    let did-control = branched1 .before in
+    let entry = did-control .before .before .before in
+    trace-nil _ _ (sizes-of _ _ (entry .pre)) _ (did-control .control .ensures) (branched1 .if1 .left) _ (c .before .trace .ensures) (c .if3 .taken) _
 
 -- src/lib.rt:79:15
 sub-at : tie.Need-sub-at
@@ -78,7 +86,12 @@ same-length-4 c = search needs
 
 -- src/lib.rt:81:9
 returns-4 : tie.Need-returns-4
-returns-4 c = trace-torn _ _ (sizes-of _ _ (c .before .before .before .before .before .before .before .before .before .before .before .pre)) _ (c .before .before .before .before .before .before .before .before .control .ensures) (c .before .before .before .before .before .before .before .if1 .left) _ (c .before .before .before .trace .ensures) (c .before .before .if3 .left) _ (c .before .heap-words .ensures) (c .if4 .taken) _
+returns-4 c =
+    let did-trace = c .before .before .before in
+    let branched1 = did-trace .before .before .before .before in
+    let did-control = branched1 .before in
+    let entry = did-control .before .before .before in
+    trace-torn _ _ (sizes-of _ _ (entry .pre)) _ (did-control .control .ensures) (branched1 .if1 .left) _ (did-trace .trace .ensures) (c .before .before .if3 .left) _ (c .before .heap-words .ensures) (c .if4 .taken) _
 
 -- src/lib.rt:83:5
 visit-requires : tie.Need-visit-requires
@@ -90,7 +103,13 @@ same-length-5 c = search needs
 
 -- src/lib.rt:62:1
 returns-5 : tie.Need-returns-5
-returns-5 c = trace-visits _ _ (sizes-of _ _ (c .before .before .before .before .before .before .before .before .before .before .before .before .before .before .before .pre)) _ (c .before .before .before .before .before .before .before .before .before .before .before .before .control .ensures) (c .before .before .before .before .before .before .before .before .before .before .before .if1 .left) _ (c .before .before .before .before .before .before .before .trace .ensures) (c .before .before .before .before .before .before .if3 .left) _ _ (c .before .before .visit .ensures)
+returns-5 c =
+    let branched3 = c .before .before .before .before .before .before in
+    let did-trace = branched3 .before in
+    let branched1 = did-trace .before .before .before .before in
+    let did-control = branched1 .before in
+    let entry = did-control .before .before .before in
+    trace-visits _ _ (sizes-of _ _ (entry .pre)) _ (did-control .control .ensures) (branched1 .if1 .left) _ (did-trace .trace .ensures) (branched3 .if3 .left) _ _ (c .before .before .visit .ensures)
 
 pub trace-spec : {M : Type 1} → statement M
 trace-spec =

@@ -57,7 +57,13 @@ same-length-2 c = search needs
 
 -- src/lib.rt:56:9
 returns-2 : tie.Need-returns-2
-returns-2 c = visit-done _ _ _ _ (c .before .before .before .before .before .before .before .before .before .before .before .before .before .before .shape .ensures) _ refl _ (c .before .before .before .before .before .before .before .before .before .before .before .before .heap-words .ensures) _ (c .before .before .before .before .before .before .before .before .before .control .ensures) _ _ (c .before .before .before .before .before .before .before .set-control .ensures) _ (c .before .before .before .push-pointers .ensures) (c .if2 .taken)
+returns-2 c =
+    let did-push-pointers = c .before .before .before in
+    let did-set-control = did-push-pointers .before .before .before .before in
+    let did-control = did-set-control .before .before in
+    let did-heap-words = did-control .before .before .before in
+    let did-shape = did-heap-words .before .before in
+    visit-done _ _ _ _ (did-shape .shape .ensures) _ refl _ (did-heap-words .heap-words .ensures) _ (did-control .control .ensures) _ _ (did-set-control .set-control .ensures) _ (did-push-pointers .push-pointers .ensures) (c .if2 .taken)
 
 -- src/lib.rt:44:1
 same-length-3 : tie.Need-same-length-3
@@ -65,7 +71,13 @@ same-length-3 c = search needs
 
 -- src/lib.rt:44:1
 returns-3 : tie.Need-returns-3
-returns-3 c = visit-fails _ _ _ _ (c .before .before .before .before .before .before .before .before .before .before .before .before .before .before .shape .ensures) _ refl _ (c .before .before .before .before .before .before .before .before .before .before .before .before .heap-words .ensures) _ (c .before .before .before .before .before .before .before .before .before .control .ensures) _ _ (c .before .before .before .before .before .before .before .set-control .ensures) _ (c .before .before .before .push-pointers .ensures) (c .if2 .left)
+returns-3 c =
+    let did-push-pointers = c .before .before .before in
+    let did-set-control = did-push-pointers .before .before .before .before in
+    let did-control = did-set-control .before .before in
+    let did-heap-words = did-control .before .before .before in
+    let did-shape = did-heap-words .before .before in
+    visit-fails _ _ _ _ (did-shape .shape .ensures) _ refl _ (did-heap-words .heap-words .ensures) _ (did-control .control .ensures) _ _ (did-set-control .set-control .ensures) _ (did-push-pointers .push-pointers .ensures) (c .if2 .left)
 
 pub visit-spec : {M : Type 1} → statement M
 visit-spec =

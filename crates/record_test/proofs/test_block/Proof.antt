@@ -33,10 +33,21 @@ mark-bit-requires : tie.Need-mark-bit-requires
 mark-bit-requires c κs = search needs
 
 returns-2 : tie.Need-returns-2
-returns-2 c = let a = c .before .before .before .before .before .before .before .before .before in passes _ _ _ _ _ (a .pre .2) (a .pre .3) _ _ (c .before .before .before .before .before .before .before .offset-of .ensures) (c .before .before .before .before .before .before .block-words .ensures) (a .pre .1) (c .before .before .before .before .before .if1 .left) (c .before .before .before .before .is-used .ensures .sound (c .before .before .before .if2 .taken)) (c .before .before .is-of-class .ensures .sound (c .before .if3 .taken)) _ (c .mark-bit .ensures)
+returns-2 c =
+    let branched2 = c .before .before .before in
+    let did-is-used = branched2 .before in
+    let branched1 = did-is-used .before in
+    let did-block-words = branched1 .before in
+    let did-offset-of = did-block-words .before in
+    let entry = did-offset-of .before .before in
+    let a = entry in passes _ _ _ _ _ (a .pre .2) (a .pre .3) _ _ (did-offset-of .offset-of .ensures) (did-block-words .block-words .ensures) (a .pre .1) (branched1 .if1 .left) (did-is-used .is-used .ensures .sound (branched2 .if2 .taken)) (c .before .before .is-of-class .ensures .sound (c .before .if3 .taken)) _ (c .mark-bit .ensures)
 
 returns-3 : tie.Need-returns-3
-returns-3 c = let a = c .before .before .before .before .before .before .before .before in not-sized _ _ _ _ _ (a .pre .2) (a .pre .3) _ _ (c .before .before .before .before .before .before .offset-of .ensures) (c .before .before .before .before .before .block-words .ensures) (refuted (c .before .is-of-class .ensures) (c .if3 .left))
+returns-3 c =
+    let did-block-words = c .before .before .before .before .before in
+    let did-offset-of = did-block-words .before in
+    let entry = did-offset-of .before .before in
+    let a = entry in not-sized _ _ _ _ _ (a .pre .2) (a .pre .3) _ _ (did-offset-of .offset-of .ensures) (did-block-words .block-words .ensures) (refuted (c .before .is-of-class .ensures) (c .if3 .left))
 
 returns-4 : tie.Need-returns-4
 returns-4 c = let a = c .before .before .before .before .before .before in not-used _ _ _ _ _ (a .pre .2) (a .pre .3) _ _ (c .before .before .before .before .offset-of .ensures) (c .before .before .before .block-words .ensures) (refuted (c .before .is-used .ensures) (c .if2 .left))

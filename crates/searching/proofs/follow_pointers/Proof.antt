@@ -30,7 +30,11 @@ same-length : tie.Need-same-length
 same-length c = search needs
 
 returns-2 : tie.Need-returns-2
-returns-2 c = let a = c .before .before .before .before .before .before .before .before in pointed-run (a .args .g) (memOf (a .args .g) (a .args .mem .now)) (stateOf (a .args .g) (a .args .scratch .now) (a .args .top)) (a .args .w) (c .before .before .before .before .before .if1 .left) _ (c .before .before .before .before .pointers .ensures) (c .before .before .follow-run .result) (c .before .before .follow-run .last .1 .1 .1 .1 .1 .0) (c .before .before .follow-run .ensures)
+returns-2 c =
+    let did-pointers = c .before .before .before .before in
+    let branched1 = did-pointers .before in
+    let entry = branched1 .before .before .before in
+    let a = entry in pointed-run (a .args .g) (memOf (a .args .g) (a .args .mem .now)) (stateOf (a .args .g) (a .args .scratch .now) (a .args .top)) (a .args .w) (branched1 .if1 .left) _ (did-pointers .pointers .ensures) (c .before .before .follow-run .result) (c .before .before .follow-run .last .1 .1 .1 .1 .1 .0) (c .before .before .follow-run .ensures)
 
 pub follow-pointers-spec : {M : Type 1} → statement M
 follow-pointers-spec = tie.close (tie.spec returns sub-at cast-at pointers-requires add-follow-run follow-run-requires same-length returns-2)

@@ -20,9 +20,11 @@ enum-known-top c = search needs
 
 follow-pointers-requires : tie.Need-follow-pointers-requires
 follow-pointers-requires c κs =
-    let a = c .before .before .before .before .before .before .before .before .before .before in
+    let did-follow = c .before .before .before .before .before .before in
+    let entry = did-follow .before .before .before .before in
+    let a = entry in
     let m = memOf (a .args .g) (a .args .mem .now) in
-    let f = c .before .before .before .before .before .before .follow in
+    let f = did-follow .follow in
     let k = seed-ok (a .args .g) m (a .args .w) (a .args .met) _ (a .args .scratch .now) (f .last .1 .1 .1 .0) (subst (λ (x : Met). Then (a .args .g) m (λ y. a .args .w ≡ suc y) (a .args .scratch .now) (a .args .met) x (f .last .1 .1 .1 .0)) (c .before .before .top .given .1) (f .ensures)) in
     (record { sized = a .pre .0 .sized; room = f .kept .1 .1 .1 .0 ∙ a .pre .0 .room }, k .0, k .1)
 
@@ -31,9 +33,11 @@ same-length c = search needs
 
 returns : tie.Need-returns
 returns c =
-    let a = c .before .before .before .before .before .before .before .before in
+    let did-follow = c .before .before .before .before in
+    let entry = did-follow .before .before .before .before in
+    let a = entry in
     let m = memOf (a .args .g) (a .args .mem .now) in
-    let f = c .before .before .before .before .follow in
+    let f = did-follow .follow in
     seed-then (a .args .g) m (a .args .w) (a .args .met) (f .result) _ (a .args .scratch .now) (f .last .1 .1 .1 .0) (f .last .1 .1 .1 .0) (f .ensures) (rw (c .enum-told .given .1) refl)
 
 same-length-2 : tie.Need-same-length-2
@@ -41,11 +45,14 @@ same-length-2 c = search needs
 
 returns-2 : tie.Need-returns-2
 returns-2 c =
-    let a = c .before .before .before .before .before .before .before .before .before .before .before .before .before in
+    let did-top = c .before .before .before .before .before in
+    let did-follow = did-top .before .before .before .before in
+    let entry = did-follow .before .before .before .before in
+    let a = entry in
     let m = memOf (a .args .g) (a .args .mem .now) in
-    let f = c .before .before .before .before .before .before .before .before .before .follow in
+    let f = did-follow .follow in
     let p = c .before .before .follow-pointers in
-    seed-then (a .args .g) m (a .args .w) (a .args .met) (f .result) (p .result) (a .args .scratch .now) (f .last .1 .1 .1 .0) (p .last .1 .1 .1 .0) (f .ensures) (rw (c .before .before .before .before .before .top .given .1) (p .ensures))
+    seed-then (a .args .g) m (a .args .w) (a .args .met) (f .result) (p .result) (a .args .scratch .now) (f .last .1 .1 .1 .0) (p .last .1 .1 .1 .0) (f .ensures) (rw (did-top .top .given .1) (p .ensures))
 
 pub seed-spec : {M : Type 1} → statement M
 seed-spec = tie.close (tie.spec follow-requires enum-told enum-known-top follow-pointers-requires same-length returns same-length-2 returns-2)

@@ -31,18 +31,26 @@ seed-requires : tie.Need-seed-requires Inv-loop μ-loop
 seed-requires c κs = let a = c .before .before .before .before .before .before .before in let m = memOf (a .args .g) (a .args .mem .now) in let l = c .before .before .before .loop in (record { sized = a .pre .0 .sized; room = l .inv .1 }, came-ready (a .args .g) m (stateOf (a .args .g) (a .args .scratch .now) 0) (SeedBelow m (l .i)) (l .met) (l .scratch) (l .inv .2))
 
 add-i : tie.Need-add-i Inv-loop μ-loop
-add-i c = let a = c .before .before .before .before .before .before .before .before .before .before in omega (arith, c .before .before .before .before .before .loop-test .taken, c .before .before .before .before .before .before .before .entry-count .ensures .room, trace-most (a .args .g) (a .pre .0 .sized .few))
+add-i c =
+    let tested = c .before .before .before .before .before in
+    let did-entry-count = tested .before .before in
+    let entry = did-entry-count .before .before .before in
+    let a = entry in omega (arith, tested .loop-test .taken, did-entry-count .entry-count .ensures .room, trace-most (a .args .g) (a .pre .0 .sized .few))
 
 loop-less : tie.Need-loop-less Inv-loop μ-loop
 loop-less c = omega (arith, c .before .before .before .before .before .loop-test .taken)
 
 loop-again : tie.Need-loop-again Inv-loop μ-loop
 loop-again c =
-    let a = c .before .before .before .before .before .before .before .before .before .before in
+    let did-trace = c .before .before .before .before in
+    let tested = did-trace .before in
+    let looped = tested .before in
+    let entry = looped .before .before .before .before in
+    let a = entry in
     let m = memOf (a .args .g) (a .args .mem .now) in
-    let l = c .before .before .before .before .before .before .loop in
+    let l = looped .loop in
     let q = c .before .before .seed in
-    (omega (arith, c .before .before .before .before .before .loop-test .taken), q .kept .1 .1 .1 .0 ∙ l .inv .1, seeds-more (a .args .g) m (stateOf (a .args .g) (a .args .scratch .now) 0) (l .i) (c .before .before .before .before .trace .result) (c .before .before .before .before .trace .ensures) (l .met) (q .result) (l .scratch) (q .last .1 .1 .1 .0) (l .inv .2) (q .ensures))
+    (omega (arith, tested .loop-test .taken), q .kept .1 .1 .1 .0 ∙ l .inv .1, seeds-more (a .args .g) m (stateOf (a .args .g) (a .args .scratch .now) 0) (l .i) (did-trace .trace .result) (did-trace .trace .ensures) (l .met) (q .result) (l .scratch) (q .last .1 .1 .1 .0) (l .inv .2) (q .ensures))
 
 same-length : tie.Need-same-length Inv-loop μ-loop
 same-length c = c .before .loop .inv .1 ∙ sym (c .before .before .before .before .before .pre .0 .room)

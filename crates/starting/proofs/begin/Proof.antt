@@ -24,7 +24,13 @@ same-length : tie.Need-same-length
 same-length c = search needs
 
 returns : tie.Need-returns
-returns c = started-by _ _ (sizes-of _ _ (c .before .before .before .before .before .before .before .before .before .before .before .before .before .before .before .before .before .before .before .before .before .pre)) _ _ _ _ _ (c .before .before .before .before .before .before .before .before .before .before .before .before .before .before .before .before .before .before .condemn .ensures) (c .before .before .before .before .before .before .before .before .before .before .before .before .before .before .reset-acks .ensures) (c .before .before .before .before .before .before .before .before .before .before .clear-marks .ensures) (c .before .before .before .before .before .before .set-control .ensures) (c .before .before .set-phase .ensures)
+returns c =
+    let did-set-control = c .before .before .before .before .before .before in
+    let did-clear-marks = did-set-control .before .before .before .before in
+    let did-reset-acks = did-clear-marks .before .before .before .before in
+    let did-condemn = did-reset-acks .before .before .before .before in
+    let entry = did-condemn .before .before .before in
+    started-by _ _ (sizes-of _ _ (entry .pre)) _ _ _ _ _ (did-condemn .condemn .ensures) (did-reset-acks .reset-acks .ensures) (did-clear-marks .clear-marks .ensures) (did-set-control .set-control .ensures) (c .before .before .set-phase .ensures)
 
 pub begin-spec : {M : Type 1} → statement M
 begin-spec =

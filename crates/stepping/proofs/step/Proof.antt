@@ -23,7 +23,12 @@ same-length : tie.Need-same-length
 same-length c = search needs
 
 returns-2 : tie.Need-returns-2
-returns-2 c = step-as _ _ (sym (c .before .before .before .before .before .before .before .before .wrong-size .ensures) ∙ c .before .before .before .before .before .before .before .if1 .left) _ (c .before .before .before .before .before .phase .ensures) _ 3 refl (c .before .before .before .before .if2 .taken) _ _ (c .before .before .trace .ensures)
+returns-2 c =
+    let branched2 = c .before .before .before .before in
+    let did-phase = branched2 .before in
+    let branched1 = did-phase .before .before in
+    let did-wrong-size = branched1 .before in
+    step-as _ _ (sym (did-wrong-size .wrong-size .ensures) ∙ branched1 .if1 .left) _ (did-phase .phase .ensures) _ 3 refl (branched2 .if2 .taken) _ _ (c .before .before .trace .ensures)
 
 handshake-requires : tie.Need-handshake-requires
 handshake-requires c κs = (sized _ _ (sym (c .before .before .before .before .before .before .wrong-size .ensures) ∙ c .before .before .before .before .before .if1 .left), omega arith)
@@ -44,19 +49,34 @@ same-length-3 : tie.Need-same-length-3
 same-length-3 c = search needs
 
 returns-4 : tie.Need-returns-4
-returns-4 c = step-as _ _ (sym (c .before .before .before .before .before .before .before .before .before .wrong-size .ensures) ∙ c .before .before .before .before .before .before .before .before .if1 .left) _ (c .before .before .before .before .before .before .phase .ensures) _ 1 refl (c .before .before .before .before .match .keys2) _ _ (c .before .before .handshake .ensures)
+returns-4 c =
+    let matched = c .before .before .before .before in
+    let did-phase = matched .before .before in
+    let branched1 = did-phase .before .before in
+    let did-wrong-size = branched1 .before in
+    step-as _ _ (sym (did-wrong-size .wrong-size .ensures) ∙ branched1 .if1 .left) _ (did-phase .phase .ensures) _ 1 refl (matched .match .keys2) _ _ (c .before .before .handshake .ensures)
 
 same-length-4 : tie.Need-same-length-4
 same-length-4 c = search needs
 
 returns-5 : tie.Need-returns-5
-returns-5 c = step-as _ _ (sym (c .before .before .before .before .before .before .before .before .before .wrong-size .ensures) ∙ c .before .before .before .before .before .before .before .before .if1 .left) _ (c .before .before .before .before .before .before .phase .ensures) _ 2 refl (c .before .before .before .before .match .keys3) _ _ (c .before .before .handshake2 .ensures)
+returns-5 c =
+    let matched = c .before .before .before .before in
+    let did-phase = matched .before .before in
+    let branched1 = did-phase .before .before in
+    let did-wrong-size = branched1 .before in
+    step-as _ _ (sym (did-wrong-size .wrong-size .ensures) ∙ branched1 .if1 .left) _ (did-phase .phase .ensures) _ 2 refl (matched .match .keys3) _ _ (c .before .before .handshake2 .ensures)
 
 same-length-5 : tie.Need-same-length-5
 same-length-5 c = search needs
 
 returns-6 : tie.Need-returns-6
-returns-6 c = step-as _ _ (sym (c .before .before .before .before .before .before .before .before .before .wrong-size .ensures) ∙ c .before .before .before .before .before .before .before .before .if1 .left) _ (c .before .before .before .before .before .before .phase .ensures) _ 4 refl (c .before .before .before .before .match .keys4) _ _ (c .before .before .sweep .ensures)
+returns-6 c =
+    let matched = c .before .before .before .before in
+    let did-phase = matched .before .before in
+    let branched1 = did-phase .before .before in
+    let did-wrong-size = branched1 .before in
+    step-as _ _ (sym (did-wrong-size .wrong-size .ensures) ∙ branched1 .if1 .left) _ (did-phase .phase .ensures) _ 4 refl (matched .match .keys4) _ _ (c .before .before .sweep .ensures)
 
 same-length-6 : tie.Need-same-length-6
 same-length-6 c = search needs

@@ -47,7 +47,11 @@ same-length c = search needs
 
 -- src/lib.rt:52:1
 returns-3 : tie.Need-returns-3
-returns-3 c = push-by _ _ _ _ _ _ (c .before .before .before .before .before .before .before .before .if1 .left) (sym (c .before .before .before .before .before .k .given .1) ∙ c .before .before .before .before .before .before .before .bit-of .ensures) (c .before .before .push-bit .ensures)
+returns-3 c =
+    let did-k = c .before .before .before .before .before in
+    let did-bit-of = did-k .before .before in
+    let branched1 = did-bit-of .before in
+    push-by _ _ _ _ _ _ (branched1 .if1 .left) (sym (did-k .k .given .1) ∙ did-bit-of .bit-of .ensures) (c .before .before .push-bit .ensures)
 
 pub push-spec : {M : Type 1} → statement M
 push-spec =

@@ -55,7 +55,10 @@ returns-2 c = push-full _ _ _ _ _ (c .before .before .before .before .before .ma
 
 -- src/lib.rt:45:5
 set-mark-requires : tie.Need-set-mark-requires
-set-mark-requires c κs = (c .before .before .before .before .before .before .before .before .before .pre .0, mark-word _ _ (c .before .before .before .before .before .before .before .before .before .pre .1))
+set-mark-requires c κs =
+    let did-mark = c .before .before .before .before .before .before in
+    let entry = did-mark .before .before .before in
+    (entry .pre .0, mark-word _ _ (entry .pre .1))
 
 -- src/lib.rt:46:31
 cast-set-trace : tie.Need-cast-set-trace
@@ -67,7 +70,12 @@ set-trace-requires c κs = search needs
 
 -- src/lib.rt:47:36
 add-set-control : tie.Need-add-set-control
-add-set-control c = let m = trace-most _ (c .before .before .before .before .before .before .before .before .before .before .before .before .before .before .before .before .before .pre .0 .few) in let e = c .before .before .before .before .before .before .before .before .before .before .trace-words .ensures in let l = c .before .before .before .before .before .before .before .before .before .if2 .left in omega arith
+add-set-control c =
+    let did-set-mark = c .before .before .before .before .before .before .before in
+    let branched2 = did-set-mark .before .before in
+    let did-trace-words = branched2 .before in
+    let entry = did-trace-words .before .before .before .before .before .before .before in
+    let m = trace-most _ (entry .pre .0 .few) in let e = did-trace-words .trace-words .ensures in let l = branched2 .if2 .left in omega arith
 
 -- src/lib.rt:47:5
 set-control-requires : tie.Need-set-control-requires
@@ -79,7 +87,13 @@ same-length-3 c = search needs
 
 -- src/lib.rt:31:1
 returns-3 : tie.Need-returns-3
-returns-3 c = push-done _ _ _ _ _ (c .before .before .before .before .before .before .before .before .before .before .before .before .before .before .before .before .before .mark .ensures) (c .before .before .before .before .before .before .before .before .before .before .before .before .before .before .before .before .if1 .left) _ (c .before .before .before .before .before .before .before .before .before .before .before .before .before .before .control .ensures) _ _ _ (c .before .before .before .before .before .before .before .before .before .before .set-mark .ensures) (c .before .before .before .before .before .before .set-trace .ensures) (c .before .before .set-control .ensures)
+returns-3 c =
+    let did-set-trace = c .before .before .before .before .before .before in
+    let did-set-mark = did-set-trace .before .before .before .before in
+    let did-control = did-set-mark .before .before .before .before in
+    let branched1 = did-control .before .before in
+    let did-mark = branched1 .before in
+    push-done _ _ _ _ _ (did-mark .mark .ensures) (branched1 .if1 .left) _ (did-control .control .ensures) _ _ _ (did-set-mark .set-mark .ensures) (did-set-trace .set-trace .ensures) (c .before .before .set-control .ensures)
 
 pub push-bit-spec : {M : Type 1} → statement M
 push-bit-spec =
