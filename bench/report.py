@@ -1,54 +1,39 @@
 #!/usr/bin/env python3
-"""The tables of docs/BENCH.md from what bench/run measured: report.py FOLDER BENCH.md rewrites the part of the document
-between its two marks."""
+"""The tables of docs/BENCH.md from what bench/run measured: report.py FOLDER BENCH.md rewrites the parts of the document
+that stand between a mark "measured" and the next "end of measured"."""
 import os
+import re
 import subprocess
 import sys
 from array import array
 from statistics import median
 
-from rows import CYCLES, FILLED, GROUPS, LONGEST, PACES, SINGLE, YARDSTICK
+from rows import AT_MOST, BELOW_BOEHM, FILLED, GROWTH, LONGEST, NO_MORE, PACES, POINTERS, RATIOS, SINGLE, YARDSTICK
 
-BEGIN, END = "<!-- measured: written by bench/run -->", "<!-- end of measured -->"
-HEAD = "| {} | verified | independent | ratio | limit | |{}\n|---|---:|---:|---:|---:|---|{}\n"
-judged = []  # (table, name, ratio, limit) of every row with a limit
+PART = re.compile(r"(<!-- measured, (\w+): written by bench/run -->\n).*?(<!-- end of measured -->)", re.S)
+STORED = os.path.join(os.path.dirname(os.path.abspath(__file__)), "before-8d90607.txt")
+NOT_COUNTED, NOT_MEASURED = "Instructions are not counted: no valgrind.\n", "Boehm's collector is not measured: no libgc-dev.\n"
+SHAPES = [(segments, shape) for segments in (64, 256) for shape in ("1+1", "8+8")]
 
 
 def number(x):
     return f"{x:,.0f}" if x >= 1000 or x == int(x) else f"{x:.1f}"
 
 
-def judge(table, name, ratio, limit):
-    """ok or MISS, remembered for the summary; nothing where there is no limit."""
-    if limit is None:
-        return ""
-    judged.append((table, name, ratio, limit))
-    return "ok" if ratio <= limit + 1e-9 else "MISS"
+def table(head, rows):
+    """A table: the first column to the left, the others to the right."""
+    written = lambda line: "| " + " | ".join(line) + " |\n"
+    return written(head) + "|---|" + "---:|" * (len(head) - 1) + "\n" + "".join(map(written, rows))
 
 
-def line(table, name, verified, independent, limit, more=None):
-    """A row of a table."""
-    ratio = verified / independent
-    verdict = judge(table, name, ratio, limit)
-    shown = "" if limit is None else str(limit)
-    return f"| {name} | {number(verified)} | {number(independent)} | {ratio:.2f} | {shown} | {verdict} |" + (f" {more} |" if more is not None else "") + "\n"
+def verdict(kept):
+    return "ok" if kept else "MISS"
 
 
-def summary_table():
-    """Each limit with the best and the worst ratio that it was held against."""
-    text = "| limits | ratio, best to worst | limit | rows within it | |\n|---|---:|---:|---:|---|\n"
-    for table, begins, name in GROUPS:
-        rows = [(ratio, limit) for t, row, ratio, limit in judged if t == table and row.startswith(begins)]
-        if rows:
-            kept = sum(ratio <= limit + 1e-9 for ratio, limit in rows)
-            text += f"| {name} | {min(rows)[0]:.2f} to {max(rows)[0]:.2f} | {rows[0][1]} | {kept} of {len(rows)} | {'ok' if kept == len(rows) else 'MISS'} |\n"
-    pauses = [1 / ratio for t, _, ratio, _ in judged if t == "pause"]
-    if pauses:
-        text += f"| Boehm's longest call by the longest call of the same workload here | {max(pauses):.0f} to {min(pauses):.0f} | at least 50 | {sum(p >= 50 for p in pauses)} of {len(pauses)} | {'ok' if min(pauses) >= 50 else 'MISS'} |\n"
-    return text
+# What was counted.
 
 
-def read_rows(folder, library):
+def read_counts(folder, library):
     """name -> (probe, alone)"""
     with open(os.path.join(folder, library + ".rows")) as file:
         return {name: (int(probe), int(alone)) for name, probe, alone in (row.rstrip("\n").split("\t") for row in file)}
@@ -60,60 +45,175 @@ def read_said(folder):
         return {fields[0].split(": ", 1)[1]: int(fields[1]) for fields in (row.split("\t") for row in file)}
 
 
-def single_table(v, i):
-    text = HEAD.format("instructions of one call", " as probes |", "---|")
-    for name, limit in SINGLE:
-        text += line("one call", name, v[name][1], i[name][1], limit, f"{number(v[name][0])} / {number(i[name][0])}")
-    for name, makes, limit in FILLED:
-        text += line("one call", f"make {name.split()[1]}, mean over {makes:,}", v[name][1] / makes, i[name][1] / makes, limit, "")
-    text += line("one call", "a new pointer in mark (64 against 16)", *(new_pointer(rows, 64, 16) for rows in (v, i)), 1.15, "")
-    text += line("one call", "a new pointer in mark (1,023 against 64)", *(new_pointer(rows, 1023, 64) for rows in (v, i)), 1.15, "")
-    return text
+def read_sizes(folder, library):
+    with open(os.path.join(folder, library + ".sizes")) as file:
+        return {name: int(size) for name, size in (row.split("\t") for row in file)}
 
 
-def new_pointer(rows, more, fewer):
-    return (rows[f"step: mark, {more} new pointers"][1] - rows[f"step: mark, {fewer} new pointers"][1]) / (more - fewer)
+def read_stored():
+    """The stored counts and sizes: those of the library at 8d90607, and those of the independent implementation of that day."""
+    before, held = {}, {}
+    with open(STORED) as file:
+        for row in file:
+            if not row.startswith("#"):
+                name, verified, independent = row.rstrip("\n").split("\t")
+                before[name] = int(verified)
+                if independent:
+                    held[name] = int(independent)
+    return before, held
 
 
-def yardstick_table(v, i):
+def derive(counts, said):
+    """The counts with those that follow from them: means, a new pointer in mark, the longest of each kind."""
+    all_rows = dict(counts)
+    for shape, makes in FILLED:
+        all_rows[f"make {shape}, mean over {makes:,}"] = counts[f"fill {shape}"] / makes
+    for more, fewer in POINTERS:
+        steps = [counts[f"step: mark, {pointers} new pointers"] for pointers in (more, fewer)]
+        all_rows[f"a new pointer in mark ({more:,} against {fewer})"] = (steps[0] - steps[1]) / (more - fewer)
+    for kind, begins in LONGEST:
+        all_rows[f"longest: {kind}"] = max(count for name, count in counts.items() if name.startswith(tuple(begins)))
+    for name, many in said.items():
+        all_rows[name + (": a live record" if name.startswith("cycle") else ": a call")] = counts[name] / many
+    return all_rows
+
+
+class Counted:
+    """Every row by name: now, at 8d90607, and the independent implementation's, now and as it is held."""
+
+    def __init__(self, folder):
+        said = read_said(folder)
+        self.probes = [read_counts(folder, library) for library in ("verified", "independent")]
+        before, held = read_stored()
+        alone = [{name: count[1] for name, count in rows.items()} for rows in self.probes]
+        self.now, self.independent, self.before, self.held = (derive(rows, said) for rows in (*alone, before, held))
+        self.said = said
+
+    def line(self, name, *more, label=None):
+        now, before, independent = (rows[name] for rows in (self.now, self.before, self.independent))
+        return [label or name, number(now), number(before), number(independent), f"{now / before:.2f}", f"{now / independent:.2f}", *more]
+
+
+COMPARED = ["verified", "at 8d90607", "independent", "by 8d90607's", "by independent's"]
+
+
+def single_table(c):
+    rows = [c.line(name, " / ".join(number(rows[name][0]) for rows in c.probes)) for name in SINGLE]
+    rows += [c.line(f"make {shape}, mean over {makes:,}", "") for shape, makes in FILLED]
+    rows += [c.line(f"a new pointer in mark ({more:,} against {fewer})", "") for more, fewer in POINTERS]
+    return table(["instructions of one call", *COMPARED, "as probes"], rows)
+
+
+def yardstick_table(c):
     """Both libraries with a C caller, beside the figures that the independent one had to reach."""
-    text = "| instructions with a caller of so many | yardstick | independent | | verified | ratio to the yardstick | limit | |\n|---|---:|---:|---|---:|---:|---:|---|\n"
-    for name, caller, most, limit in YARDSTICK:
-        own, other = ((rows[name][1] + caller) if name else new_pointer(rows, 64, 16) for rows in (v, i))
-        verdicts = ("ok" if other <= most else "too slow", "ok" if own / most <= limit + 1e-9 else "MISS")
-        text += f"| {name or 'a new pointer in mark'} ({caller}) | {most} | {number(other)} | {verdicts[0]} | {number(own)} | {own / most:.2f} | {limit} | {verdicts[1]} |\n"
-    return text
+    rows = []
+    for name, caller, most in YARDSTICK:
+        own, other = (counts[name or "a new pointer in mark (64 against 16)"] + caller for counts in (c.now, c.independent))
+        rows.append([f"{name or 'a new pointer in mark'} ({caller})", str(most), number(other), "ok" if other <= most else "too slow", number(own), f"{own / most:.2f}"])
+    return table(["instructions with a caller of so many", "yardstick", "independent", "", "verified", "by the yardstick"], rows)
 
 
-def longest_table(v, i, mixed):
-    text = HEAD.format("instructions of the longest call, 256 segments", " longest in the mixed run, ns |", "---|")
-    for kind, begins, limit in LONGEST:
-        most = [max(rows[name][1] for name in rows if name.startswith(tuple(begins))) for rows in (v, i)]
-        text += line("longest", kind, *most, limit, mixed_cell(kind, mixed))
-    return text
+def longest_table(c, mixed):
+    rows = [c.line(f"longest: {kind}", mixed_cell(kind, mixed), label=kind) for kind, _ in LONGEST]
+    return table(["instructions of the longest call, 256 segments", *COMPARED, "longest in the mixed run, ns"], rows)
 
 
 def mixed_cell(kind, mixed):
-    key = {"step in a handshake": "step: handshake", "step in mark": "step: mark", "step in sweep (apart)": "step: sweep"}.get(kind, kind)
+    key = {"step in a handshake": "step: handshake", "step in mark": "step: mark", "step in sweep": "step: sweep"}.get(kind, kind)
     return f"{mixed['verified'][key]} / {mixed['independent'][key]}" if key in mixed["verified"] else ""
 
 
-def count_of(segments):
-    return f"{segments} segment" + ("s" if segments > 1 else "")
+def paces_table(c):
+    return table(["instructions of the mutation workload", *COMPARED], [c.line(f"{pace}: a call", label=f"{pace}: for each call") for pace in PACES])
 
 
-def cycles_table(v, i, said):
-    text = HEAD.format("instructions of a whole cycle", "", "")
-    for segments in CYCLES:
-        for kind in ("live", "half live"):
-            name = f"cycle, {segments} segments, {kind}"
-            text += line("cycle", f"{count_of(segments)}, {kind}: for each of {said[name]:,} live records", v[name][1] / said[name], i[name][1] / said[name], 1.1)
-        for size in (3, 4):
-            name = f"cycle, {segments} segments, dead, class {size}"
-            text += line("cycle", f"{count_of(segments)}, dead, class {size}: the whole", v[name][1], i[name][1], None)
-    for name in PACES:
-        text += line("cycle", f"{name}: for each call", v[name][1] / said[name], i[name][1] / said[name], None)
-    return text
+# How cost grows.
+
+
+def growth_table(c, what, kinds, each, shown):
+    """A row for each number of segments; for each kind the verified library, that of 8d90607, the independent one."""
+    head = [what] + [f"{kind}: {who}" if who == "verified" else who for kind in kinds for who in ("verified", "at 8d90607", "independent")]
+    rows = []
+    for segments in GROWTH:
+        cells = [shown.format(each(counts, segments, kind)) for kind in kinds for counts in (c.now, c.before, c.independent)]
+        rows.append([str(segments)] + cells)
+    return table(head, rows)
+
+
+def growth_tables(c):
+    dead = lambda counts, segments, kind: counts[f"cycle, {segments} segments, {kind}"] / segments
+    live = lambda counts, segments, kind: counts[f"cycle, {segments} segments, {kind}: a live record"]
+    return [growth_table(c, "segments: instructions for each segment", ("dead, class 3", "dead, class 4"), dead, "{:,.0f}"),
+            growth_table(c, "segments: instructions for each live record", ("live", "half live"), live, "{:.1f}")]
+
+
+# The limits.
+
+
+def limit_rows(c):
+    """(group, limit, row, now, what it is held against, kept) of every limit on instructions."""
+    out = []
+    for group, limit, rows in RATIOS:
+        for name, reference in rows.items():
+            reference = reference or c.held[name]
+            out.append((group, f"{limit} of independent", name, c.now[name], reference, c.now[name] / reference <= limit + 1e-9))
+    for group, rows in NO_MORE:
+        out += [(group, "no more than at 8d90607", name, c.now[name], c.before[name], c.now[name] <= c.before[name]) for name in rows]
+    for group, most, rows in AT_MOST:
+        out += [(group, f"at most {most:,}", name, c.now[name], most, c.now[name] <= most) for name in rows]
+    return out
+
+
+def summary_rows(limits):
+    groups = {}
+    for group, limit, _, now, reference, kept in limits:
+        groups.setdefault((group, limit), []).append((now / reference, kept))
+    out = []
+    for (group, limit), rows in groups.items():
+        kept = sum(k for _, k in rows)
+        best, worst = (f(ratio for ratio, _ in rows) for f in (min, max))
+        out.append([group, f"{best:.2f} to {worst:.2f}" if len(rows) > 1 else f"{best:.2f}", limit, f"{kept} of {len(rows)}", verdict(kept == len(rows))])
+    return out
+
+
+def boehm_limits(folder, churn):
+    """(group, limit, ratio, kept) of the limits by time."""
+    out = [("make alone, beside Boehm's", "below 1.0", ratio, ratio < 1) for ratio in (median(ratios(churn, s, shape, "fill")) for s, shape in SHAPES)]
+    for segments, shape in BELOW_BOEHM:
+        ratio = median(ratios(churn, segments, shape, "total"))
+        out.append(("make with its share of the cycles, beside Boehm's", "below 1.0", ratio, ratio < 1))
+    for program in ("boehm", "incremental"):
+        for segments, shape in SHAPES:
+            ours, theirs = (least_longest(folder, p, segments, shape) for p in ("verified", program))
+            out.append(("the longest single call, by Boehm's", "1/50", ours / theirs, 50 * ours <= theirs))
+    return out
+
+
+def summary_boehm(limits):
+    groups = {}
+    for group, limit, ratio, kept in limits:
+        groups.setdefault((group, limit), []).append((ratio, kept))
+    shown = lambda ratio, limit: f"1/{1 / ratio:.0f}" if limit.startswith("1/") else f"{ratio:.2f}"
+    return [[group, f"{shown(min(rows)[0], limit)} to {shown(max(rows)[0], limit)}", limit, f"{sum(k for _, k in rows)} of {len(rows)}", verdict(all(k for _, k in rows))]
+            for (group, limit), rows in groups.items()]
+
+
+def limits_part(folder, c, churn):
+    """All limits in one view, and those on instructions row by row."""
+    limits = limit_rows(c) if c else []
+    rows = summary_rows(limits) + (summary_boehm(boehm_limits(folder, churn)) if has_boehm(churn) else [])
+    parts = [table(["limits", "ratio, best to worst", "limit", "rows within it", ""], rows)] if rows else []
+    if not c:
+        parts.append(NOT_COUNTED)
+    else:
+        each = [[name.replace("cycle, 1 segments", "cycle, 1 segment"), number(now), limit, number(reference), f"{now / reference:.2f}", verdict(kept), number(c.before[name])] for _, limit, name, now, reference, kept in limits]
+        parts.append(table(["instructions", "verified", "limit", "held against", "ratio", "", "at 8d90607"], each))
+    if has_boehm(churn):
+        parts.append(make_table(churn, [("total", "boehm")]))
+    return parts
+
+
+# Times.
 
 
 def read_times(folder, library):
@@ -133,39 +233,46 @@ def spread(values):
 
 def times_table(folder):
     v, i = read_times(folder, "verified"), read_times(folder, "independent")
-    text = "| ns, medians | verified | independent | ratio within a round: median (quartiles) |\n|---|---:|---:|---:|\n"
+    rows = []
     for name in v:
         what = name + (": a live record" if name.endswith("half live") else ": a segment" if "dead" in name else ": a call" if "mutation" in name else "")
-        text += f"| {what} | {median(v[name]):.1f} | {median(i[name]):.1f} | {spread([a / b for a, b in zip(v[name], i[name])])} |\n"
-    return text
+        rows.append([what, f"{median(v[name]):.1f}", f"{median(i[name]):.1f}", spread([a / b for a, b in zip(v[name], i[name])])])
+    return table(["ns, medians", "verified", "independent", "ratio within a round: median (quartiles)"], rows)
 
 
 def read_churn(folder):
-    """(program, segments, shape, mode) -> list of figures by round, each a list of numbers"""
+    """(program, segments, shape, mode) -> the figures by round"""
     churn = {}
     with open(os.path.join(folder, "churn.rows")) as file:
         for row in file:
-            _, program, segments, shape, mode, *figures = row.rstrip("\n").split("\t")
-            churn.setdefault((program, int(segments), shape.replace(" ", "+"), mode), []).append([float(x) for x in figures])
+            _, program, segments, shape, mode, figure = row.rstrip("\n").split("\t")
+            churn.setdefault((program, int(segments), shape.replace(" ", "+"), mode), []).append(float(figure))
     return churn
 
 
-def churn_line(name, verified, independent, boehm, limit):
-    """Boehm's rows: here the limit is on the median of the ratios of the rounds."""
-    ratios = [a / b for a, b in zip(verified, boehm)]
-    verdict = judge("Boehm's", name, median(ratios), limit)
-    return f"| {name} | {median(verified):.1f} | {median(boehm):.1f} | {spread(ratios)} | {limit or ''} | {verdict} | {median(independent):.1f} |\n"
+def has_boehm(churn):
+    return any(program == "boehm" for program, *_ in churn)
 
 
-def make_tables(churn):
-    text = "| ns a record, medians | verified | Boehm's | ratio within a round: median (quartiles) | limit | | independent |\n|---|---:|---:|---:|---:|---|---:|\n"
-    for mode, label, limit in (("fill", "make alone", 1.0), ("total", "make with its share of the cycles", None)):
-        for program, other in (("boehm", ""), ("incremental", ", Boehm's incremental")):
-            for segments in (64, 256):
-                for shape in ("1+1", "8+8"):
-                    figures = ([f[0] for f in churn[(p, segments, shape, mode)]] for p in ("verified", "independent", program))
-                    text += churn_line(f"{label}, {shape}, {segments} segments{other}", *figures, limit if program == "boehm" else None)
-    return text
+def ratios(churn, segments, shape, mode, program="boehm"):
+    """Within each round, the verified library's time by Boehm's."""
+    return [a / b for a, b in zip(*(churn[(p, segments, shape, mode)] for p in ("verified", program)))]
+
+
+LABELS = {"fill": "make alone", "total": "make with its share of the cycles", "boehm": "", "incremental": ", Boehm's incremental"}
+
+
+def make_table(churn, kinds):
+    """Rows for each (mode, program of Boehm's) of `kinds`; the limits are on the median of the ratios."""
+    rows = []
+    for mode, program in kinds:
+        for segments, shape in SHAPES:
+            held = program == "boehm" and (mode == "fill" or (segments, shape) in BELOW_BOEHM)
+            ours, theirs, independent = (median(churn[(p, segments, shape, mode)]) for p in ("verified", program, "independent"))
+            within = ratios(churn, segments, shape, mode, program)
+            rows.append([f"{LABELS[mode]}, {shape}, {segments} segments{LABELS[program]}", f"{ours:.1f}", f"{theirs:.1f}", spread(within),
+                         "below 1.0" if held else "", verdict(median(within) < 1) if held else "", f"{independent:.1f}"])
+    return table(["ns a record, medians", "verified", "Boehm's", "ratio within a round: median (quartiles)", "limit", "", "independent"], rows)
 
 
 def least_longest(folder, program, segments, shape):
@@ -177,17 +284,60 @@ def least_longest(folder, program, segments, shape):
 
 
 def pause_table(folder, churn):
-    text = "| longest single call, µs | verified | Boehm's | times longer | wanted | | independent | as seen, medians: verified, Boehm's, an empty call |\n"
-    text += "|---|---:|---:|---:|---:|---|---:|---:|\n"
-    for program, label in (("boehm", ""), ("incremental", ", Boehm's incremental")):
-        for segments in (64, 256):
-            for shape in ("1+1", "8+8"):
-                ours, theirs, independent = (least_longest(folder, p, segments, shape) for p in ("verified", program, "independent"))
-                seen = [median(f[0] for f in churn[(p, segments, shape, mode)]) / 1000 for p, mode in (("verified", "each"), (program, "each"), ("verified", "nothing"))]
-                name, times = f"{shape}, {segments} segments{label}", theirs / ours
-                verdict = judge("pause", name, ours / theirs, 1 / 50)
-                text += f"| {name} | {ours / 1000:.1f} | {theirs / 1000:.0f} | {times:.0f} | 50 | {verdict} | {independent / 1000:.1f} | {', '.join(f'{x:,.0f}' if x >= 1 else f'{x:.1f}' for x in seen)} |\n"
-    return text
+    rows = []
+    for program in ("boehm", "incremental"):
+        for segments, shape in SHAPES:
+            ours, theirs, independent = (least_longest(folder, p, segments, shape) for p in ("verified", program, "independent"))
+            seen = [median(churn[(p, segments, shape, mode)]) / 1000 for p, mode in (("verified", "each"), (program, "each"), ("verified", "nothing"))]
+            rows.append([f"{shape}, {segments} segments{LABELS[program]}", f"{ours / 1000:.1f}", f"{theirs / 1000:,.0f}", f"{theirs / ours:.0f}", "50", verdict(theirs >= 50 * ours),
+                         f"{independent / 1000:.1f}", ", ".join(f"{x:,.0f}" if x >= 1 else f"{x:.1f}" for x in seen)])
+    head = ["longest single call, µs", "verified", "Boehm's", "times longer", "wanted", "", "independent", "as seen, medians: verified, Boehm's, an empty call"]
+    return table(head, rows)
+
+
+# What a user asks.
+
+CALLS = [("load", "load"), ("get", "get"), ("put", "put"), ("store: nothing", "store, no cycle runs"), ("copy", "copy"), ("clear", "clear"),
+         ("same", "same"), ("shape", "shape"), ("check, idle", "check, nothing owed")]
+MOST_INSTRUCTIONS = [("longest start", "start"), ("longest step in a handshake", "step in a handshake"), ("longest step in mark", "step in mark")]
+
+
+def user_table(folder, churn):
+    """Times of calls, then of makes and the longest call with Boehm's beside them."""
+    times = {library: read_times(folder, library) for library in ("verified", "independent")}
+    boehms = ("boehm", "incremental") if has_boehm(churn) else ()
+    rows = []
+    for name, label in CALLS:
+        rows.append([f"{label}: ns", f"{median(times['verified'][name]):.1f}", "", "", "", f"{median(times['independent'][name]):.1f}"])
+    for mode, label in (("fill", "make {}, {} segments, no collection: ns"), ("total", "make {}, {} segments, with its share of the cycles: ns")):
+        for segments, shape in SHAPES:
+            figure = lambda p: f"{median(churn[(p, segments, shape, mode)]):.1f}"
+            beside = [figure("boehm"), spread(ratios(churn, segments, shape, mode)), figure("incremental")] if boehms else [""] * 3
+            rows.append([label.format(shape, segments), figure("verified"), *beside, figure("independent")])
+    for segments, shape in SHAPES:
+        longest = {p: least_longest(folder, p, segments, shape) / 1000 for p in ("verified", "independent", *boehms)}
+        beside = [f"{longest['boehm']:,.0f}", f"1/{longest['boehm'] / longest['verified']:.0f}", f"{longest['incremental']:,.0f}"] if boehms else [""] * 3
+        rows.append([f"longest single call, {shape}, {segments} segments: µs", f"{longest['verified']:.1f}", *beside, f"{longest['independent']:.1f}"])
+    for name, label in MOST_INSTRUCTIONS:
+        rows.append([f"{label} of most instructions, 256 segments, warm caches: µs", f"{median(times['verified'][name]) / 1000:.1f}", "", "", "",
+                     f"{median(times['independent'][name]) / 1000:.1f}"])
+    return table(["a call", "verified", "Boehm's", "verified by Boehm's: median (quartiles)", "Boehm's, incremental", "independent"], rows)
+
+
+# Sizes.
+
+
+def sizes_table(folder):
+    now, independent = (read_sizes(folder, library) for library in ("verified", "independent"))
+    before, _ = read_stored()
+    words = lambda sizes: f"{sizes['words for each segment']:,} n + {sizes['words beside them']:,}"
+    lent = lambda sizes: f"{4 * (256 * sizes['words for each segment'] + sizes['words beside them']):,}"
+    rows = [["words lent, n segments"] + [words(sizes) for sizes in (before, now, independent)],
+            ["bytes lent, 256 segments"] + [lent(sizes) for sizes in (before, now, independent)],
+            ["code and its constants, bytes", number(before["code"]), number(now["code"]), ""]]
+    for call in ("make", "examine"):
+        rows.append([f"the most stack that {call} takes, 256 segments, bytes"] + [number(sizes[f"stack of {call}"]) for sizes in (before, now, independent)])
+    return table(["", "at 8d90607", "verified", "independent"], rows)
 
 
 def said_by(*command):
@@ -202,7 +352,12 @@ def machine():
         model = next((row.split(":", 1)[1].strip() for row in file if row.startswith("model name")), "unknown")
     parts = [f"{model}, {os.cpu_count()} cores", said_by("gcc", "--version"), said_by("rustc", "--version"), said_by("valgrind", "--version"),
              "libgc " + said_by("pkg-config", "--modversion", "bdw-gc"), said_by("date", "-u", "+%Y-%m-%d")]
-    return "Machine: " + "; ".join(parts) + ".\n"
+    half = len(parts) // 2
+    return "Machine: " + "; ".join(parts[:half]) + ";\n" + "; ".join(parts[half:]) + ".\n"
+
+
+def rounds_of(folder):
+    return f"Rounds: {len(read_times(folder, 'verified')['load'])}.\n"
 
 
 def read_mixed(folder):
@@ -213,26 +368,32 @@ def read_mixed(folder):
     return mixed
 
 
-def tables(folder):
-    parts = []
-    if os.path.exists(os.path.join(folder, "verified.rows")):
-        v, i, said = read_rows(folder, "verified"), read_rows(folder, "independent"), read_said(folder)
-        parts += [single_table(v, i), yardstick_table(v, i), longest_table(v, i, read_mixed(folder)), cycles_table(v, i, said)]
-    parts.append(times_table(folder))
+def parts_of(folder):
+    """The parts of the document by name, each a list of tables; what could not be measured says so."""
+    c = Counted(folder) if os.path.exists(os.path.join(folder, "verified.rows")) else None
     churn = read_churn(folder)
-    if any(program == "boehm" for program, *_ in churn):
-        parts += [make_tables(churn), pause_table(folder, churn)]
-    return "\n".join([machine(), summary_table()] + parts)
+    kinds = [(mode, program) for mode in ("fill", "total") for program in ("boehm", "incremental")]
+    return {
+        "user": [user_table(folder, churn), machine() + rounds_of(folder)],
+        "growth": growth_tables(c) if c else [NOT_COUNTED],
+        "sizes": [sizes_table(folder)],
+        "limits": limits_part(folder, c, churn),
+        "instructions": [single_table(c), yardstick_table(c), longest_table(c, read_mixed(folder)), paces_table(c)] if c else [NOT_COUNTED],
+        "times": [times_table(folder)] + ([make_table(churn, kinds), pause_table(folder, churn)] if has_boehm(churn) else [NOT_MEASURED]),
+    }
 
 
 def main():
     folder, path = sys.argv[1:3]
+    parts = parts_of(folder)
     with open(path) as file:
         text = file.read()
-    before, rest = text.split(BEGIN, 1)
-    after = rest.split(END, 1)[1]
+    missing = set(parts) - {name for _, name, _ in PART.findall(text)}
+    if missing:
+        sys.exit(f"{path}: no mark for {', '.join(sorted(missing))}")
     with open(path, "w") as file:
-        file.write(before + BEGIN + "\n\n" + tables(folder) + "\n" + END + after)
+        file.write(PART.sub(lambda mark: mark[1] + "\n" + "\n".join(parts[mark[2]]) + "\n" + mark[3], text))
 
 
-main()
+if __name__ == "__main__":
+    main()
