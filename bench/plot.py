@@ -91,4 +91,5 @@ def main():
         file.write(out + "</svg>\n")
 
 
-main()
+if __name__ == "__main__":
+    main()
