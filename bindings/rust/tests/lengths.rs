@@ -39,7 +39,7 @@ fn the_most_segments_that_fit() {
     for n in 1..=256 {
         let segments = Segments::new(n).unwrap();
         assert_eq!(Segments::fitting(segments.length()), Some(segments));
-        assert_eq!(Segments::fitting(segments.length() + 6353), Some(segments));
+        assert_eq!(Segments::fitting(segments.length() + 6289), Some(segments));
     }
     assert_eq!(Segments::fitting(usize::MAX), Some(Segments::MAX));
 }
