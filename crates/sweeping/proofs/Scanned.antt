@@ -21,21 +21,22 @@ isNothing (Segment s) = false
 
 -- the segments from one on to i are not condemned
 pub record Scanned (m : Mem) (from i : ℕ) : Type 0 where
+  pub onward : from ≤ i
   pub passed : (x : ℕ) → from ≤ x → x < i → tag m x ≡ Tag.condemned → ⊥
 
 pub none-scanned : (m : Mem) (from : ℕ) → Scanned m from from
-none-scanned m from = record { passed = λ x a b q. omega arith }
+none-scanned m from = record { onward = omega arith; passed = λ x a b q. omega arith }
 
 -- i is the segment after them, t its tag
 module _ (g : Geometry) (m : Mem) (from i : ℕ) (p : Scanned m from i) where
   pub one-other : (t : ℕ) → t ≡ tag m i → (t ≡ Tag.condemned → ⊥) → Scanned m from (i + 1)
-  one-other t e h = record { passed = λ x a b q. ⊎-elim (λ z. h (e ∙ sym (ap (tag m) z) ∙ q)) (λ d. p .passed x a (omega arith) q) (same-or-not x i) }
+  one-other t e h = record { onward = omega (arith, p .onward); passed = λ x a b q. ⊎-elim (λ z. h (e ∙ sym (ap (tag m) z) ∙ q)) (λ d. p .passed x a (omega arith) q) (same-or-not x i) }
 
   pub next-found : (t : ℕ) → t ≡ tag m i → t ≡ Tag.condemned → Next g m from i
-  next-found t e h = record { passed = p .passed; found = λ _. sym e ∙ h }
+  next-found t e h = record { onward = p .onward; passed = p .passed; found = λ _. sym e ∙ h }
 
   pub next-none : g .segments ≤ i → Next g m from i
-  next-none l = record { passed = p .passed; found = λ h. absurd (omega arith) }
+  next-none l = record { onward = p .onward; passed = p .passed; found = λ h. absurd (omega arith) }
 
 -- from the cursor on
 module _ (g : Geometry) (m : Mem) (c i : ℕ) (e : c ≡ cursor m) (p : Next g m c i) where

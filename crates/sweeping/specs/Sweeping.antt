@@ -29,6 +29,7 @@ lowestOf (some s) = Segment s
 
 -- r is the first condemned segment from one on, or past the last one
 pub record Next (g : Geometry) (m : Mem) (from r : ℕ) : Type 0 where
+  pub onward : from ≤ r
   pub passed : (x : ℕ) → from ≤ x → x < r → tag m x ≡ Tag.condemned → ⊥
   pub found : r < g .segments → tag m r ≡ Tag.condemned
 
