@@ -2,21 +2,29 @@
  * finds the most to free. docs/PACING.md says why and when this holds.
  *
  * It counts the blocks in use of each class (makes, less what sweeps freed), as no call answers them, and looks at the
- * segments' states now and then. So it has two bounds: the makes that are certain to find room, whatever classes they
- * have, and the steps that a cycle begun now can take. Once the makes times the pace are no more than the steps, it
- * starts a cycle. Every step of the heap goes through it, and it is told of every make. */
+ * segments' states now and then. So it has two bounds: the makes that are certain to find room, in any order, by any of
+ * the mutators and of any class in play, and the steps that a cycle begun now can take. Once the makes times the pace
+ * are no more than the steps, it starts a cycle. Every step of the heap goes through it, and it is told of every make.
+ *
+ * What the caller may read: `room`, so many next makes are certain to find room; and `kept`, which is 0 where the pace
+ * cannot promise that a cycle ends before they are used up. Then makes may be refused BORVUKHAI_NO_ROOM: lend more
+ * segments, take more steps, say by pacer_makers that fewer mutators make a class, or call pacer_finish. */
 #ifndef PACER_H
 #define PACER_H
 
 #include "borvukhai.h"
 
 struct pacer {
-    uint32_t segments, *mem, *output; /* the heap, and an output of borvukhai_states_length words */
+    uint32_t segments, *mem, *output; /* the heap; an output of borvukhai_states_length words, the pacer's own between
+                                       * calls: it reads there what the last look wrote */
     size_t length;
     uint32_t steps;      /* at most so many after a make */
-    uint32_t delay;      /* makes until each mutator has acknowledged both handshakes: 2 for each that is inside */
+    uint32_t mutators;   /* attached at most; while inside, each checks at least once in so many makes */
+    uint32_t makers[16]; /* how many of them make records of a class; 0 where it is not in play */
     uint32_t in_use[16]; /* blocks in use, by class */
+    uint32_t room;       /* so many next makes of classes in play are certain to find room */
     uint32_t wait;       /* makes until the next look */
+    int kept;            /* whether a cycle begun in time is certain to end before the room does */
     int running;         /* whether a cycle runs */
 };
 
@@ -24,35 +32,59 @@ struct pacer {
 struct pacer_class {
     uint32_t blocks;      /* blocks of them all */
     uint32_t least, most; /* bounds of those in use: of a segment that is not full, one at least, and all but one */
-    uint32_t held, apart; /* the segments that mutators hold, and what those may have free */
+    uint32_t held, parts; /* the segments that mutators hold, and those that nobody does */
+    uint32_t spare;       /* the free blocks that can be left once every part segment is taken */
+    uint16_t most_left[32]; /* what one segment can have left then, the 32 largest, falling */
 };
 
-static inline struct pacer_class pacer_class_of(const struct pacer *p, uint32_t number) {
-    struct pacer_class of = {0, 0, 0, 0, 0};
-    uint32_t s, blocks = BORVUKHAI_BLOCKS(number);
+/* One more of the numbers that a segment can have left. */
+static inline void pacer_insert(uint16_t *falling, uint32_t count, uint32_t left) {
+    uint32_t at;
+    for (at = 0; at < count; at++) {
+        uint32_t here = falling[at];
+        falling[at] = (uint16_t)(here < left ? left : here);
+        left = here < left ? here : left;
+    }
+}
+
+/* Of one segment: a part segment can have all left from its place on but the block that its taker uses. */
+static inline void pacer_see(struct pacer_class *of, const uint32_t *state, uint32_t blocks) {
+    uint32_t full = state[0] == BORVUKHAI_SEGMENT_FULL || state[0] == BORVUKHAI_SEGMENT_CONDEMNED;
+    uint32_t held = state[0] == BORVUKHAI_SEGMENT_HELD;
+    of->blocks += blocks;
+    of->least += full ? blocks : 1;
+    of->most += full ? blocks : blocks - 1;
+    of->held += held;
+    of->parts += !full && !held;
+    if (!full && state[2] < blocks) {
+        pacer_insert(of->most_left, 32, blocks - state[2] - !held);
+    }
+}
+
+/* The count is brought within the look's bounds, should it be none yet, or a make not told. */
+static inline struct pacer_class pacer_class_of(struct pacer *p, uint32_t number) {
+    struct pacer_class of = {0, 0, 0, 0, 0, 0, {0}};
+    uint32_t s, count = p->in_use[number], *makers = &p->makers[number];
     for (s = 0; s < p->segments; s++) {
-        const uint32_t *state = p->output + 4 * s;
-        if (state[0] != BORVUKHAI_SEGMENT_FREE && state[1] == number) {
-            uint32_t full = state[0] == BORVUKHAI_SEGMENT_FULL || state[0] == BORVUKHAI_SEGMENT_CONDEMNED;
-            of.blocks += blocks;
-            of.least += full ? blocks : 1;
-            of.most += full ? blocks : blocks - 1;
-            of.held += state[0] == BORVUKHAI_SEGMENT_HELD;
-            of.apart += state[0] == BORVUKHAI_SEGMENT_HELD ? blocks - state[2] : 0;
+        if (p->output[4 * s] != BORVUKHAI_SEGMENT_FREE && p->output[4 * s + 1] == number) {
+            pacer_see(&of, p->output + 4 * s, BORVUKHAI_BLOCKS(number));
         }
     }
+    count = count < of.least ? of.least : count > of.most ? of.most : count;
+    p->in_use[number] = count;
+    of.spare = of.blocks - count > of.parts ? of.blocks - count - of.parts : 0;
+    *makers = *makers == 0 && count != 0 ? p->mutators : *makers;
+    *makers = *makers < of.held ? (of.held < 32 ? of.held : 32) : *makers;
     return of;
 }
 
-/* The free blocks of a class in its own segments; where several mutators hold one, only what each of them can use. The
- * count is brought within the look's bounds first, should it be none yet, or a make not told. */
-static inline uint32_t pacer_own(struct pacer *p, uint32_t number) {
-    struct pacer_class of = pacer_class_of(p, number);
-    uint32_t count = p->in_use[number], free;
-    count = count < of.least ? of.least : count > of.most ? of.most : count;
-    p->in_use[number] = count;
-    free = of.blocks - count;
-    return of.held <= 1 ? free : free > of.apart ? free - of.apart : 1;
+/* The most free blocks that so many mutators can hold of a class while none of its segments is part. */
+static inline uint32_t pacer_left(const struct pacer_class *of, uint32_t mutators) {
+    uint32_t at, sum = 0;
+    for (at = 0; at < mutators; at++) {
+        sum += of->most_left[at];
+    }
+    return sum < of->spare ? sum : of->spare;
 }
 
 /* The segments in a state. */
@@ -64,37 +96,80 @@ static inline uint32_t pacer_segments(const struct pacer *p, uint32_t tag) {
     return count;
 }
 
-/* Makes that are certain to find room: the least that a class has of its own, and of the free segments those beyond one
- * for each class. */
+/* What it costs, in makes, to take free segments: `cost[i]` for the one with the i-th least cost, `smallest` for each
+ * beyond them. A mutator that holds none of a class takes one by one make. One that holds a segment fills it first. And
+ * where all who make a class hold one that was free, another costs the blocks of a segment. */
+struct pacer_costs {
+    uint32_t count, smallest;
+    uint16_t cost[320];
+};
+
+/* The costs of one class; the answer is the first, which is the least. */
+static inline uint32_t pacer_add(struct pacer_costs *of, const struct pacer_class *class_of, uint32_t makers) {
+    uint32_t turn, first = 1 + pacer_left(class_of, makers) - pacer_left(class_of, makers - 1);
+    for (turn = makers; turn != 0; turn--) {
+        uint32_t at = of->count++, cost = 1 + pacer_left(class_of, turn) - pacer_left(class_of, turn - 1);
+        for (; at != 0 && of->cost[at - 1] > cost; at--) {
+            of->cost[at] = of->cost[at - 1];
+        }
+        of->cost[at] = (uint16_t)cost;
+    }
+    return first;
+}
+
+/* The least makes that take so many free segments. */
+static inline uint32_t pacer_sum(const struct pacer_costs *of, uint32_t segments) {
+    uint32_t at, sum = 0;
+    for (at = 0; at < segments; at++) {
+        sum += at < of->count && of->cost[at] < of->smallest ? of->cost[at] : of->smallest;
+    }
+    return sum;
+}
+
+/* Makes that are certain to find room: the fewest after which one can be refused. That one is of a mutator that holds
+ * no segment of the class, and no segment is part in the class or free. So the class's own blocks are used but for what
+ * the others hold, and all free segments are taken, by others than this one. */
 static inline uint32_t pacer_room(struct pacer *p) {
-    uint32_t number, classes = 0, least = 0xffffffffu, smallest = 0, free = pacer_segments(p, BORVUKHAI_SEGMENT_FREE);
+    uint32_t number, free = pacer_segments(p, BORVUKHAI_SEGMENT_FREE), room = 0xffffffffu;
+    uint32_t own[16] = {0}, first[16] = {0};
+    struct pacer_costs costs;
+    costs.count = 0, costs.smallest = 0;
     for (number = 3; number <= 12; number++) {
-        uint32_t own = pacer_own(p, number);
-        if (p->in_use[number] != 0) {
-            classes++;
-            least = own < least ? own : least;
-            smallest = BORVUKHAI_BLOCKS(number);
+        struct pacer_class of = pacer_class_of(p, number);
+        if (p->makers[number] != 0) {
+            own[number] = of.blocks - p->in_use[number] - pacer_left(&of, p->makers[number] - 1);
+            first[number] = pacer_add(&costs, &of, p->makers[number]);
+            costs.smallest = BORVUKHAI_BLOCKS(number);
         }
     }
-    return classes == 0 ? 0 : least + (free > classes ? (free - classes) * smallest : 0);
+    for (number = 3; number <= 12; number++) {
+        uint32_t all = pacer_sum(&costs, free), others = pacer_sum(&costs, free + 1);
+        others = others > first[number] ? others - first[number] : 0;
+        others = own[number] + (others > all ? others : all);
+        room = p->makers[number] != 0 && others < room ? others : room;
+    }
+    return costs.count == 0 ? 0 : room;
 }
 
 /* Steps that a cycle begun now can take: one for each record, one for each segment, and six beside. */
 static inline uint32_t pacer_work(const struct pacer *p) {
-    uint32_t number, work = p->delay + p->segments + 6;
+    uint32_t number, work = 2 * p->mutators + p->segments + 6;
     for (number = 3; number <= 12; number++) {
         work += p->in_use[number];
     }
     return work;
 }
 
-/* The states, and how many makes may pass before the next look: each takes one of the room and adds one to the work. */
+/* The states, and how many makes may pass before the next look: each takes at most one of the room, whoever makes, and
+ * adds one to the work. */
 static inline uint32_t pacer_look(struct pacer *p) {
     size_t words = borvukhai_states_length(p->segments);
     uint32_t refused = borvukhai_states(p->segments, p->mem, p->length, p->output, words);
-    uint32_t room = pacer_room(p), work = pacer_work(p);
-    uint64_t ahead = room > p->delay ? (uint64_t)(room - p->delay) * p->steps : 0;
-    p->wait = ahead > work ? (uint32_t)((ahead - work) / (p->steps + 1)) : 0;
+    uint32_t room = refused ? 0 : pacer_room(p), work = pacer_work(p), delay = 2 * p->mutators;
+    uint64_t ahead = room > delay ? (uint64_t)(room - delay) * p->steps : 0;
+    p->room = room;
+    p->kept = ahead >= work;
+    p->wait = p->kept ? (uint32_t)((ahead - work) / (p->steps + 1)) : 0;
     return refused;
 }
 
@@ -108,45 +183,88 @@ static inline uint32_t pacer_start(struct pacer *p) {
     return borvukhai_start(p->segments, p->mem, p->length);
 }
 
+/* One step; what it freed is counted, by the class that a look before that sweep had. A look follows where it is done. */
+static inline uint32_t pacer_one(struct pacer *p, struct borvukhai_stepped *stepped) {
+    uint32_t refused = borvukhai_step_to(p->segments, p->mem, p->length, stepped);
+    if (refused == BORVUKHAI_OK && stepped->kind == BORVUKHAI_STEP_SWEPT) {
+        uint32_t *in_use = &p->in_use[p->output[4 * stepped->segment + 1] % 16];
+        *in_use -= *in_use < stepped->freed ? *in_use : stepped->freed;
+    }
+    if (refused == BORVUKHAI_OK && (stepped->kind == BORVUKHAI_STEP_DONE || stepped->kind == BORVUKHAI_STEP_IDLE)) {
+        p->running = 0;
+        refused = pacer_look(p);
+    }
+    return refused;
+}
+
 /* The steps of one turn, fewer where the cycle ends, or waits for a mutator. */
 static inline uint32_t pacer_step(struct pacer *p) {
     struct borvukhai_stepped stepped = {BORVUKHAI_STEP_MOVED, 0, 0, 0};
     uint32_t left = p->steps, refused = BORVUKHAI_OK;
     while (p->running && left-- != 0 && refused == BORVUKHAI_OK && stepped.kind != BORVUKHAI_STEP_WAITING) {
-        refused = borvukhai_step_to(p->segments, p->mem, p->length, &stepped);
-        if (stepped.kind == BORVUKHAI_STEP_SWEPT) { /* its class is as the look before the start had it */
-            uint32_t *in_use = &p->in_use[p->output[4 * stepped.segment + 1] % 16];
-            *in_use -= *in_use < stepped.freed ? *in_use : stepped.freed;
-        }
-        p->running = stepped.kind != BORVUKHAI_STEP_DONE;
+        refused = pacer_one(p, &stepped);
     }
     return refused;
 }
 
-/* After a make of a record of so many fields: at most p->steps steps. */
+/* After a make of a record of so many fields: at most p->steps steps. A class that was not in play is so from now on,
+ * and the bounds are those of a new look. */
 static inline uint32_t pacer_made(struct pacer *p, uint32_t fields) {
-    uint32_t *in_use = &p->in_use[BORVUKHAI_CLASS_OF(fields)];
-    p->wait = *in_use == 0 ? 0 : p->wait; /* a class that the last look knew nothing of */
-    *in_use += 1;
+    uint32_t number = BORVUKHAI_CLASS_OF(fields), refused = BORVUKHAI_OK;
+    p->room -= p->room != 0;
+    p->in_use[number] += 1;
+    if (p->makers[number] == 0) {
+        refused = pacer_look(p);
+        p->wait = 0;
+    }
     if (p->running) {
-        return pacer_step(p);
+        return refused ? refused : pacer_step(p);
     }
     if (p->wait != 0) {
         p->wait--;
-        return BORVUKHAI_OK;
+        return refused;
     }
-    return pacer_start(p);
+    return refused ? refused : pacer_start(p);
+}
+
+/* A whole cycle before the next make, or the rest of the one that runs: what helps where a make was refused
+ * BORVUKHAI_NO_ROOM, and where `kept` is 0 in a small heap. Every mutator that is inside checks, so none may be in the
+ * midst of a call. A cycle that ran already has not collected what became full since: still refused, call it again. */
+static inline uint32_t pacer_finish(struct pacer *p) {
+    struct borvukhai_stepped stepped = {BORVUKHAI_STEP_MOVED, 0, 0, 0};
+    uint32_t mutator, refused = BORVUKHAI_OK, left = 2049 * p->segments + 6; /* more are of torn memory */
+    if (!p->running) {
+        refused = pacer_look(p);
+        refused = refused ? refused : borvukhai_start(p->segments, p->mem, p->length);
+        p->running = refused == BORVUKHAI_OK;
+    }
+    while (p->running && refused == BORVUKHAI_OK) {
+        refused = left-- == 0 ? BORVUKHAI_TORN : BORVUKHAI_OK;
+        for (mutator = 0; stepped.kind == BORVUKHAI_STEP_WAITING && mutator < 32; mutator++) {
+            borvukhai_check(p->segments, p->mem, p->length, mutator); /* refused where it is absent or outside */
+        }
+        refused = refused ? refused : pacer_one(p, &stepped);
+    }
+    return refused;
+}
+
+/* So many mutators make records of so many fields. Before the first of them, it puts the class in play, so that already
+ * that make is in the bound; and where fewer make a class than are attached, the bound is less strict. */
+static inline uint32_t pacer_makers(struct pacer *p, uint32_t fields, uint32_t mutators) {
+    p->makers[BORVUKHAI_CLASS_OF(fields)] = mutators > 32 ? 32 : mutators;
+    return pacer_look(p);
 }
 
 /* A pacer of a heap that was opened, or that memory holds already, in a cycle or not: then every block that may be in
- * use counts so, until a sweep says more. */
+ * use counts so, until a sweep says more. `mutators`: so many are attached at most. */
 static inline uint32_t pacer_of(struct pacer *p, uint32_t segments, uint32_t *mem, uint32_t *output, uint32_t steps,
                                 uint32_t mutators) {
     uint32_t number, phase = BORVUKHAI_IDLE, refused;
     p->segments = segments, p->mem = mem, p->output = output, p->length = borvukhai_length(segments);
-    p->steps = steps, p->delay = 2 * mutators;
+    p->steps = steps, p->mutators = mutators > 32 ? 32 : mutators == 0 ? 1 : mutators;
     for (number = 0; number < 16; number++) {
         p->in_use[number] = 0xffffffffu;
+        p->makers[number] = 0;
     }
     refused = pacer_look(p);
     refused = refused ? refused : borvukhai_phase_to(segments, mem, p->length, &phase);

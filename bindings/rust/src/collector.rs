@@ -95,7 +95,7 @@ impl<M: AsRef<[u32]> + AsMut<[u32]>> Heap<M> {
     }
 
     /// A check for each mutator that is inside.
-    fn check_all(&mut self) -> Result<()> {
+    pub(crate) fn check_all(&mut self) -> Result<()> {
         for id in MutatorId::all() {
             match self.mutator(id).check() {
                 Ok(()) | Err(Refusal::Absent | Refusal::Side) => {}

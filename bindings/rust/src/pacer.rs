@@ -6,15 +6,19 @@ use crate::collector::Step;
 use crate::heap::Heap;
 use crate::looks::{Phase, SegmentState};
 use crate::numbers::{MutatorId, Root, Shape};
-use crate::refusal::Result;
+use crate::refusal::{Refusal, Result};
 
 /// Runs the collector beside the makes: at most so many steps after each of them, and a cycle begun as late as that
 /// pace allows, so that it finds the most to free. docs/PACING.md says why and when this holds.
 ///
 /// It counts the blocks in use of each class (makes, less what sweeps freed), as no call answers them, and looks at
 /// the segments' states now and then, through an output that it keeps. So it has two bounds: the makes that are
-/// certain to find room, whatever classes they have, and the steps that a cycle begun now can take. Once the makes
-/// times the pace are no more than the steps, it starts a cycle.
+/// certain to find room, in any order, by any of the mutators and of any class in play, and the steps that a cycle
+/// begun now can take. Once the makes times the pace are no more than the steps, it starts a cycle.
+///
+/// [`room`](Pacer::room) says the first bound, and [`kept`](Pacer::kept) whether the pace promises that a cycle ends
+/// before that room is used up. Where not, makes may be refused NoRoom: lend more segments, take more steps, say by
+/// [`makers`](Pacer::makers) that fewer mutators make a class, or call [`finish`](Pacer::finish).
 ///
 /// Every make, and every step of the heap, goes through it. Records of a class that is no longer made may lie dead in
 /// segments that are not full, which no cycle collects: such a mix no pace can hold.
@@ -36,14 +40,20 @@ use crate::refusal::Result;
 pub struct Pacer<O> {
     output: O,
     steps: u32,
-    delay: u32,
+    mutators: u32,
+    makers: [u32; CLASSES],
     in_use: [u32; CLASSES],
+    room: u32,
     wait: u32,
+    kept: bool,
     running: bool,
 }
 
 /// Class numbers are 3 to 12; the counts stand at their number.
 const CLASSES: usize = 13;
+
+/// Mutators' numbers are 0 to 31.
+const MUTATORS: usize = 32;
 
 /// The blocks of a segment of a class.
 const fn blocks(class: usize) -> u32 {
@@ -58,9 +68,11 @@ struct Class {
     /// Bounds of those in use: of a segment that is not full, one at least, and all but one.
     least: u32,
     most: u32,
-    /// The segments that mutators hold, and what those may have free.
+    /// The segments that mutators hold, and those that nobody does.
     held: u32,
-    apart: u32,
+    parts: u32,
+    /// What one segment that is not full can have left once every part segment is taken: the largest, falling.
+    most_left: [u16; MUTATORS],
 }
 
 /// What the look says of all segments.
@@ -75,7 +87,7 @@ impl Look {
     fn see(&mut self, state: SegmentState) {
         match state {
             SegmentState::Free => self.free += 1,
-            SegmentState::Part { class, .. } => self.open(class),
+            SegmentState::Part { class, place } => self.part(class, place),
             SegmentState::Held { class, place, .. } => self.held(class, place),
             SegmentState::Full { class, .. } => {
                 self.full += 1;
@@ -91,18 +103,25 @@ impl Look {
         (&mut self.classes[class], blocks(class))
     }
 
-    fn open(&mut self, class: u32) {
+    fn open(&mut self, class: u32, left: u32) {
         let (of, blocks) = self.class(class);
         of.blocks += blocks;
         of.least += 1;
         of.most += blocks - 1;
+        of.insert(left.min(blocks) as u16);
+    }
+
+    /// All can be left from the place on but the block that its taker uses.
+    fn part(&mut self, class: u32, place: u32) {
+        let (of, blocks) = self.class(class);
+        of.parts += 1;
+        self.open(class, blocks.saturating_sub(place).saturating_sub(1));
     }
 
     fn held(&mut self, class: u32, place: u32) {
-        self.open(class);
         let (of, blocks) = self.class(class);
         of.held += 1;
-        of.apart += blocks.saturating_sub(place);
+        self.open(class, blocks.saturating_sub(place));
     }
 
     fn closed(&mut self, class: u32) {
@@ -114,10 +133,49 @@ impl Look {
 }
 
 impl Class {
-    /// The free blocks in segments of its own; where several mutators hold one, only what each of them can use.
-    fn own(&self, in_use: u32) -> u32 {
-        let free = self.blocks - in_use;
-        if self.held <= 1 { free } else { free.saturating_sub(self.apart).max(1) }
+    fn insert(&mut self, mut left: u16) {
+        for here in &mut self.most_left {
+            if *here < left {
+                core::mem::swap(here, &mut left);
+            }
+        }
+    }
+
+    /// The most free blocks that so many mutators can hold while no segment of the class is part.
+    fn left(&self, mutators: u32, in_use: u32) -> u32 {
+        let spare = (self.blocks - in_use).saturating_sub(self.parts);
+        self.most_left.iter().take(mutators as usize).map(|&left| u32::from(left)).sum::<u32>().min(spare)
+    }
+
+    /// What it costs, in makes, that its makers take one free segment more, `makers` of them being without one: one
+    /// make, and before it those that fill the segment held.
+    fn cost(&self, makers: u32, in_use: u32) -> u32 {
+        1 + self.left(makers, in_use) - self.left(makers.saturating_sub(1), in_use)
+    }
+}
+
+/// What it costs, in makes, to take free segments: the least first, and `smallest` for each beyond them, as then all
+/// who make a class hold a segment that was free, and another costs the blocks of one.
+struct Costs {
+    count: usize,
+    cost: [u16; MUTATORS * (CLASSES - 3)],
+    smallest: u32,
+}
+
+impl Costs {
+    fn add(&mut self, of: &Class, makers: u32, in_use: u32) {
+        for turn in (1..=makers).rev() {
+            if let Some(cost) = self.cost.get_mut(self.count) {
+                *cost = of.cost(turn, in_use) as u16;
+                self.count += 1;
+            }
+        }
+    }
+
+    /// The least makes that take so many free segments.
+    fn sum(&self, segments: u32) -> u32 {
+        let listed = self.cost[..self.count].iter().map(|&cost| u32::from(cost).min(self.smallest));
+        listed.chain(core::iter::repeat(self.smallest)).take(segments as usize).sum()
     }
 }
 
@@ -131,12 +189,13 @@ impl<O: AsRef<[u32]> + AsMut<[u32]>> Pacer<O> {
     /// A pacer of a heap that was opened, or taken up from memory, in a cycle or not: there every block that may be
     /// in use counts so until a sweep says more. `output` has
     /// [`Segments::states_length`](crate::Segments::states_length) words, `steps` is the most after a make, and
-    /// `mutators` how many are inside at most, each of which checks after its makes. Refused Size where the output
-    /// has another length, and Torn.
+    /// `mutators` how many are attached at most; while inside, each checks at least once in so many makes. Refused
+    /// Size where the output has another length, and Torn.
     pub fn new<M: AsRef<[u32]> + AsMut<[u32]>>(heap: &Heap<M>, output: O, steps: u32, mutators: u32) -> Result<Pacer<O>> {
         let running = heap.phase()? != Phase::Idle;
-        let delay = mutators.saturating_mul(2);
-        let mut pacer = Pacer { output, steps, delay, in_use: [u32::MAX; CLASSES], wait: 0, running };
+        let mutators = mutators.clamp(1, MUTATORS as u32);
+        let (in_use, makers) = ([u32::MAX; CLASSES], [0; CLASSES]);
+        let mut pacer = Pacer { output, steps, mutators, makers, in_use, room: 0, wait: 0, kept: false, running };
         pacer.look(heap)?;
         Ok(pacer)
     }
@@ -144,6 +203,47 @@ impl<O: AsRef<[u32]> + AsMut<[u32]>> Pacer<O> {
     /// Whether a cycle runs.
     pub fn running(&self) -> bool {
         self.running
+    }
+
+    /// So many next makes are certain to find room, in any order, by any of the mutators and of any class in play: one
+    /// that was made, that [`makers`](Pacer::makers) named, or that has a segment.
+    pub fn room(&self) -> u32 {
+        self.room
+    }
+
+    /// Whether a cycle begun in time is certain to end before the room does, so that no make of a class in play is
+    /// refused NoRoom.
+    pub fn kept(&self) -> bool {
+        self.kept
+    }
+
+    /// So many mutators make records of this shape's class. Before the first of them, it puts the class in play, so
+    /// that already that make is in the bound; and where fewer make a class than are attached, the bound is less strict.
+    pub fn makers<M: AsRef<[u32]> + AsMut<[u32]>>(&mut self, heap: &Heap<M>, shape: Shape, mutators: u32) -> Result<()> {
+        if let Some(makers) = shape.class().and_then(|class| self.makers.get_mut(class as usize)) {
+            *makers = mutators.min(MUTATORS as u32);
+        }
+        self.look(heap).map(|_| ())
+    }
+
+    /// A whole cycle before the next make, or the rest of the one that runs: what helps where a make was refused
+    /// NoRoom, and in a small heap where the pace is not [`kept`](Pacer::kept). Every mutator that is inside checks. A
+    /// cycle that ran already has not collected what became full since: still refused, call it again.
+    pub fn finish<M: AsRef<[u32]> + AsMut<[u32]>>(&mut self, heap: &mut Heap<M>) -> Result<()> {
+        if !self.running {
+            self.look(heap)?;
+            heap.start()?;
+            self.running = true;
+        }
+        for _ in 0..2049 * heap.segments().count() + 6 {
+            if !self.running {
+                return Ok(());
+            }
+            if self.one(heap)? {
+                heap.check_all()?;
+            }
+        }
+        if self.running { Err(Refusal::Torn) } else { Ok(()) }
     }
 
     /// A make, a check by the mutator that made, and the collector's share. Refused as [`make`](crate::Mutator::make)
@@ -158,11 +258,13 @@ impl<O: AsRef<[u32]> + AsMut<[u32]>> Pacer<O> {
     /// The collector's share after a make that was done elsewhere: at most so many steps as [`new`](Pacer::new) was
     /// told.
     pub fn made<M: AsRef<[u32]> + AsMut<[u32]>>(&mut self, heap: &mut Heap<M>, shape: Shape) -> Result<()> {
-        if let Some(in_use) = shape.class().and_then(|class| self.in_use.get_mut(class as usize)) {
-            if *in_use == 0 {
-                self.wait = 0; // a class that the last look knew nothing of
+        self.room = self.room.saturating_sub(1);
+        if let Some(class) = shape.class().map(|class| class as usize) {
+            self.in_use[class] = self.in_use[class].saturating_add(1);
+            if self.makers[class] == 0 {
+                self.look(heap)?; // a class that the last look knew nothing of
+                self.wait = 0;
             }
-            *in_use = in_use.saturating_add(1);
         }
         if self.running {
             return self.step(heap);
@@ -185,53 +287,76 @@ impl<O: AsRef<[u32]> + AsMut<[u32]>> Pacer<O> {
         Ok(())
     }
 
-    /// The states, and how many makes may pass before the next look: each takes one of the room and adds one to the
-    /// work.
+    /// The states, and how many makes may pass before the next look: each takes at most one of the room, whoever
+    /// makes, and adds one to the work.
     fn look<M: AsRef<[u32]> + AsMut<[u32]>>(&mut self, heap: &Heap<M>) -> Result<Look> {
         let mut look = Look::default();
+        (self.room, self.wait, self.kept) = (0, 0, false);
         heap.states(self.output.as_mut())?.for_each(|state| look.see(state));
-        for (in_use, of) in self.in_use.iter_mut().zip(look.classes) {
-            *in_use = (*in_use).clamp(of.least, of.most);
+        for (class, of) in look.classes.iter().enumerate() {
+            self.in_use[class] = self.in_use[class].clamp(of.least, of.most);
+            let makers = &mut self.makers[class];
+            *makers = if *makers == 0 && of.blocks != 0 { self.mutators } else { *makers };
+            *makers = (*makers).max(of.held).min(MUTATORS as u32);
         }
+        self.room = self.certain(&look);
         let work = u64::from(self.work(heap.segments().count()));
-        let ahead = u64::from(self.room(&look).saturating_sub(self.delay)) * u64::from(self.steps);
+        let ahead = u64::from(self.room.saturating_sub(2 * self.mutators)) * u64::from(self.steps);
+        self.kept = ahead >= work;
         self.wait = u32::try_from(ahead.saturating_sub(work) / (u64::from(self.steps) + 1)).unwrap_or(u32::MAX);
         Ok(look)
     }
 
-    /// Makes that are certain to find room: the least that a class has of its own, and of the free segments those
-    /// beyond one for each.
-    fn room(&self, look: &Look) -> u32 {
-        let made = (0..CLASSES).filter(|&class| self.in_use[class] != 0);
-        let least = made.clone().map(|class| look.classes[class].own(self.in_use[class])).min();
-        let smallest = made.clone().map(blocks).min();
-        let beyond = look.free.saturating_sub(made.count() as u32);
-        least.zip(smallest).map_or(0, |(least, smallest)| least + beyond * smallest)
+    /// Makes that are certain to find room: the fewest after which one can be refused. That one is of a mutator that
+    /// holds no segment of the class, and no segment is part in the class or free. So the class's own blocks are used
+    /// but for what the others hold, and all free segments are taken, by others than this one.
+    fn certain(&self, look: &Look) -> u32 {
+        let mut costs = Costs { count: 0, cost: [0; MUTATORS * (CLASSES - 3)], smallest: 0 };
+        let played = (0..CLASSES).filter(|&class| self.makers[class] != 0);
+        for class in played.clone() {
+            costs.add(&look.classes[class], self.makers[class], self.in_use[class]);
+            costs.smallest = blocks(class);
+        }
+        costs.cost[..costs.count].sort_unstable();
+        let (all, beside) = (costs.sum(look.free), costs.sum(look.free + 1));
+        let rooms = played.map(|class| {
+            let (of, makers, in_use) = (&look.classes[class], self.makers[class], self.in_use[class]);
+            let own = of.blocks - in_use - of.left(makers - 1, in_use);
+            own + all.max(beside.saturating_sub(of.cost(makers, in_use)))
+        });
+        rooms.min().unwrap_or(0)
     }
 
     /// Steps that a cycle begun now can take: one for each record, one for each segment, and six beside.
     fn work(&self, segments: u32) -> u32 {
-        self.in_use.iter().fold(self.delay.saturating_add(segments + 6), |work, &in_use| work.saturating_add(in_use))
+        self.in_use.iter().fold(2 * self.mutators + segments + 6, |work, &in_use| work.saturating_add(in_use))
     }
 
     /// The steps of one turn, fewer where the cycle ends, or waits for a mutator.
     fn step<M: AsRef<[u32]> + AsMut<[u32]>>(&mut self, heap: &mut Heap<M>) -> Result<()> {
         for _ in 0..self.steps {
-            match heap.step()? {
-                Step::Swept { segment, freed } => self.swept(segment, freed),
-                Step::Moved | Step::Traced => {}
-                Step::Waiting(_) => break,
-                Step::Done | Step::Idle => {
-                    self.running = false;
-                    self.wait = 0;
-                    break;
-                }
+            if self.one(heap)? || !self.running {
+                break;
             }
         }
         Ok(())
     }
 
-    /// Blocks became free; the segment's class is as the look before the start had it.
+    /// One step, and a look where it ended the cycle; whether it waits for a mutator.
+    fn one<M: AsRef<[u32]> + AsMut<[u32]>>(&mut self, heap: &mut Heap<M>) -> Result<bool> {
+        let step = heap.step()?;
+        match step {
+            Step::Swept { segment, freed } => self.swept(segment, freed),
+            Step::Moved | Step::Traced | Step::Waiting(_) => {}
+            Step::Done | Step::Idle => {
+                self.running = false;
+                self.look(heap)?;
+            }
+        }
+        Ok(matches!(step, Step::Waiting(_)))
+    }
+
+    /// Blocks became free; the segment's class is that of a look before this sweep.
     fn swept(&mut self, segment: u32, freed: u32) {
         let class = self.output.as_ref().get(4 * segment as usize + 1).copied().unwrap_or_default();
         if let Some(in_use) = self.in_use.get_mut(class as usize) {

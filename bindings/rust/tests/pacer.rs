@@ -1,5 +1,5 @@
 //! The pacer: never a make refused NoRoom in a steady mix, whatever the order of the turns, with several mutators,
-//! and after a restart in the middle of a cycle; and the trap without it.
+//! and after a restart in the middle of a cycle; never one while it says that room is certain; and the trap without it.
 #![cfg(feature = "alloc")]
 
 mod common;
@@ -115,6 +115,156 @@ fn after_a_restart() -> Result<()> {
         let words = lists.heap.into_memory();
         lists = Lists::over(Heap::adopt(SEGMENTS, words, &mut vec![0; SEGMENTS.scratch_length()])?)?;
     }
+    Ok(())
+}
+
+/// Several mutators and classes in any order; `often` of 1,000 makes at least find the pace kept.
+struct Mix {
+    segments: u32,
+    steps: u32,
+    mutators: u32,
+    values: &'static [u32],
+    often: u32,
+}
+
+struct Mixed {
+    mix: Mix,
+    heap: Heap<Box<[u32]>>,
+    pacer: Pacer<Vec<u32>>,
+    seed: u32,
+    made: Vec<u32>,
+    kept: u32,
+}
+
+impl Mixed {
+    fn new(mix: Mix, seed: u32) -> Result<Mixed> {
+        let segments = Segments::new(mix.segments).unwrap();
+        let mut heap = Heap::new(segments);
+        for number in 0..mix.mutators {
+            heap.attach(id(number))?;
+        }
+        let pacer = Pacer::new(&heap, vec![0; segments.states_length()], mix.steps, mix.mutators)?;
+        Ok(Mixed { mix, heap, pacer, seed, made: Vec::new(), kept: 0 })
+    }
+
+    fn any(&mut self, below: u32) -> u32 {
+        self.seed ^= self.seed << 13;
+        self.seed ^= self.seed >> 17;
+        self.seed ^= self.seed << 5;
+        self.seed % below
+    }
+
+    /// Who makes how many values next: half of the times one that holds no segment of the class, where there is one.
+    fn choose(&mut self) -> Result<(u32, u32)> {
+        let mut output = vec![0; self.heap.segments().states_length()];
+        let states: Vec<_> = self.heap.states(&mut output)?.collect();
+        let tries = if self.any(2) == 0 { 12 } else { 1 };
+        let mut chosen = (0, 0);
+        for _ in 0..tries {
+            let values = self.any(self.mix.values.len() as u32) as usize;
+            chosen = (self.any(self.mix.mutators), self.mix.values[values]);
+            let holds = |state: &SegmentState| {
+                matches!(*state, SegmentState::Held { class, mutator, .. }
+                if mutator == id(chosen.0) && Some(class) == Shape::new(1, chosen.1).class())
+            };
+            if !states.iter().any(holds) {
+                break;
+            }
+        }
+        Ok(chosen)
+    }
+
+    /// A make; the new record keeps that of some root, or not. Refused, all of the mutator goes, and a whole cycle runs.
+    fn turn(&mut self) -> Result<()> {
+        let (number, values) = self.choose()?;
+        let (shape, played) = (Shape::new(1, values), self.made.contains(&values));
+        let root = Root::new(1 + self.any(15)).unwrap();
+        let (room, kept) = (self.pacer.room(), self.pacer.kept());
+        self.kept += u32::from(kept);
+        let mut mutator = self.heap.mutator(id(number));
+        if mutator.make(Root::R0, shape) == Err(Refusal::NoRoom) {
+            assert!(!played || (room == 0 && !kept), "refused with room for {room}, kept {kept}");
+            for root in Root::all() {
+                mutator.clear(root)?;
+            }
+            return self.pacer.finish(&mut self.heap);
+        }
+        if self.any(16) != 0 {
+            self.heap.mutator(id(number)).store(Root::R0, 0, root)?;
+        }
+        self.heap.mutator(id(number)).copy(root, Root::R0)?;
+        for number in 0..self.mix.mutators {
+            self.heap.mutator(id(number)).check()?;
+        }
+        if !played {
+            self.made.push(values);
+        }
+        self.pacer.made(&mut self.heap, shape)
+    }
+}
+
+/// No make of a class in play is refused while the pacer says that room is certain, or that the pace is kept.
+#[test]
+fn room_is_certain() -> Result<()> {
+    const TURNS: u32 = 20_000;
+    for seed in [1, 22, 333, 4444, 55_555] {
+        let mixes = [
+            Mix { segments: 2, steps: 8, mutators: 2, values: &[1, 5], often: 0 },
+            Mix { segments: 8, steps: 64, mutators: 1, values: &[6, 14, 30], often: 950 },
+            Mix { segments: 10, steps: 64, mutators: 2, values: &[1, 5, 12], often: 700 },
+            Mix { segments: 16, steps: 64, mutators: 2, values: &[1, 5, 12], often: 950 },
+            Mix { segments: 24, steps: 256, mutators: 4, values: &[2, 6, 40], often: 400 },
+        ];
+        for mix in mixes {
+            let mut mixed = Mixed::new(mix, seed)?;
+            for _ in 0..TURNS {
+                mixed.turn()?;
+            }
+            let often = TURNS / 1000 * mixed.mix.often;
+            assert!(mixed.kept >= often, "{} segments: kept at {} of {TURNS}", mixed.mix.segments, mixed.kept);
+        }
+    }
+    Ok(())
+}
+
+/// The shortest case: mutator 0 holds both segments, so mutator 1 finds none, and the pacer promises none. With the
+/// classes named before, and one maker each, it promises what there is.
+#[test]
+fn one_mutator_holds_all() -> Result<()> {
+    const TWO: Segments = Segments::new(2).unwrap();
+    let mut heap = Heap::new(TWO);
+    let mut pacer = Pacer::new(&heap, [0; TWO.states_length()], 8, 2)?;
+    for number in 0..2 {
+        heap.attach(id(number))?;
+    }
+    for values in [1, 5] {
+        pacer.make(&mut heap, id(0), NEW, Shape::new(1, values))?;
+    }
+    assert_eq!((pacer.room(), pacer.kept()), (0, false));
+    assert_eq!(pacer.make(&mut heap, id(1), NEW, Shape::new(1, 1)), Err(Refusal::NoRoom));
+    for values in [1, 5] {
+        pacer.makers(&heap, Shape::new(1, values), 1)?;
+    }
+    assert_eq!((pacer.room(), pacer.kept()), (511, true));
+    Ok(())
+}
+
+/// A heap of one segment: no step in between helps, and a whole cycle before the next make does.
+#[test]
+fn a_small_heap_by_whole_cycles() -> Result<()> {
+    let mut heap = Heap::new(common::ONE);
+    heap.attach(id(0))?;
+    let mut pacer = Pacer::new(&heap, [0; 4], 1, 1)?;
+    let mut refused = 0;
+    for _ in 0..1000 {
+        if pacer.make(&mut heap, id(0), NEW, common::SHAPE) == Err(Refusal::NoRoom) {
+            refused += 1;
+            pacer.finish(&mut heap)?;
+            pacer.make(&mut heap, id(0), NEW, common::SHAPE)?;
+        }
+        assert!(!pacer.kept());
+    }
+    assert!(refused > 100, "{refused}");
     Ok(())
 }
 

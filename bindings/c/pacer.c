@@ -1,0 +1,144 @@
+/* The pacer of examples/pacer.h under several mutators and classes, by several seeds and sizes of heap: no make is
+ * refused BORVUKHAI_NO_ROOM while it says that room is certain, nor while it says that the pace keeps the heap in room.
+ * Half of the makes are random; the other half are of a mutator that holds no segment of the class, so that as many
+ * segments as can be are held. It prints a line for each mix. */
+#include "../../examples/pacer.h"
+
+#include <stdio.h>
+
+#define MOST 24u
+#define WORDS BORVUKHAI_LENGTH(MOST)
+static uint32_t memory[WORDS], output[BORVUKHAI_STATES_LENGTH(MOST)], states[BORVUKHAI_STATES_LENGTH(MOST)];
+#define HEAP mix->segments, memory, borvukhai_length(mix->segments)
+
+struct mix {
+    const char *name;
+    uint32_t segments, steps, mutators, classes;
+    uint32_t values[3]; /* of the records, with one pointer */
+    uint32_t apart;     /* whether mutator k makes class k only, and the pacer is told so */
+    uint32_t often;     /* at least so many of 1,000 makes find the pace kept */
+};
+
+static const struct mix mixes[] = {
+    {"2 segments, 2 mutators, 2 classes", 2, 8, 2, 2, {1, 5, 0}, 0, 0},
+    {"8 segments, 1 mutator, 3 classes", 8, 64, 1, 3, {6, 14, 30}, 0, 950},
+    {"10 segments, 2 mutators, 3 classes", 10, 64, 2, 3, {1, 5, 12}, 0, 800},
+    {"16 segments, 2 mutators, 3 classes", 16, 64, 2, 3, {1, 5, 12}, 0, 950},
+    {"24 segments, 4 mutators, 3 classes", 24, 256, 4, 3, {2, 6, 40}, 0, 500},
+    {"24 segments, 3 mutators, a class each", 24, 64, 3, 3, {2, 6, 14}, 1, 950},
+    {"6 segments, 3 mutators, a class each", 6, 256, 3, 3, {6, 14, 60}, 1, 0},
+};
+
+static uint32_t seed, makes, refusals, kept, lies;
+static struct pacer pacer;
+
+static uint32_t any(uint32_t below) {
+    seed ^= seed << 13;
+    seed ^= seed >> 17;
+    seed ^= seed << 5;
+    return seed % below;
+}
+
+static int holds(const struct mix *mix, uint32_t mutator, uint32_t number) {
+    uint32_t s;
+    for (s = 0; s < mix->segments; s++) {
+        if (states[4 * s] == BORVUKHAI_SEGMENT_HELD && states[4 * s + 1] == number && states[4 * s + 3] == mutator) {
+            return 1;
+        }
+    }
+    return 0;
+}
+
+/* Who makes which class next: one that holds no segment of it, where there is one and the dice say so. */
+static void choose(const struct mix *mix, uint32_t *mutator, uint32_t *values) {
+    uint32_t turn, tries = any(2) ? 12 : 1;
+    borvukhai_states(HEAP, states, borvukhai_states_length(mix->segments));
+    for (turn = 0; turn < tries; turn++) {
+        *mutator = any(mix->mutators);
+        *values = mix->values[mix->apart ? *mutator : any(mix->classes)];
+        if (!holds(mix, *mutator, BORVUKHAI_CLASS_OF(1 + *values))) {
+            break;
+        }
+    }
+}
+
+/* A make refused: one cycle to its end, and one more, help; or the mutator gives up all that it has. */
+static void refused_one(const struct mix *mix, uint32_t mutator) {
+    uint32_t root;
+    refusals++;
+    for (root = 0; any(4) == 0 && root < 16; root++) {
+        borvukhai_clear(HEAP, mutator, root);
+    }
+    pacer_finish(&pacer);
+}
+
+/* A make into a root; the new record keeps the old one, or it is dropped with all behind it. */
+static uint32_t turn(const struct mix *mix) {
+    uint32_t mutator, values, other, refused, root = 1 + any(15);
+    int sure, room;
+    choose(mix, &mutator, &values);
+    room = pacer.room != 0 && pacer.makers[BORVUKHAI_CLASS_OF(1 + values)] != 0;
+    sure = pacer.kept && pacer.makers[BORVUKHAI_CLASS_OF(1 + values)] != 0;
+    refused = borvukhai_make(HEAP, mutator, 0, 1, values);
+    makes++;
+    kept += (uint32_t)sure;
+    if (refused == BORVUKHAI_NO_ROOM) {
+        lies += (uint32_t)(room || sure);
+        refused_one(mix, mutator);
+        return BORVUKHAI_OK;
+    }
+    refused = refused || any(16) == 0 ? refused : borvukhai_store(HEAP, mutator, 0, 0, root);
+    refused = refused ? refused : borvukhai_copy(HEAP, mutator, root, 0);
+    for (other = 0; !refused && other < mix->mutators; other++) {
+        refused = borvukhai_check(HEAP, other);
+    }
+    return refused ? refused : pacer_made(&pacer, 1 + values);
+}
+
+/* A mutator goes, and its number comes again; in a handshake neither may. */
+static uint32_t change(const struct mix *mix) {
+    uint32_t mutator = any(mix->mutators), refused = borvukhai_detach(HEAP, mutator);
+    refused = refused ? refused : borvukhai_attach(HEAP, mutator);
+    return refused == BORVUKHAI_NOT_NOW ? 0 : refused;
+}
+
+static uint32_t play(const struct mix *mix, uint32_t turns) {
+    uint32_t number, refused = borvukhai_open(HEAP);
+    for (number = 0; !refused && number < mix->mutators; number++) {
+        refused = borvukhai_attach(HEAP, number);
+    }
+    refused = refused ? refused : pacer_of(&pacer, mix->segments, memory, output, mix->steps, mix->mutators);
+    for (number = 0; !refused && mix->apart && number < mix->mutators; number++) {
+        refused = pacer_makers(&pacer, 1 + mix->values[number], 1);
+    }
+    while (!refused && turns-- != 0) {
+        refused = any(5000) == 0 ? change(mix) : turn(mix);
+    }
+    return refused;
+}
+
+/* The shortest case: mutator 0 holds both segments, so mutator 1 finds none, and the pacer promises none. */
+static int shortest(void) {
+    const struct mix *mix = &mixes[0];
+    uint32_t refused = borvukhai_open(HEAP) | borvukhai_attach(HEAP, 0) | borvukhai_attach(HEAP, 1);
+    refused |= pacer_of(&pacer, 2, memory, output, 8, 2);
+    refused |= borvukhai_make(HEAP, 0, 0, 1, 1) | pacer_made(&pacer, 2);
+    refused |= borvukhai_make(HEAP, 0, 1, 1, 5) | pacer_made(&pacer, 6);
+    return refused == BORVUKHAI_OK && pacer.room == 0 && !pacer.kept && borvukhai_make(HEAP, 1, 0, 1, 1) == BORVUKHAI_NO_ROOM;
+}
+
+int main(void) {
+    uint32_t at, number;
+    int well = shortest();
+    for (at = 0; at < sizeof mixes / sizeof mixes[0]; at++) {
+        makes = refusals = kept = lies = 0;
+        for (number = 1; number <= 5; number++) {
+            seed = 2463534242u + 77u * number;
+            well = play(&mixes[at], 40000) == BORVUKHAI_OK && well;
+        }
+        printf("%s: %u makes, %u refused, %u of them while room was certain; the pace kept at %u\n", mixes[at].name,
+               (unsigned)makes, (unsigned)refusals, (unsigned)lies, (unsigned)kept);
+        well = well && lies == 0 && kept >= makes / 1000 * mixes[at].often;
+    }
+    return well ? 0 : 1;
+}
