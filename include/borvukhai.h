@@ -56,7 +56,7 @@ enum {
     BORVUKHAI_TORN = 13      /* memory that fails the examination led the call astray */
 };
 
-/* The same three by this header's own terms. */
+/* The same three by this header's own terms, which the calls' comments below use. */
 enum {
     BORVUKHAI_BAD_MUTATOR = BORVUKHAI_SCRIPT,
     BORVUKHAI_BAD_ROOT = BORVUKHAI_SLOT,
@@ -95,6 +95,13 @@ static inline const char *borvukhai_refusal_text(uint32_t number) {
     default:
         return "no refusal has this number";
     }
+}
+
+/* Its name, without the prefix: "NO_ROOM" for BORVUKHAI_NO_ROOM; "" for a number that no call gives. */
+static inline const char *borvukhai_refusal_name(uint32_t number) {
+    static const char *const names[] = {"OK",  "SIZE",  "BAD_MUTATOR", "TAKEN",   "ABSENT",  "SIDE", "BAD_ROOT",
+                                        "NIL", "FIELD", "TOO_BIG",     "NO_ROOM", "NOT_NOW", "",     "TORN"};
+    return number < sizeof names / sizeof names[0] ? names[number] : "";
 }
 
 /* Phases, as borvukhai_phase answers them. */
@@ -165,35 +172,36 @@ static inline int borvukhai_check_layout(void) { return borvukhai_layout() == BO
 /* An empty heap in memory of any content: every segment free, no mutator attached, no cycle. Refused SIZE only. */
 uint32_t borvukhai_open(uint32_t segments, uint32_t *mem, size_t length);
 
-/* A mutator comes in, inside, its roots nil. Refused SIZE, SCRIPT, TAKEN, NOT_NOW, TORN. */
+/* A mutator comes in, inside, its roots nil. Refused SIZE, BAD_MUTATOR, TAKEN, NOT_NOW, TORN. */
 uint32_t borvukhai_attach(uint32_t segments, uint32_t *mem, size_t length, uint32_t mutator);
-/* The same, but root 0 is a copy of one root of a parent that is inside. Refused SIZE, SCRIPT, TAKEN, ABSENT, SIDE, SLOT, NOT_NOW, TORN. */
+/* The same, but root 0 is a copy of one root of a parent that is inside. Refused SIZE, BAD_MUTATOR, TAKEN, ABSENT, SIDE, BAD_ROOT, NOT_NOW,
+ * TORN. */
 uint32_t borvukhai_spawn(uint32_t segments, uint32_t *mem, size_t length, uint32_t mutator, uint32_t parent, uint32_t root);
-/* A mutator goes; its roots are emptied, and its number is free for another. Refused SIZE, SCRIPT, ABSENT, SIDE, NOT_NOW, TORN. */
+/* A mutator goes; its roots are emptied, and its number is free for another. Refused SIZE, BAD_MUTATOR, ABSENT, SIDE, NOT_NOW, TORN. */
 uint32_t borvukhai_detach(uint32_t segments, uint32_t *mem, size_t length, uint32_t mutator);
 
-/* A new record of so many pointers, all nil, and values, all 0, into root `to`. Refused SIZE, SCRIPT, ABSENT, SIDE, SLOT, TOO_BIG, NO_ROOM,
- * TORN. */
+/* A new record of so many pointers, all nil, and values, all 0, into root `to`. Refused SIZE, BAD_MUTATOR, ABSENT, SIDE, BAD_ROOT, TOO_BIG,
+ * NO_ROOM, TORN. */
 uint32_t borvukhai_make(uint32_t segments, uint32_t *mem, size_t length, uint32_t mutator, uint32_t to, uint32_t pointers, uint32_t values);
 
-/* Pointer `field` of the record in root `root` into root `to`. Refused SIZE, SCRIPT, ABSENT, SIDE, SLOT, DARK, FIELD, TORN. */
+/* Pointer `field` of the record in root `root` into root `to`. Refused SIZE, BAD_MUTATOR, ABSENT, SIDE, BAD_ROOT, NIL, FIELD, TORN. */
 uint32_t borvukhai_load(uint32_t segments, uint32_t *mem, size_t length, uint32_t mutator, uint32_t to, uint32_t root, uint32_t field);
-/* Root `from` into pointer `field` of the record in root `root`. Refused SIZE, SCRIPT, ABSENT, SIDE, SLOT, DARK, FIELD, TORN. */
+/* Root `from` into pointer `field` of the record in root `root`. Refused SIZE, BAD_MUTATOR, ABSENT, SIDE, BAD_ROOT, NIL, FIELD, TORN. */
 uint32_t borvukhai_store(uint32_t segments, uint32_t *mem, size_t length, uint32_t mutator, uint32_t root, uint32_t field, uint32_t from);
-/* `value` into value `field` of the record in root `root`. Refused SIZE, SCRIPT, ABSENT, SIDE, SLOT, DARK, FIELD, TORN. */
+/* `value` into value `field` of the record in root `root`. Refused SIZE, BAD_MUTATOR, ABSENT, SIDE, BAD_ROOT, NIL, FIELD, TORN. */
 uint32_t borvukhai_put(uint32_t segments, uint32_t *mem, size_t length, uint32_t mutator, uint32_t root, uint32_t field, uint32_t value);
 
-/* Root `from` into root `to`. Refused SIZE, SCRIPT, ABSENT, SIDE, SLOT, TORN. */
+/* Root `from` into root `to`. Refused SIZE, BAD_MUTATOR, ABSENT, SIDE, BAD_ROOT, TORN. */
 uint32_t borvukhai_copy(uint32_t segments, uint32_t *mem, size_t length, uint32_t mutator, uint32_t to, uint32_t from);
-/* Nil into root `to`. Refused SIZE, SCRIPT, ABSENT, SIDE, SLOT, TORN. */
+/* Nil into root `to`. Refused SIZE, BAD_MUTATOR, ABSENT, SIDE, BAD_ROOT, TORN. */
 uint32_t borvukhai_clear(uint32_t segments, uint32_t *mem, size_t length, uint32_t mutator, uint32_t to);
 
 /* A mutator that owes an acknowledgement of the handshake gives it; otherwise nothing changes. Each mutator that is inside calls it
- * between its own steps. Refused SIZE, SCRIPT, ABSENT, SIDE, TORN. */
+ * between its own steps. Refused SIZE, BAD_MUTATOR, ABSENT, SIDE, TORN. */
 uint32_t borvukhai_check(uint32_t segments, uint32_t *mem, size_t length, uint32_t mutator);
-/* A check, then outside: the collector acknowledges for it while it waits. Refused SIZE, SCRIPT, ABSENT, SIDE, TORN. */
+/* A check, then outside: the collector acknowledges for it while it waits. Refused SIZE, BAD_MUTATOR, ABSENT, SIDE, TORN. */
 uint32_t borvukhai_leave(uint32_t segments, uint32_t *mem, size_t length, uint32_t mutator);
-/* Inside again. Refused SIZE, SCRIPT, ABSENT, SIDE (it is inside), TORN. */
+/* Inside again. Refused SIZE, BAD_MUTATOR, ABSENT, SIDE (it is inside), TORN. */
 uint32_t borvukhai_enter(uint32_t segments, uint32_t *mem, size_t length, uint32_t mutator);
 
 /* A cycle begins: every full segment is condemned. Where none is full it is a cycle over no segment: both handshakes and the marking are
@@ -207,11 +215,12 @@ uint32_t borvukhai_states(uint32_t segments, const uint32_t *mem, size_t length,
 /* ---- calls that answer 64 bits: a result above a refusal. Where borvukhai_refusal of the answer is 0, borvukhai_result is the result,
  * else it is 0 */
 
-/* The value: value `field` of the record in root `root`. Refused SIZE, SCRIPT, ABSENT, SIDE, SLOT, DARK, FIELD, TORN. */
+/* The value: value `field` of the record in root `root`. Refused SIZE, BAD_MUTATOR, ABSENT, SIDE, BAD_ROOT, NIL, FIELD, TORN. */
 uint64_t borvukhai_get(uint32_t segments, const uint32_t *mem, size_t length, uint32_t mutator, uint32_t root, uint32_t field);
-/* 1 where the two roots are the same record or both nil, else 0. Refused SIZE, SCRIPT, ABSENT, SIDE, SLOT, TORN. */
+/* 1 where the two roots are the same record or both nil, else 0. Refused SIZE, BAD_MUTATOR, ABSENT, SIDE, BAD_ROOT, TORN. */
 uint64_t borvukhai_same(uint32_t segments, const uint32_t *mem, size_t length, uint32_t mutator, uint32_t root, uint32_t other);
-/* The counts of the record in root `root`: borvukhai_pointers and borvukhai_values. Refused SIZE, SCRIPT, ABSENT, SIDE, SLOT, DARK, TORN. */
+/* The counts of the record in root `root`: borvukhai_pointers and borvukhai_values. Refused SIZE, BAD_MUTATOR, ABSENT, SIDE, BAD_ROOT, NIL,
+ * TORN. */
 uint64_t borvukhai_shape(uint32_t segments, const uint32_t *mem, size_t length, uint32_t mutator, uint32_t root);
 
 /* One small step of the collector: borvukhai_step_kind says what it did. Refused SIZE, TORN. */

@@ -134,15 +134,21 @@ static void another_layout(void) {
     expect("after: and the header compares it", (uint64_t)borvukhai_check_layout(), 1);
 }
 
-/* Every refusal has a sentence of its own. */
+/* Every refusal has a sentence and a name of its own. */
 static void texts(void) {
     uint32_t a, b;
     for (a = 0; a <= 14; a++) {
         for (b = 0; b < a; b++) {
             int same = strcmp(borvukhai_refusal_text(a), borvukhai_refusal_text(b)) == 0;
             expect("the same text twice", (uint64_t)same, a == 14 && b == 12); /* neither is a refusal's number */
+            same = strcmp(borvukhai_refusal_name(a), borvukhai_refusal_name(b)) == 0;
+            expect("the same name twice", (uint64_t)same, a == 14 && b == 12);
         }
     }
+#define NAMED(name) expect("the name of " #name, (uint64_t)strcmp(borvukhai_refusal_name(BORVUKHAI_##name), #name), 0)
+    NAMED(OK), NAMED(SIZE), NAMED(BAD_MUTATOR), NAMED(TAKEN), NAMED(ABSENT), NAMED(SIDE), NAMED(BAD_ROOT), NAMED(NIL);
+    NAMED(FIELD), NAMED(TOO_BIG), NAMED(NO_ROOM), NAMED(NOT_NOW), NAMED(TORN);
+    expect("no name", borvukhai_refusal_name(12)[0] == 0 && borvukhai_refusal_name(0xffffffffu)[0] == 0, 1);
     expect("names", BORVUKHAI_BAD_MUTATOR == 2 && BORVUKHAI_BAD_ROOT == 6 && BORVUKHAI_NIL == 7, 1);
 }
 
