@@ -183,7 +183,8 @@ static inline uint32_t pacer_start(struct pacer *p) {
     return borvukhai_start(p->segments, p->mem, p->length);
 }
 
-/* One step; what it freed is counted, by the class that a look before that sweep had. A look follows where it is done. */
+/* One step; what it freed is counted, by the class that a look before that sweep had. Where the cycle is done a look
+ * follows. */
 static inline uint32_t pacer_one(struct pacer *p, struct borvukhai_stepped *stepped) {
     uint32_t refused = borvukhai_step_to(p->segments, p->mem, p->length, stepped);
     if (refused == BORVUKHAI_OK && stepped->kind == BORVUKHAI_STEP_SWEPT) {

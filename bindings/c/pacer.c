@@ -124,7 +124,8 @@ static int shortest(void) {
     refused |= pacer_of(&pacer, 2, memory, output, 8, 2);
     refused |= borvukhai_make(HEAP, 0, 0, 1, 1) | pacer_made(&pacer, 2);
     refused |= borvukhai_make(HEAP, 0, 1, 1, 5) | pacer_made(&pacer, 6);
-    return refused == BORVUKHAI_OK && pacer.room == 0 && !pacer.kept && borvukhai_make(HEAP, 1, 0, 1, 1) == BORVUKHAI_NO_ROOM;
+    return refused == BORVUKHAI_OK && pacer.room == 0 && !pacer.kept &&
+           borvukhai_make(HEAP, 1, 0, 1, 1) == BORVUKHAI_NO_ROOM;
 }
 
 int main(void) {
