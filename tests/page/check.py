@@ -38,10 +38,24 @@ def stepped(browser, run):
     return shown
 
 
+def moments(browser):
+    """The page opens in the midst of a cycle, and on the moment that an address names; a wrong address is no fault."""
+    shown = browser.value(SHOWN)
+    assert shown["count"].startswith("line 26 of ") and shown["stack"] == 1, shown
+    for address, run, line in (("#run=2&line=10", 1, 10), ("#run=3", 2, 1), ("#run=1&line=9999", 0, None), ("#run=9&line=x", 0, 26)):
+        browser.value(f"(() => {{ location.hash = '{address}'; fromAddress(); }})()")
+        lines = browser.value(f"recordings[{run}].steps.length")
+        assert browser.value(SHOWN)["count"] == f"line {line or lines} of {lines}", address
+        link = browser.value("document.getElementById('count').getAttribute('href')")
+        assert link == f"#run={run + 1}&line={line or lines}", link
+    print("docs/heap.html: opens in the midst of a cycle, and where an address says")
+
+
 def main():
     bracket = sys.argv[1] if len(sys.argv) > 1 else None
     browser = Browser()
     browser.open(TOP / "docs/heap.html")
+    moments(browser)
     runs = browser.value("recordings.length")
     for run in range(runs):
         shown = stepped(browser, run)
