@@ -40,7 +40,7 @@ struct pacer_class {
 /* One more of the numbers that a segment can have left. */
 static inline void pacer_insert(uint16_t *falling, uint32_t count, uint32_t left) {
     uint32_t at;
-    for (at = 0; at < count; at++) {
+    for (at = 0; left != 0 && at < count; at++) {
         uint32_t here = falling[at];
         falling[at] = (uint16_t)(here < left ? left : here);
         left = here < left ? here : left;
@@ -130,7 +130,7 @@ static inline uint32_t pacer_sum(const struct pacer_costs *of, uint32_t segments
  * no segment of the class, and no segment is part in the class or free. So the class's own blocks are used but for what
  * the others hold, and all free segments are taken, by others than this one. */
 static inline uint32_t pacer_room(struct pacer *p) {
-    uint32_t number, free = pacer_segments(p, BORVUKHAI_SEGMENT_FREE), room = 0xffffffffu;
+    uint32_t number, free = pacer_segments(p, BORVUKHAI_SEGMENT_FREE), room = 0xffffffffu, all, beside;
     uint32_t own[16] = {0}, first[16] = {0};
     struct pacer_costs costs;
     costs.count = 0, costs.smallest = 0;
@@ -142,9 +142,9 @@ static inline uint32_t pacer_room(struct pacer *p) {
             costs.smallest = BORVUKHAI_BLOCKS(number);
         }
     }
+    all = pacer_sum(&costs, free), beside = pacer_sum(&costs, free + 1);
     for (number = 3; number <= 12; number++) {
-        uint32_t all = pacer_sum(&costs, free), others = pacer_sum(&costs, free + 1);
-        others = others > first[number] ? others - first[number] : 0;
+        uint32_t others = beside > first[number] ? beside - first[number] : 0;
         others = own[number] + (others > all ? others : all);
         room = p->makers[number] != 0 && others < room ? others : room;
     }
