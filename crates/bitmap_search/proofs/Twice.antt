@@ -20,7 +20,7 @@ use Rattle.bitmap_search.specs.declared.Two.{Two}
 use Rattle.bitmap_search.specs.declared.BitPtr.{BitPtr}
 use Rattle.bitmap_search.specs.Scan.{nextFree}
 use Rattle.bitmap_search.specs.declared.Found.the-variants.{Block, Nothing, Torn}
-use Rattle.bitmap_search.proofs.Moves.{ahead-at}
+use Rattle.bitmap_search.proofs.Moves.{ahead-past, ahead-at}
 use Rattle.bitmap_search.specs.Twice.{remains, andAfter, nextTwo, reached, TwoBelow, TwoPromise}
 use Rattle.bitmap_search.proofs.Scan.{IsNext, next-is, is-next}
 use Rattle.bitmap_search.specs.Search.{forwarded, foundAt, blockAt, searched, BlockBelow}
@@ -43,6 +43,10 @@ module _ (a : ℕ) (ws : List ℕ) (n : ℕ) where
       let m : (b + 1) % 32 ≡ b % 32 + 1 = omega arith in
       let c : clearFrom (getD ws ((b + 1) / 32) 0) ((b + 1) % 32) < 32 = rw (d, m) (ltb-true (clearFrom (getD ws (b / 32) 0) (b % 32 + 1)) 32 (sym e)) in
       rw (← in-own (b + 1) (omega arith) c)
+
+  -- none after the last block of whole words
+  pub last-whole : (b : ℕ) → b + 1 ≡ n → n % 32 ≡ 0 → two.Last b ≡ remains b (reached a ws n (b + 1))
+  last-whole b e z = rw (← ahead-past a ws n (ptrTo (b + 1)) 0 (posOf (b + 1)) refl (omega arith))
 
 -- ---- by the values that the code has in hand
 

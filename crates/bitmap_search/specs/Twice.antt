@@ -2,7 +2,7 @@
 -- past it. .. When no free block remains at or after the new place, the segment becomes full in the same call".
 use mathlib.Core.Path.{_≡_}
 use mathlib.Core.List.{List}
-use Prim.Native.Nat.{ℕ, _+_, _<_}
+use Prim.Native.Nat.{ℕ, _+_, _*_, _/_, _<_}
 use Rattle.words.specs.Bits.{bitAt}
 use Rattle.words.specs.Tree.{Level, Tree}
 use Rattle.bitmap_search.specs.Scan.{nextFree}
@@ -46,6 +46,12 @@ TwoBelow n two.Torn = Unit
 pub record TwoPromise (above : ℕ) (ws : List ℕ) (n place : ℕ) (r : Two) : Type 0 where
   pub within : TwoBelow n r
   pub scan : Tree above n ws → r ≡ nextTwo (bitAt ws) n place
+
+-- what is promised where only the place's own word was asked: the block is one of that word, over any words; it is the scan's, and another remains, in a
+-- level of any n bits that the place is below
+abbrev pub OwnPromise : List ℕ → ℕ → Near → Type 0
+OwnPromise ws place (near.More b) = (b < (place / 32 + 1) * 32) × ((n : ℕ) → place < n → Level n ws → two.More b ≡ nextTwo (bitAt ws) n place)
+OwnPromise ws place near.Far = Unit
 
 -- what is promised where only words at the place were asked: a block is one of n, over any words; it is the scan's, and another remains, in a level
 -- of n bits

@@ -5,12 +5,12 @@ use words::clear_from;
 use words::two_clear;
 use words::words_for;
 ghost use mathlib.Core.Path.{_≡_};
-ghost use Prim.Native.Nat.{_+_, _-_, _^_, _≤_, _<_};
+ghost use Prim.Native.Nat.{_+_, _-_, _/_, _^_, _≤_, _<_};
 ghost use lib.ListN.{length};
 ghost use Rattle.words.specs.Levels.{wordsFor, treeWords};
 ghost use Rattle.bitmap_search.specs.Pointer.{posAt, withPos, aimed, indexOf, posOf, ptrTo};
 ghost use Rattle.bitmap_search.specs.Search.{climbed, lowered, forwarded, blockAt, SearchPromise};
-ghost use Rattle.bitmap_search.specs.Twice.{andAfter, reached, NearPromise, TwoPromise};
+ghost use Rattle.bitmap_search.specs.Twice.{andAfter, reached, OwnPromise, NearPromise, TwoPromise};
 ghost use Rattle.bitmap_search.specs.declared.Next.the-variants.{At};
 
 // What a search for a free block finds.
@@ -210,7 +210,39 @@ impl BitPtr {
         }
     }
 
-    // The pointer's block, if it is one of n, and whether another remains after it: in its word, else by the search from just after.
+    // The same at level 0, where a search begins: in one text, so that a block in the pointer's own word needs no call.
+    fn forward_first(self, s: &[u32], n: u32, above: u32) -> Next
+        requires { ⌜ (treeWords above n ≤ length (now s)) × (self .low .bit < 32) ⌝ }
+        ensures { λ r. ⌜ r ≡ forwarded above (now (s .entry)) n self 0 ⌝ }
+    {
+        let word = self.low.word;
+        let words = words_for(n);
+        if words <= word {
+            return Next::Nothing;
+        }
+        let i = word as usize;
+        let bit = clear_from(s[i], self.low.bit);
+        if bit < 32 {
+            let here = BitPos {
+                word: word,
+                bit: bit,
+            };
+            return Next::At(self.with(0, here));
+        }
+        if above == 0 {
+            return Next::Nothing;
+        }
+        let m = words as usize;
+        let found = self.climb(0).forward(&s[m..], words, above - 1, 1);
+        match found {
+            Next::At(q) => q.descend(s, words, 0),
+            Next::Nothing => Next::Nothing,
+            Next::Torn => Next::Torn,
+        }
+    }
+
+    // The pointer's block, if it is one of n, and whether another remains after it: in its word, else by the search from just after. After the
+    // last block of whole words there is nothing to search.
     fn remaining(self, s: &[u32], n: u32, above: u32) -> Two
         requires { ⌜ (treeWords above n ≤ length (now s)) × (indexOf (self .low) < 2 ^ 32) ⌝ }
         ensures { λ r. ⌜ r ≡ andAfter (reached above (now (s .entry)) n) (blockAt n (At self)) ⌝ }
@@ -223,7 +255,13 @@ impl BitPtr {
         if clear_after(s[i], b % 32) {
             return Two::More(b);
         }
-        let found = Self::to(b + 1).forward(s, n, above, 0);
+        let next = b + 1;
+        if next == n {
+            if n % 32 == 0 {
+                return Two::Last(b);
+            }
+        }
+        let found = Self::to(next).forward(s, n, above, 0);
         match found {
             Next::At(q) => Two::More(b),
             Next::Nothing => Two::Last(b),
@@ -236,7 +274,7 @@ impl BitPtr {
         requires { ⌜ (treeWords above n ≤ length (now s)) × (self .low .bit < 32) ⌝ }
         ensures { λ r. ⌜ r ≡ andAfter (reached above (now (s .entry)) n) (blockAt n (forwarded above (now (s .entry)) n self 0)) ⌝ }
     {
-        let found = self.forward(s, n, above, 0);
+        let found = self.forward_first(s, n, above);
         match found {
             Next::At(q) => q.remaining(s, n, above),
             Next::Nothing => Two::Nothing,
@@ -262,26 +300,21 @@ pub fn next_free(s: &[u32], n: u32, above: u32, place: u32) -> Found
     }
 }
 
-// The next free block of n at or after a place, where the place's own word has it and another clear bit after it.
-pub fn more_in_word(s: &[u32], n: u32, place: u32) -> Near
-    requires { ⌜ wordsFor n ≤ length (now s) ⌝ }
-    ensures { λ r. ⌜ NearPromise (now (s .entry)) n place r ⌝ }
+// The next free block at or after a place, where the place's own word has it and another clear bit after it, whatever the number of blocks.
+pub fn more_in_word(s: &[u32], place: u32) -> Near
+    requires { ⌜ place / 32 < length (now s) ⌝ }
+    ensures { λ r. ⌜ OwnPromise (now (s .entry)) place r ⌝ }
 {
-    if place < n {
-        let i = (place / 32) as usize;
-        let w = s[i];
-        if two_clear(w, place % 32) {
-            let b = place / 32 * 32 + clear_from(w, place % 32);
-            if b < n {
-                return Near::More(b);
-            }
-        }
+    let i = (place / 32) as usize;
+    let w = s[i];
+    if two_clear(w, place % 32) {
+        return Near::More(place / 32 * 32 + clear_from(w, place % 32));
     }
     Near::Far
 }
 
 // The next free block of n at or after a place, where the place's own word has it and the next word is not all ones.
-fn more_in_next(s: &[u32], n: u32, place: u32) -> Near
+pub fn more_in_next(s: &[u32], n: u32, place: u32) -> Near
     requires { ⌜ wordsFor n ≤ length (now s) ⌝ }
     ensures { λ r. ⌜ NearPromise (now (s .entry)) n place r ⌝ }
 {
@@ -300,14 +333,10 @@ fn more_in_next(s: &[u32], n: u32, place: u32) -> Near
     Near::Far
 }
 
-// The next free block of n at or after a place, and whether another remains after it: by the place's word and the next where they
-// tell, else by the search.
+// The next free block of n at or after a place, and whether another remains after it, by the search.
 pub fn next_two(s: &[u32], n: u32, above: u32, place: u32) -> Two
     requires { ⌜ treeWords above n ≤ length (now s) ⌝ }
     ensures { λ r. ⌜ TwoPromise above (now (s .entry)) n place r ⌝ }
 {
-    match more_in_next(s, n, place) {
-        Near::More(b) => Two::More(b),
-        Near::Far => BitPtr::to(place).search_two(s, n, above),
-    }
+    BitPtr::to(place).search_two(s, n, above)
 }

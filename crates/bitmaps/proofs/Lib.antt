@@ -2,3 +2,4 @@
 pub mod Lent
 pub mod Used
 pub mod Unset
+pub mod Own

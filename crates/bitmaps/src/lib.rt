@@ -15,7 +15,7 @@ ghost use Rattle.layout.specs.Geometry.{Sized, blocksIn};
 ghost use Rattle.layout.specs.Mem.{memOf};
 ghost use Rattle.model.specs.Making.{freshened};
 ghost use Rattle.model.specs.Segments.{above, bitmap, marksIn};
-ghost use Rattle.bitmaps.specs.Given.{adoptedAs, Unmarked, usedBits};
+ghost use Rattle.bitmaps.specs.Given.{adoptedAs, NearIn, Unmarked, usedBits};
 
 // Segment s gets a tree of free blocks of a class.
 pub fn fresh(g: Geometry, mem: &mut [u32], s: usize, class: u32)
@@ -49,8 +49,20 @@ fn search_two(g: Geometry, mem: &[u32], s: usize, class: u32, place: u32) -> Two
     bitmap_search::next_two(&mem[a..b], shape.blocks, shape.levels - 1, place)
 }
 
-// The next free block of segment s at or after a place, and whether another remains after it. The place's own word is asked first: where it tells
-// both, no shape is read.
+// The next free block of segment s at or after a place, where the place's own word has it and another after it. No class is asked for: a block's
+// number is below the most blocks of a segment whatever the words hold.
+pub fn near(g: Geometry, mem: &[u32], s: usize, place: u32) -> Near
+    requires { ⌜ (Sized g (length (now mem))) × (s < g .segments) ⌝ }
+    ensures { λ r. ⌜ NearIn g (memOf g (now (mem .entry))) s place r ⌝ }
+{
+    let at = layout::block_number(g, place);
+    let a = layout::bitmap_from(g, s);
+    let b = layout::bitmap_from(g, s + 1);
+    bitmap_search::more_in_word(&mem[a..b], at)
+}
+
+// The next free block of segment s at or after a place, and whether another remains after it. The place's own word and the next are asked first: where
+// they tell both, no shape is read.
 pub fn next_two(g: Geometry, mem: &[u32], s: usize, class: u32, place: u32) -> Two
     requires { ⌜ (Sized g (length (now mem))) × (s < g .segments) ⌝ }
     requires { ⌜ IsClass class ⌝ }
@@ -59,7 +71,7 @@ pub fn next_two(g: Geometry, mem: &[u32], s: usize, class: u32, place: u32) -> T
     let blocks = blocks_of(g, class);
     let a = layout::bitmap_from(g, s);
     let b = layout::bitmap_from(g, s + 1);
-    match bitmap_search::more_in_word(&mem[a..b], blocks, place) {
+    match bitmap_search::more_in_next(&mem[a..b], blocks, place) {
         Near::More(x) => Two::More(x),
         Near::Far => search_two(g, mem, s, class, place),
     }

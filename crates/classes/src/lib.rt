@@ -1,8 +1,10 @@
 // Size classes: the class of a record by its number of fields, and for each class the shape of a segment: its blocks, the
 // levels of its bitmap and the words in each level. Both are read from constant tables, and proved by their rule.
 ghost use mathlib.Core.Path.{_≡_};
+ghost use Prim.Native.Nat.{_≤_};
 ghost use Rattle.classes.specs.Class.{IsClass, classTest, blockWords, classOf};
 ghost use Rattle.classes.specs.Record.{classOfRecord};
+ghost use Rattle.classes.specs.declared.SizeClass.the-variants.{Class};
 ghost use Rattle.classes.specs.Shape.{segmentSize, segmentShape};
 
 pub const FIRST_CLASS: u32 = 3;
@@ -1278,6 +1280,33 @@ pub fn class_of(fields: u32) -> SizeClass
         _ => return class_of_many(fields),
     };
     SizeClass::Class(class)
+}
+
+// The same for at most 16 fields, by the entries that have names: every number has its arm, so that no test is left of it.
+pub fn class_of_few(fields: u32) -> u32
+    requires { ⌜ fields ≤ 16 ⌝ }
+    ensures { λ r. ⌜ Class r ≡ classOf fields ⌝ }
+{
+    match fields {
+        0 => CLASS_0,
+        1 => CLASS_1,
+        2 => CLASS_2,
+        3 => CLASS_3,
+        4 => CLASS_4,
+        5 => CLASS_5,
+        6 => CLASS_6,
+        7 => CLASS_7,
+        8 => CLASS_8,
+        9 => CLASS_9,
+        10 => CLASS_10,
+        11 => CLASS_11,
+        12 => CLASS_12,
+        13 => CLASS_13,
+        14 => CLASS_14,
+        15 => CLASS_15,
+        16 => CLASS_16,
+        _ => CLASS_16,
+    }
 }
 
 // The class of a record of a shape; its counts may be any numbers.

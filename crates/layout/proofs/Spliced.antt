@@ -1,11 +1,12 @@
 -- A list with other elements from a place on, as one splice and as a run of stores. Assumes nothing.
 use mathlib.Core.Path.{_≡_, refl, sym, _∙_, ap}
 use mathlib.Core.List.{List, [], _∷_, _++_}
-use Prim.Native.Nat.{ℕ, zero, suc, _+_, _-_}
+use Prim.Native.Nat.{ℕ, zero, suc, _+_, _-_, _≤_}
 use native.Mathlib.Omega.{arith}
-use lib.ListN.{length, take, drop}
+use lib.ListN.{length, take, drop, replicate}
 use lib.Seq.{sets, take-nil, drop-nil}
 use Rattle.layout.specs.Mem.{Mem, region, withRegion, spliced, setRun}
+use Rattle.layout.specs.Region as Region
 
 sets-nil : (i : ℕ) (vs : List ℕ) → sets [] i vs ≡ []
 sets-nil i [] = refl
@@ -32,3 +33,29 @@ spliced-sets (x ∷ l) (suc i) vs =
 pub run-sets : (m : Mem) (k i : ℕ) (vs : List ℕ) → setRun m k i vs ≡ withRegion m k (sets (region m k) i vs)
 unfolding setRun
 run-sets m k i vs = ap (withRegion m k) (spliced-sets (region m k) i vs)
+
+-- ---- two runs of zeros that meet are one
+
+zeros-meet : (l : List ℕ) (i j a b n : ℕ) → i ≤ j → j ≤ i + a → i + a ≤ j + b → i + n ≡ j + b → sets (sets l i (replicate a 0)) j (replicate b 0) ≡ sets l i (replicate n 0)
+zeros-meet [] i j a b n p q r e = rw (sets-nil i (replicate a 0), sets-nil j (replicate b 0), sets-nil i (replicate n 0)) refl
+zeros-meet (x ∷ l) (suc i) zero a b n p q r e = absurd (omega arith)
+zeros-meet (x ∷ l) (suc i) (suc j) a b n p q r e =
+    rw (sets-cons x l i (replicate a 0), sets-cons x (sets l i (replicate a 0)) j (replicate b 0), sets-cons x l i (replicate n 0))
+    (ap (λ z. x ∷ z) (zeros-meet l i j a b n (omega arith) (omega arith) (omega arith) (omega arith)))
+zeros-meet (x ∷ l) zero zero zero b n p q r e = let f : n ≡ b = omega arith in rw f refl
+zeros-meet (x ∷ l) zero zero (suc a) zero n p q r e = absurd (omega arith)
+zeros-meet (x ∷ l) zero zero (suc a) (suc b) zero p q r e = absurd (omega arith)
+zeros-meet (x ∷ l) zero zero (suc a) (suc b) (suc n) p q r e =
+    rw (sets-cons 0 l zero (replicate a 0), sets-cons 0 (sets l zero (replicate a 0)) zero (replicate b 0), sets-cons 0 l zero (replicate n 0))
+    (ap (λ z. 0 ∷ z) (zeros-meet l zero zero a b n (omega arith) (omega arith) (omega arith) (omega arith)))
+zeros-meet (x ∷ l) zero (suc j) zero b n p q r e = absurd (omega arith)
+zeros-meet (x ∷ l) zero (suc j) (suc a) b zero p q r e = absurd (omega arith)
+zeros-meet (x ∷ l) zero (suc j) (suc a) b (suc n) p q r e =
+    rw (sets-cons 0 l zero (replicate a 0), sets-cons 0 (sets l zero (replicate a 0)) j (replicate b 0), sets-cons 0 l zero (replicate n 0))
+    (ap (λ z. 0 ∷ z) (zeros-meet l zero j a b n (omega arith) (omega arith) (omega arith) (omega arith)))
+
+-- of words of the heap
+pub runs-meet : (m : Mem) (i j a b n : ℕ) → i ≤ j → j ≤ i + a → i + a ≤ j + b → i + n ≡ j + b
+    → setRun (setRun m Region.heap i (replicate a 0)) Region.heap j (replicate b 0) ≡ setRun m Region.heap i (replicate n 0)
+runs-meet m i j a b n p q r e = rw (run-sets m Region.heap i (replicate a 0), run-sets m Region.heap i (replicate n 0), run-sets)
+    (ap (withRegion m Region.heap) (zeros-meet (m .heap) i j a b n p q r e))

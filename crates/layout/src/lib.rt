@@ -126,6 +126,13 @@ pub fn blocks_in(g: Geometry, class: u32) -> u32
     }
 }
 
+// A number below the most blocks of a segment: a place of a segment in use is one, and whatever else a word holds becomes one.
+pub fn block_number(g: Geometry, place: u32) -> u32
+    ensures { λ r. ⌜ r ≡ place % mostBlocks g ⌝ }
+{
+    (place as usize % MOST_BLOCKS) as u32
+}
+
 // The shape of a segment of a class.
 pub fn shape_in(g: Geometry, class: u32) -> SegmentShape
     requires { ⌜ IsClass class ⌝ }

@@ -5,23 +5,25 @@ use mathlib.Core.Bool.{Bool, true, false}
 use mathlib.Core.Logic.{inl, inr, ⊎-elim}
 use mathlib.Core.Option.{Option, some, Option·none-ne-some, Option·some-injective}
 use mathlib.Core.List.{List}
-use Prim.Native.Nat.{ℕ, suc, _+_, _*_, _≤_, _<_}
-use native.Mathlib.Numerals.{add-one}
+use Prim.Native.Nat.{ℕ, suc, _+_, _%_, _≤_, _<_}
+use native.Mathlib.Nat.{mod-eq-of-lt}
 use native.Mathlib.Omega.{arith}
 use lib.ListN.{length}
 use Rattle.rules.specs.Pick.{pick}
 use Rattle.words.specs.Bits.{bitAt, setBit}
-use Rattle.classes.specs.Class.{IsClass, blockWords}
+use Rattle.words.proofs.Trees.{tree-level}
+use Rattle.classes.specs.Class.{IsClass}
 use Rattle.classes.specs.declared.RecordShape.{RecordShape}
 use Rattle.bitmap_search.specs.declared.Found.{Found}
 use Rattle.bitmap_search.specs.declared.Found.the-variants.{Block, Nothing, Torn}
 use Rattle.bitmap_search.specs.declared.Two.{Two}
+use Rattle.bitmap_search.specs.declared.Near.{Near}
 use Rattle.bitmap_search.specs.Scan.{nextFree}
 use Rattle.bitmap_search.specs.Twice.{TwoBelow, TwoPromise}
 use Rattle.bitmap_search.proofs.Scan.{IsNext, next-is}
 use Rattle.bitmap_search.proofs.Twice.{Says, two-says, never-torn}
 use Rattle.layout.specs.declared.Geometry.{Geometry}
-use Rattle.layout.specs.Geometry.{mutatorCount, segmentWords, segmentRecordWords, blocksIn, markBit}
+use Rattle.layout.specs.Geometry.{mutatorCount, segmentRecordWords, blocksIn, markBit}
 use Rattle.layout.specs.Mem.{Mem, controlWord, setHeap, setMutator, setRun, Sizes}
 use Rattle.theory.specs.Phases.{black}
 use Rattle.theory.specs.Calls.{a-ok}
@@ -35,8 +37,10 @@ use Rattle.model.specs.Segments.{setSegmentState, above, bitmap, free}
 use Rattle.model.specs.Records.{headerOf, written, setEntered}
 use Rattle.model.specs.Making.{Source, held, part, unused, noRoom, sourceOf, advanced, blackened, handedOut, inBlock, inSegment, fromSource, made}
 use Rattle.model.specs.Consistent.{Consistent}
+use Rattle.laws.proofs.Blocks.{blocks-most}
 use Rattle.laws.proofs.Words.{Recorded, recorded-as, state-there}
 use Rattle.segments.proofs.Records.{place-alone}
+use Rattle.bitmaps.specs.Given.{NearIn}
 use Rattle.tracing.specs.Pushing.{withMark}
 use Rattle.making.specs.declared.Taken.{Taken}
 use Rattle.making.specs.declared.Handed.{Handed}
@@ -46,10 +50,18 @@ use Rattle.making.proofs.Readying.{ready}
 use Rattle.making.specs.declared.Taken.the-variants as taken
 use Rattle.making.specs.declared.Handed.the-variants as handed
 use Rattle.bitmap_search.specs.declared.Two.the-variants as two
+use Rattle.bitmap_search.specs.declared.Near.the-variants as near
 use Rattle.model.specs.Tag as Tag
 
 pub more-below : {a n p b : ℕ} {ws : List ℕ} {r : Two} → TwoPromise a ws n p r → r ≡ two.More b → b < n
 more-below {n = n} q e = subst (TwoBelow n) e (q .within)
+
+pub near-at : (g : Geometry) (m : Mem) (s p b : ℕ) (r : Near) → NearIn g m s p r → r ≡ near.More b → NearIn g m s p (near.More b)
+near-at g m s p b r q e = subst (NearIn g m s p) e q
+
+-- the words of its record
+held-record : (g : Geometry) (m : Mem) (k c s : ℕ) → Ready g m k c s → Recorded m s Tag.held c (place m s) k
+held-record g m k c s y = record { tag = y .tag; class = y .class; place = refl; owner = y .owner }
 
 -- ---- the block: r is what the search answers from the place p
 
@@ -60,10 +72,8 @@ module _ (g : Geometry) (m : Mem) (k c s : ℕ) (p : ℕ) (ep : p ≡ place m s)
   scans : Ready g m k c s → (x : Two) → r ≡ x → Says scan scan p x
   scans y x e = two-says scan scan p x (sym e ∙ q .scan (y .tree))
 
-  recorded : Ready g m k c s → Recorded m s Tag.held c (place m s) k
-  recorded y = record { tag = y .tag; class = y .class; place = refl; owner = y .owner }
-
-  one-block : (b : ℕ) (after : Mem) → b < blocksIn g c → (Ready g m k c s → (free g m s c (place m s) ≡ Block b) × (after ≡ advanced g m k c s (b + 1) (free g m s c (b + 1)))) → Advances g m k c s (handed.Block b) after
+  one-block : (b : ℕ) (after : Mem) → b < blocksIn g c → (Ready g m k c s → (free g m s c (place m s) ≡ Block b) × (after ≡ advanced g m k c s (b + 1) (free g m s c (b + 1))))
+      → Advances g m k c s (handed.Block b) after
   one-block b after l f = record {
     below = λ d u. let z : b ≡ d = cc in omega arith;
     exact = λ y. (b, refl, f y .0, f y .1);
@@ -73,7 +83,7 @@ module _ (g : Geometry) (m : Mem) (k c s : ℕ) (p : ℕ) (ep : p ≡ place m s)
   advanced-more b e m₁ f = one-block b m₁ (more-below q e)
       (λ y.
       let v = scans y (two.More b) e in
-      (ap scan (sym ep) ∙ v .0, f ∙ sym (place-alone g m s c (place m s) (b + 1) k (recorded y)) ∙ ap (advanced g m k c s (b + 1)) (sym (v .1 .1))))
+      (ap scan (sym ep) ∙ v .0, f ∙ sym (place-alone g m s c (place m s) (b + 1) k (held-record g m k c s y)) ∙ ap (advanced g m k c s (b + 1)) (sym (v .1 .1))))
 
   pub advanced-last : (b : ℕ) → r ≡ two.Last b → (m₁ m₂ : Mem) → m₁ ≡ setSegmentState g m s (Full c) → m₂ ≡ setHolding m₁ k c 0 → Advances g m k c s (handed.Block b) m₂
   advanced-last b e m₁ m₂ f h = one-block b m₂ (subst (TwoBelow (blocksIn g c)) e (q .within))
@@ -109,11 +119,9 @@ module _ (g : Geometry) (m : Mem) (k at n a : ℕ) (t : Bool) (en : n ≡ contro
 
 -- ---- the record
 
-module _ (g : Geometry) (m : Mem) (k d c s b : ℕ) (shape : RecordShape) where
-  pub filled : (w at : ℕ) → w ≡ blockWords c → at ≡ s * segmentWords g + b * w → (m₁ m₂ m₃ : Mem) → m₁ ≡ written m at shape → m₂ ≡ blackened g m₁ k at → m₃ ≡ setRoot m₂ k d (at + 1) → m₃ ≡ filledAs g m k d c s b shape
-  filled w at ew ea m₁ m₂ m₃ e₁ e₂ e₃ =
-      let i : at ≡ headerOf g s c b = ea ∙ ap (λ z. s * segmentWords g + b * z) ew in
-      e₃ ∙ ap (setRoot m₂ k d) (add-one at) ∙ rw (e₂, e₁, i) refl
+module _ (g : Geometry) (m : Mem) (k d c s b at : ℕ) (e : at ≡ headerOf g s c b) (shape : RecordShape) where
+  pub filled : (m₁ m₂ : Mem) → m₁ ≡ written m at shape → m₂ ≡ setRoot (blackened g m₁ k at) k d (suc at) → m₂ ≡ filledAs g m k d c s b shape
+  filled m₁ m₂ e₁ e₂ = e₂ ∙ rw (e₁, e) refl
 
 -- ---- out of segment s
 
@@ -130,6 +138,27 @@ module _ (g : Geometry) (m : Mem) (z : Sizes g m) (k d c s : ℕ) (l : s < g .se
         let w : b ≡ x .0 = cc in
         let h : m₁ ≡ advanced g m k c s (b + 1) (free g m s c (b + 1)) = x .3 ∙ ap (λ v. advanced g m k c s (v + 1) (free g m s c (v + 1))) (sym w) in
         (b, refl, x .2 ∙ ap Block (sym w), f ∙ rw h refl);
+  }
+
+-- ---- out of segment s where the place's own word tells: p is the place, b the block
+
+module _ (g : Geometry) (m : Mem) (k d c s : ℕ) (i : IsClass c) (shape : RecordShape) (p : ℕ) (ep : p ≡ place m s) (b : ℕ) (q : NearIn g m s p (near.More b)) where
+  pub near-out : (m₁ m₂ : Mem) → m₁ ≡ setPlace m s (b + 1) → m₂ ≡ filledAs g m₁ k d c s (b % blocksIn g c) shape → HandsOut g m k d c s shape Ok m₂
+  unfolding handedOut
+  near-out m₁ m₂ f e = record {
+    either = inl refl;
+    exact = λ y.
+        let bits = bitAt (bitmap g m s) in
+        let n = blocksIn g c in
+        let find = nextFree bits n in
+        let r = y .remains in
+        let from = r .1 in
+        let under = r .2 in
+        let v = two-says find find p (two.More b) (q .1 n (blocks-most g c i) (omega arith) (tree-level (above g c) n (bitmap g m s) (y .tree))) in
+        let same : b % n ≡ b = mod-eq-of-lt (subst (IsNext bits n p) (v .0) (next-is bits n p) .1) in
+        let h : m₁ ≡ advanced g m k c s (b + 1) (free g m s c (b + 1)) = f ∙ sym (place-alone g m s c (place m s) (b + 1) k (held-record g m k c s y)) ∙ ap (advanced g m k c s (b + 1))
+        (sym (v .1 .1)) in
+        (b, refl, ap find (sym ep) ∙ v .0, e ∙ rw (same, h) refl);
   }
 
 -- ---- a make of a class: r is what is taken, m₁ the memory with it

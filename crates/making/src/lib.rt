@@ -1,5 +1,6 @@
 // make: a segment to take a block from, the next free block of it, and the record there. The call has no `requires` and keeps the model's promise of it.
 // Over memory that fails the examination a stack or a bitmap may lead astray: then the answer is 13.
+use bitmap_search::Near;
 use bitmap_search::Two;
 use classes::RecordShape;
 use classes::SizeClass;
@@ -9,18 +10,21 @@ use model::Segment;
 use model::SegmentState;
 use stacks::Topmost;
 ghost use mathlib.Core.Path.{_≡_};
-ghost use Prim.Native.Nat.{_<_};
+ghost use Prim.Native.Nat.{suc, _%_, _≤_, _<_};
 ghost use lib.ListN.{length};
 ghost use Rattle.classes.specs.Class.{IsClass};
-ghost use Rattle.classes.specs.Record.{classOfRecord};
+ghost use Rattle.classes.specs.Record.{fieldCountOf, classOfRecord};
 ghost use Rattle.classes.specs.declared.SizeClass.the-variants.{Class};
-ghost use Rattle.layout.specs.Geometry.{Sized, len, mutatorCount, rootCount, blocksIn};
+ghost use Rattle.layout.specs.Geometry.{Sized, len, maxSegments, mutatorCount, rootCount, blocksIn};
 ghost use Rattle.layout.specs.Mem.{memOf};
 ghost use Rattle.theory.specs.Calls.{c-make};
+ghost use Rattle.model.specs.Fields.{setRoot};
+ghost use Rattle.model.specs.Records.{headerOf};
 ghost use Rattle.model.specs.Making.{takes, blackened};
 ghost use Rattle.model.specs.Promise.{Promise};
 ghost use Rattle.making.specs.Taking.{TakesFree, TakesNew, Takes};
-ghost use Rattle.making.specs.HandingOut.{filledAs, Advances, HandsOut, Makes};
+ghost use Rattle.making.specs.HandingOut.{filledAs, Advances, HandsOut};
+ghost use Rattle.making.specs.Beginning.{Begins, Tries, Out, OfClass, Called};
 ghost use Rattle.layout.specs.Region as Region;
 
 // The segment that a make takes its block from.
@@ -34,6 +38,20 @@ pub enum Taken {
 pub enum Handed {
     Block(u32),
     Torn,
+}
+
+// What a make comes to before a search: it is made or refused, or a block of a segment of a class is to be looked for.
+pub enum Begun {
+    Made,
+    Refused(u32),
+    Search(u32, usize),
+}
+
+// The same where it has few fields; or nothing yet.
+pub enum Tried {
+    Made,
+    Search(u32, usize),
+    Nothing,
 }
 
 // Mutator k holds segment s, of a class, from a place on.
@@ -135,6 +153,25 @@ fn blacken(g: Geometry, mem: &mut [u32], k: u32, at: usize)
     }
 }
 
+// The word of block b of segment s. Whatever b is, a block of the class begins there.
+fn word_of(g: Geometry, class: u32, s: usize, b: u32) -> usize
+    requires { ⌜ (g .segments ≤ maxSegments) × (IsClass class) × (s < g .segments) ⌝ }
+    ensures { λ r. ⌜ r ≡ headerOf g s class (b % blocksIn g class) ⌝ }
+{
+    let block = b as usize;
+    let offset = layout::offset_of(g, block * classes::block_words(class));
+    layout::word_in(g, s, offset)
+}
+
+// The record at a word is marked where it is allocated black, and root d names it.
+fn name(g: Geometry, mem: &mut [u32], k: u32, d: u32, at: usize)
+    requires { ⌜ (Sized g (length (now mem))) × (k < mutatorCount) × (d < rootCount) × (at < len g Region.heap) ⌝ }
+    ensures { λ _. ⌜ memOf g (now (mem .exit)) ≡ setRoot (blackened g (memOf g (now (mem .entry))) k at) k d (suc at) ⌝ }
+{
+    blacken(g, mem, k, at);
+    mutators::set_root(g, mem, k, d, at as u32 + 1);
+}
+
 // The record in block b of segment s, marked where it is allocated black, and root d names it.
 fn fill(
     g: Geometry,
@@ -147,17 +184,35 @@ fn fill(
     shape: RecordShape,
 )
     requires { ⌜ (Sized g (length (now mem))) × (k < mutatorCount) × (d < rootCount) × (s < g .segments) ⌝ }
-    requires { ⌜ (b < blocksIn g class) × (classOfRecord shape ≡ Class class) ⌝ }
-    ensures { λ _. ⌜ memOf g (now (mem .exit)) ≡ filledAs g (memOf g (now (mem .entry))) k d class s b shape ⌝ }
+    requires { ⌜ classOfRecord shape ≡ Class class ⌝ }
+    ensures { λ _. ⌜ memOf g (now (mem .exit)) ≡ filledAs g (memOf g (now (mem .entry))) k d class s (b % blocksIn g class) shape ⌝ }
 {
-    let block = b as usize;
-    let at = layout::word_in(g, s, block * classes::block_words(class));
+    let at = word_of(g, class, s, b);
     records::write(g, mem, at, shape);
-    blacken(g, mem, k, at);
-    mutators::set_root(g, mem, k, d, at as u32 + 1);
+    name(g, mem, k, d, at);
 }
 
-// The next free block of segment s gets the record.
+// The same where it has at most 16 fields.
+fn fill_few(
+    g: Geometry,
+    mem: &mut [u32],
+    k: u32,
+    d: u32,
+    class: u32,
+    s: usize,
+    b: u32,
+    shape: RecordShape,
+)
+    requires { ⌜ (Sized g (length (now mem))) × (k < mutatorCount) × (d < rootCount) × (s < g .segments) ⌝ }
+    requires { ⌜ (classOfRecord shape ≡ Class class) × (fieldCountOf shape ≤ 16) ⌝ }
+    ensures { λ _. ⌜ memOf g (now (mem .exit)) ≡ filledAs g (memOf g (now (mem .entry))) k d class s (b % blocksIn g class) shape ⌝ }
+{
+    let at = word_of(g, class, s, b);
+    records::write_few(g, mem, at, shape);
+    name(g, mem, k, d, at);
+}
+
+// The next free block of segment s gets the record, by the search.
 fn hand_out(
     g: Geometry,
     mem: &mut [u32],
@@ -180,16 +235,128 @@ fn hand_out(
     }
 }
 
+// The next free block of segment s gets the record, where the place's own word has it and another after it; else it is to be looked for.
+fn hand_near(
+    g: Geometry,
+    mem: &mut [u32],
+    k: u32,
+    d: u32,
+    class: u32,
+    s: usize,
+    shape: RecordShape,
+) -> Begun
+    requires { ⌜ (Sized g (length (now mem))) × (k < mutatorCount) × (d < rootCount) × (s < g .segments) ⌝ }
+    requires { ⌜ classOfRecord shape ≡ Class class ⌝ }
+    ensures { λ r. ⌜ Begins (Out g (now (mem .entry)) k d class s shape) g k d shape r (now (mem .exit)) ⌝ }
+{
+    let place = segments::place(g, mem, s);
+    match bitmaps::near(g, mem, s, place) {
+        Near::More(x) => {
+            segments::set_place(g, mem, s, x + 1);
+            fill(g, mem, k, d, class, s, x, shape);
+            Begun::Made
+        }
+        Near::Far => Begun::Search(class, s),
+    }
+}
+
 // A record of a class for mutator k.
-fn make_of(g: Geometry, mem: &mut [u32], k: u32, d: u32, class: u32, shape: RecordShape) -> Answer
+fn begin_of(g: Geometry, mem: &mut [u32], k: u32, d: u32, class: u32, shape: RecordShape) -> Begun
     requires { ⌜ (Sized g (length (now mem))) × (k < mutatorCount) × (d < rootCount) ⌝ }
     requires { ⌜ classOfRecord shape ≡ Class class ⌝ }
-    ensures { λ r. ⌜ Makes g (memOf g (now (mem .entry))) k d class shape r (memOf g (now (mem .exit))) ⌝ }
+    ensures { λ r. ⌜ Begins (OfClass g (now (mem .entry)) k d class shape) g k d shape r (now (mem .exit)) ⌝ }
 {
     match take(g, mem, k, class) {
-        Taken::NoRoom => Answer::Refused(10),
-        Taken::Torn => Answer::Refused(13),
-        Taken::Segment(s) => hand_out(g, mem, k, d, class, s, shape),
+        Taken::NoRoom => Begun::Refused(10),
+        Taken::Torn => Begun::Refused(13),
+        Taken::Segment(s) => hand_near(g, mem, k, d, class, s, shape),
+    }
+}
+
+// A record of a shape for mutator k into root d.
+fn begin(g: Geometry, mem: &mut [u32], k: u32, d: u32, shape: RecordShape) -> Begun
+    ensures { λ r. ⌜ Begins (Called g (now (mem .entry)) k d shape) g k d shape r (now (mem .exit)) ⌝ }
+{
+    if layout::wrong_size(g, mem.len()) {
+        return Begun::Refused(1);
+    }
+    let refused = mutators::root_refusal(g, mem, k, d);
+    if refused != 0 {
+        return Begun::Refused(refused);
+    }
+    match classes::class_of_record(shape) {
+        SizeClass::TooBig => Begun::Refused(9),
+        SizeClass::Class(class) => begin_of(g, mem, k, d, class, shape),
+    }
+}
+
+// The same as `hand_near` for at most 16 fields. It is a text of its own: the quick way is one run of instructions, and what it does not do is the
+// search's.
+fn hand_few(
+    g: Geometry,
+    mem: &mut [u32],
+    k: u32,
+    d: u32,
+    class: u32,
+    s: usize,
+    shape: RecordShape,
+) -> Tried
+    requires { ⌜ (Sized g (length (now mem))) × (k < mutatorCount) × (d < rootCount) × (s < g .segments) ⌝ }
+    requires { ⌜ (classOfRecord shape ≡ Class class) × (fieldCountOf shape ≤ 16) ⌝ }
+    ensures { λ r. ⌜ Tries (Out g (now (mem .entry)) k d class s shape) g k d shape (now (mem .entry)) r (now (mem .exit)) ⌝ }
+{
+    let place = segments::place(g, mem, s);
+    match bitmaps::near(g, mem, s, place) {
+        Near::More(block) => {
+            segments::set_place(g, mem, s, block + 1);
+            fill_few(g, mem, k, d, class, s, block, shape);
+            Tried::Made
+        }
+        Near::Far => Tried::Search(class, s),
+    }
+}
+
+// A record of at most 16 fields where mutator k holds a segment of its class; else nothing.
+fn try_held(g: Geometry, mem: &mut [u32], k: u32, d: u32, class: u32, shape: RecordShape) -> Tried
+    requires { ⌜ (Sized g (length (now mem))) × (k < mutatorCount) × (d < rootCount) ⌝ }
+    requires { ⌜ (classOfRecord shape ≡ Class class) × (fieldCountOf shape ≤ 16) ⌝ }
+    ensures { λ r. ⌜ Tries (OfClass g (now (mem .entry)) k d class shape) g k d shape (now (mem .entry)) r (now (mem .exit)) ⌝ }
+{
+    let held = mutators::holding(g, mem, k, class) as usize;
+    if held != 0 {
+        if held <= g.segments {
+            return hand_few(g, mem, k, d, class, held - 1, shape);
+        }
+    }
+    Tried::Nothing
+}
+
+// The quick way of a make: at most 16 fields, nothing to refuse, and a segment of the class held; else nothing.
+fn try_few(g: Geometry, mem: &mut [u32], k: u32, d: u32, shape: RecordShape) -> Tried
+    ensures { λ r. ⌜ Tries (Called g (now (mem .entry)) k d shape) g k d shape (now (mem .entry)) r (now (mem .exit)) ⌝ }
+{
+    let fields = shape.pointer_count as u64 + shape.value_count as u64;
+    if 16 < fields {
+        return Tried::Nothing;
+    }
+    if layout::wrong_size(g, mem.len()) {
+        return Tried::Nothing;
+    }
+    if mutators::root_refusal(g, mem, k, d) != 0 {
+        return Tried::Nothing;
+    }
+    let class = classes::class_of_few(fields as u32);
+    try_held(g, mem, k, d, class, shape)
+}
+
+// By the quick way, else by the other.
+fn begin_any(g: Geometry, mem: &mut [u32], k: u32, d: u32, shape: RecordShape) -> Begun
+    ensures { λ r. ⌜ Begins (Called g (now (mem .entry)) k d shape) g k d shape r (now (mem .exit)) ⌝ }
+{
+    match try_few(g, mem, k, d, shape) {
+        Tried::Made => Begun::Made,
+        Tried::Search(class, s) => Begun::Search(class, s),
+        Tried::Nothing => begin(g, mem, k, d, shape),
     }
 }
 
@@ -197,19 +364,13 @@ fn make_of(g: Geometry, mem: &mut [u32], k: u32, d: u32, class: u32, shape: Reco
 pub fn make(g: Geometry, mem: &mut [u32], k: u32, d: u32, p: u32, n: u32) -> Answer
     ensures { λ r. ⌜ Promise (c-make k d p n) g (now (mem .entry)) r (now (mem .exit)) ⌝ }
 {
-    if layout::wrong_size(g, mem.len()) {
-        return Answer::Refused(1);
-    }
-    let refused = mutators::root_refusal(g, mem, k, d);
-    if refused != 0 {
-        return Answer::Refused(refused);
-    }
     let shape = RecordShape {
         pointer_count: p,
         value_count: n,
     };
-    match classes::class_of_record(shape) {
-        SizeClass::TooBig => Answer::Refused(9),
-        SizeClass::Class(class) => make_of(g, mem, k, d, class, shape),
+    match begin_any(g, mem, k, d, shape) {
+        Begun::Made => Answer::Ok,
+        Begun::Refused(r) => Answer::Refused(r),
+        Begun::Search(class, s) => hand_out(g, mem, k, d, class, s, shape),
     }
 }

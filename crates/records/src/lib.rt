@@ -5,7 +5,9 @@ use layout::Geometry;
 use model::Held;
 ghost use mathlib.Core.Path.{_≡_};
 ghost use Prim.Native.Nat.{_+_, _<_, _≤_};
+ghost use lib.Dec.{eqb};
 ghost use lib.ListN.{length, replicate};
+ghost use Rattle.rules.specs.Pick.{pick};
 ghost use Rattle.classes.specs.Record.{fieldCountOf};
 ghost use Rattle.layout.specs.Geometry.{Sized, len};
 ghost use Rattle.layout.specs.Mem.{memOf, heapWord, setHeap, setRun};
@@ -98,24 +100,68 @@ pub fn set_field(g: Geometry, mem: &mut [u32], word: usize, v: u32)
     layout::set_word(g, mem, word, v);
 }
 
-// n words of fields cleared, from word i on: few of them by single stores.
-fn clear_fields(g: Geometry, mem: &mut [u32], i: usize, n: usize)
-    requires { ⌜ (Sized g (length (now mem))) × (i + n ≤ len g Region.heap) ⌝ }
-    ensures { λ _. ⌜ memOf g (now (mem .exit)) ≡ setRun (memOf g (now (mem .entry))) Region.heap i (replicate n 0) ⌝ }
+// Four words cleared, from word i on: the compiler makes one store of them.
+fn clear_four(g: Geometry, mem: &mut [u32], i: usize)
+    requires { ⌜ (Sized g (length (now mem))) × (i + 4 ≤ len g Region.heap) ⌝ }
+    ensures { λ _. ⌜ memOf g (now (mem .exit)) ≡ setRun (memOf g (now (mem .entry))) Region.heap i (replicate 4 0) ⌝ }
 {
-    match n {
-        0 => {}
-        1 => layout::set_word(g, mem, i, 0),
-        2 => {
-            layout::set_word(g, mem, i, 0);
-            layout::set_word(g, mem, i + 1, 0);
-        }
-        3 => {
-            layout::set_word(g, mem, i, 0);
-            layout::set_word(g, mem, i + 1, 0);
-            layout::set_word(g, mem, i + 2, 0);
-        }
-        _ => layout::clear_heap(g, mem, i, n),
+    layout::set_word(g, mem, i, 0);
+    layout::set_word(g, mem, i + 1, 0);
+    layout::set_word(g, mem, i + 2, 0);
+    layout::set_word(g, mem, i + 3, 0);
+}
+
+// The first two words after a word cleared, unless there is only one.
+fn clear_two(g: Geometry, mem: &mut [u32], at: usize, n: usize)
+    requires { ⌜ (Sized g (length (now mem))) × (at + 1 + n ≤ len g Region.heap) × (1 ≤ n) ⌝ }
+    ensures { λ _. ⌜ memOf g (now (mem .exit)) ≡ pick (eqb n 1) (memOf g (now (mem .entry))) (setRun (memOf g (now (mem .entry))) Region.heap (at + 1) (replicate 2 0)) ⌝ }
+{
+    if n != 1 {
+        layout::set_word(g, mem, at + 1, 0);
+        layout::set_word(g, mem, at + 2, 0);
+        return;
+    }
+}
+
+// At most three fields of the record at a word cleared, by stores that may meet.
+fn clear_three(g: Geometry, mem: &mut [u32], at: usize, n: usize)
+    requires { ⌜ (Sized g (length (now mem))) × (at + 1 + n ≤ len g Region.heap) × (n < 4) ⌝ }
+    ensures { λ _. ⌜ memOf g (now (mem .exit)) ≡ setRun (memOf g (now (mem .entry))) Region.heap (at + 1) (replicate n 0) ⌝ }
+{
+    if n == 0 {
+        return;
+    }
+    clear_two(g, mem, at, n);
+    layout::set_word(g, mem, at + n, 0);
+}
+
+// At most 16 fields of the record at a word cleared: four words at a time from both ends, which may meet.
+fn clear_few(g: Geometry, mem: &mut [u32], at: usize, n: usize)
+    requires { ⌜ (Sized g (length (now mem))) × (at + 1 + n ≤ len g Region.heap) × (n ≤ 16) ⌝ }
+    ensures { λ _. ⌜ memOf g (now (mem .exit)) ≡ setRun (memOf g (now (mem .entry))) Region.heap (at + 1) (replicate n 0) ⌝ }
+{
+    if n < 4 {
+        clear_three(g, mem, at, n);
+    } else if n <= 8 {
+        clear_four(g, mem, at + 1);
+        clear_four(g, mem, at + n - 3);
+    } else {
+        clear_four(g, mem, at + 1);
+        clear_four(g, mem, at + 5);
+        clear_four(g, mem, at + n - 7);
+        clear_four(g, mem, at + n - 3);
+    }
+}
+
+// The fields of the record at a word cleared.
+fn clear_fields(g: Geometry, mem: &mut [u32], at: usize, n: usize)
+    requires { ⌜ (Sized g (length (now mem))) × (at + 1 + n ≤ len g Region.heap) ⌝ }
+    ensures { λ _. ⌜ memOf g (now (mem .exit)) ≡ setRun (memOf g (now (mem .entry))) Region.heap (at + 1) (replicate n 0) ⌝ }
+{
+    if n <= 16 {
+        clear_few(g, mem, at, n);
+    } else {
+        layout::clear_heap(g, mem, at + 1, n);
     }
 }
 
@@ -127,5 +173,16 @@ pub fn write(g: Geometry, mem: &mut [u32], at: usize, shape: RecordShape)
     let p = shape.pointer_count;
     let n = shape.value_count;
     layout::set_word(g, mem, at, p * HALF_WORD + n);
-    clear_fields(g, mem, at + 1, (p + n) as usize);
+    clear_fields(g, mem, at, (p + n) as usize);
+}
+
+// The same where it has at most 16 fields.
+pub fn write_few(g: Geometry, mem: &mut [u32], at: usize, shape: RecordShape)
+    requires { ⌜ (Sized g (length (now mem))) × (fieldCountOf shape ≤ 16) × (at + 1 + fieldCountOf shape ≤ len g Region.heap) ⌝ }
+    ensures { λ _. ⌜ memOf g (now (mem .exit)) ≡ written (memOf g (now (mem .entry))) at shape ⌝ }
+{
+    let p = shape.pointer_count;
+    let n = shape.value_count;
+    layout::set_word(g, mem, at, p * HALF_WORD + n);
+    clear_few(g, mem, at, (p + n) as usize);
 }

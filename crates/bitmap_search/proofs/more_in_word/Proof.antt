@@ -1,4 +1,4 @@
--- `bitmap_search::more_in_word` meets its contract. Assumes nothing.
+-- `bitmap_search::more_in_word` meets its contract. The word is asked where `asked` is. Assumes nothing.
 use mathlib.Core.Path.{sym, ap, _∙_}
 use Prim.Native.Nat.{ℕ, _+_, _*_, _/_, _%_}
 use native.Mathlib.Omega.{arith}
@@ -22,31 +22,31 @@ shared-slice-read-w c = search needs
 two-clear-requires : tie.Need-two-clear-requires
 two-clear-requires c κs = search needs
 
-mul-b : tie.Need-mul-b
-mul-b c = search needs
+mul-t10 : tie.Need-mul-t10
+mul-t10 c = search needs
 
 clear-from-requires : tie.Need-clear-from-requires
 clear-from-requires c κs = search needs
 
-add-b : tie.Need-add-b
-add-b c =
-    let x = c .before .before .before .before .before .before in
-    let w = getD (x .args .s .now) (x .args .place / 32) 0 in
-    omega (arith, c .clear-from .ensures, some-below w (clearFrom w (x .args .place % 32) + 1) (sym (c .before .before .two-clear .ensures) ∙ c .before .if2 .taken))
+add-t13 : tie.Need-add-t13
+add-t13 c =
+    let asked = c .before .before in
+    let x = asked .before .before .before .args in
+    let w = getD (x .s .now) (x .place / 32) 0 in
+    omega (arith, c .clear-from .ensures, some-below w (clearFrom w (x .place % 32) + 1) (sym (asked .two-clear .ensures) ∙ c .before .if1 .taken))
 
 returns : tie.Need-returns
 returns c =
-    let x = c .before .before .before .before .before .before .before .args in
-    (c .if3 .taken, in-own-word (x .s .now) (x .n) (x .place) (omega arith) _ (ap (λ (t : ℕ). x .place / 32 * 32 + t) (c .before .clear-from .ensures)) (sym (c .before .before .if2 .taken) ∙ c .before .before .before .two-clear .ensures))
+    let asked = c .before .before in
+    let x = asked .before .before .before .args in
+    let w = getD (x .s .now) (x .place / 32) 0 in
+    let two = sym (asked .two-clear .ensures) ∙ c .before .if1 .taken in
+    let below = some-below w (clearFrom w (x .place % 32) + 1) two in
+    let e = c .clear-from .ensures in
+    (omega arith, λ n l. in-own-word (x .s .now) n (x .place) (omega arith) _ (ap (λ (t : ℕ). x .place / 32 * 32 + t) e) (sym two))
 
 returns-2 : tie.Need-returns-2
 returns-2 c = search needs
-
-returns-3 : tie.Need-returns-3
-returns-3 c = search needs
-
-returns-4 : tie.Need-returns-4
-returns-4 c = search needs
 
 pub more-in-word-spec : {M : Type 1} → statement M
 more-in-word-spec =
@@ -56,10 +56,8 @@ more-in-word-spec =
     mul-w
     shared-slice-read-w
     two-clear-requires
-    mul-b
+    mul-t10
     clear-from-requires
-    add-b
+    add-t13
     returns
-    returns-2
-    returns-3
-    returns-4)
+    returns-2)

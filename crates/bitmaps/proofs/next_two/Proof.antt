@@ -14,10 +14,13 @@ use Rattle.bitmaps.proofs.next_two.Statement.{statement}
 use Rattle.bitmaps.proofs.next_two.Tie as tie
 
 -- the part that is lent
-tree : (c : tie.After-bitmap-from2) → TreePart (c .before .before .before .before .args .g) (c .before .before .before .before .args .mem .now) (c .before .before .before .before .args .s) (c .before .before .before .before .args .class) (c .before .bitmap-from .result) (c .bitmap-from2 .result)
+tree : (c : tie.After-bitmap-from2)
+    → TreePart (c .before .before .before .before .args .g) (c .before .before .before .before .args .mem .now) (c .before .before .before .before .args .s)
+    (c .before .before .before .before .args .class) (c .before .bitmap-from .result) (c .bitmap-from2 .result)
 tree c =
     let x = c .before .before .before .before in
-    tree-at (x .args .g) (x .args .mem .now) (x .pre .0 .0) (x .args .s) (x .pre .0 .1) (c .before .bitmap-from .result) (c .bitmap-from2 .result) (c .before .bitmap-from .ensures) (c .bitmap-from2 .ensures) (x .args .class) (x .pre .1)
+    tree-at (x .args .g) (x .args .mem .now) (x .pre .0 .0) (x .args .s) (x .pre .0 .1) (c .before .bitmap-from .result) (c .bitmap-from2 .result) (c .before .bitmap-from .ensures)
+    (c .bitmap-from2 .ensures) (x .args .class) (x .pre .1)
 
 blocks-of-requires : tie.Need-blocks-of-requires
 blocks-of-requires c κs = search needs
@@ -31,20 +34,20 @@ add-bitmap-from c = search needs
 bitmap-from-requires-2 : tie.Need-bitmap-from-requires-2
 bitmap-from-requires-2 c κs = search needs
 
-mul-more-in-word : tie.Need-mul-more-in-word
-mul-more-in-word c = omega (arith, tree c .ends, tree c .within, c .before .before .before .before .good .0 .1)
+mul-more-in-next : tie.Need-mul-more-in-next
+mul-more-in-next c = omega (arith, tree c .ends, tree c .within, c .before .before .before .before .good .0 .1)
 
-sub-more-in-word : tie.Need-sub-more-in-word
-sub-more-in-word c = search needs
+sub-more-in-next : tie.Need-sub-more-in-next
+sub-more-in-next c = search needs
 
-part-more-in-word-start : tie.Need-part-more-in-word-start
-part-more-in-word-start c = search needs
+part-more-in-next-start : tie.Need-part-more-in-next-start
+part-more-in-next-start c = search needs
 
-part-more-in-word-end : tie.Need-part-more-in-word-end
-part-more-in-word-end c = tree c .within
+part-more-in-next-end : tie.Need-part-more-in-next-end
+part-more-in-next-end c = tree c .within
 
-more-in-word-requires : tie.Need-more-in-word-requires
-more-in-word-requires c κs =
+more-in-next-requires : tie.Need-more-in-next-requires
+more-in-next-requires c κs =
     let x = c .before .before .before .before .before .args in
     rw (c .before .before .before .blocks-of .ensures) (omega (arith, tree (c .before) .fits, words-in (above (x .g) (x .class)) (blocksIn (x .g) (x .class))))
 
@@ -61,7 +64,7 @@ returns : tie.Need-returns
 returns c =
     let x = c .before .before .before .before .before .before .before .before .before .args in
     near-two (above (x .g) (x .class)) (subst (NearPromise (bitmap (x .g) (memOf (x .g) (x .mem .now)) (x .s)) (blocksIn (x .g) (x .class)) (x .place)) (c .before .x .given .1)
-    (rw (c .before .before .before .before .before .before .before .blocks-of .ensures, tree (c .before .before .before .before .before) .is) at (c .before .before .before .more-in-word .ensures)))
+    (rw (c .before .before .before .before .before .before .before .blocks-of .ensures, tree (c .before .before .before .before .before) .is) at (c .before .before .before .more-in-next .ensures)))
 
 returns-2 : tie.Need-returns-2
 returns-2 c = search needs
@@ -74,11 +77,11 @@ next-two-spec =
     bitmap-from-requires
     add-bitmap-from
     bitmap-from-requires-2
-    mul-more-in-word
-    sub-more-in-word
-    part-more-in-word-start
-    part-more-in-word-end
-    more-in-word-requires
+    mul-more-in-next
+    sub-more-in-next
+    part-more-in-next-start
+    part-more-in-next-end
+    more-in-next-requires
     enum-known-x
     enum-told
     search-two-requires

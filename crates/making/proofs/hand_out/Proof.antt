@@ -1,6 +1,11 @@
--- `making::hand_out` meets its contract. Assumes nothing.
+-- `making::hand_out` meets its contract. The block is found where `found` is. Assumes nothing.
+use mathlib.Core.Path.{ap, _∙_}
+use Prim.Native.Nat.{ℕ}
+use native.Mathlib.Nat.{mod-eq-of-lt}
 use Rattle.layout.proofs.Regions.{resized}
+use Rattle.layout.specs.Mem.{memOf}
 use Rattle.laws.proofs.Lengths.{sizes-of}
+use Rattle.making.specs.HandingOut.{filledAs}
 use Rattle.making.proofs.Placing.{of-class}
 use Rattle.making.proofs.HandingOut.{none-out, handed-out}
 use borrow.Author.Needs.{needs}
@@ -17,19 +22,34 @@ enum-known-b : tie.Need-enum-known-b
 enum-known-b c = search needs
 
 fill-requires : tie.Need-fill-requires
-fill-requires c κs = let p = c .before .before .before .before .before .before .before .before .before .pre .0 in ((resized _ _ _ (p .0) (c .before .before .before .before .before .before .advance .kept .1 .0), p .1, p .2, p .3), (c .before .before .before .before .before .before .advance .ensures .below _ (c .before .before .b .given .1), c .before .before .before .before .before .before .before .before .before .pre .1))
+fill-requires c κs =
+    let found = c .before .before .before .before .before .before in
+    let entry = found .before .before .before in
+    let x = entry .pre .0 in
+    ((resized _ _ _ (x .0) (found .advance .kept .1 .0), x .1, x .2, x .3), entry .pre .1)
 
 same-length : tie.Need-same-length
 same-length c = search needs
 
 returns : tie.Need-returns
-returns c = none-out _ _ (sizes-of _ _ (c .before .before .before .before .before .before .before .pre .0 .0)) _ _ _ _ (c .before .before .before .before .before .before .before .pre .0 .3) (of-class (c .before .before .before .before .before .before .before .args .shape) _ (c .before .before .before .before .before .before .before .pre .1)) _ _ _ (c .before .before .before .before .advance .ensures) (c .enum-told .given .1)
+returns c =
+    let found = c .before .before .before .before in
+    let entry = found .before .before .before in
+    let i = of-class (entry .args .shape) _ (entry .pre .1) in
+    none-out _ _ (sizes-of _ _ (entry .pre .0 .0)) _ _ _ _ (entry .pre .0 .3) i _ _ _ (found .advance .ensures) (c .enum-told .given .1)
 
 same-length-2 : tie.Need-same-length-2
 same-length-2 c = search needs
 
 returns-2 : tie.Need-returns-2
-returns-2 c = handed-out _ _ (sizes-of _ _ (c .before .before .before .before .before .before .before .before .before .before .before .before .pre .0 .0)) _ _ _ _ (c .before .before .before .before .before .before .before .before .before .before .before .before .pre .0 .3) (of-class (c .before .before .before .before .before .before .before .before .before .before .before .before .args .shape) _ (c .before .before .before .before .before .before .before .before .before .before .before .before .pre .1)) _ _ _ (c .before .before .before .before .before .before .before .before .before .advance .ensures) _ (c .before .before .before .before .before .b .given .1) _ (c .before .before .fill .ensures)
+returns-2 c =
+    let filled = c .before .before in
+    let block = filled .before .before .before in
+    let found = block .before .before .before .before in
+    let entry = found .before .before .before in
+    let i = of-class (entry .args .shape) _ (entry .pre .1) in
+    let same = mod-eq-of-lt (found .advance .ensures .below _ (block .b .given .1)) in
+    handed-out _ _ (sizes-of _ _ (entry .pre .0 .0)) _ _ _ _ (entry .pre .0 .3) i _ _ _ (found .advance .ensures) _ (block .b .given .1) _ (rw same at (filled .fill .ensures))
 
 pub hand-out-spec : {M : Type 1} → statement M
 hand-out-spec =

@@ -1,66 +1,65 @@
--- `making::make` meets its contract. Assumes nothing.
-use mathlib.Core.Path.{sym, _∙_}
-use Rattle.layout.proofs.Regions.{sized}
-use Rattle.laws.proofs.Promised.{size-1}
-use Rattle.mutators.proofs.Inside.{in-range-at}
-use Rattle.making.proofs.Making.{make-refused, make-9, make-by}
+-- `making::make` meets its contract. What it comes to before a search is known where `begun` is. Assumes nothing.
+use Rattle.making.proofs.Beginning.{begun-made, begun-refused, begun-search}
 use borrow.Author.Needs.{needs}
 use Rattle.making.proofs.make.Statement.{statement}
 use Rattle.making.proofs.make.Tie as tie
 
-wrong-size-requires : tie.Need-wrong-size-requires
-wrong-size-requires c κs = search needs
-
-returns : tie.Need-returns
-returns c = size-1 _ _ _ (sym (c .before .wrong-size .ensures) ∙ c .if1 .taken)
-
-root-refusal-requires : tie.Need-root-refusal-requires
-root-refusal-requires c κs = sized _ _ (sym (c .before .before .wrong-size .ensures) ∙ c .before .if1 .left)
-
-same-length : tie.Need-same-length
-same-length c = search needs
-
-returns-2 : tie.Need-returns-2
-returns-2 c = make-refused _ _ _ _ _ _ _ (sym (c .before .before .before .before .wrong-size .ensures) ∙ c .before .before .before .if1 .left) (c .before .root-refusal .ensures) (c .if2 .taken)
-
-class-of-record-requires : tie.Need-class-of-record-requires
-class-of-record-requires c κs = search needs
+begin-any-requires : tie.Need-begin-any-requires
+begin-any-requires c κs = search needs
 
 enum-told : tie.Need-enum-told
 enum-told c = search needs
 
+enum-known-r : tie.Need-enum-known-r
+enum-known-r c = search needs
+
 enum-known-class : tie.Need-enum-known-class
 enum-known-class c = search needs
 
-make-of-requires : tie.Need-make-of-requires
-make-of-requires c κs = let l = in-range-at _ _ _ _ _ (c .before .before .before .before .before .before .root-refusal .ensures) (c .before .before .before .before .before .if2 .left) in ((sized _ _ (sym (c .before .before .before .before .before .before .before .before .before .wrong-size .ensures) ∙ c .before .before .before .before .before .before .before .before .if1 .left), l .0, l .1), sym (c .before .before .before .before .class-of-record .ensures) ∙ c .before .before .class .given .1)
+hand-out-requires : tie.Need-hand-out-requires
+hand-out-requires c κs =
+    let begun = c .before .before .before .before .before .before in
+    let q = begun-search _ _ _ _ _ _ _ (begun .begin-any .ensures) _ _ (c .before .before .class .given .1) in
+    ((q .sized, q .mutator, q .root, q .segment), q .class)
+
+same-length : tie.Need-same-length
+same-length c = search needs
+
+returns : tie.Need-returns
+returns c =
+    let begun = c .before .before .before .before in
+    begun-made _ _ _ _ _ _ _ (begun .begin-any .ensures) (c .enum-told .given .1)
 
 same-length-2 : tie.Need-same-length-2
 same-length-2 c = search needs
 
-returns-3 : tie.Need-returns-3
-returns-3 c = make-9 _ _ _ _ _ _ _ (sym (c .before .before .before .before .before .before .before .wrong-size .ensures) ∙ c .before .before .before .before .before .before .if1 .left) (c .before .before .before .before .root-refusal .ensures) (c .before .before .before .if2 .left) (sym (c .enum-told .given .1) ∙ c .before .before .class-of-record .ensures)
+returns-2 : tie.Need-returns-2
+returns-2 c =
+    let begun = c .before .before .before .before .before in
+    begun-refused _ _ _ _ _ _ _ (begun .begin-any .ensures) _ (c .before .r .given .1)
 
 same-length-3 : tie.Need-same-length-3
 same-length-3 c = search needs
 
-returns-4 : tie.Need-returns-4
-returns-4 c = make-by _ _ _ _ _ _ _ (sym (c .before .before .before .before .before .before .before .before .before .before .before .before .wrong-size .ensures) ∙ c .before .before .before .before .before .before .before .before .before .before .before .if1 .left) (c .before .before .before .before .before .before .before .before .before .root-refusal .ensures) (c .before .before .before .before .before .before .before .before .if2 .left) _ (sym (c .before .before .before .before .before .class .given .1) ∙ c .before .before .before .before .before .before .before .class-of-record .ensures) _ _ (c .before .before .make-of .ensures)
+returns-3 : tie.Need-returns-3
+returns-3 c =
+    let handed = c .before .before in
+    let search = handed .before .before .before in
+    let begun = search .before .before .before .before in
+    begun-search _ _ _ _ _ _ _ (begun .begin-any .ensures) _ _ (search .class .given .1) .rest _ _ (handed .hand-out .ensures)
 
 pub make-spec : {M : Type 1} → statement M
 make-spec =
     tie.close
     (tie.spec
-    wrong-size-requires
-    returns
-    root-refusal-requires
-    same-length
-    returns-2
-    class-of-record-requires
+    begin-any-requires
     enum-told
+    enum-known-r
     enum-known-class
-    make-of-requires
+    hand-out-requires
+    same-length
+    returns
     same-length-2
-    returns-3
+    returns-2
     same-length-3
-    returns-4)
+    returns-3)

@@ -16,9 +16,6 @@ set-word-requires c κs = search needs
 add-clear-fields : tie.Need-add-clear-fields
 add-clear-fields c = search needs
 
-add-clear-fields-2 : tie.Need-add-clear-fields-2
-add-clear-fields-2 c = search needs
-
 cast-clear-fields : tie.Need-cast-clear-fields
 cast-clear-fields c = search needs
 
@@ -29,7 +26,10 @@ same-length : tie.Need-same-length
 same-length c = search needs
 
 returns : tie.Need-returns
-returns c = c .before .before .clear-fields .ensures ∙ rw (c .before .before .before .before .before .before .set-word .ensures) refl
+returns c =
+    let cleared = c .before .before in
+    let headed = cleared .before .before .before .before in
+    cleared .clear-fields .ensures ∙ rw (headed .set-word .ensures) refl
 
 pub write-spec : {M : Type 1} → statement M
 write-spec =
@@ -39,7 +39,6 @@ write-spec =
     add-set-word
     set-word-requires
     add-clear-fields
-    add-clear-fields-2
     cast-clear-fields
     clear-fields-requires
     same-length

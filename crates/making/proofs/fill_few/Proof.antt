@@ -1,0 +1,53 @@
+-- `making::fill_few` meets its contract: block b, taken below the blocks of the class, is where `at` is. Assumes nothing.
+use mathlib.Core.Path.{_∙_}
+use Prim.Native.Nat.{_%_}
+use native.Mathlib.Omega.{arith}
+use Rattle.classes.specs.Class.{blockWords}
+use mathlib.Core.Path.{refl}
+use Rattle.layout.specs.Geometry.{blocksIn}
+use Rattle.layout.proofs.Regions.{resized}
+use Rattle.making.proofs.Placing.{of-class, block-under, record-in}
+use Rattle.making.proofs.HandingOut.{filled}
+use borrow.Author.Needs.{needs}
+use Rattle.making.proofs.fill_few.Statement.{statement}
+use Rattle.making.proofs.fill_few.Tie as tie
+
+word-of-requires : tie.Need-word-of-requires
+word-of-requires c κs = (c .before .pre .0 .0 .few, of-class (c .before .args .shape) _ (c .before .pre .1 .0), c .before .pre .0 .3)
+
+write-few-requires : tie.Need-write-few-requires
+write-few-requires c κs =
+    let at = c .before in
+    let entry = at .before .before in
+    let x = entry .args in
+    let i = of-class (x .shape) _ (entry .pre .1 .0) in (
+      entry .pre .0 .0,
+      entry .pre .1 .1,
+      record-in (x .g) (x .class) (x .s) (x .b % blocksIn (x .g) (x .class)) (x .shape) (entry .pre .1 .0)
+          (block-under (x .g) (x .class) (x .b) (blockWords (x .class)) i refl) (entry .pre .0 .3) _ (at .word-of .ensures),
+    )
+
+name-requires : tie.Need-name-requires
+name-requires c κs =
+    let wrote = c .before .before .before in
+    let at = wrote .before .before in
+    let entry = at .before .before in
+    let x = entry .args in
+    let i = of-class (x .shape) _ (entry .pre .1 .0) in
+    let l = record-in (x .g) (x .class) (x .s) (x .b % blocksIn (x .g) (x .class)) (x .shape) (entry .pre .1 .0) (block-under (x .g) (x .class) (x .b) (blockWords (x .class)) i refl)
+    (entry .pre .0 .3) _ (at .word-of .ensures) in
+    (resized _ _ _ (entry .pre .0 .0) (wrote .write-few .kept .1 .0), entry .pre .0 .1, entry .pre .0 .2, omega arith)
+
+same-length : tie.Need-same-length
+same-length c = search needs
+
+returns : tie.Need-returns
+returns c =
+    let named = c .before .before in
+    let wrote = named .before .before .before .before in
+    let at = wrote .before .before in
+    filled _ _ _ _ _ _ _ _ (at .word-of .ensures) _ _ _ (wrote .write-few .ensures) (named .name .ensures)
+
+pub fill-few-spec : {M : Type 1} → statement M
+fill-few-spec =
+    tie.close (tie.spec word-of-requires write-few-requires name-requires same-length returns)

@@ -1,0 +1,78 @@
+-- `making::hand_near` meets its contract. The place is read where `read` is, its word asked where `asked` is, and the place moved where `moved` is.
+-- Assumes nothing.
+use native.Mathlib.Omega.{arith}
+use Rattle.layout.specs.Mem.{memOf}
+use Rattle.layout.proofs.Sizes.{most-small}
+use Rattle.layout.proofs.Regions.{resized}
+use Rattle.making.proofs.Placing.{of-class}
+use Rattle.making.proofs.HandingOut.{near-at, near-out}
+use borrow.Author.Needs.{needs}
+use Rattle.making.proofs.hand_near.Statement.{statement}
+use Rattle.making.proofs.hand_near.Tie as tie
+
+place-requires : tie.Need-place-requires
+place-requires c κs = search needs
+
+near-requires : tie.Need-near-requires
+near-requires c κs = search needs
+
+enum-known-x : tie.Need-enum-known-x
+enum-known-x c = search needs
+
+add-set-place : tie.Need-add-set-place
+add-set-place c =
+    let asked = c .before .before .before .before in
+    let x = asked .before .before .before .before .before .args in
+    let l = near-at (x .g) (memOf (x .g) (x .mem .now)) (x .s) _ _ _ (asked .near .ensures) (c .before .before .x .given .1) .0 in
+    let n = most-small (x .g) in
+    omega arith
+
+set-place-requires : tie.Need-set-place-requires
+set-place-requires c κs = search needs
+
+fill-requires : tie.Need-fill-requires
+fill-requires c κs =
+    let moved = c .before .before .before in
+    let asked = moved .before .before .before .before .before in
+    let entry = asked .before .before .before .before .before in
+    let x = entry .pre .0 in
+    ((resized _ _ _ (x .0) (moved .set-place .kept .1 .0), x .1, x .2, x .3), entry .pre .1)
+
+enum-told : tie.Need-enum-told
+enum-told c = search needs
+
+same-length : tie.Need-same-length
+same-length c = search needs
+
+returns : tie.Need-returns
+returns c =
+    let filled = c .before .before in
+    let moved = filled .before .before .before .before in
+    let asked = moved .before .before .before .before .before in
+    let read = asked .before .before in
+    let entry = read .before .before .before in
+    let x = entry .args in
+    near-out (x .g) (memOf (x .g) (x .mem .now)) (x .k) (x .d) (x .class) (x .s) (of-class (entry .args .shape) _ (entry .pre .1)) (x .shape) _ (read .place .ensures) _
+    (near-at (x .g) (memOf (x .g) (x .mem .now)) (x .s) _ _ _ (asked .near .ensures) (moved .before .before .before .x .given .1)) _ _ (moved .set-place .ensures) (filled .fill .ensures)
+
+same-length-2 : tie.Need-same-length-2
+same-length-2 c = search needs
+
+returns-2 : tie.Need-returns-2
+returns-2 c = search needs
+
+pub hand-near-spec : {M : Type 1} → statement M
+hand-near-spec =
+    tie.close
+    (tie.spec
+    place-requires
+    near-requires
+    enum-known-x
+    add-set-place
+    set-place-requires
+    fill-requires
+    enum-told
+    same-length
+    returns
+    same-length-2
+    returns-2)
