@@ -74,7 +74,7 @@ module _ (g : Geometry) (m : Mem) where
         (λ q. record { empty = q .cycle .0; marks = q .cycle .1; swept = record { records = λ at p. q .records at (reached-live p); entered = λ at p t. marked-entered g m at (q .cycle .2 at p t) } })
         d)
 
-  -- ---- all of it
+  -- ---- the whole of `Sound`, from its parts
 
   pub classes-of : Parts g m → Classes g m
   classes-of p s l f = p .segments s l .classes f

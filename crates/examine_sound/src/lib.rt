@@ -90,7 +90,7 @@ fn rest_ok(g: Geometry, mem: &[u32], scratch: &mut [u32]) -> bool
     sweep_ok(g, mem, scratch)
 }
 
-// All of it.
+// Whether the memory is sound: the parts, the trace stack, then what the phase asks.
 fn all_ok(g: Geometry, mem: &[u32], scratch: &mut [u32]) -> bool
     requires { ⌜ (Sized g (length (now mem))) × (length (now scratch) ≡ scratchWords g) ⌝ }
     ensures { λ r. ⌜ Decides r (Sound g (memOf g (now (mem .entry)))) ⌝ }

@@ -88,7 +88,7 @@ module _ (g : Geometry) (m : Mem) (z : Sizes g m) (k : Consistent g m) (w : Ghos
   -- ---- a mutator's call
 
   module _ (c : Call) (r : Answer) (after : List ℕ) where
-    -- answered as the unbounded heap does, it remainingCall
+    -- a call that is answered as the unbounded heap does remains
     remaining : answerOf r ≡ uexec (w .heap) c .0 → remainingCall struckOut (mutatorCall c r) ≡ some (c, r)
     remaining a = ap (λ b. pick b none (some (c, r))) (not-struck-out r (w .heap) c a)
 

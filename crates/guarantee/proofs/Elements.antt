@@ -42,7 +42,7 @@ pub point-any : (g : Geometry) (words : List ℕ) (w : Ghost) (P : ℕ → Type 
 point-any g words w P p = record { long = p .long; consistent = p .consistent; couples = couples-any g (memOf g words) w P (p .couples) }
 
 module _ (g : Geometry) (words : List ℕ) (w : Ghost) (e : Element) (q : Meets e) (l : KeepsLength e) (h : (wrongSized e ≡ true) ⊎ Gets g words e) where
-  -- what remainingCall of an element is a call over the list's memory
+  -- what remains of an element is a call over the list's memory
   beside : (x : (wrongSized e ≡ true) ⊎ Gets g words e) → fed w (remainingCall struckOut (e .event)) g (onward words e) ≡ ghostStep struckOut w e
   beside (inl h) = let n = unfed (e .event) (size-number e q h) in ap (λ o. fed w o g (onward words e)) n ∙ sym (ap (λ o. fed w o (e .geometry) (e .after)) n)
   beside (inr h) = λ i. fed w (remainingCall struckOut (e .event)) (sym (h .geometry) i) (ahead g words e q h i)

@@ -79,7 +79,7 @@ module _ (g : Geometry) (m : Mem) (k d cl r b : ℕ) (shape : RecordShape) (q : 
           held = ap (λ (ws : List ℕ). getD ws (k * mutatorWords + heldFrom + (cl - firstClass)) 0) table ∙ words.still-held g m k d cl r b shape q m₁ v ∙ x .held;
         })
 
-  -- ---- all of it
+  -- ---- all the words that a make leaves
 
   -- with the marks that are left
   ended : (ma : List ℕ) → Sizes g (beside m₂ (m₂ .control) (m₂ .mutators) ma (m₂ .trace) (m₂ .heap)) → ((i : ℕ) → (i ≡ markBit h → ⊥) → bitAt ma i ≡ bitAt (m .marks) i) → (black (phase m) (acks m k) ≡ true → bitAt ma (markBit h) ≡ 1)

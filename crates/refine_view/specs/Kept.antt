@@ -63,7 +63,7 @@ pub record Structure (g : Geometry) (m : Mem) : Type 0 where
   pub trace : EntriesOk g m
   pub marks : MarksIn (phase m) g m
 
--- the parts that are left out of both: `Behind`, and this
+-- what `Ordered` and `Structure` both leave out, beside `Behind`: every segment is occupied
 abbrev pub EachOccupied : Geometry → Mem → Type 0
 EachOccupied g m = (s : ℕ) → s < g .segments → Occupied g m s
 
@@ -117,7 +117,7 @@ pub record StepKept (g : Geometry) (m : Mem) : Type 0 where
   pub picked : Pick (λ _. lowest m (g .segments)) (view g m)
   pub moves : Moves g m (stepOf g m .1) (machine.step (segmentOf g) (λ _. lowest m (g .segments)) (view g m))
 
--- all of it, of every call of the model
+-- what must be shown of every call of the model: mutators' calls, starts and steps
 pub record AllKept (out : ℕ → Bool) : Type 0 where
   pub calls : (g : Geometry) (m : Mem) → Sizes g m → Consistent g m → (c : Call) → refusal (model.observe m) c ≡ 0 → CallKept out g m c
   pub starts : (g : Geometry) (m : Mem) → Sizes g m → Consistent g m → phase m ≡ idle → StartKept g m

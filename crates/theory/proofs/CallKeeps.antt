@@ -28,7 +28,7 @@ use Rattle.theory.specs.Update.{upd}
 use Rattle.classes.specs.Record.{ofCounts}
 use Rattle.layout.specs.Geometry.{rootCount, mutatorCount}
 
--- ---- both sides show the same face
+-- ---- both sides show the same `Observation`
 
 module _ (put : ℕ → Option ℕ) (st : State) (un : Unbounded) (s : Simulates put st un) where
   shape-eq : (v w : Option ℕ) → Same put v w → ((b : ℕ) → v ≡ some b → Live st b) → Option·map (shapeAt st) v ≡ Option·map (ushapeAt un) w
