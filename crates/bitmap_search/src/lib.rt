@@ -210,7 +210,7 @@ impl BitPtr {
         }
     }
 
-    // The same at level 0, where a search begins: in one text, so that a block in the pointer's own word needs no call.
+    // What `forward` finds at level 0, where a search begins: in one text, so that a block in the pointer's own word needs no call.
     fn forward_first(self, s: &[u32], n: u32, above: u32) -> Next
         requires { ⌜ (treeWords above n ≤ length (now s)) × (self .low .bit < 32) ⌝ }
         ensures { λ r. ⌜ r ≡ forwarded above (now (s .entry)) n self 0 ⌝ }

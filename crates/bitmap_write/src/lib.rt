@@ -133,7 +133,7 @@ fn free_level(s: &mut [u32], n: u32)
     pad(s, n);
 }
 
-// The same, where it has often one word, which is written at once.
+// A level of n free bits, which often has one word: that is written at once.
 fn last_level(s: &mut [u32], n: u32)
     requires { ⌜ wordsFor n ≤ length (now s) ⌝ }
     ensures { λ _. ⌜ now (s .exit) ≡ padded n (cleared (wordsFor n) (now (s .entry))) ⌝ }
@@ -215,7 +215,7 @@ fn press(x: u32, step: u32, count: u32) -> u32
     }
 }
 
-// The same as `gathered_word` where the word is whole, and a word has `count` of the bits.
+// Word j of n bits, every step-th bit from a word on, where it is whole: each word that is read has `count` of its bits.
 fn pressed_word(s: &[u32], from: usize, n: u32, step: u32, count: u32, j: u32) -> u32
     requires { ⌜ (j * 32 + 32 ≤ n) × (from ≤ length (now s)) × (n * step ≤ (length (now s) - from) * 32) × (n * step ≤ 2 ^ 20) × Pressable step count ⌝ }
     ensures { λ r. ⌜ r ≡ wordFrom (gatheredBit (drop from (now (s .entry))) step n) 32 (j * 32) ⌝ }
@@ -232,7 +232,7 @@ fn pressed_word(s: &[u32], from: usize, n: u32, step: u32, count: u32, j: u32) -
     w
 }
 
-// Word j by words, or, where no word's bits can be had at once, bit by bit.
+// Word j of n bits, every step-th bit from a word on: by whole words, or, where `count` is 0, bit by bit.
 fn next_word(s: &[u32], from: usize, n: u32, step: u32, count: u32, j: u32) -> u32
     requires { ⌜ (j < wordsFor n) × (from ≤ length (now s)) × (n * step ≤ (length (now s) - from) * 32) × (n * step ≤ 2 ^ 20) × (1 ≤ step) × Ways n step count ⌝ }
     ensures { λ r. ⌜ r ≡ wordFrom (gatheredBit (drop from (now (s .entry))) step n) 32 (j * 32) ⌝ }
@@ -258,7 +258,8 @@ fn gather_by(s: &mut [u32], from: usize, n: u32, step: u32, count: u32)
     }
 }
 
-// By whole words where the step and n allow it. The step is a constant in each call, so that each loop is compiled for its own.
+// The n bits that stand from a word on, gathered by whole words where the step and n allow it. The step is a constant in each call, so that
+// each loop is compiled for its own.
 fn gather(s: &mut [u32], from: usize, n: u32, step: u32)
     requires { ⌜ (wordsFor n ≤ from) × (from ≤ length (now s)) × (n * step ≤ (length (now s) - from) * 32) × (n * step ≤ 2 ^ 20) × (1 ≤ step) ⌝ }
     ensures { λ _. ⌜ now (s .exit) ≡ copied (wordsFor n) (gathered (drop from (now (s .entry))) step n) (now (s .entry)) ⌝ }

@@ -143,7 +143,7 @@ fn match_template(line: &[u8], template: &[u8], numbers: &mut [u32; 5]) -> bool
     at == line.len()
 }
 
-// The same of a template in a fixed byte string.
+// Whether a line is the text of a template in a fixed byte string, and then its numbers.
 pub fn match_text(line: &[u8], text: &[u8], numbers: &mut [u32; 5]) -> bool
     ensures { λ r. ⌜ Matches (matched (trimmed (now (text .entry))) 0 (now (numbers .entry)) (now (line .entry))) r (now (numbers .exit)) ⌝ }
 {
@@ -211,7 +211,7 @@ fn write_template(template: &[u8], numbers: &[u32], buf: &mut [u8]) -> usize
     pen.at
 }
 
-// The same of a template in a fixed byte string.
+// Writes the text of a template in a fixed byte string with these numbers at the front of a buffer, and says its length.
 pub fn write_text(text: &[u8], numbers: &[u32], buf: &mut [u8]) -> usize
     requires { ⌜ length (fill (trimmed (now text)) (now numbers)) ≤ length (now buf) ⌝ }
     ensures { λ r. ⌜ Written (fill (trimmed (now (text .entry))) (now (numbers .entry))) (now (buf .entry)) r (now (buf .exit)) ⌝ }

@@ -60,7 +60,7 @@ const SCRIPT: u32 = 4;
 
 const TAKEN: u32 = 8;
 
-// absent, and side
+// 4 and 5, absent and side, which the same calls may give
 const SIDE: u32 = 16 + 32;
 
 const SLOT: u32 = 64;

@@ -1282,7 +1282,7 @@ pub fn class_of(fields: u32) -> SizeClass
     SizeClass::Class(class)
 }
 
-// The same for at most 16 fields, by the entries that have names: every number has its arm, so that no test is left of it.
+// The class of a record of at most 16 fields, by the entries that have names: every number has its arm, so that no test is left of it.
 pub fn class_of_few(fields: u32) -> u32
     requires { ⌜ fields ≤ 16 ⌝ }
     ensures { λ r. ⌜ Class r ≡ classOf fields ⌝ }

@@ -46,7 +46,7 @@ pub fn check(g: Geometry, mem: &mut [u32], k: u32) -> Answer
     Answer::Refused(13)
 }
 
-// The same, and the mutator is outside.
+// A mutator that owes an acknowledgement gives it, and then the mutator is outside.
 pub fn leave(g: Geometry, mem: &mut [u32], k: u32) -> Answer
     ensures { λ r. ⌜ Promise (c-leave k) g (now (mem .entry)) r (now (mem .exit)) ⌝ }
 {

@@ -159,7 +159,7 @@ pub fn bitmap_from(g: Geometry, s: usize) -> usize
     n * BITMAPS_PER + FIXED + s * BITMAP_WORDS
 }
 
-// Where its marks begin.
+// Where the marks of segment s begin.
 pub fn marks_from(g: Geometry, s: usize) -> usize
     requires { ⌜ (g .segments ≤ maxSegments) × (s ≤ maxSegments) ⌝ }
     ensures { λ r. ⌜ r ≡ from g Region.marks + s * markWords g ⌝ }

@@ -54,7 +54,7 @@ fn record_ok(g: Geometry, mem: &[u32], s: usize) -> bool
     classes::is_class(class)
 }
 
-// Whether every record can.
+// Whether the record of every segment can be one of consistent memory.
 fn records_ok(g: Geometry, mem: &[u32]) -> bool
     requires { ⌜ Sized g (length (now mem)) ⌝ }
     ensures { λ r. ⌜ Decides r ((s : ℕ) → s < g .segments → Plausible (memOf g (now (mem .entry))) s) ⌝ }

@@ -47,7 +47,7 @@ pub enum Begun {
     Search(u32, usize),
 }
 
-// The same where it has few fields; or nothing yet.
+// What a make comes to by the quick way: it is made, or a block of a segment of a class is to be looked for; or nothing is done yet.
 pub enum Tried {
     Made,
     Search(u32, usize),
@@ -192,7 +192,7 @@ fn fill(
     name(g, mem, k, d, at);
 }
 
-// The same where it has at most 16 fields.
+// The record of at most 16 fields in block b of segment s, marked where it is allocated black, and root d names it.
 fn fill_few(
     g: Geometry,
     mem: &mut [u32],
@@ -349,7 +349,7 @@ fn try_few(g: Geometry, mem: &mut [u32], k: u32, d: u32, shape: RecordShape) -> 
     try_held(g, mem, k, d, class, shape)
 }
 
-// By the quick way, else by the other.
+// A record of a shape for mutator k into root d, by the quick way, else by `begin`.
 fn begin_any(g: Geometry, mem: &mut [u32], k: u32, d: u32, shape: RecordShape) -> Begun
     ensures { λ r. ⌜ Begins (Called g (now (mem .entry)) k d shape) g k d shape r (now (mem .exit)) ⌝ }
 {

@@ -158,7 +158,7 @@ pub fn inside_refusal(g: Geometry, mem: &[u32], k: u32) -> u32
     lowest_refusal(g, mem, k, 0, 0)
 }
 
-// The same, and 6 unless i is a root's index.
+// The refusal 2, 4, 5 or 6 of a call by a mutator that must be inside, 6 unless i is a root's index; or 0 for none.
 pub fn root_refusal(g: Geometry, mem: &[u32], k: u32, i: u32) -> u32
     requires { ⌜ Sized g (length (now mem)) ⌝ }
     ensures { λ r. ⌜ r ≡ insideThen (memOf g (now (mem .entry))) k (ifRoot i 0) ⌝ }
@@ -171,7 +171,7 @@ pub fn root_refusal(g: Geometry, mem: &[u32], k: u32, i: u32) -> u32
     lowest_refusal(g, mem, k, i, 0)
 }
 
-// The same, and 6 unless i and j are roots' indices.
+// The refusal 2, 4, 5 or 6 of a call by a mutator that must be inside, 6 unless i and j are roots' indices; or 0 for none.
 pub fn roots_refusal(g: Geometry, mem: &[u32], k: u32, i: u32, j: u32) -> u32
     requires { ⌜ Sized g (length (now mem)) ⌝ }
     ensures { λ r. ⌜ r ≡ insideThen (memOf g (now (mem .entry))) k (ifRoot i (ifRoot j 0)) ⌝ }

@@ -176,7 +176,7 @@ pub fn write(g: Geometry, mem: &mut [u32], at: usize, shape: RecordShape)
     clear_fields(g, mem, at, (p + n) as usize);
 }
 
-// The same where it has at most 16 fields.
+// A record of a shape of at most 16 fields at a word: its header, and every field nil or 0.
 pub fn write_few(g: Geometry, mem: &mut [u32], at: usize, shape: RecordShape)
     requires { ⌜ (Sized g (length (now mem))) × (fieldCountOf shape ≤ 16) × (at + 1 + fieldCountOf shape ≤ len g Region.heap) ⌝ }
     ensures { λ _. ⌜ memOf g (now (mem .exit)) ≡ written (memOf g (now (mem .entry))) at shape ⌝ }

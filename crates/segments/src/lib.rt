@@ -25,7 +25,7 @@ pub fn set_tag(g: Geometry, mem: &mut [u32], s: usize, v: u32)
     layout::set_segment(g, mem, s * layout::SEGMENT_RECORD_WORDS + layout::TAG_AT, v);
 }
 
-// Its class.
+// The class of segment s.
 pub fn class(g: Geometry, mem: &[u32], s: usize) -> u32
     requires { ⌜ (Sized g (length (now mem))) × (s < g .segments) ⌝ }
     ensures { λ r. ⌜ r ≡ class (memOf g (now (mem .entry))) s ⌝ }
@@ -33,7 +33,7 @@ pub fn class(g: Geometry, mem: &[u32], s: usize) -> u32
     layout::segment(g, mem, s * layout::SEGMENT_RECORD_WORDS + layout::CLASS_AT)
 }
 
-// Its allocation pointer (document 01: place).
+// The allocation pointer of segment s (document 01: place).
 pub fn place(g: Geometry, mem: &[u32], s: usize) -> u32
     requires { ⌜ (Sized g (length (now mem))) × (s < g .segments) ⌝ }
     ensures { λ r. ⌜ r ≡ place (memOf g (now (mem .entry))) s ⌝ }
@@ -53,7 +53,7 @@ pub fn set_place(g: Geometry, mem: &mut [u32], s: usize, v: u32)
     );
 }
 
-// The mutator that holds it.
+// The mutator that holds segment s.
 pub fn owner(g: Geometry, mem: &[u32], s: usize) -> u32
     requires { ⌜ (Sized g (length (now mem))) × (s < g .segments) ⌝ }
     ensures { λ r. ⌜ r ≡ owner (memOf g (now (mem .entry))) s ⌝ }

@@ -39,7 +39,7 @@ fn next_condemned(g: Geometry, mem: &[u32], from: usize) -> usize
     s
 }
 
-// Found from the cursor up: in consistent memory no condemned segment stands before it.
+// The lowest condemned segment, found from the cursor up: in consistent memory none stands before the cursor.
 fn lowest_condemned(g: Geometry, mem: &[u32]) -> Lowest
     requires { ⌜ Sized g (length (now mem)) ⌝ }
     ensures { λ r. ⌜ Finds g (memOf g (now (mem .entry))) r ⌝ }
@@ -64,7 +64,7 @@ fn state_after(g: Geometry, class: u32, kept: u32) -> SegmentState
     SegmentState::Part { class, place: 0 }
 }
 
-// The stack that it is put on, unless it is full.
+// The stack that a segment of a class with so many blocks marked is put on, unless it is full.
 fn stack_after(class: u32, kept: u32) -> usize
     requires { ⌜ IsClass class ⌝ }
     ensures { λ r. ⌜ r ≡ stackAfter class kept ⌝ }
