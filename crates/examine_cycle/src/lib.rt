@@ -51,7 +51,7 @@ fn fine(g: Geometry, mem: &[u32], cover: &[u32], w: u32) -> bool
     }
 }
 
-// The same of every word of a run.
+// Whether every word of a run is nil or names a record that passes the test and is covered.
 fn fine_run(
     g: Geometry,
     mem: &[u32],
@@ -75,7 +75,7 @@ fn fine_run(
     true
 }
 
-// The roots of mutator k.
+// Whether the roots of mutator k are covered, where it is attached and has acknowledged twice.
 fn mutator_fine(g: Geometry, mem: &[u32], cover: &[u32], k: u32) -> bool
     requires { ⌜ (Sized g (length (now mem))) × (len g Region.marks ≤ length (now cover)) × (k < mutatorCount) ⌝ }
     ensures { λ r. ⌜ Decides r (RootsFine g (memOf g (now (mem .entry))) (now (cover .entry)) k) ⌝ }
@@ -90,7 +90,7 @@ fn mutator_fine(g: Geometry, mem: &[u32], cover: &[u32], k: u32) -> bool
     fine_run(g, mem, cover, Source::Roots, from, layout::ROOTS as usize)
 }
 
-// Of every mutator.
+// Whether the roots of every attached mutator with two acknowledgements are covered.
 pub fn mutators_fine(g: Geometry, mem: &[u32], cover: &[u32]) -> bool
     requires { ⌜ (Sized g (length (now mem))) × (len g Region.marks ≤ length (now cover)) ⌝ }
     ensures { λ r. ⌜ Decides r ((k : ℕ) → k < mutatorCount → RootsFine g (memOf g (now (mem .entry))) (now (cover .entry)) k) ⌝ }
@@ -106,7 +106,7 @@ pub fn mutators_fine(g: Geometry, mem: &[u32], cover: &[u32]) -> bool
     true
 }
 
-// The pointers of the record at a word.
+// Whether the pointers of the record at a word are covered.
 fn pointers_fine(g: Geometry, mem: &[u32], cover: &[u32], at: usize) -> bool
     requires { ⌜ (Sized g (length (now mem))) × (len g Region.marks ≤ length (now cover)) × RecordOk g (memOf g (now mem)) at ⌝ }
     ensures { λ r. ⌜ Decides r (FineRun g (memOf g (now (mem .entry))) (now (cover .entry)) (memOf g (now (mem .entry)) .heap) (at + 1) (pointerCount (memOf g (now (mem .entry))) at)) ⌝ }
@@ -115,7 +115,7 @@ fn pointers_fine(g: Geometry, mem: &[u32], cover: &[u32], at: usize) -> bool
     fine_run(g, mem, cover, Source::Pointers, at + 1, count)
 }
 
-// What is asked of the record at a word of segment s, whose bit is k.
+// Whether what is asked holds of the record at a word of segment s, whose bit is k.
 fn record_fine(
     g: Geometry,
     mem: &[u32],
@@ -145,7 +145,7 @@ fn record_fine(
     }
 }
 
-// Block b of segment s of a class, if its bit is in the set.
+// Whether what is asked holds of block b of segment s of a class, if its bit is in the set.
 fn block_judged(
     g: Geometry,
     mem: &[u32],
@@ -169,7 +169,7 @@ fn block_judged(
     record_fine(g, mem, asked, cover, s, at, k)
 }
 
-// Every block of segment s.
+// Whether what is asked holds of every block of segment s, which is of a class.
 fn segment_judged(
     g: Geometry,
     mem: &[u32],
@@ -195,7 +195,7 @@ fn segment_judged(
     true
 }
 
-// Segment s, whatever its class; one without a class has no records.
+// Whether what is asked holds of every block of segment s, whatever its class; one without a class has no records.
 fn any_judged(g: Geometry, mem: &[u32], asked: Asked, bits: &[u32], cover: &[u32], s: usize) -> bool
     requires { ⌜ (Sized g (length (now mem))) × (len g Region.marks ≤ length (now cover)) × Known g (memOf g (now mem)) (now bits) × (s < g .segments) ⌝ }
     ensures { λ r. ⌜ Decides r (SegmentJudged asked g (memOf g (now (mem .entry))) (now (bits .entry)) (now (cover .entry)) s) ⌝ }
@@ -207,7 +207,7 @@ fn any_judged(g: Geometry, mem: &[u32], asked: Asked, bits: &[u32], cover: &[u32
     true
 }
 
-// Every segment.
+// Whether what is asked holds of every block of every segment.
 pub fn judged(g: Geometry, mem: &[u32], asked: Asked, bits: &[u32], cover: &[u32]) -> bool
     requires { ⌜ (Sized g (length (now mem))) × (len g Region.marks ≤ length (now cover)) × Known g (memOf g (now mem)) (now bits) ⌝ }
     ensures { λ r. ⌜ Decides r (Judged asked g (memOf g (now (mem .entry))) (now (bits .entry)) (now (cover .entry))) ⌝ }

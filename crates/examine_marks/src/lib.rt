@@ -27,7 +27,7 @@ fn head_in(g: Geometry, mem: &[u32], at: usize, s: usize, class: u32) -> bool
     record_test::is_used(g, mem, s, offset / words)
 }
 
-// The same in a segment that may be free.
+// Whether a word in a segment that may be free is the head of a block in use.
 fn head(g: Geometry, mem: &[u32], at: usize, s: usize) -> bool
     requires { ⌜ (Sized g (length (now mem))) × (at < len g Region.heap) × (s ≡ segmentOf g at) × Classes g (memOf g (now mem)) ⌝ }
     ensures { λ r. ⌜ Decides r (HeadInUse g (memOf g (now (mem .entry))) at) ⌝ }
@@ -40,7 +40,7 @@ fn head(g: Geometry, mem: &[u32], at: usize, s: usize) -> bool
     head_in(g, mem, at, s, class)
 }
 
-// Whether segment s is asked.
+// Whether the bits of segment s are asked of: those of every segment, or of the condemned ones only.
 fn asked(g: Geometry, mem: &[u32], s: usize, condemned_only: bool) -> bool
     requires { ⌜ (Sized g (length (now mem))) × (s < g .segments) ⌝ }
     ensures { λ r. ⌜ Decides r (Asked «condemned_only» (memOf g (now (mem .entry))) s) ⌝ }
@@ -70,7 +70,7 @@ fn bit_fine(g: Geometry, mem: &[u32], k: usize, condemned_only: bool) -> bool
     head(g, mem, at, s)
 }
 
-// Whether the bits of word q are. A word of 0 has none, and is passed at once.
+// Whether the bits of word q that are 1 and asked of are of heads of blocks in use. A word of 0 has none, and is passed at once.
 fn word_fine(g: Geometry, mem: &[u32], q: usize, condemned_only: bool) -> bool
     requires { ⌜ (Sized g (length (now mem))) × (q < len g Region.marks) × Classes g (memOf g (now mem)) ⌝ }
     ensures { λ r. ⌜ Decides r ((i : ℕ) → i < 32 → BitFine «condemned_only» g (memOf g (now (mem .entry))) (q * 32 + i)) ⌝ }
@@ -89,7 +89,7 @@ fn word_fine(g: Geometry, mem: &[u32], q: usize, condemned_only: bool) -> bool
     true
 }
 
-// Whether every bit is.
+// Whether every bit that is 1 and asked of is of the head of a block in use.
 pub fn marks(g: Geometry, mem: &[u32], condemned_only: bool) -> bool
     requires { ⌜ (Sized g (length (now mem))) × Classes g (memOf g (now mem)) ⌝ }
     ensures { λ r. ⌜ Decides r (MarksIn «condemned_only» g (memOf g (now (mem .entry)))) ⌝ }

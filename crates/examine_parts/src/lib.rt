@@ -88,7 +88,7 @@ fn unheld(g: Geometry, mem: &[u32], s: usize, tag: u32, class: u32) -> bool
     place == layout::blocks_in(g, class)
 }
 
-// The same of any segment that is not free; a held one has its mutator, a free block and one in use.
+// Whether a segment that is not free is as its tag asks; a held one has its mutator, a free block and one in use.
 fn used(g: Geometry, mem: &[u32], s: usize, tag: u32, class: u32) -> bool
     requires { ⌜ (Sized g (length (now mem))) × (s < g .segments) ⌝ }
     requires { ⌜ IsClass class ⌝ }
@@ -127,7 +127,7 @@ fn segment(g: Geometry, mem: &[u32], s: usize) -> bool
     used(g, mem, s, tag, class)
 }
 
-// Whether every segment is.
+// Whether every segment is as its record asks.
 fn segments(g: Geometry, mem: &[u32]) -> bool
     requires { ⌜ Sized g (length (now mem)) ⌝ }
     ensures { λ r. ⌜ Decides r ((s : ℕ) → s < g .segments → SegmentParts g (memOf g (now (mem .entry))) s) ⌝ }
@@ -194,7 +194,7 @@ fn holds(g: Geometry, mem: &[u32], k: u32, class: u32) -> bool
     held_by(g, mem, k, class, holding - 1)
 }
 
-// Whether that is so of every class.
+// Whether what mutator k holds is held by it, of every class.
 fn holdings(g: Geometry, mem: &[u32], k: u32) -> bool
     requires { ⌜ (Sized g (length (now mem))) × (k < mutatorCount) ⌝ }
     ensures { λ r. ⌜ Decides r ((c : ℕ) → c < firstClass + classCount → firstClass ≤ c → Holds g (memOf g (now (mem .entry))) k c) ⌝ }
@@ -226,7 +226,7 @@ fn acks_in(p: u32, acks: u32) -> bool
     true
 }
 
-// Whether mutator k's acknowledgements are, where it is attached.
+// Whether mutator k's acknowledgements are those of the phase, where it is attached.
 fn acknowledged(g: Geometry, mem: &[u32], k: u32) -> bool
     requires { ⌜ (Sized g (length (now mem))) × (k < mutatorCount) ⌝ }
     ensures { λ r. ⌜ Decides r (Acknowledged (memOf g (now (mem .entry))) k) ⌝ }
@@ -275,7 +275,7 @@ fn mutator(g: Geometry, mem: &[u32], k: u32) -> bool
     acknowledged(g, mem, k)
 }
 
-// Whether every mutator's is.
+// Whether every mutator's entry is in order.
 fn mutators(g: Geometry, mem: &[u32]) -> bool
     requires { ⌜ Sized g (length (now mem)) ⌝ }
     ensures { λ r. ⌜ Decides r ((k : ℕ) → k < mutatorCount → MutatorParts g (memOf g (now (mem .entry))) k) ⌝ }

@@ -29,7 +29,8 @@ fn tree_at(g: Geometry, mem: &[u32], s: usize, n: u32, above: u32) -> bool
     bitmap_check::is_tree(&mem[a..b], n, above)
 }
 
-// Whether it is the tree of a class, any number: below the classes the blocks are too many for the words, and past them one word holds their bits.
+// Whether the bitmap of segment s is the tree of a class, any number: below the classes the blocks are too many for the words, and past them one
+// word holds their bits.
 fn tree_of(g: Geometry, mem: &[u32], s: usize, class: u32) -> bool
     requires { ⌜ (Sized g (length (now mem))) × (s < g .segments) ⌝ }
     ensures { λ r. ⌜ Decides r (Tree (above g class) (blocksIn g class) (bitmap g (memOf g (now (mem .entry))) s)) ⌝ }
@@ -56,7 +57,7 @@ fn segment_tree(g: Geometry, mem: &[u32], s: usize) -> bool
     tree_of(g, mem, s, class)
 }
 
-// Whether every segment's is.
+// Whether every segment's bitmap is as its record asks.
 fn trees(g: Geometry, mem: &[u32]) -> bool
     requires { ⌜ Sized g (length (now mem)) ⌝ }
     ensures { λ r. ⌜ Decides r ((s : ℕ) → s < g .segments → TreeOk g (memOf g (now (mem .entry))) s) ⌝ }
@@ -89,7 +90,7 @@ fn belongs(g: Geometry, mem: &[u32], t: usize, s: usize) -> bool
     class == FIRST_CLASS + (t - 1)
 }
 
-// The same as a number.
+// 1 where segment s belongs on stack t, else 0.
 fn one_if(g: Geometry, mem: &[u32], t: usize, s: usize) -> usize
     requires { ⌜ (Sized g (length (now mem))) × (s < g .segments) × (t < stackCount) ⌝ }
     ensures { λ r. ⌜ r ≡ oneIf (onStack (memOf g (now (mem .entry))) t s) ⌝ }
@@ -121,7 +122,7 @@ fn count(g: Geometry, mem: &[u32], t: usize) -> usize
     layout::stack(g, mem, t * (1 + n)) as usize
 }
 
-// Its entry i.
+// Entry i of stack t.
 fn entry(g: Geometry, mem: &[u32], t: usize, i: usize) -> usize
     requires { ⌜ (Sized g (length (now mem))) × (t < stackCount) × (i < g .segments) ⌝ }
     ensures { λ r. ⌜ r ≡ entry g (memOf g (now (mem .entry))) t i ⌝ }
@@ -151,7 +152,7 @@ fn enter(g: Geometry, mem: &[u32], t: usize, i: usize, seen: &mut [u32]) -> bool
     true
 }
 
-// All n entries.
+// The n entries of stack t entered in the table, one after the other; false where `enter` says so of one.
 fn enter_all(g: Geometry, mem: &[u32], t: usize, n: usize, seen: &mut [u32]) -> bool
     requires { ⌜ (Sized g (length (now mem))) × (t < stackCount) × (n ≡ count g (memOf g (now mem)) t) × (n ≤ g .segments) ⌝ }
     requires { ⌜ (length (now seen) ≡ maxSegments) × ((s : ℕ) → getD (now seen) s 0 ≡ 0) ⌝ }
@@ -182,7 +183,7 @@ fn stack_ok(g: Geometry, mem: &[u32], t: usize) -> bool
     enter_all(g, mem, t, n, &mut seen)
 }
 
-// Whether every stack has.
+// Whether every stack has exactly the segments that belong on it, each once.
 fn stacks(g: Geometry, mem: &[u32]) -> bool
     requires { ⌜ Sized g (length (now mem)) ⌝ }
     ensures { λ r. ⌜ Decides r ((t : ℕ) → t < stackCount → OrderedStack g (memOf g (now (mem .entry))) t) ⌝ }

@@ -50,7 +50,7 @@ fn enter_bit(g: Geometry, mem: &[u32], k: usize, scratch: &mut [u32]) -> bool
     true
 }
 
-// Entry i.
+// Entry i of the trace stack entered among the bits; false where it is no record that passes the test, or its bit is 0 or not new.
 fn enter(g: Geometry, mem: &[u32], i: usize, scratch: &mut [u32]) -> bool
     requires { ⌜ (Sized g (length (now mem))) × (i < len g Region.trace) × (len g Region.marks ≤ length (now scratch)) ⌝ }
     ensures { λ r. ⌜ Enters g (memOf g (now (mem .entry))) i (now (scratch .entry)) r (now (scratch .exit)) ⌝ }
@@ -66,7 +66,7 @@ fn enter(g: Geometry, mem: &[u32], i: usize, scratch: &mut [u32]) -> bool
     }
 }
 
-// All n entries.
+// The n entries of the trace stack entered among the bits, one after the other; false where `enter` says so of one.
 fn enter_all(g: Geometry, mem: &[u32], n: usize, scratch: &mut [u32]) -> bool
     requires { ⌜ (Sized g (length (now mem))) × (n ≡ traceCount (memOf g (now mem))) × (n ≤ len g Region.trace) ⌝ }
     requires { ⌜ (len g Region.marks ≤ length (now scratch)) × ((k : ℕ) → bitAt (now scratch) k ≡ 0) ⌝ }

@@ -21,7 +21,7 @@ pub fn scratch_words(g: Geometry) -> usize
     field + field + entries
 }
 
-// Both halves.
+// Whether the memory is consistent: both halves of the definition. The scratch ends all zero.
 fn consistent(g: Geometry, mem: &[u32], scratch: &mut [u32]) -> bool
     requires { ⌜ (Sized g (length (now mem))) × (length (now scratch) ≡ scratchWords g) ⌝ }
     ensures { λ r. ⌜ Decides r (Consistent g (memOf g (now (mem .entry)))) × (now (scratch .exit) ≡ replicate (scratchWords g) 0) ⌝ }
@@ -33,7 +33,7 @@ fn consistent(g: Geometry, mem: &[u32], scratch: &mut [u32]) -> bool
     examine_summed::summed(g, mem)
 }
 
-// The examination.
+// The examination: refused 1 for a wrong size, else whether the memory is consistent.
 pub fn examine(g: Geometry, mem: &[u32], scratch: &mut [u32]) -> Examined
     ensures { λ r. ⌜ ExaminePromise g (now (mem .entry)) (now (scratch .entry)) r (now (scratch .exit)) ⌝ }
 {

@@ -70,7 +70,7 @@ fn enter(g: Geometry, scratch: &mut [u32], at: u32, k: usize, top: usize) -> usi
     top + 1
 }
 
-// One word that names a record or is nil.
+// Follows one word that names a record or is nil.
 fn follow_at(g: Geometry, mem: &[u32], w: u32, scratch: &mut [u32], top: usize) -> Met
     requires { ⌜ Lent g (now mem) (now scratch) × Valid (recordsOf g (memOf g (now mem))) (stateOf g (now scratch) top) ⌝ }
     ensures { λ r. ⌜ Came g (memOf g (now (mem .entry))) (λ x. w ≡ suc x) (stateOf g (now (scratch .entry)) top) r (now (scratch .exit)) ⌝ }
@@ -85,7 +85,7 @@ fn follow_at(g: Geometry, mem: &[u32], w: u32, scratch: &mut [u32], top: usize) 
     }
 }
 
-// The same where a word that names no record may have been met.
+// Follows one word that names a record or is nil, unless a word that names no record was met before.
 fn follow(g: Geometry, mem: &[u32], w: u32, scratch: &mut [u32], met: Met) -> Met
     requires { ⌜ Lent g (now mem) (now scratch) × Ready g (memOf g (now mem)) (now scratch) met ⌝ }
     ensures { λ r. ⌜ Then g (memOf g (now (mem .entry))) (λ x. w ≡ suc x) (now (scratch .entry)) met r (now (scratch .exit)) ⌝ }
