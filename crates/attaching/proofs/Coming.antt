@@ -90,12 +90,12 @@ module _ (m : Mem) (k p i : ℕ) where
       unfolding require spawnRefusal
       spawn-3 f = rw (lt-ltb _ _ l, lt-ltb _ _ h, ne-eqb _ _ (λ y. f (s ∙ y)))
 
-      -- then the parent's, which begin with 2
+      -- where mutator k is known and absent, the refusal is the parent's, whose lowest number is 2
       pub parent-rest : v ≡ absent → (n : ℕ) → n ≡ insideThen m p (ifRoot i 0) → n ≡ spawnRefusal m k p i
       unfolding require spawnRefusal insideThen
       parent-rest z n q = q ∙ rw (lt-ltb _ _ l, lt-ltb _ _ h, eq-eqb _ _ (sym s ∙ z))
 
-  -- none of them
+  -- where none of them applies, both numbers and the root are in range
   pub spawn-range : spawnRefusal m k p i ≡ 0 → (k < mutatorCount) × (p < mutatorCount) × (i < rootCount)
   unfolding spawnRefusal
   spawn-range e =
@@ -106,7 +106,7 @@ module _ (m : Mem) (k p i : ℕ) where
       let o = require-ok (isInside m p) 5 _ (omega arith) (q .1) in
       (ltb-true _ _ (a .0), ltb-true _ _ (b .0), root-ok i 0 (o .1) .0)
 
--- ---- spawn: n is that refusal
+-- ---- spawn: n is the refusal of a spawn
 
 module _ (g : Geometry) (xs : List ℕ) (k p i n : ℕ) (e : wrongSize g (length xs) ≡ false) (s : n ≡ spawnRefusal (memOf g xs) k p i) where
   pub spawn-refused : (n ≡ 0 → ⊥) → Promise (c-spawn k p i) g xs (Refused n) xs

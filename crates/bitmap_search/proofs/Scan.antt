@@ -29,7 +29,7 @@ module _ (bit : ℕ → ℕ) where
     past : n < p → firstZero bit (n - p) p ≡ p
     past l = let e : n - p ≡ 0 = omega arith in rw e
 
-    -- the answer of the scan is that
+    -- the answer of the scan is the first free block
     pub next-is : IsNext n p (nextFree bit n p)
     unfolding nextFree
     next-is = go (le-or-lt p n)
@@ -42,7 +42,7 @@ module _ (bit : ℕ → ℕ) where
             by k f false q = let h = ltb-false k n q in λ j a b z. f .before j a (omega (arith, f .within)) z
         go (inr l) = rw (past l, le-ltb p n (omega arith)) (λ j a b z. absurd (omega arith))
 
-    -- and nothing else is
+    -- no other answer is
     pub is-next : (r : Found) → IsNext n p r → r ≡ nextFree bit n p
     unfolding nextFree
     is-next (Block k) x =

@@ -39,12 +39,12 @@ module _ (ws : List ℕ) (n : ℕ) (lv : Level n ws) where
           none-in-word ws word bit (clearFrom (getD ws word 0) bit) first,
         )
 
-    -- none there
+    -- no clear bit in the pointer's word, from its bit on
     module _ (full : 32 ≤ clearFrom (getD ws word 0) bit) where
       rest-full : NoZero (bitAt ws) (word * 32 + bit) (word * 32 + 32)
       rest-full k l h z = none-in-word ws word bit (clearFrom (getD ws word 0) bit) first k l (omega arith) z
 
-      -- in a level of one word
+      -- a level of one word has no other
       pub one-word : n ≤ 32 → IsNext (bitAt ws) n (word * 32 + bit) Nothing
       one-word h k l m z = rest-full k l (omega arith) z
 
@@ -53,7 +53,7 @@ module _ (ws : List ℕ) (n : ℕ) (lv : Level n ws) where
         ones : (j : ℕ) → j < wordsFor n → (bitAt us j ≡ 0 → ⊥) → getD ws j 0 ≡ allOnes
         ones j h f = sums .only j h (one-of-not-zero (bitAt us j) (at-lt us j) f)
 
-        -- and no summary bit of a later word is 0
+        -- where no summary bit of a later word is 0, nothing is free
         pub none-above : IsNext (bitAt us) (wordsFor n) (word + 1) Nothing → IsNext (bitAt ws) n (word * 32 + bit) Nothing
         none-above up j l h z =
             none-join (bitAt ws) (word * 32 + bit) (word * 32 + 32) (wordsFor n * 32)
@@ -66,7 +66,7 @@ module _ (ws : List ℕ) (n : ℕ) (lv : Level n ws) where
           pub below-lt : clearFrom (getD ws k 0) 0 < 32
           below-lt = lt-of-not-le (λ l. let e = sums .full k (up .1) (none-clear-ones (getD ws k 0) (fits k) l) in omega (arith, up .2))
 
-          -- which is the next free bit
+          -- that clear bit is the next free one
           pub found-above : IsNext (bitAt ws) n (word * 32 + bit) (Block (k * 32 + clearFrom (getD ws k 0) 0))
           found-above =
               let g = clear-first (getD ws k 0) 0 (omega arith) in

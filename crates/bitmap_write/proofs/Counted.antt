@@ -14,7 +14,7 @@ module _ (ws : List ℕ) (b : ℕ) where
   abbrev pub passed : ℕ → ℕ
   passed k = wordFrom (fullBit ws k) 32 b
 
-  -- none yet
+  -- no word passed yet: all ones
   pub passed-none : 2 ^ 32 - 1 ≡ passed b
   passed-none = sym (word-ones (fullBit ws b) 32 b (λ i l. full-past ws b i l))
 
@@ -31,7 +31,7 @@ module _ (ws : List ℕ) (b : ℕ) where
     here : fullBit ws (k + 1) k ≡ fullBit ws m k
     here = full-both ws (k + 1) m k (omega arith) h
 
-    -- word k is full
+    -- word k is full: its bit is kept
     passed-full : fullBit ws m k ≡ 1 → passed k ≡ passed (k + 1)
     passed-full e = word-same (fullBit ws k) (fullBit ws (k + 1)) same 32 b
       where
@@ -42,7 +42,7 @@ module _ (ws : List ℕ) (b : ℕ) where
             go (inl q) = rw q (full-past ws k k (omega arith) ∙ sym (here ∙ e))
             go (inr f) = elsewhere i f
 
-    -- it is not
+    -- word k is not full: its bit is cleared
     passed-less : fullBit ws m k ≡ 0 → b ≤ k → k < b + 32 → passed k ≡ passed (k + 1) + 2 ^ (k - b)
     passed-less e l q = word-less (fullBit ws k) (fullBit ws (k + 1)) k 32 b (full-past ws k k (omega arith)) (here ∙ e) elsewhere l q
 
@@ -57,7 +57,7 @@ module _ (ws : List ℕ) (b : ℕ) where
         let d : b + i - b ≡ i = omega arith in
         at ∙ passed-less m (b + i) h e (omega arith) (omega arith) ∙ rw (q, d)
 
-  -- all that there are
+  -- all words that there are passed, or all that this word has bits of
   pub passed-all : (m k : ℕ) → b ≤ k → k ≤ m → (k ≡ m) ⊎ (b + 32 ≤ k) → passed k ≡ passed m
   passed-all m k l h (inl e) = ap passed e
   passed-all m k l h (inr q) = word-alike (fullBit ws k) (fullBit ws m) 32 b (λ i a c. full-both ws k m i (omega arith) (omega arith))

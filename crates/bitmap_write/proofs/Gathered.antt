@@ -107,7 +107,7 @@ module _ (ws : List ℕ) (step b : ℕ) where
   pub sofar-lt : (t : ℕ) → sofar t < 2 ^ 32
   sofar-lt t = word-lt (gatheredBit ws step t) (gathered-lt ws step t) 32 b
 
-  -- all that there are
+  -- all bits that there are, or all that this word has
   pub sofar-all : (n t : ℕ) → t ≤ n → (t ≡ n) ⊎ (b + 32 ≤ t) → sofar t ≡ sofar n
   sofar-all n t h (inl e) = ap sofar e
   sofar-all n t h (inr q) = word-alike (gatheredBit ws step t) (gatheredBit ws step n) 32 b (λ i a c. gathered-in ws step t i (omega arith) ∙ sym (gathered-in ws step n i (omega arith)))

@@ -53,7 +53,7 @@ module _ (g : Geometry) (m : Mem) (Set : ℕ → Type 0) where
     records = λ k l q. b .records k l (sym (e k l) ∙ q);
   }
 
-  -- a record of the set, by its block
+  -- what is judged of every block holds of a record of the set
   module _ (asked : Asked) (bits cover : List ℕ) (b : BitsOf g m Set bits) (j : Judged asked g m bits cover) where
     pub judged-at : (x : ℕ) → Set x → RecordFine asked g m cover (segmentOf g x) x (markBit x)
     judged-at x q =
@@ -62,7 +62,7 @@ module _ (g : Geometry) (m : Mem) (Set : ℕ → Type 0) where
         let e = is-header g m x k (ok .aligned) in
         subst (λ (z : ℕ). RecordFine asked g m cover (segmentOf g x) z (markBit z)) (sym e) (j (segmentOf g x) (segment-below g x (ok .inside)) k (blockOf g m x) (of-block g m x k) (subst (λ (z : ℕ). bitAt bits (markBit z) ≡ 1) e (b .found x q)))
 
-  -- and back
+  -- what holds of every record of the set is judged of every block
   module _ (asked : Asked) (bits cover : List ℕ) (b : BitsOf g m Set bits) (room : len g Region.marks ≤ length bits) (h : (x : ℕ) → Set x → RecordFine asked g m cover (segmentOf g x) x (markBit x)) where
     pub judged-all : Judged asked g m bits cover
     judged-all s l k i w e = subst (λ (z : ℕ). RecordFine asked g m cover z at (markBit at)) here (h at (b .only at ok e))
@@ -76,7 +76,7 @@ module _ (g : Geometry) (m : Mem) (Set : ℕ → Type 0) where
         here : segmentOf g at ≡ s
         here = header-segment g (class m s) k s i w
 
--- ---- in front
+-- ---- the bits in front
 
 pub bits-front : (g : Geometry) (m : Mem) (Set : ℕ → Type 0) (memory : List ℕ) (n : ℕ) (s : List ℕ) → Room g memory n s → (t u : List ℕ) → take n u ≡ take n t → BitsOf g m Set t → BitsOf g m Set (take n u)
 bits-front g m Set memory n s r t u e b = bits-as g m Set t (take n u) (λ k l. ap (λ (z : List ℕ). bitAt z k) e ∙ sym (bit-front g memory n s r t k l)) b

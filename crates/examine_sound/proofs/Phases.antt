@@ -34,7 +34,7 @@ module _ (g : Geometry) (m : Mem) where
   reached-live : {x : ℕ} → Reached m x → Live m x
   reached-live p = reach-map (λ x q. root (inl q)) (λ x y r q. inl q) p
 
-  -- and what has a bit is marked
+  -- with nothing on the trace stack, what has a bit is marked
   bit-marked : traceCount m ≡ 0 → (x : ℕ) → entered g m x ≡ 1 → marked g m x ≡ 1
   bit-marked e x b = go (entered-as g m x b)
     where

@@ -57,7 +57,7 @@ lower-other m (suc n) r e s l q = go (lowest m n) refl e (λ f. lower-other m n 
     go none k f ih = here (eqb (tag m n) Tag.condemned) f k
     go (some x) k f ih = ih (k ∙ f)
 
--- ---- and back
+-- ---- where no segment is condemned, it finds none
 
 pub lowest-none : (m : Mem) (n : ℕ) → ((s : ℕ) → s < n → tag m s ≡ Tag.condemned → ⊥) → lowest m n ≡ none
 unfolding lowest

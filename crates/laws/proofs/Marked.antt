@@ -83,7 +83,7 @@ module _ (g : Geometry) (m : Mem) (at : ℕ) where
   pub off-stack : stacked ≡ false → marked g m at ≡ entered g m at
   off-stack e = rw e refl
 
-  -- with nothing on the stack
+  -- with nothing on the stack, what has a bit is marked
   pub all-marked : traceCount m ≡ 0 → marked g m at ≡ entered g m at
   unfolding onStack
   all-marked e = rw e refl

@@ -64,15 +64,15 @@ segment-same g m m₁ q o x e h = record {
     remain : (b : ℕ) × (place m q ≤ b) × (b < blocksIn g (class m q)) × (bitAt (bitmap g m q) b ≡ 0) → (b : ℕ) × (place m₁ q ≤ b) × (b < blocksIn g (class m₁ q)) × (bitAt (bitmap g m₁ q) b ≡ 0)
     remain (b, l, k, z) = (b, subst (λ w. w ≤ b) (sym (x .place)) l, subst (λ w. b < blocksIn g w) (sym (x .class)) k, ap (λ w. bitAt w b) e ∙ z)
 
--- and one whose class and bitmap stay, and that is free if it was, keeps its bitmap's tree
+-- a segment whose class and bitmap stay, and that is free if it was, keeps its bitmap's tree
 pub tree-same : (g : Geometry) (m m₁ : Mem) (q : ℕ) → TreeOk g m q → (tag m q ≡ Tag.free → tag m₁ q ≡ Tag.free) → class m₁ q ≡ class m q → bitmap g m₁ q ≡ bitmap g m q → TreeOk g m₁ q
 tree-same g m m₁ q t u c e f = subst (λ z. Tree (above g z) (blocksIn g z) (bitmap g m₁ q)) (sym c) (subst (Tree (above g (class m q)) (blocksIn g (class m q))) (sym e) (t (λ y. f (u y))))
 
--- and one whose class, place and bitmap stay, and that was part or held if it is, has a block in use as before
+-- a segment whose class, place and bitmap stay, and that was part or held if it is, has a block in use as before
 pub occupied-same : (g : Geometry) (m m₁ : Mem) (q : ℕ) → Occupied g m q → (Tag.part ≤ tag m₁ q → tag m₁ q ≤ Tag.held → (Tag.part ≤ tag m q) × (tag m q ≤ Tag.held)) → class m₁ q ≡ class m q → place m₁ q ≡ place m q → bitmap g m₁ q ≡ bitmap g m q → Occupied g m₁ q
 occupied-same g m m₁ q o t c p e l h = let y = t l h in let b = o (y .0) (y .1) in (b .0, subst (λ z. b .0 < blocksIn g z) (sym c) (b .1), used-same g m m₁ q (b .0) p e ∙ b .2)
 
--- so one whose record and bitmap stay
+-- a segment whose record and bitmap stay has a block in use as before
 pub occupied-by : (g : Geometry) (m m₁ : Mem) (q : ℕ) → Occupied g m q → Recorded m₁ q (tag m q) (class m q) (place m q) (owner m q) → bitmap g m₁ q ≡ bitmap g m q → Occupied g m₁ q
 occupied-by g m m₁ q o x e = let y = x .tag in occupied-same g m m₁ q o (λ l h. (omega arith, omega arith)) (x .class) (x .place) e
 
@@ -105,6 +105,6 @@ module _ (m m′ : Mem) (r : ℕ) (other : (i : ℕ) → (i ≡ r → ⊥) → R
   pub free-left : (tag m r ≡ Tag.free → ⊥) → (tag m′ r ≡ Tag.free → ⊥) → (i : ℕ) → isFree m′ i ≡ isFree m i
   free-left f h i = ⊎-elim (λ e. ap (isFree m′) e ∙ not-free m′ r h ∙ sym (not-free m r f) ∙ sym (ap (isFree m) e)) (free-other i) (same-or-not i r)
 
-  -- and one that is not made part of a class, and was not, those of the class
+  -- a segment that is not made part of a class, and was not, leaves the part ones of the class as they were
   pub part-left : (d : ℕ) → (tag m r ≡ Tag.part → class m r ≡ d → ⊥) → (tag m′ r ≡ Tag.part → class m′ r ≡ d → ⊥) → (i : ℕ) → isPart m′ d i ≡ isPart m d i
   part-left d f h i = ⊎-elim (λ e. ap (isPart m′ d) e ∙ not-part m′ d r h ∙ sym (not-part m d r f) ∙ sym (ap (isPart m d) e)) (part-other d i) (same-or-not i r)

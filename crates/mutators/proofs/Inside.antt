@@ -57,7 +57,7 @@ pub root-6 : (i rest : ℕ) → rootCount ≤ i → 6 ≡ ifRoot i rest
 unfolding require
 root-6 i rest l = rw (le-ltb _ _ l)
 
--- 0 is one
+-- a second root 0 is no further test
 pub one-root : (m : Mem) (k i : ℕ) → insideThen m k (ifRoot i (ifRoot 0 0)) ≡ insideThen m k (ifRoot i 0)
 one-root m k i = ap (λ x. insideThen m k (ifRoot i x)) (sym (root-rest 0 0 (omega arith)))
 
@@ -96,7 +96,7 @@ module _ (g : Geometry) (xs : List ℕ) (k i n : ℕ) (s : n ≡ insideThen (mem
           rest = root-rest i _ l ∙ refusals.inside-rest (observe (memOf g xs)) k _ (p .0) (p .1) (p .2) ∙ is;
         }
 
--- ---- and with two roots
+-- ---- a call of a mutator inside with two roots, n being the refusal of all three
 
 module _ (g : Geometry) (xs : List ℕ) (k i j n : ℕ) (s : n ≡ insideThen (memOf g xs) k (ifRoot i (ifRoot j 0))) where
   pub in-range : n ≡ 0 → (k < mutatorCount) × (i < rootCount) × (j < rootCount)

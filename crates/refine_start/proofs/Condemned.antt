@@ -78,7 +78,7 @@ module _ (g : Geometry) (m : Mem) (z : Sizes g m) where
       go false e (inl q) ih = (λ l. not-collected m (condemned m s) x (ap (collects m) q ∙ e) (ih .1 (omega arith)), λ l. absurd (omega arith))
       go false e (inr q) ih = (λ l. ih .0 (lt-of l q), λ l. ih .1 (omega arith))
 
-  -- all of them; past the last segment the words are 0 before and after
+  -- every segment; past the last one the words are 0 before and after
   pub segments-condemned : (x : ℕ) → After m (condemned m (g .segments)) x
   segments-condemned x = go (le-or-lt (g .segments) x)
     where

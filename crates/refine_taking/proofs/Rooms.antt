@@ -49,7 +49,7 @@ module _ (g : Geometry) (m : Mem) (s : Sizes g m) (c : Ordered g m) (k cl : ℕ)
     pub room-source : sourceOf g m k cl ≡ noRoom
     room-source = rw (eq-eqb (holding m k cl) 0 holds-none, eq-eqb (count g m (partStack cl)) 0 parts-none, eq-eqb (count g m freeStack) 0 frees-none) refl
 
-  -- ---- and back
+  -- ---- from the words to the segments
 
   module _ (e : sourceOf g m k cl ≡ noRoom) where
     -- whether a source is `noRoom`

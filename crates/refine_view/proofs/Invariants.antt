@@ -202,7 +202,7 @@ module _ (g : Geometry) (m : Mem) (s : Sizes g m) (c : Ordered g m) where
       white-bit : phase m ≡ sync1 → (x : ℕ) → Live m x → (isHead g m x && isMarked g m x) ≡ false
       white-bit e x l = ap (λ b. isHead g m x && b) (not-marked g m x (blank (in-phase sync1 e) x l)) ∙ and-false (isHead g m x)
 
--- ---- and back: the words in order and the machine's invariant are consistency
+-- ---- from the machine's invariant to consistency: the words in order and the invariant are it
 
 module _ (g : Geometry) (m : Mem) (s : Sizes g m) (o : Structure g m) (inv : Inv (segmentOf g) (view g m)) where
   from-live : {at : ℕ} → Live m at → machine.Live (view g m) at

@@ -81,7 +81,7 @@ module _ (g : Geometry) (m : Mem) where
   pub reached-on : {at : ℕ} → Reached m at → machine.Reached (view g m) at
   reached-on p = reach-map {R = IsRoot m} {R′ = machine.Root (view g m)} (λ x r. root (root-on x r)) (λ x y q e. inl (edge-on x y e)) p
 
-  -- ---- and back, where the regions have their lengths and no entry is nil
+  -- ---- from the machine to the memory, where the regions have their lengths and no entry is nil
 
   pub few-mutators : Sizes g m → (k : ℕ) → isAttached m k ≡ true → k < mutatorCount
   few-mutators s k a = go (le-or-lt 32 k)

@@ -52,11 +52,11 @@ module _ (g : Geometry) (m : Mem) (s : State) where
   pub roots-none : Valid (recordsOf g m) s → Run (recordsOf g m) (RootBelow m 0) s s
   roots-none f = run-still f (λ x q. absurd (omega (arith, q .few)))
 
-  -- one mutator more
+  -- the roots of one mutator more
   pub roots-more : (k : ℕ) (met r : Met) (before after : List ℕ) → Came g m (RootBelow m k) s met before → Then g m (RootOf m k) before met r after → Came g m (RootBelow m (k + 1)) s r after
   roots-more k met r before after c e = came-then g m s (up m k) (here m k) (split m k) met r before after c e
 
-  -- all of them
+  -- the roots of all mutators
   pub roots-all : (met : Met) (after : List ℕ) → Came g m (RootBelow m mutatorCount) s met after → Came g m (IsRoot m) s met after
   roots-all met after c =
       came-same g m s
@@ -64,7 +64,7 @@ module _ (g : Geometry) (m : Mem) (s : State) where
       (λ x q. record { mutator = q .mutator; few = q .few; names = (q .attached, record { index = q .index; within = q .within; names = q .names }) })
       met after c
 
-  -- then the entries
+  -- roots, and then the entries
   pub roots-entries : (met r : Met) (before after : List ℕ) → Came g m (IsRoot m) s met before → Then g m (IsEntry m) before met r after → Came g m (λ at. IsRoot m at ⊎ IsEntry m at) s r after
   roots-entries met r before after c e = came-then g m s (λ x q. inl q) (λ x q. inr q) (λ x q. q) met r before after c e
 

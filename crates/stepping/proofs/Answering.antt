@@ -26,7 +26,7 @@ use Rattle.stepping.specs.Handshaking.{NextOutside, AnswerFails, Answers
 
 -- ---- the next mutator outside
 
--- none from one to j
+-- no mutator is outside, from the number `from` up to j
 pub record NoneOutside (m : Mem) (from j : ℕ) : Type 0 where
   pub after : from ≤ j
   pub few : j ≤ mutatorCount

@@ -105,7 +105,7 @@ module _ (segmentOf : ℕ → ℕ) (st st′ : State) (a : Agree segmentOf st st
     old = s .old;
   }
 
-  -- ---- and on: what agrees with what agrees
+  -- ---- agreement is transitive
 
   live-on : {b : ℕ} → Live st b → Live st′ b
   live-on p = reach-ind (Live st′) r (λ x y q h e. next h (edge-on x y q e)) p
