@@ -1,3 +1,4 @@
+-- `examine_trace::enter_bit` meets its contract.
 use mathlib.Core.Path.{_≡_, _∙_, sym, subst}
 use native.Mathlib.Omega.{arith}
 use borrow.Author.Tests.{not-true, not-false}
@@ -15,42 +16,33 @@ use Rattle.examine_trace.proofs.mark_bit.Reads as mark-bit-reads
 use Rattle.words.proofs.bit_at.Reads as bit-at-reads
 use Rattle.words.proofs.set_bit.Reads as set-bit-reads
 
--- src/lib.rt:41:9
 mark-bit-requires : tie.Need-mark-bit-requires
 mark-bit-requires c κs = search needs
 
--- src/lib.rt:43:9
 returns : tie.Need-returns
 returns c = bit-unset _ _ _ (refuted (c .before .mark-bit .ensures) (not-true _ (c .if1 .taken)))
 
--- src/lib.rt:45:15
 cast-bit : tie.Need-cast-bit
 cast-bit c = omega (arith, trace-most (c .before .before .before .before .args .g) (c .before .before .before .before .pre .0 .few), c .before .before .before .before .pre .1)
 
--- src/lib.rt:46:8
 bit-at-requires : tie.Need-bit-at-requires
 bit-at-requires c κs = let a = c .before .before .before .before .before in omega (arith, mark-word (a .args .g) (a .args .k) (a .pre .1), a .pre .2)
 
--- src/lib.rt:47:9
 same-length : tie.Need-same-length
 same-length c = search needs
 
--- src/lib.rt:47:9
 returns-2 : tie.Need-returns-2
 returns-2 c = bit-again _ _ _ (sym (c .before .bit-at .ensures) ∙ c .if2 .taken)
 
--- src/lib.rt:49:5
 set-bit-requires : tie.Need-set-bit-requires
 set-bit-requires c κs =
     let did-mark-bit = c .before .before .before .before .before in
     let entry = did-mark-bit .before .before .before in
     let a = entry in omega (arith, mark-word (a .args .g) (a .args .k) (a .pre .1), a .pre .2)
 
--- src/lib.rt:37:1
 same-length-2 : tie.Need-same-length-2
 same-length-2 c = search needs
 
--- src/lib.rt:37:1
 returns-3 : tie.Need-returns-3
 returns-3 c =
     let branched2 = c .before .before .before .before in

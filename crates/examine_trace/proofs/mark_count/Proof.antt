@@ -1,3 +1,4 @@
+-- `examine_trace::mark_count` meets its contract.
 use mathlib.Core.Path.{refl}
 use native.Mathlib.Omega.{arith}
 use Rattle.layout.proofs.Sizes.{trace-most}
@@ -11,43 +12,33 @@ use Rattle.layout.proofs.marks_from.Reads as marks-from-reads
 use Rattle.layout.proofs.trace_words.Reads as trace-words-reads
 use Rattle.words.proofs.ones_among.Reads as ones-among-reads
 
--- src/lib.rt:30:9
 trace-words-requires : tie.Need-trace-words-requires
 trace-words-requires c κs = search needs
 
--- src/lib.rt:31:9
 marks-from-requires : tie.Need-marks-from-requires
 marks-from-requires c κs = search needs
 
--- src/lib.rt:32:13
 sub-b : tie.Need-sub-b
 sub-b c = search needs
 
--- src/lib.rt:33:23
 mul-ones-among : tie.Need-mul-ones-among
 mul-ones-among c = search needs
 
--- src/lib.rt:33:23
 sub-ones-among : tie.Need-sub-ones-among
 sub-ones-among c = search needs
 
--- src/lib.rt:33:23
 part-ones-among-start : tie.Need-part-ones-among-start
 part-ones-among-start c = search needs
 
--- src/lib.rt:33:23
 part-ones-among-end : tie.Need-part-ones-among-end
 part-ones-among-end c = search needs
 
--- src/lib.rt:33:35
 cast-ones-among : tie.Need-cast-ones-among
 cast-ones-among c = omega (arith, c .before .before .trace-words .ensures, trace-most (c .before .before .before .before .args .g) (c .before .before .before .before .pre .few))
 
--- src/lib.rt:33:5
 ones-among-requires : tie.Need-ones-among-requires
 ones-among-requires c κs = part-room (c .before .before .before .before .args .g) (c .before .before .before .before .args .mem .now) (c .before .before .before .before .pre) _ _ _ (c .before .before .trace-words .ensures) (c .before .marks-from .ensures) refl
 
--- src/lib.rt:26:1
 returns : tie.Need-returns
 returns c = part-count (c .before .before .before .before .before .args .g) (c .before .before .before .before .before .args .mem .now) (c .before .before .before .before .before .pre) _ _ _ (c .before .before .before .trace-words .ensures) (c .before .before .marks-from .ensures) refl _ (c .ones-among .ensures)
 

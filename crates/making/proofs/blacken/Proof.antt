@@ -1,3 +1,4 @@
+-- `making::blacken` meets its contract.
 use native.Mathlib.Omega.{arith}
 use Rattle.layout.proofs.Sizes.{marks-words}
 use Rattle.making.proofs.HandingOut.{born-black, born-white}
@@ -12,34 +13,27 @@ use Rattle.mutators.proofs.acks.Reads as acks-reads
 use Rattle.mutators.proofs.phase.Reads as phase-reads
 use Rattle.tracing.proofs.mark_bit.Reads as mark-bit-reads′
 
--- src/lib.rt:131:9
 phase-requires : tie.Need-phase-requires
 phase-requires c κs = search needs
 
--- src/lib.rt:132:20
 acks-requires : tie.Need-acks-requires
 acks-requires c κs = search needs
 
--- src/lib.rt:132:8
 black-requires : tie.Need-black-requires
 black-requires c κs = search needs
 
--- src/lib.rt:133:35
 mark-bit-requires : tie.Need-mark-bit-requires
 mark-bit-requires c κs = search needs
 
--- src/lib.rt:133:9
 mark-bit-requires-2 : tie.Need-mark-bit-requires-2
 mark-bit-requires-2 c κs =
     let did-phase = c .before .before .before .before .before .before in
     let entry = did-phase .before .before .before in
     let a = entry in let w = marks-words (a .args .g) (a .args .g .segments) in let e = c .mark-bit .ensures in (a .pre .0, omega (arith, a .pre .2))
 
--- src/lib.rt:134:9
 same-length : tie.Need-same-length
 same-length c = search needs
 
--- src/lib.rt:134:9
 returns : tie.Need-returns
 returns c =
     let did-mark-bit = c .before .before .before in
@@ -49,11 +43,9 @@ returns c =
     let did-phase = did-acks .before .before in
     born-black _ _ _ _ _ _ _ (did-phase .phase .ensures) (did-acks .acks .ensures) (did-black .black .ensures) (branched1 .if1 .taken) _ (did-mark-bit .mark-bit .ensures) _ (c .before .before .mark-bit2 .ensures)
 
--- src/lib.rt:127:1
 same-length-2 : tie.Need-same-length-2
 same-length-2 c = search needs
 
--- src/lib.rt:127:1
 returns-2 : tie.Need-returns-2
 returns-2 c = born-white _ _ _ _ _ _ _ (c .before .before .before .before .phase .ensures) (c .before .before .acks .ensures) (c .before .black .ensures) (c .if1 .left)
 

@@ -1,3 +1,4 @@
+-- `marking::trace` meets its contract.
 use Rattle.laws.proofs.Lengths.{sizes-of}
 use Rattle.marking.proofs.Tracing.{trace-moved, trace-over, trace-nil, trace-torn, trace-visits}
 use borrow.Author.Needs.{needs}
@@ -12,19 +13,15 @@ use Rattle.layout.proofs.trace_words.Reads as trace-words-reads
 use Rattle.marking.proofs.visit.Reads as visit-reads
 use Rattle.mutators.proofs.set_phase.Reads as set-phase-reads
 
--- src/lib.rt:66:9
 control-requires : tie.Need-control-requires
 control-requires c κs = search needs
 
--- src/lib.rt:68:9
 set-phase-requires : tie.Need-set-phase-requires
 set-phase-requires c κs = search needs
 
--- src/lib.rt:69:9
 same-length : tie.Need-same-length
 same-length c = search needs
 
--- src/lib.rt:69:9
 returns : tie.Need-returns
 returns c =
     let branched1 = c .before .before .before .before in
@@ -32,35 +29,27 @@ returns c =
     let entry = did-control .before .before .before in
     trace-moved _ _ (sizes-of _ _ (entry .pre)) _ (did-control .control .ensures) (branched1 .if1 .taken) _ (c .before .before .set-phase .ensures)
 
--- src/lib.rt:71:17
 sub-last : tie.Need-sub-last
 sub-last c = search needs
 
--- src/lib.rt:71:16
 cast-last : tie.Need-cast-last
 cast-last c = search needs
 
--- src/lib.rt:72:8
 trace-words-requires : tie.Need-trace-words-requires
 trace-words-requires c κs = search needs
 
--- src/lib.rt:73:9
 same-length-2 : tie.Need-same-length-2
 same-length-2 c = search needs
 
--- src/lib.rt:73:9
 returns-2 : tie.Need-returns-2
 returns-2 c = trace-over _ _ (sizes-of _ _ (c .before .before .before .before .before .before .pre)) _ (c .before .before .before .control .ensures) (c .before .before .if1 .left) _ (c .before .trace-words .ensures) (c .if2 .taken) _
 
--- src/lib.rt:75:9
 trace-requires : tie.Need-trace-requires
 trace-requires c κs = search needs
 
--- src/lib.rt:77:9
 same-length-3 : tie.Need-same-length-3
 same-length-3 c = search needs
 
--- src/lib.rt:77:9
 returns-3 : tie.Need-returns-3
 returns-3 c =
     let branched1 = c .before .before .before .before .before in
@@ -68,23 +57,18 @@ returns-3 c =
     let entry = did-control .before .before .before in
     trace-nil _ _ (sizes-of _ _ (entry .pre)) _ (did-control .control .ensures) (branched1 .if1 .left) _ (c .before .trace .ensures) (c .if3 .taken) _
 
--- src/lib.rt:79:15
 sub-at : tie.Need-sub-at
 sub-at c = search needs
 
--- src/lib.rt:79:14
 cast-at : tie.Need-cast-at
 cast-at c = search needs
 
--- src/lib.rt:80:8
 heap-words-requires : tie.Need-heap-words-requires
 heap-words-requires c κs = search needs
 
--- src/lib.rt:81:9
 same-length-4 : tie.Need-same-length-4
 same-length-4 c = search needs
 
--- src/lib.rt:81:9
 returns-4 : tie.Need-returns-4
 returns-4 c =
     let did-trace = c .before .before .before in
@@ -93,15 +77,12 @@ returns-4 c =
     let entry = did-control .before .before .before in
     trace-torn _ _ (sizes-of _ _ (entry .pre)) _ (did-control .control .ensures) (branched1 .if1 .left) _ (did-trace .trace .ensures) (c .before .before .if3 .left) _ (c .before .heap-words .ensures) (c .if4 .taken) _
 
--- src/lib.rt:83:5
 visit-requires : tie.Need-visit-requires
 visit-requires c κs = search needs
 
--- src/lib.rt:62:1
 same-length-5 : tie.Need-same-length-5
 same-length-5 c = search needs
 
--- src/lib.rt:62:1
 returns-5 : tie.Need-returns-5
 returns-5 c =
     let branched3 = c .before .before .before .before .before .before in

@@ -1,3 +1,4 @@
+-- `marking::visit` meets its contract.
 use mathlib.Core.Path.{refl}
 use Rattle.marking.proofs.Visiting.{visit-off, visit-done, visit-fails}
 use borrow.Author.Needs.{needs}
@@ -11,51 +12,39 @@ use Rattle.layout.proofs.set_control.Reads as set-control-reads
 use Rattle.marking.proofs.push_pointers.Reads as push-pointers-reads
 use Rattle.records.proofs.shape.Reads as shape-reads
 
--- src/lib.rt:48:9
 shape-requires : tie.Need-shape-requires
 shape-requires c κs = search needs
 
--- src/lib.rt:49:13
 cast-n : tie.Need-cast-n
 cast-n c = search needs
 
--- src/lib.rt:50:8
 heap-words-requires : tie.Need-heap-words-requires
 heap-words-requires c κs = search needs
 
--- src/lib.rt:50:33
 add-if1 : tie.Need-add-if1
 add-if1 c = search needs
 
--- src/lib.rt:51:9
 same-length : tie.Need-same-length
 same-length c = search needs
 
--- src/lib.rt:51:9
 returns : tie.Need-returns
 returns c = visit-off _ _ _ _ (c .before .before .before .shape .ensures) _ refl _ (c .before .heap-words .ensures) (c .if1 .taken) _
 
--- src/lib.rt:53:9
 control-requires : tie.Need-control-requires
 control-requires c κs = search needs
 
--- src/lib.rt:54:36
 sub-set-control : tie.Need-sub-set-control
 sub-set-control c = search needs
 
--- src/lib.rt:54:5
 set-control-requires : tie.Need-set-control-requires
 set-control-requires c κs = search needs
 
--- src/lib.rt:55:8
 push-pointers-requires : tie.Need-push-pointers-requires
 push-pointers-requires c κs = search needs
 
--- src/lib.rt:56:9
 same-length-2 : tie.Need-same-length-2
 same-length-2 c = search needs
 
--- src/lib.rt:56:9
 returns-2 : tie.Need-returns-2
 returns-2 c =
     let did-push-pointers = c .before .before .before in
@@ -65,11 +54,9 @@ returns-2 c =
     let did-shape = did-heap-words .before .before in
     visit-done _ _ _ _ (did-shape .shape .ensures) _ refl _ (did-heap-words .heap-words .ensures) _ (did-control .control .ensures) _ _ (did-set-control .set-control .ensures) _ (did-push-pointers .push-pointers .ensures) (c .if2 .taken)
 
--- src/lib.rt:44:1
 same-length-3 : tie.Need-same-length-3
 same-length-3 c = search needs
 
--- src/lib.rt:44:1
 returns-3 : tie.Need-returns-3
 returns-3 c =
     let did-push-pointers = c .before .before .before in

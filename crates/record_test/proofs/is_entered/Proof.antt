@@ -1,3 +1,4 @@
+-- `record_test::is_entered` meets its contract.
 use Rattle.layout.specs.Mem.{memOf}
 use Rattle.layout.proofs.Sizes.{mark-word}
 use Rattle.record_test.proofs.Testing.{bit-room, entered-by}
@@ -10,23 +11,18 @@ use Rattle.layout.proofs.mark.Reads as mark-reads
 use Rattle.layout.proofs.mark_bit.Reads as mark-bit-reads
 use Rattle.words.proofs.bit_of.Reads as bit-of-reads
 
--- src/lib.rt:94:9
 mark-bit-requires : tie.Need-mark-bit-requires
 mark-bit-requires c κs = search needs
 
--- src/lib.rt:95:9
 mark-requires : tie.Need-mark-requires
 mark-requires c κs = let a = c .before .before in (a .pre .0, mark-word _ _ (rw (c .mark-bit .ensures) (bit-room (a .args .g) (memOf (a .args .g) (a .args .mem .now)) (a .args .at) (a .pre .1))))
 
--- src/lib.rt:96:22
 cast-bit-of : tie.Need-cast-bit-of
 cast-bit-of c = search needs
 
--- src/lib.rt:96:5
 bit-of-requires : tie.Need-bit-of-requires
 bit-of-requires c κs = search needs
 
--- src/lib.rt:90:1
 returns : tie.Need-returns
 returns c = let a = c .before .before .before .before in entered-by (a .args .g) (memOf (a .args .g) (a .args .mem .now)) (a .args .at) _ _ _ (c .before .before .mark-bit .ensures) (c .before .mark .ensures) (c .bit-of .ensures)
 

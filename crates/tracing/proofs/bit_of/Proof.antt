@@ -1,3 +1,4 @@
+-- `tracing::bit_of` meets its contract.
 use Rattle.tracing.proofs.Bits.{off-torn, bit-at}
 use borrow.Author.Needs.{needs}
 use Rattle.tracing.proofs.bit_of.Statement.{statement}
@@ -7,19 +8,15 @@ use Rattle.tracing.proofs.bit_of.Lts as lts
 use Rattle.layout.proofs.heap_words.Reads as heap-words-reads
 use Rattle.layout.proofs.mark_bit.Reads as mark-bit-reads
 
--- src/lib.rt:24:8
 heap-words-requires : tie.Need-heap-words-requires
 heap-words-requires c κs = search needs
 
--- src/lib.rt:25:9
 returns : tie.Need-returns
 returns c = off-torn _ _ _ (c .before .heap-words .ensures) (c .if1 .taken)
 
--- src/lib.rt:27:13
 mark-bit-requires : tie.Need-mark-bit-requires
 mark-bit-requires c κs = search needs
 
--- src/lib.rt:20:1
 returns-2 : tie.Need-returns-2
 returns-2 c = bit-at _ _ _ (c .before .before .heap-words .ensures) (c .before .if1 .left) _ (c .mark-bit .ensures)
 

@@ -1,3 +1,4 @@
+-- `tracing::push` meets its contract.
 use mathlib.Core.Path.{sym, _∙_}
 use Rattle.tracing.proofs.Bits.{bit-within}
 use Rattle.tracing.proofs.Pushed.{push-nil, push-torn, push-by}
@@ -9,43 +10,33 @@ use Rattle.tracing.proofs.push.Lts as lts
 use Rattle.tracing.proofs.bit_of.Reads as bit-of-reads
 use Rattle.tracing.proofs.push_bit.Reads as push-bit-reads
 
--- src/lib.rt:57:9
 returns : tie.Need-returns
 returns c = push-nil _ _ _ (c .if1 .taken)
 
--- src/lib.rt:59:22
 sub-bit-of : tie.Need-sub-bit-of
 sub-bit-of c = search needs
 
--- src/lib.rt:59:21
 cast-bit-of : tie.Need-cast-bit-of
 cast-bit-of c = search needs
 
--- src/lib.rt:59:11
 bit-of-requires : tie.Need-bit-of-requires
 bit-of-requires c κs = search needs
 
--- src/lib.rt:60:22
 enum-told : tie.Need-enum-told
 enum-told c = search needs
 
--- src/lib.rt:61:17
 enum-known-k : tie.Need-enum-known-k
 enum-known-k c = search needs
 
--- src/lib.rt:61:23
 push-bit-requires : tie.Need-push-bit-requires
 push-bit-requires c κs = (c .before .before .before .before .before .before .before .pre, bit-within _ _ _ (sym (c .before .before .k .given .1) ∙ c .before .before .before .before .bit-of .ensures) .1)
 
--- src/lib.rt:52:1
 returns-2 : tie.Need-returns-2
 returns-2 c = push-torn _ _ _ (c .before .before .before .if1 .left) (sym (c .enum-told .given .1) ∙ c .before .before .bit-of .ensures)
 
--- src/lib.rt:52:1
 same-length : tie.Need-same-length
 same-length c = search needs
 
--- src/lib.rt:52:1
 returns-3 : tie.Need-returns-3
 returns-3 c =
     let did-k = c .before .before .before .before .before in

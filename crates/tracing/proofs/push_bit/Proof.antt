@@ -1,3 +1,4 @@
+-- `tracing::push_bit` meets its contract.
 use native.Mathlib.Omega.{arith}
 use Rattle.layout.proofs.Sizes.{mark-word, trace-most}
 use Rattle.tracing.proofs.Pushed.{push-old, push-full, push-done}
@@ -13,62 +14,48 @@ use Rattle.layout.proofs.set_mark.Reads as set-mark-reads
 use Rattle.layout.proofs.set_trace.Reads as set-trace-reads
 use Rattle.layout.proofs.trace_words.Reads as trace-words-reads
 
--- src/lib.rt:36:9
 mark-requires : tie.Need-mark-requires
 mark-requires c κs = (c .before .before .pre .0, mark-word _ _ (c .before .before .pre .1))
 
--- src/lib.rt:37:31
 cast-new : tie.Need-cast-new
 cast-new c = search needs
 
--- src/lib.rt:37:22
 shl-new : tie.Need-shl-new
 shl-new c = search needs
 
--- src/lib.rt:39:9
 same-length : tie.Need-same-length
 same-length c = search needs
 
--- src/lib.rt:39:9
 returns : tie.Need-returns
 returns c = push-old _ _ _ _ _ (c .before .mark .ensures) (c .if1 .taken)
 
--- src/lib.rt:41:9
 control-requires : tie.Need-control-requires
 control-requires c κs = search needs
 
--- src/lib.rt:42:8
 trace-words-requires : tie.Need-trace-words-requires
 trace-words-requires c κs = search needs
 
--- src/lib.rt:42:34
 cast-if2 : tie.Need-cast-if2
 cast-if2 c = search needs
 
--- src/lib.rt:43:9
 same-length-2 : tie.Need-same-length-2
 same-length-2 c = search needs
 
--- src/lib.rt:43:9
 returns-2 : tie.Need-returns-2
 returns-2 c = push-full _ _ _ _ _ (c .before .before .before .before .before .mark .ensures) (c .before .before .before .before .if1 .left) _ (c .before .before .control .ensures) _ (c .before .trace-words .ensures) (c .if2 .taken)
 
--- src/lib.rt:45:5
 set-mark-requires : tie.Need-set-mark-requires
 set-mark-requires c κs =
     let did-mark = c .before .before .before .before .before .before in
     let entry = did-mark .before .before .before in
     (entry .pre .0, mark-word _ _ (entry .pre .1))
 
--- src/lib.rt:46:31
 cast-set-trace : tie.Need-cast-set-trace
 cast-set-trace c = search needs
 
--- src/lib.rt:46:5
 set-trace-requires : tie.Need-set-trace-requires
 set-trace-requires c κs = search needs
 
--- src/lib.rt:47:36
 add-set-control : tie.Need-add-set-control
 add-set-control c =
     let did-set-mark = c .before .before .before .before .before .before .before in
@@ -77,15 +64,12 @@ add-set-control c =
     let entry = did-trace-words .before .before .before .before .before .before .before in
     let m = trace-most _ (entry .pre .0 .few) in let e = did-trace-words .trace-words .ensures in let l = branched2 .if2 .left in omega arith
 
--- src/lib.rt:47:5
 set-control-requires : tie.Need-set-control-requires
 set-control-requires c κs = search needs
 
--- src/lib.rt:31:1
 same-length-3 : tie.Need-same-length-3
 same-length-3 c = search needs
 
--- src/lib.rt:31:1
 returns-3 : tie.Need-returns-3
 returns-3 c =
     let did-set-trace = c .before .before .before .before .before .before in
