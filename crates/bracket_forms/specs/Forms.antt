@@ -1,5 +1,4 @@
 -- The grammar of the bracket program's forms: each form's text, as document 01 writes it, and what a reader of lines owes.
--- These are definitions, and assume nothing.
 use Prim.Native.Nat.{ℕ, _≤_}
 use mathlib.Core.Path.{_≡_}
 use mathlib.Core.List.{List, [], _∷_}

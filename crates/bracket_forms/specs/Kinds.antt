@@ -1,6 +1,5 @@
 -- What the reader and the writers go by: the texts as fixed byte strings, and the forms in the order in which the reader tries
--- them. proofs/Reader.antt and proofs/Writer.antt tie them to the grammars of Forms and Replies. These are definitions, and
--- assume nothing.
+-- them. proofs/Reader.antt and proofs/Writer.antt tie them to the grammars of Forms and Replies.
 use Prim.Native.Nat.{ℕ}
 use mathlib.Core.Bool.{cond}
 use mathlib.Core.List.{List, [], _∷_, _++_}

@@ -1,4 +1,4 @@
--- The bracket program's replies and their texts, as document 01 writes them. These are definitions, and assume nothing.
+-- The bracket program's replies and their texts, as document 01 writes them.
 use Prim.Native.Nat.{ℕ}
 use mathlib.Core.List.{List, [], _∷_}
 use Rattle.bracket_text.specs.Text.{Spelling, _with_, text}

@@ -1,4 +1,4 @@
--- The lines of a stream of bytes, and what a splitter tells of each. These are definitions, and assume nothing.
+-- The lines of a stream of bytes, and what a splitter tells of each.
 use Prim.Native.Nat.{ℕ}
 use mathlib.Core.Bool.{Bool, cond}
 use mathlib.Core.List.{List, [], _∷_, map}

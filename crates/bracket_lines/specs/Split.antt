@@ -1,5 +1,4 @@
 -- What one byte does to a splitter, and a run of bytes. proofs/Streams.antt ties it to the lines of a stream.
--- These are definitions, and assume nothing.
 use Prim.Native.Nat.{ℕ, _+_, _-_, _≤_, _<_}
 use mathlib.Core.Path.{_≡_}
 use mathlib.Core.Bool.{cond}

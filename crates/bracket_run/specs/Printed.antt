@@ -1,5 +1,4 @@
 -- What the bracket program writes for a stream of lines: a relation to compare with document 01, and what the parts of its loop owe by it.
--- These are definitions, and assume nothing.
 use Prim.Native.Nat.{ℕ, _+_, _≤_}
 use mathlib.Core.Path.{_≡_}
 use mathlib.Core.List.{List, [], _∷_, _++_}

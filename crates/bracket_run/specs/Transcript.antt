@@ -1,4 +1,4 @@
--- What the bracket program writes for a whole input. These are definitions, and assume nothing.
+-- What the bracket program writes for a whole input.
 use mathlib.Core.List.{List}
 use Prim.Native.Nat.{ℕ}
 use Rattle.bracket_lines.specs.Lines.{toldOf}

@@ -1,4 +1,4 @@
--- What the parts of the answer to a line owe. These are definitions, and assume nothing.
+-- What the parts of the answer to a line owe.
 use mathlib.Core.Path.{_≡_}
 use mathlib.Core.Bool.{false}
 use mathlib.Core.List.{List}

@@ -1,5 +1,4 @@
--- What the bracket program says to a line, from document 01, "The bracket program", over the model of the heap: a definition to compare with it. It
--- assumes nothing.
+-- What the bracket program says to a line, from document 01, "The bracket program", over the model of the heap: a definition to compare with it.
 use mathlib.Core.Path.{_≡_}
 use mathlib.Core.Bool.{Bool, true}
 use mathlib.Core.List.{List, _++_}

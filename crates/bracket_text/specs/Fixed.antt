@@ -1,4 +1,4 @@
--- A template in a fixed byte string, which may have spaces (32) after it. These are definitions, and assume nothing.
+-- A template in a fixed byte string, which may have spaces (32) after it.
 use Prim.Native.Nat.{ℕ, zero, suc}
 use mathlib.Core.Bool.{cond}
 use mathlib.Core.List.{List}

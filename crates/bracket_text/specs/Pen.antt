@@ -1,4 +1,4 @@
--- What writing one byte of a template does to the pen and the buffer. This is a definition, and assumes nothing.
+-- What writing one byte of a template does to the pen and the buffer.
 use Prim.Native.Nat.{ℕ, _+_}
 use mathlib.Core.Path.{_≡_}
 use mathlib.Core.List.{List}

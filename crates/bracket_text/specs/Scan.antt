@@ -1,5 +1,5 @@
 -- Reading a line from left to right, as the functions of this crate do. proofs/Numbers.antt and proofs/Templates.antt tie it
--- to the texts of templates. These are definitions, and assume nothing.
+-- to the texts of templates.
 use Prim.Native.Nat.{ℕ, _+_, _-_, _*_, _≤_}
 use mathlib.Core.Path.{_≡_}
 use mathlib.Core.Bool.{Bool, true, false, cond}

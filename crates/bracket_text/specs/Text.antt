@@ -1,5 +1,4 @@
 -- The text of a bracket form: its template, with the decimal of a number in the place of each `#`.
--- These are definitions, and assume nothing.
 use Prim.Native.Nat.{ℕ, zero, suc, _+_, _/_, _%_, _≤_, _<_}
 use Prim.Native.Char.{code}
 use Prim.Native.String.{String, [] as empty, _∷_ as _then_}
