@@ -2,7 +2,8 @@
 
   tests/documents/believed.py              the table, as docs/PROOF.md has it, and what each claim begins with
   tests/documents/believed.py --files      and the lines and files of each claim
-  tests/documents/believed.py --unreached  and the definitions in those files that no statement reaches, with who uses them
+  tests/documents/believed.py --unreached  and the definitions in those files that no statement reaches, with who uses them: the comment
+                                           of each says "in no statement" (names.py looks)
 
 The rule. A statement is a definition under crates/*/specs. From it every name that its text uses is followed, through the file's own definitions and
 its `use` lines, to the definition that has the name; a name that a binder, a pattern or a field of the same record gives is not followed. A line counts
@@ -287,6 +288,20 @@ def unreached():
             if (key, definition.name) not in seen:
                 inner = [d.name for d in FILES[key].order if any(t[1] == definition.name and t[0][1:] == key for t in mentions(key, d))]
                 yield key, definition, inner, sorted(users(key, definition.name))
+
+
+def marked(definition):
+    """Whether the last comment before a definition says that it is in no statement."""
+    crate, file = definition.file
+    comment, open_ = "", False
+    for line in (TOP / f"crates/{crate}/specs/{file}.antt").read_text().splitlines():
+        if line.strip() == definition.chunks[0][0]:
+            return "in no statement" in comment
+        remark = line.strip().startswith("-- ")
+        if remark:
+            comment = f"{comment} {line.strip()[3:]}" if open_ else line.strip()[3:]
+        open_ = remark
+    return False
 
 
 if __name__ == "__main__":

@@ -61,6 +61,9 @@ def proof():
             wrong.append(f"docs/PROOF.md: nothing has the name {word}")
     if believed.table() not in page:
         wrong.append("docs/PROOF.md: its table is not the one that tests/documents/believed.py prints")
+    for key, definition, _, _ in believed.unreached():
+        if not believed.marked(definition):
+            wrong.append(f"crates/{key[0]}/specs/{key[1]}.antt: no statement reaches {definition.name}, and its comment does not say so")
     with tempfile.TemporaryDirectory() as scratch:
         drawn = Path(scratch) / "proof.svg"
         picture.draw(drawn)

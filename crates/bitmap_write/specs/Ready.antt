@@ -28,22 +28,22 @@ cleared m ws = replicate m 0 ++ drop m ws
 unfoldable pub copied : ℕ → List ℕ → List ℕ → List ℕ
 copied m vs ws = take m vs ++ drop m ws
 
--- every step-th bit of a list of words, n of them; past them 0
+-- every step-th bit of a list of words, n of them; past them 0; and these in words (in no statement: contracts and proofs use both)
 unfoldable pub gatheredBit : List ℕ → ℕ → ℕ → ℕ → ℕ
 gatheredBit ws step n b = pick (ltb b n) (bitAt ws (b * step)) 0
 
 abbrev pub gathered : List ℕ → ℕ → ℕ → List ℕ
 gathered ws step n = packed (gatheredBit ws step n) (wordsFor n) 0
 
--- every step-th bit of one word, side by side: `count` of them
+-- every step-th bit of one word, side by side: `count` of them (in no statement: contracts and proofs use it)
 abbrev pub pressed : ℕ → ℕ → ℕ → ℕ
 pressed step count x = wordFrom (λ i. bitOf x (i * step)) count 0
 
--- the steps that divide a word so, and how many of its bits a word has then
+-- the steps that divide a word so, and how many of its bits a word has then (in no statement: contracts and proofs use it)
 abbrev pub Pressable : ℕ → ℕ → Type 0
 Pressable step count = ((step ≡ 1) × (count ≡ 32)) ⊎ (((step ≡ 2) × (count ≡ 16)) ⊎ (((step ≡ 4) × (count ≡ 8)) ⊎ ((step ≡ 8) × (count ≡ 4))))
 
--- n bits are gathered bit by bit, or by whole words
+-- n bits are gathered bit by bit, or by whole words (in no statement: contracts and proofs use it)
 abbrev pub Ways : ℕ → ℕ → ℕ → Type 0
 Ways n step count = (count ≡ 0) ⊎ ((n % 32 ≡ 0) × Pressable step count)
 

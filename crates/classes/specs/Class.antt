@@ -14,10 +14,11 @@ firstClass = 3
 abbrev pub classCount : ℕ
 classCount = 10
 
--- a class number, and the test of one
+-- a class number
 abbrev pub IsClass : ℕ → Type 0
 IsClass c = (firstClass ≤ c) × (c < firstClass + classCount)
 
+-- the same as a test (in no statement: contracts and proofs use it)
 unfoldable pub classTest : ℕ → Bool
 classTest c = pick (ltb c firstClass) false (ltb c (firstClass + classCount))
 
@@ -45,12 +46,12 @@ recordBytes fields = (1 + fields) * wordBytes
 abbrev pub classOf : ℕ → SizeClass
 classOf fields = smallestFrom classCount firstClass (recordBytes fields)
 
--- an answer as document 01 has it: a value, or a refusal by its number
+-- an answer as document 01 has it: a value, or a refusal by its number (in no statement: evaluated cases use it)
 pub data Outcome : Type 0 where
   value : ℕ → Outcome
   refusal : ℕ → Outcome
 
--- "9, too big: make with P + N over 1,023"
+-- "9, too big: make with P + N over 1,023" (in no statement: evaluated cases use it)
 abbrev pub outcomeOf : SizeClass → Outcome
 outcomeOf (Class c) = value c
 outcomeOf TooBig = refusal 9

@@ -35,6 +35,6 @@ shapeFor n = record {
 abbrev pub longestOf : ℕ → ℕ
 longestOf z = treeWords (levelCount mostLevels (blocksOf z firstClass) - 1) (blocksOf z firstClass)
 
--- the shape of a segment of z bytes of class c, where there is such a class
+-- the shape of a segment of z bytes of class c, where there is such a class (in no statement: contracts, evaluated cases and proofs use it)
 abbrev pub segmentShape : ℕ → ℕ → ClassShape
 segmentShape z c = pick (classTest c) (Of (shapeFor (blocksOf z c))) NoClass

@@ -91,7 +91,7 @@ from g k = start (lens g) k
 abbrev pub regionCount : ℕ
 regionCount = 8
 
--- the number of this layout: a change that moves a word of the lent slice raises it
+-- the number of this layout: a change that moves a word of the lent slice raises it (in no statement: a contract uses it)
 abbrev pub layoutNumber : ℕ
 layoutNumber = 2
 
@@ -107,6 +107,7 @@ scratchWords g = len g Region.marks + len g Region.marks + len g Region.trace
 unfoldable pub wrongSize : Geometry → ℕ → Bool
 wrongSize g x = pick (ltb (g .segments) 1) true (pick (ltb maxSegments (g .segments)) true (not (eqb x (total g))))
 
+-- the contrary, taken apart (in no statement: contracts and proofs use it)
 pub record Sized (g : Geometry) (x : ℕ) : Type 0 where
   pub some : 1 ≤ g .segments
   pub few : g .segments ≤ maxSegments

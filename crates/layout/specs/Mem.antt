@@ -57,7 +57,7 @@ region m k = getD (regions m) k []
 abbrev pub withRegion : Mem → ℕ → List ℕ → Mem
 withRegion m k l = ofParts (set (regions m) k l)
 
--- region k with every word 0
+-- region k with every word 0 (in no statement: contracts and proofs use it)
 unfoldable pub clearRegion : Geometry → Mem → ℕ → Mem
 clearRegion g m k = withRegion m k (replicate (len g k) 0)
 
@@ -77,12 +77,14 @@ segmentRecordWord m i = getD (m .segments) i 0
 abbrev pub stackWord : Mem → ℕ → ℕ
 stackWord m i = getD (m .stacks) i 0
 
+-- of a bitmap and of the marks (in no statement: contracts and proofs use them)
 abbrev pub bitmapWord : Mem → ℕ → ℕ
 bitmapWord m i = getD (m .bitmaps) i 0
 
 abbrev pub markWord : Mem → ℕ → ℕ
 markWord m i = getD (m .marks) i 0
 
+-- of the trace stack
 abbrev pub traceWord : Mem → ℕ → ℕ
 traceWord m i = getD (m .trace) i 0
 
@@ -102,9 +104,11 @@ setSegment m i v = withRegion m Region.segments (set (m .segments) i v)
 unfoldable pub setStack : Mem → ℕ → ℕ → Mem
 setStack m i v = withRegion m Region.stacks (set (m .stacks) i v)
 
+-- of the marks (in no statement: contracts and proofs use it)
 unfoldable pub setMarkWord : Mem → ℕ → ℕ → Mem
 setMarkWord m i v = withRegion m Region.marks (set (m .marks) i v)
 
+-- of the trace stack
 unfoldable pub setTrace : Mem → ℕ → ℕ → Mem
 setTrace m i v = withRegion m Region.trace (set (m .trace) i v)
 

@@ -17,6 +17,7 @@ start [] k = 0
 start (x ∷ ks) zero = 0
 start (x ∷ ks) (suc k) = x + start ks k
 
+-- how long the parts are (in no statement: proofs use it)
 abbrev pub lengths : List (List ℕ) → List ℕ
 lengths [] = []
 lengths (x ∷ xs) = length x ∷ lengths xs

@@ -45,6 +45,7 @@ shapeOf m at = headerShape (heapWord m at)
 abbrev pub pointerCount : Mem → ℕ → ℕ
 pointerCount m at = pointerCountOf (shapeOf m at)
 
+-- how many values it has (in no statement: proofs use it)
 abbrev pub valueCount : Mem → ℕ → ℕ
 valueCount m at = valueCountOf (shapeOf m at)
 

@@ -13,6 +13,7 @@ phaseOf (suc (suc zero)) = sync2
 phaseOf (suc (suc (suc zero))) = mark
 phaseOf (suc (suc (suc (suc n)))) = sweep
 
+-- the declared form of a duty (in no statement: contracts and proofs use it)
 abbrev pub dutyOf : phases.Duty → Duty
 dutyOf phases.nothing = Nothing
 dutyOf phases.both = Both

@@ -20,7 +20,8 @@ use Rattle.model.specs.declared.SegmentState.the-variants as state
 use Rattle.layout.specs.Region as Region
 use Rattle.model.specs.Tag as Tag
 
--- "A segment is free, part (class, place), held (class, place, script), full (class) or condemned (class)."
+-- "A segment is free, part (class, place), held (class, place, script), full (class) or condemned (class)." The state by the words, and by the
+-- memory (in no statement: contracts, evaluated cases and proofs use both)
 abbrev pub stateOf : ℕ → ℕ → ℕ → ℕ → SegmentState
 stateOf zero c p k = state.Free
 stateOf (suc zero) c p k = state.Part c p
