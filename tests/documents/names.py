@@ -102,10 +102,12 @@ def lengths():
 
 
 def prose():
-    for page in PAGES:
-        for number, line in enumerate(text(f"docs/{page}.md").splitlines(), 1):
-            if len(line) > 120 and not line.startswith("|"):
-                wrong.append(f"docs/{page}.md:{number}: {len(line)} characters")
+    for page in [TOP / "README.md", TOP / "CHANGELOG.md", *sorted(TOP.glob("docs/*.md")), *sorted(TOP.glob("docs/*/*.md"))]:
+        fenced = False
+        for number, line in enumerate(page.read_text().splitlines(), 1):
+            fenced ^= line.startswith("```")
+            if len(line) > 120 and not fenced and not line.startswith(("|", "    ")):
+                wrong.append(f"{page.relative_to(TOP)}:{number}: {len(line)} characters")
 
 
 count, calls = names(), refusals()
