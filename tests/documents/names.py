@@ -1,6 +1,6 @@
 """What the documents say of definitions, against the definitions: that each one named with its file is there, that the refusals of each call
-are those that it may give, that the lengths are the header's, that no line of prose is longer than 120 characters, and that docs/PROOF.md's picture
-and table are what their programs write."""
+are those that it may give, that the lengths are the header's, that no line of prose is longer than 120 characters, that docs/PROOF.md's
+picture and table are what their programs write, that README has the table's figures, and that a definition which no statement reaches says so."""
 import re
 import sys
 import tempfile
@@ -61,6 +61,10 @@ def proof():
             wrong.append(f"docs/PROOF.md: nothing has the name {word}")
     if believed.table() not in page:
         wrong.append("docs/PROOF.md: its table is not the one that tests/documents/believed.py prints")
+    counts = [believed.counted(roots, cuts)[0] for _, roots, cuts in believed.CLAIMS[:2]]
+    said = [f"{sum(c.values()):,} {between} {len(c)}" for c, between in zip(counts, ("lines of definitions in", "in"))]
+    if not all(s in re.sub(r"\s+", " ", text("README.md")) for s in said):
+        wrong.append(f"README.md: what must be believed is {said}")
     for key, definition, _, _ in believed.unreached():
         if not believed.marked(definition):
             wrong.append(f"crates/{key[0]}/specs/{key[1]}.antt: no statement reaches {definition.name}, and its comment does not say so")
