@@ -17,7 +17,7 @@ use Rattle.theory.specs.Calls.{c-make, refusal}
 use Rattle.model.specs.declared.Answer.{Answer}
 use Rattle.model.specs.declared.Answer.the-variants.{Ok}
 use Rattle.model.specs.declared.Step.the-variants.{Swept, Done}
-use Rattle.model.specs.Answers.{refusalOf}
+use Rattle.model.specs.Answers.{refusalOf, lastNumber}
 use Rattle.model.specs.Calls.{observe}
 use Rattle.model.specs.Making.{NoRoom}
 use Rattle.model.specs.Collector.{isFull}
@@ -28,9 +28,9 @@ use Rattle.model.specs.Looks.{Look, sawPhase, sawStates, examinedBy}
 use Rattle.model.specs.Lists.{Event, mutatorCall, startCall, stepCall, openingCall, lookCall, Element, callElement, startElement, stepElement, Meets, KeepsLength, Gets, wrongSized, numberOf, Chain, wordsAfter, Ghost, Opened, Begins}
 
 -- "The answer to every call, over lent memory of any length and content, is a result or one number of the table in document 01": whatever the call
--- was lent, a refusal is one of the numbers 1 to 13
+-- was lent, a refusal is one of the numbers of the table
 abbrev pub OneNumber : Type 0
-OneNumber = (e : Element) → Meets e → (n : ℕ) → numberOf e ≡ some n → (1 ≤ n) × (n ≤ 13)
+OneNumber = (e : Element) → Meets e → (n : ℕ) → numberOf e ≡ some n → (1 ≤ n) × (n ≤ lastNumber)
 
 -- "13, torn: memory that fails the examination led the call astray"; "1, size"
 abbrev pub SizeOrTorn : ℕ → Type 0
@@ -42,7 +42,7 @@ LookRefuses (sawStates output r after) n = SizeOrTorn n
 LookRefuses (examinedBy scratch r after) n = n ≡ 1
 
 abbrev pub Refuses : Event → ℕ → Type 0
-Refuses (mutatorCall c r) n = (1 ≤ n) × (n ≤ 13)
+Refuses (mutatorCall c r) n = (1 ≤ n) × (n ≤ lastNumber)
 Refuses (startCall r) n = (n ≡ 11) ⊎ SizeOrTorn n
 Refuses (stepCall r) n = SizeOrTorn n
 Refuses (openingCall r) n = n ≡ 1

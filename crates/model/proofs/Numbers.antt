@@ -11,8 +11,8 @@ use borrow.Author.Tests.{eqb-true}
 use Rattle.classes.specs.declared.RecordShape.{RecordShape}
 use Rattle.rules.specs.Pick.{pick}
 use Rattle.rules.proofs.Table.{and-left, and-right}
-use Rattle.theory.specs.Calls.{Call, c-attach, c-detach, c-check, c-leave, c-enter, c-spawn, c-make, c-load, c-store, c-copy, c-clear, c-put, c-get, c-same, c-shape, Observation, require, ifRecord, refusal}
-use Rattle.model.specs.Answers.{among, mayGive}
+use Rattle.theory.specs.Calls.{Call, c-attach, c-detach, c-check, c-leave, c-enter, c-spawn, c-make, c-load, c-store, c-copy, c-clear, c-put, c-get, c-same, c-shape, Observation, require, ifRecord, ifInside, ifRoot, refusal}
+use Rattle.model.specs.Answers.{among, lastNumber, ownNumbers, mayGive}
 
 -- no refusal, or a number of the list that is not 1
 pub record Among (ns : List ℕ) (n : ℕ) : Type 0 where
@@ -31,56 +31,41 @@ record-among ns (some s) rest a r = r s
 no-refusal : (ns : List ℕ) → Among ns 0
 no-refusal ns = record { either = inl refl }
 
+inside-among : (ns : List ℕ) (F : Observation) (k rest : ℕ) → (among 2 ns ≡ true) × (among 4 ns ≡ true) × (among 5 ns ≡ true) → Among ns rest → Among ns (ifInside F k rest)
+inside-among ns F k rest a r =
+    require-among ns _ 2 _ (a .0, omega arith) (require-among ns _ 4 _ (a .1, omega arith) (require-among ns _ 5 _ (a .2, omega arith) r))
+
+root-among : (ns : List ℕ) (i rest : ℕ) → among 6 ns ≡ true → Among ns rest → Among ns (ifRoot i rest)
+root-among ns i rest a r = require-among ns _ 6 rest (a, omega arith) r
+
+field-among : (ns : List ℕ) (b : Bool) → among 8 ns ≡ true → Among ns (require b 8 0)
+field-among ns b a = require-among ns b 8 0 (a, omega arith) (no-refusal ns)
+
 pub refusal-among : (F : Observation) (c : Call) → Among (mayGive c) (refusal F c)
-refusal-among F (c-attach i) = require-among _ _ _ _ (refl, omega arith) (require-among _ _ _ _ (refl, omega arith) (no-refusal _))
-refusal-among F (c-spawn i p k) = require-among _ _ _ _ (refl, omega arith) (require-among _ _ _ _ (refl, omega arith) (require-among _ _ _ _ (refl, omega arith) (require-among _ _ _ _ (refl, omega arith) (require-among _ _ _ _ (refl, omega arith) (require-among _ _ _ _ (refl, omega arith) (no-refusal _))))))
-refusal-among F (c-detach i) = require-among _ _ _ _ (refl, omega arith) (require-among _ _ _ _ (refl, omega arith) (require-among _ _ _ _ (refl, omega arith) (no-refusal _)))
-refusal-among F (c-check i) = require-among _ _ _ _ (refl, omega arith) (require-among _ _ _ _ (refl, omega arith) (require-among _ _ _ _ (refl, omega arith) (no-refusal _)))
-refusal-among F (c-leave i) = require-among _ _ _ _ (refl, omega arith) (require-among _ _ _ _ (refl, omega arith) (require-among _ _ _ _ (refl, omega arith) (no-refusal _)))
-refusal-among F (c-enter i) = require-among _ _ _ _ (refl, omega arith) (require-among _ _ _ _ (refl, omega arith) (require-among _ _ _ _ (refl, omega arith) (no-refusal _)))
-refusal-among F (c-make i d p n) = require-among _ _ _ _ (refl, omega arith) (require-among _ _ _ _ (refl, omega arith) (require-among _ _ _ _ (refl, omega arith) (require-among _ _ _ _ (refl, omega arith) (require-among _ _ _ _ (refl, omega arith) (no-refusal _)))))
-refusal-among F (c-load i d s f) = require-among _ _ _ _ (refl, omega arith) (require-among _ _ _ _ (refl, omega arith) (require-among _ _ _ _ (refl, omega arith) (require-among _ _ _ _ (refl, omega arith) (require-among _ _ _ _ (refl, omega arith) (record-among _ _ _ refl (λ s. require-among _ _ _ _ (refl, omega arith) (no-refusal _)))))))
-refusal-among F (c-store i s f t) = require-among _ _ _ _ (refl, omega arith) (require-among _ _ _ _ (refl, omega arith) (require-among _ _ _ _ (refl, omega arith) (require-among _ _ _ _ (refl, omega arith) (require-among _ _ _ _ (refl, omega arith) (record-among _ _ _ refl (λ s. require-among _ _ _ _ (refl, omega arith) (no-refusal _)))))))
-refusal-among F (c-copy i d s) = require-among _ _ _ _ (refl, omega arith) (require-among _ _ _ _ (refl, omega arith) (require-among _ _ _ _ (refl, omega arith) (require-among _ _ _ _ (refl, omega arith) (require-among _ _ _ _ (refl, omega arith) (no-refusal _)))))
-refusal-among F (c-clear i d) = require-among _ _ _ _ (refl, omega arith) (require-among _ _ _ _ (refl, omega arith) (require-among _ _ _ _ (refl, omega arith) (require-among _ _ _ _ (refl, omega arith) (no-refusal _))))
-refusal-among F (c-put i s k v) = require-among _ _ _ _ (refl, omega arith) (require-among _ _ _ _ (refl, omega arith) (require-among _ _ _ _ (refl, omega arith) (require-among _ _ _ _ (refl, omega arith) (record-among _ _ _ refl (λ s. require-among _ _ _ _ (refl, omega arith) (no-refusal _))))))
-refusal-among F (c-get i s k) = require-among _ _ _ _ (refl, omega arith) (require-among _ _ _ _ (refl, omega arith) (require-among _ _ _ _ (refl, omega arith) (require-among _ _ _ _ (refl, omega arith) (record-among _ _ _ refl (λ s. require-among _ _ _ _ (refl, omega arith) (no-refusal _))))))
-refusal-among F (c-same i s t) = require-among _ _ _ _ (refl, omega arith) (require-among _ _ _ _ (refl, omega arith) (require-among _ _ _ _ (refl, omega arith) (require-among _ _ _ _ (refl, omega arith) (require-among _ _ _ _ (refl, omega arith) (no-refusal _)))))
-refusal-among F (c-shape i s) = require-among _ _ _ _ (refl, omega arith) (require-among _ _ _ _ (refl, omega arith) (require-among _ _ _ _ (refl, omega arith) (require-among _ _ _ _ (refl, omega arith) (record-among _ _ _ refl (λ s. no-refusal _)))))
+refusal-among F (c-attach i) = require-among _ _ 2 _ (refl, omega arith) (require-among _ _ 3 _ (refl, omega arith) (no-refusal _))
+refusal-among F (c-spawn i p k) =
+    require-among _ _ 2 _ (refl, omega arith)
+    (require-among _ _ 2 _ (refl, omega arith)
+    (require-among _ _ 3 _ (refl, omega arith) (require-among _ _ 4 _ (refl, omega arith) (require-among _ _ 5 _ (refl, omega arith) (root-among _ k _ refl (no-refusal _))))))
+refusal-among F (c-detach i) = inside-among _ F i _ (refl, refl, refl) (no-refusal _)
+refusal-among F (c-check i) = inside-among _ F i _ (refl, refl, refl) (no-refusal _)
+refusal-among F (c-leave i) = inside-among _ F i _ (refl, refl, refl) (no-refusal _)
+refusal-among F (c-enter i) = require-among _ _ 2 _ (refl, omega arith) (require-among _ _ 4 _ (refl, omega arith) (require-among _ _ 5 _ (refl, omega arith) (no-refusal _)))
+refusal-among F (c-make i d p n) = inside-among _ F i _ (refl, refl, refl) (root-among _ d _ refl (require-among _ _ 9 _ (refl, omega arith) (no-refusal _)))
+refusal-among F (c-load i d s f) = inside-among _ F i _ (refl, refl, refl) (root-among _ d _ refl (root-among _ s _ refl (record-among _ _ _ refl (λ s. field-among _ _ refl))))
+refusal-among F (c-store i s f t) = inside-among _ F i _ (refl, refl, refl) (root-among _ s _ refl (root-among _ t _ refl (record-among _ _ _ refl (λ s. field-among _ _ refl))))
+refusal-among F (c-copy i d s) = inside-among _ F i _ (refl, refl, refl) (root-among _ d _ refl (root-among _ s _ refl (no-refusal _)))
+refusal-among F (c-clear i d) = inside-among _ F i _ (refl, refl, refl) (root-among _ d _ refl (no-refusal _))
+refusal-among F (c-put i s k v) = inside-among _ F i _ (refl, refl, refl) (root-among _ s _ refl (record-among _ _ _ refl (λ s. field-among _ _ refl)))
+refusal-among F (c-get i s k) = inside-among _ F i _ (refl, refl, refl) (root-among _ s _ refl (record-among _ _ _ refl (λ s. field-among _ _ refl)))
+refusal-among F (c-same i s t) = inside-among _ F i _ (refl, refl, refl) (root-among _ s _ refl (root-among _ t _ refl (no-refusal _)))
+refusal-among F (c-shape i s) = inside-among _ F i _ (refl, refl, refl) (root-among _ s _ refl (record-among _ _ _ refl (λ s. no-refusal _)))
 
 pub gives-1 : (c : Call) → among 1 (mayGive c) ≡ true
-gives-1 (c-attach i) = refl
-gives-1 (c-spawn i p k) = refl
-gives-1 (c-detach i) = refl
-gives-1 (c-check i) = refl
-gives-1 (c-leave i) = refl
-gives-1 (c-enter i) = refl
-gives-1 (c-make i d p n) = refl
-gives-1 (c-load i d s f) = refl
-gives-1 (c-store i s f t) = refl
-gives-1 (c-copy i d s) = refl
-gives-1 (c-clear i d) = refl
-gives-1 (c-put i s k v) = refl
-gives-1 (c-get i s k) = refl
-gives-1 (c-same i s t) = refl
-gives-1 (c-shape i s) = refl
+gives-1 c = refl
 
 pub gives-13 : (c : Call) → among 13 (mayGive c) ≡ true
-gives-13 (c-attach i) = refl
-gives-13 (c-spawn i p k) = refl
-gives-13 (c-detach i) = refl
-gives-13 (c-check i) = refl
-gives-13 (c-leave i) = refl
-gives-13 (c-enter i) = refl
-gives-13 (c-make i d p n) = refl
-gives-13 (c-load i d s f) = refl
-gives-13 (c-store i s f t) = refl
-gives-13 (c-copy i d s) = refl
-gives-13 (c-clear i d) = refl
-gives-13 (c-put i s k v) = refl
-gives-13 (c-get i s k) = refl
-gives-13 (c-same i s t) = refl
-gives-13 (c-shape i s) = refl
+gives-13 c = refl
 
 pub one-of : (ns : List ℕ) (n : ℕ) → (n ≡ 0 → ⊥) → Among ns n → (among n ns ≡ true) × (2 ≤ n)
 one-of ns n f a = go (a .either)
@@ -92,13 +77,13 @@ one-of ns n f a = go (a .either)
 -- ---- a number that a call may give is one of the table, and not 12
 
 abbrev pub OfTable : ℕ → Type 0
-OfTable n = (1 ≤ n) × (n ≤ 13)
+OfTable n = (1 ≤ n) × (n ≤ lastNumber)
 
 abbrev pub Given : ℕ → Type 0
 Given n = OfTable n × (n ≡ 12 → ⊥)
 
 abbrev isGiven : ℕ → Bool
-isGiven x = leb 1 x && (leb x 13 && not (eqb x 12))
+isGiven x = leb 1 x && (leb x lastNumber && not (eqb x 12))
 
 abbrev pub allGiven : List ℕ → Bool
 allGiven [] = true
@@ -106,8 +91,8 @@ allGiven (x ∷ xs) = isGiven x && allGiven xs
 
 given : (x : ℕ) → T (isGiven x) → Given x
 given x t =
-    let u = and-right (leb 1 x) (leb x 13 && not (eqb x 12)) t in
-    ((leb→le 1 x (and-left (leb 1 x) _ t), leb→le x 13 (and-left (leb x 13) _ u)), λ q. subst (λ y. T (not (eqb y 12))) q (and-right (leb x 13) _ u))
+    let u = and-right (leb 1 x) (leb x lastNumber && not (eqb x 12)) t in
+    ((leb→le 1 x (and-left (leb 1 x) _ t), leb→le x lastNumber (and-left (leb x lastNumber) _ u)), λ q. subst (λ y. T (not (eqb y 12))) q (and-right (leb x lastNumber) _ u))
 
 pub among-given : (n : ℕ) (xs : List ℕ) → T (allGiven xs) → among n xs ≡ true → Given n
 among-given n [] t e = absurd (true≢false (sym e))
@@ -120,7 +105,7 @@ among-given n (x ∷ xs) t e = go (eqb n x) refl e (among-given n xs (and-right 
 pub among-table : (n : ℕ) (xs : List ℕ) → T (allGiven xs) → among n xs ≡ true → OfTable n
 among-table n xs t e = among-given n xs t e .0
 
-all-given : (c : Call) → T (allGiven (mayGive c))
+all-given : (c : Call) → T (allGiven (ownNumbers c))
 all-given (c-attach k) = tt
 all-given (c-spawn k p i) = tt
 all-given (c-detach k) = tt

@@ -11,7 +11,7 @@ use Rattle.classes.specs.declared.RecordShape.{RecordShape}
 use Rattle.layout.specs.declared.Geometry.{Geometry}
 use Rattle.layout.specs.Geometry.{mutatorCount, mostBlocks}
 use Rattle.theory.specs.Phases.{sweep}
-use Rattle.theory.specs.Calls.{Call, c-attach, c-detach, c-check, c-leave, c-enter, c-spawn, c-make, c-load, c-store, c-copy, c-clear, c-put, c-get, c-same, c-shape, a-ok, a-moved, a-traced, a-done, a-idle, a-num, a-flag, a-shape, a-no, a-waiting, a-swept}
+use Rattle.theory.specs.Calls.{Call, CallKind, coming, working, asksNumber, asksFlag, asksShape, making, kindOf, c-attach, c-detach, c-check, c-leave, c-enter, c-spawn, c-make, c-load, c-store, c-copy, c-clear, c-put, c-get, c-same, c-shape, a-ok, a-moved, a-traced, a-done, a-idle, a-num, a-flag, a-shape, a-no, a-waiting, a-swept}
 use Rattle.model.specs.Rules.{phaseNumber}
 use Rattle.model.specs.Records.{InHalves}
 use Rattle.model.specs.declared.Answer.{Answer}
@@ -95,22 +95,16 @@ IsFlag a = (b : Bool) × (a ≡ a-flag b)
 abbrev pub IsRecordShape : theory.Answer → Type 0
 IsRecordShape a = (s : RecordShape) × (a ≡ a-shape s) × InHalves s
 
+abbrev pub ResultBy : CallKind → theory.Answer → Type 0
+ResultBy coming a = IsOk a
+ResultBy (making k d) a = IsOk a
+ResultBy working a = IsOk a
+ResultBy asksNumber a = IsNumber a
+ResultBy asksFlag a = IsFlag a
+ResultBy asksShape a = IsRecordShape a
+
 abbrev pub ResultOf : Call → theory.Answer → Type 0
-ResultOf (c-attach k) a = IsOk a
-ResultOf (c-spawn k p i) a = IsOk a
-ResultOf (c-detach k) a = IsOk a
-ResultOf (c-check k) a = IsOk a
-ResultOf (c-leave k) a = IsOk a
-ResultOf (c-enter k) a = IsOk a
-ResultOf (c-make k d p n) a = IsOk a
-ResultOf (c-load k d i f) a = IsOk a
-ResultOf (c-store k i f j) a = IsOk a
-ResultOf (c-copy k d i) a = IsOk a
-ResultOf (c-clear k d) a = IsOk a
-ResultOf (c-put k i f v) a = IsOk a
-ResultOf (c-get k i f) a = IsNumber a
-ResultOf (c-same k i j) a = IsFlag a
-ResultOf (c-shape k i) a = IsRecordShape a
+ResultOf c = ResultBy (kindOf c)
 
 -- step waits for one mutator at least, and sweeps a segment of the memory, whose blocks are no more than a segment can have
 pub data StepResult (g : Geometry) : theory.Answer → Type 0 where
@@ -127,26 +121,34 @@ IsPhase a = (p : ℕ) × (a ≡ a-num p) × (p ≤ phaseNumber sweep)
 
 -- ---- which numbers of the table a call may give, over memory of any content
 
+-- document 01's table of refusals goes from 1 to this number
+abbrev pub lastNumber : ℕ
+lastNumber = 13
+
 abbrev pub among : ℕ → List ℕ → Bool
 among n [] = false
 among n (x ∷ xs) = pick (eqb n x) true (among n xs)
 
+-- the numbers of a call's own, beside "1, size" and "13, torn", which every call may give
+abbrev pub ownNumbers : Call → List ℕ
+ownNumbers (c-attach k) = 2 ∷ 3 ∷ 11 ∷ []
+ownNumbers (c-spawn k p i) = 2 ∷ 3 ∷ 4 ∷ 5 ∷ 6 ∷ 11 ∷ []
+ownNumbers (c-detach k) = 2 ∷ 4 ∷ 5 ∷ 11 ∷ []
+ownNumbers (c-check k) = 2 ∷ 4 ∷ 5 ∷ []
+ownNumbers (c-leave k) = 2 ∷ 4 ∷ 5 ∷ []
+ownNumbers (c-enter k) = 2 ∷ 4 ∷ 5 ∷ []
+ownNumbers (c-make k d p n) = 2 ∷ 4 ∷ 5 ∷ 6 ∷ 9 ∷ 10 ∷ []
+ownNumbers (c-load k d i f) = 2 ∷ 4 ∷ 5 ∷ 6 ∷ 7 ∷ 8 ∷ []
+ownNumbers (c-store k i f j) = 2 ∷ 4 ∷ 5 ∷ 6 ∷ 7 ∷ 8 ∷ []
+ownNumbers (c-copy k d i) = 2 ∷ 4 ∷ 5 ∷ 6 ∷ []
+ownNumbers (c-clear k d) = 2 ∷ 4 ∷ 5 ∷ 6 ∷ []
+ownNumbers (c-put k i f v) = 2 ∷ 4 ∷ 5 ∷ 6 ∷ 7 ∷ 8 ∷ []
+ownNumbers (c-get k i f) = 2 ∷ 4 ∷ 5 ∷ 6 ∷ 7 ∷ 8 ∷ []
+ownNumbers (c-same k i j) = 2 ∷ 4 ∷ 5 ∷ 6 ∷ []
+ownNumbers (c-shape k i) = 2 ∷ 4 ∷ 5 ∷ 6 ∷ 7 ∷ []
+
 abbrev pub mayGive : Call → List ℕ
-mayGive (c-attach k) = 1 ∷ 2 ∷ 3 ∷ 11 ∷ 13 ∷ []
-mayGive (c-spawn k p i) = 1 ∷ 2 ∷ 3 ∷ 4 ∷ 5 ∷ 6 ∷ 11 ∷ 13 ∷ []
-mayGive (c-detach k) = 1 ∷ 2 ∷ 4 ∷ 5 ∷ 11 ∷ 13 ∷ []
-mayGive (c-check k) = 1 ∷ 2 ∷ 4 ∷ 5 ∷ 13 ∷ []
-mayGive (c-leave k) = 1 ∷ 2 ∷ 4 ∷ 5 ∷ 13 ∷ []
-mayGive (c-enter k) = 1 ∷ 2 ∷ 4 ∷ 5 ∷ 13 ∷ []
-mayGive (c-make k d p n) = 1 ∷ 2 ∷ 4 ∷ 5 ∷ 6 ∷ 9 ∷ 10 ∷ 13 ∷ []
-mayGive (c-load k d i f) = 1 ∷ 2 ∷ 4 ∷ 5 ∷ 6 ∷ 7 ∷ 8 ∷ 13 ∷ []
-mayGive (c-store k i f j) = 1 ∷ 2 ∷ 4 ∷ 5 ∷ 6 ∷ 7 ∷ 8 ∷ 13 ∷ []
-mayGive (c-copy k d i) = 1 ∷ 2 ∷ 4 ∷ 5 ∷ 6 ∷ 13 ∷ []
-mayGive (c-clear k d) = 1 ∷ 2 ∷ 4 ∷ 5 ∷ 6 ∷ 13 ∷ []
-mayGive (c-put k i f v) = 1 ∷ 2 ∷ 4 ∷ 5 ∷ 6 ∷ 7 ∷ 8 ∷ 13 ∷ []
-mayGive (c-get k i f) = 1 ∷ 2 ∷ 4 ∷ 5 ∷ 6 ∷ 7 ∷ 8 ∷ 13 ∷ []
-mayGive (c-same k i j) = 1 ∷ 2 ∷ 4 ∷ 5 ∷ 6 ∷ 13 ∷ []
-mayGive (c-shape k i) = 1 ∷ 2 ∷ 4 ∷ 5 ∷ 6 ∷ 7 ∷ 13 ∷ []
+mayGive c = 1 ∷ 13 ∷ ownNumbers c
 
 -- "11, not now". Request No. 1: "Refusal 12 never occurs any more": it stays in the table as a number that no call gives
 abbrev pub startMayGive : List ℕ

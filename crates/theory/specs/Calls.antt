@@ -23,6 +23,28 @@ pub data Call : Type 0 where
   c-same : (mutator root other : ℕ) → Call
   c-shape : (mutator root : ℕ) → Call
 
+-- what a call asks for: to come among the mutators, a block for a root, a number, a yes or no, a shape, or none of these
+pub data CallKind : Type 0 where
+  coming working asksNumber asksFlag asksShape : CallKind
+  making : (mutator root : ℕ) → CallKind
+
+abbrev pub kindOf : Call → CallKind
+kindOf (c-attach i) = coming
+kindOf (c-spawn i p k) = coming
+kindOf (c-detach i) = working
+kindOf (c-check i) = working
+kindOf (c-leave i) = working
+kindOf (c-enter i) = working
+kindOf (c-make i d p n) = making i d
+kindOf (c-load i d s f) = working
+kindOf (c-store i s f t) = working
+kindOf (c-copy i d s) = working
+kindOf (c-clear i d) = working
+kindOf (c-put i s k v) = working
+kindOf (c-get i s k) = asksNumber
+kindOf (c-same i s t) = asksFlag
+kindOf (c-shape i s) = asksShape
+
 -- an answer, as document 01 has it: a result with its values, or a refusal's number; the results of step are moved, traced, done, idle, waiting "and
 -- how many", and swept, "the segment, and how many blocks in use became free"
 pub data Answer : Type 0 where

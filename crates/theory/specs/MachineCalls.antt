@@ -7,7 +7,7 @@ use Prim.Native.Nat.{ℕ, zero, suc, _+_}
 use lib.Dec.{ltb}
 use lib.ListN.{length, getD, set, replicate}
 use Rattle.theory.specs.Machine.{State, setRoot, store, make, attach, detach, setInside, setValues, check, setPhase, trace, sweepSegment}
-use Rattle.theory.specs.Calls.{Call, Answer, Observation, shapeIf, onRecord, sameRef, c-attach, c-detach, c-check, c-leave, c-enter, c-spawn, c-make, c-load, c-store, c-copy, c-clear, c-put, c-get, c-same, c-shape, a-ok, a-num, a-flag, a-shape}
+use Rattle.theory.specs.Calls.{Call, CallKind, coming, working, asksNumber, asksFlag, asksShape, making, kindOf, Answer, Observation, shapeIf, onRecord, sameRef, c-attach, c-detach, c-check, c-leave, c-enter, c-spawn, c-make, c-load, c-store, c-copy, c-clear, c-put, c-get, c-same, c-shape, a-ok, a-num, a-flag, a-shape}
 use Rattle.theory.specs.Phases.{Phase, idle, sync1, sync2, mark, sweep, inHandshake, owes}
 use Rattle.theory.specs.Reach.{root}
 use Rattle.rules.specs.Pick.{oneIf}
@@ -44,22 +44,16 @@ act b st (c-same i s t) = (a-flag (sameRef (st .root i s) (st .root i t)), st)
 act b st (c-shape i s) = onRecord (st .root i s) st (λ a. (a-shape (shapeAt st a), st))
 
 -- when it may: mutators come outside the handshakes, and the block handed out is not in use and lies in no condemned segment
+abbrev pub PermittedBy : (ℕ → ℕ) → ℕ → State → CallKind → Type 0
+PermittedBy segmentOf b st coming = inHandshake (st .phase) ≡ false
+PermittedBy segmentOf b st (making i d) = (st .used b ≡ false) × (st .condemned (segmentOf b) ≡ false)
+PermittedBy segmentOf b st working = Unit
+PermittedBy segmentOf b st asksNumber = Unit
+PermittedBy segmentOf b st asksFlag = Unit
+PermittedBy segmentOf b st asksShape = Unit
+
 abbrev pub Permitted : (ℕ → ℕ) → ℕ → State → Call → Type 0
-Permitted segmentOf b st (c-attach i) = inHandshake (st .phase) ≡ false
-Permitted segmentOf b st (c-spawn i p k) = inHandshake (st .phase) ≡ false
-Permitted segmentOf b st (c-detach i) = Unit
-Permitted segmentOf b st (c-check i) = Unit
-Permitted segmentOf b st (c-leave i) = Unit
-Permitted segmentOf b st (c-enter i) = Unit
-Permitted segmentOf b st (c-make i d p n) = (st .used b ≡ false) × (st .condemned (segmentOf b) ≡ false)
-Permitted segmentOf b st (c-load i d s f) = Unit
-Permitted segmentOf b st (c-store i s f t) = Unit
-Permitted segmentOf b st (c-copy i d s) = Unit
-Permitted segmentOf b st (c-clear i d) = Unit
-Permitted segmentOf b st (c-put i s k v) = Unit
-Permitted segmentOf b st (c-get i s k) = Unit
-Permitted segmentOf b st (c-same i s t) = Unit
-Permitted segmentOf b st (c-shape i s) = Unit
+Permitted segmentOf b st c = PermittedBy segmentOf b st (kindOf c)
 
 -- ---- the collector's calls
 

@@ -13,7 +13,7 @@ use Rattle.classes.specs.declared.RecordShape.{RecordShape}
 use Rattle.layout.specs.Geometry.{rootCount}
 use Rattle.theory.specs.Reach.{Reach}
 use Rattle.theory.specs.Update.{upd, upd2}
-use Rattle.theory.specs.Calls.{Call, c-attach, c-detach, c-check, c-leave, c-enter, c-spawn, c-make, c-load, c-store, c-copy, c-clear, c-put, c-get, c-same, c-shape, Answer, a-ok, a-num, a-flag, a-shape, Observation, shapeIf, refusal, refuse, onRecord, sameRef}
+use Rattle.theory.specs.Calls.{Call, CallKind, coming, working, asksNumber, asksFlag, asksShape, making, kindOf, c-attach, c-detach, c-check, c-leave, c-enter, c-spawn, c-make, c-load, c-store, c-copy, c-clear, c-put, c-get, c-same, c-shape, Answer, a-ok, a-num, a-flag, a-shape, Observation, shapeIf, refusal, refuse, onRecord, sameRef}
 
 -- the records are those below the count: how many pointer fields each has, the pointers, and the data fields' values
 pub record Unbounded : Type 0 where
@@ -152,19 +152,13 @@ uanswers un [] = []
 uanswers un (c ∷ cs) = uexec un c .0 ∷ uanswers (uexec un c .1) cs
 
 -- the record last put into each block: "A make that is not refused puts its record into the block handed out", here the one that its root names
+abbrev pub putsBy : CallKind → (block : ℕ → ℕ → ℕ) → ℕ → (ℕ → Option ℕ) → ℕ → Option ℕ
+putsBy (making i d) block r put = upd put (block i d) (some r)
+putsBy coming block r put = put
+putsBy working block r put = put
+putsBy asksNumber block r put = put
+putsBy asksFlag block r put = put
+putsBy asksShape block r put = put
+
 abbrev pub puts : Call → (block : ℕ → ℕ → ℕ) → ℕ → (ℕ → Option ℕ) → ℕ → Option ℕ
-puts (c-make i d p n) block r put = upd put (block i d) (some r)
-puts (c-attach i) block r put = put
-puts (c-spawn i p k) block r put = put
-puts (c-detach i) block r put = put
-puts (c-check i) block r put = put
-puts (c-leave i) block r put = put
-puts (c-enter i) block r put = put
-puts (c-load i d s f) block r put = put
-puts (c-store i s f t) block r put = put
-puts (c-copy i d s) block r put = put
-puts (c-clear i d) block r put = put
-puts (c-put i s k v) block r put = put
-puts (c-get i s k) block r put = put
-puts (c-same i s t) block r put = put
-puts (c-shape i s) block r put = put
+puts c = putsBy (kindOf c)
