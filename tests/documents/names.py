@@ -79,8 +79,8 @@ def refusals():
     """The numbers of each call in SPEC's table and in FORMS', beside 1 and 13, which every call may give."""
     may = {}
     answers = text("crates/model/specs/Answers.antt")
-    for call, numbers in re.findall(r"(?m)^mayGive \(c-(\w+)[^)]*\) = (.*) ∷ \[\]", answers):
-        may[call] = [int(n) for n in numbers.split(" ∷ ") if n not in ("1", "13")]
+    for call, numbers in re.findall(r"(?m)^ownNumbers \(c-(\w+)[^)]*\) = (.*) ∷ \[\]", answers):
+        may[call] = [int(n) for n in numbers.split(" ∷ ")]
     may["start"] = [int(n) for n in re.search(r"(?m)^startMayGive = (.*) ∷ \[\]", answers)[1].split(" ∷ ") if n not in ("1", "13")]
     spec = {r[0]: r[1] for r in re.findall(r"(?m)^\| (\w+) k.*\| ([^|]*) \|$", text("docs/SPEC.md"))}
     forms = {r[0]: r[1] for r in re.findall(r"(?m)^\| `\((\w+)[^|]*\|[^|]*\|[^|]*\| ([^|]*) \|", text("docs/FORMS.md")) if r[0] in may}
