@@ -45,8 +45,8 @@ module _ (segmentOf : ℕ → ℕ) (st : State) (inv : Inv segmentOf st) (i n : 
   acks-safe : (x : ℕ) → Covered st x → Covered (setAcks st i n l) x
   acks-safe x h = safe-map (λ x m. m) (λ x g. inr (root (keep x g))) (λ x y p w e. inl (w, e)) h
 
-  acks-m1 : Core st → (j b : ℕ) → Acked (upd (st .acks) i n j) → Holds st j b → Covered (setAcks st i n l) b
-  acks-m1 c j b q h = go (upd-cases (st .acks) i n j)
+  acks-roots : Core st → (j b : ℕ) → Acked (upd (st .acks) i n j) → Holds st j b → Covered (setAcks st i n l) b
+  acks-roots c j b q h = go (upd-cases (st .acks) i n j)
     where
       go : ((j ≡ i) × (upd (st .acks) i n j ≡ n)) ⊎ ((j ≢ i) × (upd (st .acks) i n j ≡ st .acks j)) → Covered (setAcks st i n l) b
       go (inl w) = in-safe (setAcks st i n l) b (did b (omega (arith, w .1)) (subst (λ z. Holds st z b) (w .0) h))
@@ -68,7 +68,7 @@ module _ (segmentOf : ℕ → ℕ) (st : State) (inv : Inv segmentOf st) (i n : 
     first = acks-low;
     second = λ e j o. omega (arith, inv .second e j o, acks-up j);
     all = λ e j o. omega (arith, inv .all e j o, acks-up j);
-    core = λ t. record { rootsCovered = acks-m1 (inv .core t); pointersCovered = λ x y p m e. acks-safe y (inv .core t .pointersCovered x y (acks-live p) m e) };
+    core = λ t. record { rootsCovered = acks-roots (inv .core t); pointersCovered = λ x y p m e. acks-safe y (inv .core t .pointersCovered x y (acks-live p) m e) };
     kept = inv .kept;
   }
 

@@ -63,7 +63,7 @@ module _ {G G′ : ℕ → Type 0} {m m′ : ℕ → Bool} {E E′ : ℕ → ℕ
   safe-map b g s (inl h) = inl (b _ h)
   safe-map b g s (inr p) = prot-map g s p
 
--- an edge out of a covered node leads to a covered node, where M2 holds of it
+-- an edge out of a covered node leads to a covered node, where the edges out of marked nodes do
 pub safe-edge : {G : ℕ → Type 0} {m : ℕ → Bool} {E : ℕ → ℕ → Type 0} {x y : ℕ}
     → (m x ≡ true → Cover G m E y) → Cover G m E x → E x y → Cover G m E y
 safe-edge {G} {m} {E} {x} {y} k h e = go (bool-cases (m x)) h
