@@ -40,11 +40,6 @@ pub fits : (n : ℕ) → oneOrTwo n ≡ true → total (heap n) ≤ roomWords
 unfolding segmentBytes
 fits n e = let k = few n e in omega arith
 
--- two segments need them all
-pub two-need-all : total (heap 2) ≡ roomWords
-unfolding segmentBytes
-two-need-all = refl
-
 -- the memory of the task's heap: an opening's is of any content, any other is the one that is open
 ready : (t : Task) (s : State) (n : ℕ) → n ≡ segmentsFor t (s .segments) → oneOrTwo n ≡ true → Good s → Ready t (heap n) (memoryIn (heap n) (s .words))
 ready (Open k) s n e f h = tt

@@ -37,9 +37,9 @@ pub record State : Type 0 where
 abbrev pub heap : ℕ → Geometry
 heap n = record { segments = n }
 
--- the lent words are as many as two segments need (proofs/Carrying.antt)
+-- the lent words are as many as two segments need
 abbrev pub roomWords : ℕ
-roomWords = 13631
+roomWords = total (heap 2)
 
 -- the memory of a heap among the lent words, and the words with another memory in its place
 abbrev pub memoryIn : Geometry → List ℕ → Mem

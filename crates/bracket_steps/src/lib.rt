@@ -14,7 +14,7 @@ ghost use Rattle.bracket_steps.specs.Said.{replyOf, taskOf, segmentsFor,
 ghost use Rattle.bracket_steps.specs.Ran.{Ran, Carries};
 
 // The words to lend: as many as a heap of two segments has.
-pub const WORDS: usize = 13631;
+pub const WORDS: usize = layout::WORDS_OF_TWO;
 
 // How many segments are open, and 0 before an opening.
 pub struct Session {

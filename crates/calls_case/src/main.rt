@@ -170,7 +170,7 @@ fn look_back(mem: &mut [u32]) {
 }
 
 fn main() {
-    let mut mem = [3735928559u32; 13631];
+    let mut mem = [3735928559u32; layout::WORDS_OF_TWO];
     fill(&mut mem);
     begin(&mut mem);
     collect(&mut mem);

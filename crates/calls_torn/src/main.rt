@@ -291,7 +291,7 @@ fn change(mem: &mut [u32], d: Dice, torn: bool) {
     if !torn {
         return;
     }
-    let i = (d.x / 16) as usize % 7341;
+    let i = (d.x / 16) as usize % layout::WORDS_OF_ONE;
     if i < mem.len() {
         let w = mem[i];
         mem[i] = changed(w, d.next());
@@ -416,7 +416,7 @@ fn games(mem: &mut [u32]) {
 }
 
 // Where the segments region of a heap of one segment begins, with the segment's tag.
-const TAG: usize = 5136;
+const TAG: usize = layout::SEGMENT_WORDS + layout::HEAP_FROM + layout::TAG_AT;
 
 // A number below 6 as it is, any other as the largest there is.
 fn odd(n: u32) -> u32 {
@@ -469,7 +469,7 @@ fn start_games(mem: &mut [u32], d: Dice) {
 }
 
 fn main() {
-    let mut mem = [0u32; 7341];
+    let mut mem = [0u32; layout::WORDS_OF_ONE];
     games(&mut mem);
     start_games(&mut mem, Dice { x: 97 });
 }

@@ -119,7 +119,32 @@ fn hold(mem: &mut [u32]) {
     make(mem, 5, 1, 1);
 }
 
-// Where the regions of a heap of two segments begin: mutators 16, heap 1040, segments 9232, stacks 9240, bitmaps 9273, marks 9407, trace 9535.
+// Where the regions of a heap of two segments begin.
+const MUTATORS: usize = layout::CONTROL_WORDS;
+
+const HEAP: usize = layout::HEAP_FROM;
+
+const SEGMENTS: usize = 2 * layout::SEGMENT_WORDS + layout::HEAP_FROM;
+
+const STACKS: usize = 2 * layout::STACKS_PER + layout::HEAP_FROM;
+
+const BITMAPS: usize = 2 * layout::BITMAPS_PER + layout::FIXED;
+
+const MARKS: usize = 2 * layout::MARKS_PER + layout::FIXED;
+
+const TRACE: usize = 2 * layout::TRACE_PER + layout::FIXED;
+
+// Segment 1's record, its bitmap and its marks, and the record in block 2 of segment 0.
+const SECOND: usize = SEGMENTS + layout::SEGMENT_RECORD_WORDS;
+
+const SECOND_BITMAP: usize = BITMAPS + layout::BITMAP_WORDS;
+
+const SECOND_MARKS: usize = MARKS + layout::MARK_WORDS;
+
+const THIRD_RECORD: usize = HEAP + layout::SEGMENT_WORDS / 2;
+
+// The examination's scratch: two bits for each block, and a stack with an entry for each.
+const SCRATCH: usize = 2 * (layout::MARK_WORDS + layout::MARK_WORDS + layout::MOST_BLOCKS);
 
 // The phase, and the bitmap trees.
 fn tree_cases(mem: &mut [u32], scratch: &mut [u32]) {
@@ -128,14 +153,14 @@ fn tree_cases(mem: &mut [u32], scratch: &mut [u32]) {
     broken(
         mem,
         scratch,
-        9273,
+        BITMAPS,
         4294967294,
         b"a full segment's bit, which binds nothing but its tree",
     );
     broken(
         mem,
         scratch,
-        9340,
+        SECOND_BITMAP,
         4294967295,
         b"a held segment's word full and its summary bit 0",
     );
@@ -143,37 +168,79 @@ fn tree_cases(mem: &mut [u32], scratch: &mut [u32]) {
 
 // Segment records and stacks.
 fn segment_cases(mem: &mut [u32], scratch: &mut [u32]) {
-    broken(mem, scratch, 9234, 3, b"a full segment's place");
     broken(
         mem,
         scratch,
-        9238,
+        SEGMENTS + layout::PLACE_AT,
+        3,
+        b"a full segment's place",
+    );
+    broken(
+        mem,
+        scratch,
+        SECOND + layout::PLACE_AT,
         1025,
         b"a held segment's place past its blocks",
     );
-    broken(mem, scratch, 9238, 0, b"a held segment with nothing in use");
-    broken(mem, scratch, 9240, 1, b"a count of the free stack");
+    broken(
+        mem,
+        scratch,
+        SECOND + layout::PLACE_AT,
+        0,
+        b"a held segment with nothing in use",
+    );
+    broken(mem, scratch, STACKS, 1, b"a count of the free stack");
 }
 
 // What mutators hold, and what an absent one keeps.
 fn mutator_cases(mem: &mut [u32], scratch: &mut [u32]) {
-    broken(mem, scratch, 9239, 1, b"a held segment's mutator");
-    broken(mem, scratch, 35, 0, b"the table of held segments");
-    broken(mem, scratch, 32, 3, b"a state over outside");
-    broken(mem, scratch, 80, 1, b"a root of an absent mutator");
+    broken(
+        mem,
+        scratch,
+        SECOND + layout::OWNER_AT,
+        1,
+        b"a held segment's mutator",
+    );
+    broken(
+        mem,
+        scratch,
+        MUTATORS + layout::HELD_FROM + 1,
+        0,
+        b"the table of held segments",
+    );
+    broken(
+        mem,
+        scratch,
+        MUTATORS + layout::STATE_AT,
+        3,
+        b"a state over outside",
+    );
+    broken(
+        mem,
+        scratch,
+        MUTATORS + 2 * layout::MUTATOR_WORDS,
+        1,
+        b"a root of an absent mutator",
+    );
 }
 
 // Live records, and the trace stack in idle.
 fn record_cases(mem: &mut [u32], scratch: &mut [u32]) {
-    broken(mem, scratch, 16, 2, b"a root that names no record's head");
     broken(
         mem,
         scratch,
-        1040,
+        MUTATORS,
+        2,
+        b"a root that names no record's head",
+    );
+    broken(
+        mem,
+        scratch,
+        HEAP,
         65636,
         b"a live record's header of another class",
     );
-    broken(mem, scratch, 1041, 5000, b"a live record's pointer");
+    broken(mem, scratch, HEAP + 1, 5000, b"a live record's pointer");
     broken(mem, scratch, 1, 1, b"an entry of the trace stack in idle");
 }
 
@@ -182,7 +249,7 @@ fn free_control(mem: &mut [u32], scratch: &mut [u32]) {
     broken(
         mem,
         scratch,
-        15,
+        layout::CONTROL_WORDS - 1,
         4294967295,
         b"junk in the spare words of the control",
     );
@@ -194,15 +261,21 @@ fn free_words(mem: &mut [u32], scratch: &mut [u32]) {
     broken(
         mem,
         scratch,
-        44,
+        MUTATORS + layout::ENTRY_WORDS,
         4294967295,
         b"junk in the spare words of an entry",
     );
-    broken(mem, scratch, 9241, 4294967295, b"junk past a stack's count");
     broken(
         mem,
         scratch,
-        9535,
+        STACKS + 1,
+        4294967295,
+        b"junk past a stack's count",
+    );
+    broken(
+        mem,
+        scratch,
+        TRACE,
         4294967295,
         b"junk past the trace stack's count",
     );
@@ -210,11 +283,17 @@ fn free_words(mem: &mut [u32], scratch: &mut [u32]) {
 
 // Marks in idle and blocks without a record bind nothing.
 fn free_blocks(mem: &mut [u32], scratch: &mut [u32]) {
-    broken(mem, scratch, 9407, 4294967295, b"junk in the marks in idle");
     broken(
         mem,
         scratch,
-        9231,
+        MARKS,
+        4294967295,
+        b"junk in the marks in idle",
+    );
+    broken(
+        mem,
+        scratch,
+        SEGMENTS - 1,
         4294967295,
         b"junk in a block that holds no record",
     );
@@ -230,16 +309,34 @@ fn dead_cases(mem: &mut [u32], scratch: &mut [u32]) {
         },
     );
     say(mem, scratch, b"a record dropped");
-    broken(mem, scratch, 3089, 4294967295, b"a dead record's pointer");
-    broken(mem, scratch, 3088, 4294967295, b"a dead record's header");
+    broken(
+        mem,
+        scratch,
+        THIRD_RECORD + 1,
+        4294967295,
+        b"a dead record's pointer",
+    );
+    broken(
+        mem,
+        scratch,
+        THIRD_RECORD,
+        4294967295,
+        b"a dead record's header",
+    );
 }
 
 // A bit among the marks is of an entry only, and at most one acknowledgement.
 fn first_handshake(mem: &mut [u32], scratch: &mut [u32]) {
     begin(mem);
     say(mem, scratch, b"in handshake 1");
-    broken(mem, scratch, 33, 2, b"two acknowledgements in handshake 1");
-    broken(mem, scratch, 9407, 1, b"a mark in handshake 1");
+    broken(
+        mem,
+        scratch,
+        MUTATORS + layout::ACKS_AT,
+        2,
+        b"two acknowledgements in handshake 1",
+    );
+    broken(mem, scratch, MARKS, 1, b"a mark in handshake 1");
 }
 
 // One acknowledgement at least.
@@ -247,15 +344,27 @@ fn second_handshake(mem: &mut [u32], scratch: &mut [u32]) {
     check(mem);
     step(mem);
     say(mem, scratch, b"in handshake 2");
-    broken(mem, scratch, 33, 0, b"no acknowledgement in handshake 2");
+    broken(
+        mem,
+        scratch,
+        MUTATORS + layout::ACKS_AT,
+        0,
+        b"no acknowledgement in handshake 2",
+    );
 }
 
 // The trace stack, its bits, and covered roots.
 fn trace_cases(mem: &mut [u32], scratch: &mut [u32]) {
     check(mem);
     say(mem, scratch, b"with its roots on the trace stack");
-    broken(mem, scratch, 9407, 0, b"an entry's bit");
-    broken(mem, scratch, 18, 2049, b"a root that is not covered");
+    broken(mem, scratch, MARKS, 0, b"an entry's bit");
+    broken(
+        mem,
+        scratch,
+        MUTATORS + 2,
+        2049,
+        b"a root that is not covered",
+    );
     broken(
         mem,
         scratch,
@@ -267,7 +376,7 @@ fn trace_cases(mem: &mut [u32], scratch: &mut [u32]) {
 
 // No entry twice; then the phase is mark, and two records are traced.
 fn entry_cases(mem: &mut [u32], scratch: &mut [u32]) {
-    broken(mem, scratch, 9536, 1, b"an entry twice");
+    broken(mem, scratch, TRACE + 1, 1, b"an entry twice");
     step(mem);
     step(mem);
     step(mem);
@@ -281,7 +390,7 @@ fn mark_cases(mem: &mut [u32], scratch: &mut [u32]) {
     broken(
         mem,
         scratch,
-        9408,
+        MARKS + 1,
         4294967295,
         b"bits inside a block of a large class",
     );
@@ -289,8 +398,14 @@ fn mark_cases(mem: &mut [u32], scratch: &mut [u32]) {
 
 // Blocks 0 and 1 of segment 1, of class 4, are in use: their bits are 0 and 2.
 fn bit_cases(mem: &mut [u32], scratch: &mut [u32]) {
-    broken(mem, scratch, 9471, 21, b"a bit of a block not in use");
-    broken(mem, scratch, 9471, 7, b"a bit inside a block");
+    broken(
+        mem,
+        scratch,
+        SECOND_MARKS,
+        21,
+        b"a bit of a block not in use",
+    );
+    broken(mem, scratch, SECOND_MARKS, 7, b"a bit inside a block");
 }
 
 // Then the last record is traced, and the phase is sweep.
@@ -298,7 +413,7 @@ fn covered_cases(mem: &mut [u32], scratch: &mut [u32]) {
     broken(
         mem,
         scratch,
-        9471,
+        SECOND_MARKS,
         0,
         b"marks of traced records with covered roots",
     );
@@ -320,14 +435,14 @@ fn sweep_cases(mem: &mut [u32], scratch: &mut [u32]) {
     broken(
         mem,
         scratch,
-        9407,
+        MARKS,
         0,
         b"marks of reached records in the collect set",
     );
     broken(
         mem,
         scratch,
-        9471,
+        SECOND_MARKS,
         0,
         b"marks outside the collect set, which bind nothing",
     );
@@ -369,8 +484,8 @@ fn cases(mem: &mut [u32], scratch: &mut [u32]) {
 }
 
 fn main() {
-    let mut mem = [3735928559u32; 13631];
-    let mut scratch = [7u32; 4352];
+    let mut mem = [3735928559u32; layout::WORDS_OF_TWO];
+    let mut scratch = [7u32; SCRATCH];
     fill(&mut mem);
     fill_further(&mut mem);
     hold(&mut mem);

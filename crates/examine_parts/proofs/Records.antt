@@ -12,6 +12,7 @@ use Rattle.rules.proofs.Deciding.{fails, via, refuted}
 use Rattle.rules.proofs.Order.{le-or-lt, same-or-not}
 use Rattle.words.specs.Bits.{bitAt, onesAmong}
 use Rattle.words.proofs.Counts.{zero-less, one-missing, one-there, none-one}
+use Rattle.classes.specs.Class.{firstClass, classCount}
 use Rattle.layout.specs.declared.Geometry.{Geometry}
 use Rattle.layout.specs.Geometry.{mutatorCount, blocksIn}
 use Rattle.layout.specs.Mem.{Mem}
@@ -126,13 +127,13 @@ module _ (g : Geometry) (m : Mem) (s t : ℕ) (x : t ≡ tag m s) where
   segment-past l = fails (λ q. let a = q .0 .tags in omega arith)
 
   module _ (used : t ≡ Tag.free → ⊥) (c : ℕ) (y : c ≡ class m s) where
-    pub segment-below : c < 3 → Decides false (SegmentParts g m s)
+    pub segment-below : c < firstClass → Decides false (SegmentParts g m s)
     segment-below l = fails (λ q. let a = q .0 .classes (λ e. used (x ∙ e)) in let b = a .0 in omega arith)
 
-    pub segment-above : 13 ≤ c → Decides false (SegmentParts g m s)
+    pub segment-above : firstClass + classCount ≤ c → Decides false (SegmentParts g m s)
     segment-above l = fails (λ q. let a = q .0 .classes (λ e. used (x ∙ e)) in let b = a .1 in omega arith)
 
-    pub segment-used : t ≤ Tag.condemned → 3 ≤ c → c < 13 → (r : Bool) → Decides r (Used g m s t c) → Decides r (SegmentParts g m s)
+    pub segment-used : t ≤ Tag.condemned → firstClass ≤ c → c < firstClass + classCount → (r : Bool) → Decides r (Used g m s t c) → Decides r (SegmentParts g m s)
     segment-used l a b r d = via (λ q. (ok q, occ q)) from d
       where
         at : (P : ℕ → Type 0) → P c → P (class m s)

@@ -16,9 +16,6 @@ ghost use Rattle.model.specs.Tag as Tag;
 ghost use Rattle.model.specs.Consistent.{AcksIn, Behind};
 ghost use Rattle.examine_parts.specs.Parts.{Parts, Cleared, Open, Owned, Used, SegmentParts, Gone, HeldBy, Holds, Entry, Acknowledged, MutatorParts};
 
-// The words of a mutator's entry that are in use.
-const ENTRY_WORDS: usize = layout::HELD_FROM + classes::CLASS_COUNT as usize;
-
 // Whether the words that a free segment does not use are 0.
 fn cleared(g: Geometry, mem: &[u32], s: usize) -> bool
     requires { ⌜ (Sized g (length (now mem))) × (s < g .segments) ⌝ }
@@ -151,7 +148,7 @@ fn gone(g: Geometry, mem: &[u32], k: u32) -> bool
 {
     let at = k as usize * layout::MUTATOR_WORDS;
     let mut i = 0;
-    while i < ENTRY_WORDS {
+    while i < layout::ENTRY_WORDS {
         let word = layout::mutator(g, mem, at + i);
         if word != 0 {
             return false;

@@ -179,7 +179,7 @@ fn stack_ok(g: Geometry, mem: &[u32], t: usize) -> bool
     if n != k {
         return false;
     }
-    let mut seen = [0u32; 256];
+    let mut seen = [0u32; layout::MAX_SEGMENTS];
     enter_all(g, mem, t, n, &mut seen)
 }
 

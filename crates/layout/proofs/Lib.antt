@@ -4,3 +4,4 @@ pub mod Spliced
 pub mod Regions
 pub mod Sizes
 pub mod Filled
+pub mod Places

@@ -27,8 +27,8 @@ within w a n i l h = let e : suc a * w ≤ n * w = mul-le-mul-right w l in let f
 
 -- ---- the size
 
--- a segment's bytes are 16 KiB some times over, and no more than three levels of bits reach
-pub bytes-are : (g : Geometry) → (n : ℕ) × (segmentBytes g ≡ n * 16384) × (1 ≤ n) × (n ≤ 2)
+-- a segment's bytes are 16 KiB (`segmentSize`) some times over, and no more than three levels of bits reach
+pub bytes-are : (g : Geometry) → (n : ℕ) × (segmentBytes g ≡ n * segmentSize) × (1 ≤ n) × (n ≤ 2)
 unfolding segmentBytes
 bytes-are g = (1, refl, omega arith, omega arith)
 
@@ -45,7 +45,7 @@ words-some g = let z = bytes-are g in let e = z .1 in let l = z .2 in omega arit
 -- a segment's blocks, of so many words each, fill it
 pub whole : (g : Geometry) (c : ℕ) → IsClass c → Filled (segmentBytes g) c
 unfolding divides
-whole g c k = let z = bytes-are g in subst (λ b. Filled b c) (sym (z .1)) (filled 16384 tt (z .0) c (z .2) k)
+whole g c k = let z = bytes-are g in subst (λ b. Filled b c) (sym (z .1)) (filled segmentSize tt (z .0) c (z .2) k)
 
 -- the bitmap of a class ends in one word
 pub class-height : (g : Geometry) (c : ℕ) → Height (shapeFor (blocksIn g c) .levels - 1) (blocksIn g c)

@@ -1,6 +1,6 @@
 // The one lent slice and its regions: control, mutators, heap, segment records, stacks, bitmaps, marks, trace stack.
 // Nothing above this crate mentions where a region begins: words are read and written through these functions, whose contracts speak of `Mem`, and the
-// place of a part that is lent to a leaf comes from here.
+// place of a part that is lent to a leaf comes from here. Only the programs of cases, which change memory word by word, use the places below.
 use classes::ClassShape;
 use classes::SegmentShape;
 ghost use mathlib.Core.Path.{_≡_};
@@ -20,6 +20,8 @@ pub struct Geometry {
 // The number of this layout: a change that moves a word of the lent slice raises it.
 pub const LAYOUT_NUMBER: u32 = 2;
 
+pub const MAX_SEGMENTS: usize = 256;
+
 pub const MUTATORS: u32 = 32;
 
 pub const ROOTS: u32 = 16;
@@ -27,16 +29,16 @@ pub const ROOTS: u32 = 16;
 // The bytes and words of a segment, and the words of what goes with each.
 const SEGMENT_BYTES: u32 = 16384;
 
-const SEGMENT_WORDS: usize = 4096;
+pub const SEGMENT_WORDS: usize = 4096;
 
-const MOST_BLOCKS: usize = 2048;
+pub const MOST_BLOCKS: usize = 2048;
 
 // The words of a smallest block, which share a mark bit.
 const SMALLEST_WORDS: usize = 2;
 
-const MARK_WORDS: usize = 64;
+pub const MARK_WORDS: usize = 64;
 
-const BITMAP_WORDS: usize = 67;
+pub const BITMAP_WORDS: usize = 67;
 
 // A segment's record: its tag, its class, its allocation pointer and its mutator, and its length.
 pub const TAG_AT: usize = 0;
@@ -51,31 +53,38 @@ pub const SEGMENT_RECORD_WORDS: usize = 4;
 
 pub const STACKS: usize = 1 + classes::CLASS_COUNT as usize;
 
-// A mutator's entry: its roots, then its state, its acknowledgements and its held segments, and its length.
-pub const STATE_AT: usize = 16;
+// A mutator's entry: its roots, then its state, its acknowledgements and its held segments, how many words it uses of it, and its length.
+pub const STATE_AT: usize = ROOTS as usize;
 
-pub const ACKS_AT: usize = 17;
+pub const ACKS_AT: usize = STATE_AT + 1;
 
-pub const HELD_FROM: usize = 18;
+pub const HELD_FROM: usize = ACKS_AT + 1;
+
+pub const ENTRY_WORDS: usize = HELD_FROM + classes::CLASS_COUNT as usize;
 
 pub const MUTATOR_WORDS: usize = 32;
 
 // Where a region begins: so many words for each segment, and so many besides.
-const CONTROL_WORDS: usize = 16;
+pub const CONTROL_WORDS: usize = 16;
 
-const HEAP_FROM: usize = CONTROL_WORDS + 32 * MUTATOR_WORDS;
+pub const HEAP_FROM: usize = CONTROL_WORDS + MUTATORS as usize * MUTATOR_WORDS;
 
-const FIXED: usize = HEAP_FROM + STACKS;
+pub const FIXED: usize = HEAP_FROM + STACKS;
 
-const STACKS_PER: usize = SEGMENT_WORDS + SEGMENT_RECORD_WORDS;
+pub const STACKS_PER: usize = SEGMENT_WORDS + SEGMENT_RECORD_WORDS;
 
-const BITMAPS_PER: usize = STACKS_PER + STACKS;
+pub const BITMAPS_PER: usize = STACKS_PER + STACKS;
 
-const MARKS_PER: usize = BITMAPS_PER + BITMAP_WORDS;
+pub const MARKS_PER: usize = BITMAPS_PER + BITMAP_WORDS;
 
-const TRACE_PER: usize = MARKS_PER + MARK_WORDS;
+pub const TRACE_PER: usize = MARKS_PER + MARK_WORDS;
 
 const TOTAL_PER: usize = TRACE_PER + MOST_BLOCKS;
+
+// The words of a heap of one segment and of two, for programs that have so many.
+pub const WORDS_OF_ONE: usize = TOTAL_PER + FIXED;
+
+pub const WORDS_OF_TWO: usize = 2 * TOTAL_PER + FIXED;
 
 // The length of the lent slice.
 pub fn total_words(g: Geometry) -> usize
@@ -93,7 +102,7 @@ pub fn wrong_size(g: Geometry, x: usize) -> bool
     if n < 1 {
         return true;
     }
-    if 256 < n {
+    if MAX_SEGMENTS < n {
         return true;
     }
     x != total_words(g)

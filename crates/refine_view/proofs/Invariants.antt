@@ -9,7 +9,7 @@ use lib.ListN.{List·getD-eq-default}
 use borrow.Author.Tests.{eq-eqb, ne-eqb, eqb-true, eqb-false}
 use Rattle.rules.proofs.Order.{le-or-lt, same-or-not}
 use Rattle.words.proofs.Word.{zero-of-not-one}
-use Rattle.layout.specs.Geometry.{segmentOf, markBit}
+use Rattle.layout.specs.Geometry.{mutatorCount, segmentOf, markBit}
 use Rattle.layout.specs.declared.Geometry.{Geometry}
 use Rattle.layout.specs.Mem.{Mem, traceWord, Sizes}
 use Rattle.theory.specs.Phases.{Phase, idle, sync1, sync2, mark, sweep}
@@ -120,13 +120,13 @@ module _ (g : Geometry) (m : Mem) (s : Sizes g m) (c : Ordered g m) where
   acks-in k a = c .acknowledgements k (few-mutators g m s k a) (not-eq _ _ a)
 
   acks-gone : (k : ℕ) → (isAttached m k ≡ true → ⊥) → acks m k ≡ 0
-  acks-gone k f = go (le-or-lt 32 k)
+  acks-gone k f = go (le-or-lt mutatorCount k)
     where
-      inside? : (state m k ≡ 0) ⊎ (state m k ≡ 0 → ⊥) → k < 32 → acks m k ≡ 0
+      inside? : (state m k ≡ 0) ⊎ (state m k ≡ 0 → ⊥) → k < mutatorCount → acks m k ≡ 0
       inside? (inl e) l = c .mutators k l .gone e acksAt (omega arith)
       inside? (inr n) l = absurd (f (ne-not _ _ n))
 
-      go : (32 ≤ k) ⊎ (k < 32) → acks m k ≡ 0
+      go : (mutatorCount ≤ k) ⊎ (k < mutatorCount) → acks m k ≡ 0
       go (inl l) = let z = s .mutators in List·getD-eq-default (m .mutators) 0 (omega arith)
       go (inr l) = inside? (same-or-not (state m k) 0) l
 

@@ -84,9 +84,9 @@ module _ (g : Geometry) (m : Mem) where
   -- ---- from the machine to the memory, where the regions have their lengths and no entry is nil
 
   pub few-mutators : Sizes g m → (k : ℕ) → isAttached m k ≡ true → k < mutatorCount
-  few-mutators s k a = go (le-or-lt 32 k)
+  few-mutators s k a = go (le-or-lt mutatorCount k)
     where
-      go : (32 ≤ k) ⊎ (k < 32) → k < mutatorCount
+      go : (mutatorCount ≤ k) ⊎ (k < mutatorCount) → k < mutatorCount
       go (inr l) = l
       go (inl l) = let z = s .mutators in absurd (not-eq (state m k) absent a (List·getD-eq-default (m .mutators) 0 (omega arith)))
 

@@ -73,7 +73,7 @@ module _ (segmentOf : ℕ → ℕ) (st : State) (inv : Inv segmentOf st) (i n : 
   }
 
 pub acknowledge-back : (st : State) (i : ℕ) → st .attached i ≡ true → (x : ℕ) → List·Memᴰ x (pushes (st .marked) (tab rootCount (st .root i)) (st .stack)) → List·Memᴰ x (st .stack) ⊎ Holds st i x
-acknowledge-back st i attached x h = ⊎-elim inl (λ q. let w = tab-inv 16 (st .root i) q in inr (w .0, attached, w .1, w .2)) (pushes-inv (st .marked) (tab rootCount (st .root i)) (st .stack) h)
+acknowledge-back st i attached x h = ⊎-elim inl (λ q. let w = tab-inv rootCount (st .root i) q in inr (w .0, attached, w .1, w .2)) (pushes-inv (st .marked) (tab rootCount (st .root i)) (st .stack) h)
 
 pub acknowledge-live : (st : State) (i : ℕ) → st .attached i ≡ true → {b : ℕ} → Live (setAcks st i 2 (pushes (st .marked) (tab rootCount (st .root i)) (st .stack))) b → Live st b
 acknowledge-live st i attached p = reach-map (λ x h. ⊎-elim (λ (r : Root st x). root (inl r)) (λ g. ⊎-elim (λ g′. root (inr g′)) (λ q. root (inl (i, q))) (acknowledge-back st i attached x g)) h) (λ x y q e. inl e) p
@@ -86,7 +86,7 @@ module _ (segmentOf : ℕ → ℕ) (st : State) (inv : Inv segmentOf st) (i : �
       l = pushes (st .marked) (tab rootCount (st .root i)) (st .stack)
 
       did : (b : ℕ) → Acked 2 → Holds st i b → In (st .marked) l b
-      did b _ h = pushes-did (st .marked) (tab rootCount (st .root i)) (st .stack) b (Memᴰ·cast (sym (h .3)) (tab-mem 16 (st .root i) (h .0) (h .2)))
+      did b _ h = pushes-did (st .marked) (tab rootCount (st .root i)) (st .stack) b (Memᴰ·cast (sym (h .3)) (tab-mem rootCount (st .root i) (h .0) (h .2)))
 
   first-acknowledge : st .phase ≡ sync1 → st .acks i ≤ 1 → Inv segmentOf (setAcks st i 1 (st .stack))
   first-acknowledge e u = acks-inv segmentOf st inv i 1 (st .stack) u (inv .stack) (λ x h. h) (λ x h. inl h) (inv .quiet) (λ _. omega arith) (λ b q h. absurd (omega arith))

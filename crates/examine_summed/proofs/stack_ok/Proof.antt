@@ -1,5 +1,6 @@
 -- `examine_summed::stack_ok` meets its contract. Assumes nothing.
 use mathlib.Core.Path.{refl}
+use Rattle.layout.specs.Geometry.{maxSegments}
 use Rattle.layout.specs.Mem.{memOf}
 use Rattle.examine_summed.proofs.Ordered.{zeros, count-few, count-wrong, count-right}
 use Rattle.examine_summed.proofs.stack_ok.Statement.{statement}
@@ -18,7 +19,7 @@ slice-aggregate-enter-all : tie.Need-slice-aggregate-enter-all
 slice-aggregate-enter-all c = refl
 
 enter-all-requires : tie.Need-enter-all-requires
-enter-all-requires c κs = let a = c .before .before .before .before .before .args in ((c .before .before .before .before .before .pre .0, c .before .before .before .before .before .pre .1, c .before .before .before .count .ensures, count-few (a .g) (memOf (a .g) (a .mem .now)) (a .t) _ _ (c .before .before .before .count .ensures) (c .before .before .belonging .ensures) (c .before .if1 .left)), (refl, zeros 256))
+enter-all-requires c κs = let a = c .before .before .before .before .before .args in ((c .before .before .before .before .before .pre .0, c .before .before .before .before .before .pre .1, c .before .before .before .count .ensures, count-few (a .g) (memOf (a .g) (a .mem .now)) (a .t) _ _ (c .before .before .before .count .ensures) (c .before .before .belonging .ensures) (c .before .if1 .left)), (refl, zeros maxSegments))
 
 returns-2 : tie.Need-returns-2
 returns-2 c = let a = c .before .before .before .before .before .before .before .args in count-right (a .g) (memOf (a .g) (a .mem .now)) (a .t) _ _ (c .before .before .before .before .before .count .ensures) (c .before .before .before .before .belonging .ensures) (c .before .before .before .if1 .left) _ _ (c .before .enter-all .ensures)

@@ -1,9 +1,11 @@
 -- `layout::clear_control` meets its contract. Assumes nothing.
 use native.Mathlib.Omega.{arith}
 use borrow.Author.Needs.{needs}
+use Rattle.layout.specs.Geometry.{from}
 use Rattle.layout.proofs.Regions.{cleared-at}
 use Rattle.layout.proofs.clear_control.Tie as tie
 use Rattle.layout.proofs.clear_control.Statement.{statement}
+use Rattle.layout.specs.Region as Region
 
 sub-zero : tie.Need-sub-zero
 sub-zero c = search needs
@@ -22,7 +24,9 @@ same-length c = search needs
 
 returns : tie.Need-returns
 returns c =
-    cleared-at (c .before .before .before .before .before .args .g) (c .before .before .before .before .before .args .mem .now) 0 0 16 _ (c .before .before .zero .ensures) (omega arith) (c .before .before .before .before .before .pre .is) (omega arith)
+    let entry = c .before .before .before .before .before in
+    let g = entry .args .g in
+    cleared-at g (entry .args .mem .now) Region.control (from g Region.control) (from g Region.mutators) _ (c .before .before .zero .ensures) (omega arith) (entry .pre .is) (omega arith)
 
 pub clear-control-spec : {M : Type 1} → statement M
 clear-control-spec =

@@ -2,9 +2,11 @@
 use Prim.Native.Nat.{_+_, _*_}
 use native.Mathlib.Omega.{arith}
 use borrow.Author.Needs.{needs}
+use Rattle.layout.specs.Geometry.{from, mutatorWords}
 use Rattle.layout.proofs.Regions.{cleared-part}
 use Rattle.layout.proofs.clear_entry.Statement.{statement}
 use Rattle.layout.proofs.clear_entry.Tie as tie
+use Rattle.layout.specs.Region as Region
 
 mul-a : tie.Need-mul-a
 mul-a c = search needs
@@ -35,7 +37,11 @@ same-length c = search needs
 
 returns : tie.Need-returns
 returns c =
-    cleared-part (c .before .before .before .before .before .args .g) (c .before .before .before .before .before .args .mem .now) 1 (c .before .before .before .before .before .args .k * 32) 32 (16 + c .before .before .before .before .before .args .k * 32) ((16 + c .before .before .before .before .before .args .k * 32) + 32) _ (c .before .before .zero .ensures) (omega arith)
+    let entry = c .before .before .before .before .before in
+    let g = entry .args .g in
+    let i = entry .args .k * mutatorWords in
+    let a = from g Region.mutators + i in
+    cleared-part g (entry .args .mem .now) Region.mutators i mutatorWords a (a + mutatorWords) _ (c .before .before .zero .ensures) (omega arith)
 
 pub clear-entry-spec : {M : Type 1} → statement M
 clear-entry-spec =

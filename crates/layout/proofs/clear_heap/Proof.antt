@@ -1,10 +1,12 @@
 -- `layout::clear_heap` meets its contract. Assumes nothing.
-use Prim.Native.Nat.{_+_, _*_}
+use Prim.Native.Nat.{_+_}
 use native.Mathlib.Omega.{arith}
 use borrow.Author.Needs.{needs}
+use Rattle.layout.specs.Geometry.{from}
 use Rattle.layout.proofs.Regions.{cleared-part}
 use Rattle.layout.proofs.clear_heap.Statement.{statement}
 use Rattle.layout.proofs.clear_heap.Tie as tie
+use Rattle.layout.specs.Region as Region
 
 add-a : tie.Need-add-a
 add-a c = search needs
@@ -32,7 +34,10 @@ same-length c = search needs
 
 returns : tie.Need-returns
 returns c =
-    cleared-part (c .before .before .before .before .before .args .g) (c .before .before .before .before .before .args .mem .now) 2 (c .before .before .before .before .before .args .i) (c .before .before .before .before .before .args .n) (1040 + c .before .before .before .before .before .args .i) ((1040 + c .before .before .before .before .before .args .i) + (c .before .before .before .before .before .args .n)) _ (c .before .before .zero .ensures) (omega arith)
+    let entry = c .before .before .before .before .before in
+    let g = entry .args .g in
+    let a = from g Region.heap + entry .args .i in
+    cleared-part g (entry .args .mem .now) Region.heap (entry .args .i) (entry .args .n) a (a + entry .args .n) _ (c .before .before .zero .ensures) (omega arith)
 
 pub clear-heap-spec : {M : Type 1} → statement M
 clear-heap-spec =

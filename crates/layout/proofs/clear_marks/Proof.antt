@@ -1,11 +1,13 @@
 -- `layout::clear_marks` meets its contract. Assumes nothing.
-use Prim.Native.Nat.{_+_, _*_}
+use Prim.Native.Nat.{_+_}
 use native.Mathlib.Omega.{arith}
 use borrow.Author.Needs.{needs}
-use Rattle.layout.specs.Geometry.{segmentBytes}
+use Rattle.layout.specs.Geometry.{segmentBytes, len}
 use Rattle.layout.proofs.Regions.{cleared-at}
+use Rattle.layout.proofs.Places.{marksFrom}
 use Rattle.layout.proofs.clear_marks.Tie as tie
 use Rattle.layout.proofs.clear_marks.Statement.{statement}
+use Rattle.layout.specs.Region as Region
 
 mul-a : tie.Need-mul-a
 mul-a c = search needs
@@ -42,7 +44,9 @@ same-length c = search needs
 returns : tie.Need-returns
 unfolding segmentBytes
 returns c =
-    cleared-at (c .before .before .before .before .before .args .g) (c .before .before .before .before .before .args .mem .now) 6 (c .before .before .before .before .before .args .g .segments * 4178 + 1051) (c .before .before .before .before .before .args .g .segments * 4178 + 1051 + c .before .before .before .before .before .args .g .segments * 64) _ (c .before .before .zero .ensures) (omega arith) (c .before .before .before .before .before .pre .is) (omega arith)
+    let entry = c .before .before .before .before .before in
+    let g = entry .args .g in
+    cleared-at g (entry .args .mem .now) Region.marks (marksFrom g) (marksFrom g + len g Region.marks) _ (c .before .before .zero .ensures) (omega arith) (entry .pre .is) (omega arith)
 
 pub clear-marks-spec : {M : Type 1} → statement M
 clear-marks-spec =

@@ -1,9 +1,11 @@
 -- `layout::clear_mutators` meets its contract. Assumes nothing.
 use native.Mathlib.Omega.{arith}
 use borrow.Author.Needs.{needs}
+use Rattle.layout.specs.Geometry.{from}
 use Rattle.layout.proofs.Regions.{cleared-at}
 use Rattle.layout.proofs.clear_mutators.Tie as tie
 use Rattle.layout.proofs.clear_mutators.Statement.{statement}
+use Rattle.layout.specs.Region as Region
 
 sub-zero : tie.Need-sub-zero
 sub-zero c = search needs
@@ -22,7 +24,9 @@ same-length c = search needs
 
 returns : tie.Need-returns
 returns c =
-    cleared-at (c .before .before .before .before .before .args .g) (c .before .before .before .before .before .args .mem .now) 1 16 1040 _ (c .before .before .zero .ensures) (omega arith) (c .before .before .before .before .before .pre .is) (omega arith)
+    let entry = c .before .before .before .before .before in
+    let g = entry .args .g in
+    cleared-at g (entry .args .mem .now) Region.mutators (from g Region.mutators) (from g Region.heap) _ (c .before .before .zero .ensures) (omega arith) (entry .pre .is) (omega arith)
 
 pub clear-mutators-spec : {M : Type 1} → statement M
 clear-mutators-spec =

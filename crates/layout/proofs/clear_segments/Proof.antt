@@ -1,11 +1,13 @@
 -- `layout::clear_segments` meets its contract. Assumes nothing.
-use Prim.Native.Nat.{_+_, _*_}
+use Prim.Native.Nat.{_+_}
 use native.Mathlib.Omega.{arith}
 use borrow.Author.Needs.{needs}
-use Rattle.layout.specs.Geometry.{segmentBytes}
+use Rattle.layout.specs.Geometry.{segmentBytes, len}
 use Rattle.layout.proofs.Regions.{cleared-at}
+use Rattle.layout.proofs.Places.{segmentsFrom}
 use Rattle.layout.proofs.clear_segments.Tie as tie
 use Rattle.layout.proofs.clear_segments.Statement.{statement}
+use Rattle.layout.specs.Region as Region
 
 mul-a : tie.Need-mul-a
 mul-a c = search needs
@@ -42,7 +44,9 @@ same-length c = search needs
 returns : tie.Need-returns
 unfolding segmentBytes
 returns c =
-    cleared-at (c .before .before .before .before .before .args .g) (c .before .before .before .before .before .args .mem .now) 3 (c .before .before .before .before .before .args .g .segments * 4096 + 1040) (c .before .before .before .before .before .args .g .segments * 4096 + 1040 + c .before .before .before .before .before .args .g .segments * 4) _ (c .before .before .zero .ensures) (omega arith) (c .before .before .before .before .before .pre .is) (omega arith)
+    let entry = c .before .before .before .before .before in
+    let g = entry .args .g in
+    cleared-at g (entry .args .mem .now) Region.segments (segmentsFrom g) (segmentsFrom g + len g Region.segments) _ (c .before .before .zero .ensures) (omega arith) (entry .pre .is) (omega arith)
 
 pub clear-segments-spec : {M : Type 1} → statement M
 clear-segments-spec =

@@ -1,11 +1,13 @@
 -- `layout::clear_stacks` meets its contract. Assumes nothing.
-use Prim.Native.Nat.{_+_, _*_}
+use Prim.Native.Nat.{_+_}
 use native.Mathlib.Omega.{arith}
 use borrow.Author.Needs.{needs}
-use Rattle.layout.specs.Geometry.{segmentBytes}
+use Rattle.layout.specs.Geometry.{segmentBytes, len}
 use Rattle.layout.proofs.Regions.{cleared-at}
+use Rattle.layout.proofs.Places.{stacksFrom}
 use Rattle.layout.proofs.clear_stacks.Tie as tie
 use Rattle.layout.proofs.clear_stacks.Statement.{statement}
+use Rattle.layout.specs.Region as Region
 
 mul-a : tie.Need-mul-a
 mul-a c = search needs
@@ -45,7 +47,9 @@ same-length c = search needs
 returns : tie.Need-returns
 unfolding segmentBytes
 returns c =
-    cleared-at (c .before .before .before .before .before .args .g) (c .before .before .before .before .before .args .mem .now) 4 (c .before .before .before .before .before .args .g .segments * 4100 + 1040) (c .before .before .before .before .before .args .g .segments * 4100 + 1040 + (1 + c .before .before .before .before .before .args .g .segments) * 11) _ (c .before .before .zero .ensures) (omega arith) (c .before .before .before .before .before .pre .is) (omega arith)
+    let entry = c .before .before .before .before .before in
+    let g = entry .args .g in
+    cleared-at g (entry .args .mem .now) Region.stacks (stacksFrom g) (stacksFrom g + len g Region.stacks) _ (c .before .before .zero .ensures) (omega arith) (entry .pre .is) (omega arith)
 
 pub clear-stacks-spec : {M : Type 1} → statement M
 clear-stacks-spec =

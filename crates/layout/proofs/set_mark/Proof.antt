@@ -6,6 +6,7 @@ use Rattle.layout.specs.Mem.{setMarkWord}
 use Rattle.layout.proofs.Regions.{set-at}
 use Rattle.layout.proofs.set_mark.Tie as tie
 use Rattle.layout.proofs.set_mark.Statement.{statement}
+use Rattle.layout.specs.Region as Region
 
 mul-mem : tie.Need-mul-mem
 mul-mem c = search needs
@@ -28,7 +29,7 @@ same-length c = search needs
 
 returns : tie.Need-returns
 unfolding segmentBytes setMarkWord
-returns c = set-at _ _ 6 _ _ _ (omega arith)
+returns c = set-at _ _ Region.marks _ _ _ (omega arith)
 
 pub set-mark-spec : {M : Type 1} → statement M
 set-mark-spec =
