@@ -23,7 +23,7 @@ use Rattle.layout.specs.Mem.{Mem, Sizes, setMutator, setSegment, setStack, setH
 use Rattle.theory.specs.Phases.{inHandshake, duty}
 use Rattle.theory.specs.Calls.{Call, c-attach, c-detach, c-check, c-leave, c-enter, c-spawn, c-make, c-load, c-store, c-copy, c-clear, c-put, c-get, c-same, c-shape, Answer, refusal, refuse, unless, onRecord}
 use Rattle.theory.proofs.Refusals.{by-ok, root-ok}
-use Rattle.model.specs.Fields.{phase, acks, root, holding, tag, class, place, owner}
+use Rattle.model.specs.Fields.{phase, acks, root, holding, tag, class, place}
 use Rattle.model.specs.Segments.{setSegmentState, freeStack, partStack, count, top, pop, bitmap, usedBit}
 use Rattle.model.specs.Records.{record?, pointer}
 use Rattle.model.specs.Tracing.{barrier}
@@ -33,7 +33,7 @@ use Rattle.model.specs.Calls.{isAttached, observe, ofClass, act, exec}
 use Rattle.model.specs.Consistent.{Consistent, StackOk, isPart}
 use Rattle.refine_view.specs.Kept.{Ordered}
 use Rattle.refine_view.proofs.Invariants.{consistent-ordered}
-use Rattle.laws.proofs.Words.{Recorded, recorded-as}
+use Rattle.laws.proofs.Words.{Recorded, Untouched, untouched-as}
 use Rattle.laws.proofs.Segments.{used-same}
 use Rattle.laws.proofs.Bitmaps.{bitmap-by}
 use Rattle.laws.proofs.Windows.{window-other}
@@ -121,7 +121,7 @@ module _ (g : Geometry) (m : Mem) (s : Sizes g m) (c : Ordered g m) (k d cl p n 
     grows-part i u = go (same-or-not i x)
       where
         stack : StackOk g m (partStack cl) (isPart m cl)
-        stack = c .partSegments cl (class-found (p + n) cl e)
+        stack = c .summed .partSegments cl (class-found (p + n) cl e)
 
         there : Recorded withPart x 2 cl (place m x) k
         there = takes-there g m s (partStack cl * (1 + g .segments)) (count g m (partStack cl) - 1) k cl x (place m x) (top-part g m cl stack some .0)
@@ -144,18 +144,18 @@ module _ (g : Geometry) (m : Mem) (s : Sizes g m) (c : Ordered g m) (k d cl p n 
     unfolding setMutator setSegmentState setSegment setStack setRun
     free-bitmap i f =
         let ic = class-found (p + n) cl e in
-        let below = top-free g m (c .freeSegments) some .0 in
+        let below = top-free g m (c .summed .freeSegments) some .0 in
         window-other (bitmapWords g) y i (clean g m s y below cl ic) (m .bitmaps) (long-clean g m s y below cl ic) f
 
-    free-other : (i : ℕ) → (i ≡ y → ⊥) → Recorded withFree i (tag m i) (class m i) (place m i) (owner m i)
+    free-other : (i : ℕ) → (i ≡ y → ⊥) → Untouched m withFree i
     unfolding setRun
-    free-other i f = recorded-as (takes g (pop g m freeStack) k cl y 0) withFree i (tag m i) (class m i) (place m i) (owner m i) refl (takes-other g m s (freeStack * (1 + g .segments)) (count g m freeStack - 1) k cl y 0 i f)
+    free-other i f = untouched-as refl (takes-other g m s (freeStack * (1 + g .segments)) (count g m freeStack - 1) k cl y 0 i f)
 
     grows-free : Grows g m withFree
     grows-free i u = go (same-or-not i y)
       where
         go : (i ≡ y) ⊎ (i ≡ y → ⊥) → Stands g m withFree i
-        go (inl q) = absurd (u (ap (tag m) q ∙ free-tag g m (c .freeSegments) some))
+        go (inl q) = absurd (u (ap (tag m) q ∙ free-tag g m (c .summed .freeSegments) some))
         go (inr f) = let o = free-other i f in stands-by g m withFree i (λ z. u (sym (o .tag) ∙ z)) (o .class) (o .place) (free-bitmap i f)
 
   grows-source : Grows g m (fromSource g m k d cl (ofCounts p n) (sourceOf g m k cl) .1)

@@ -10,9 +10,9 @@ use Rattle.classes.specs.Class.{firstClass, IsClass}
 use Rattle.layout.specs.declared.Geometry.{Geometry}
 use Rattle.layout.specs.Geometry.{mutatorCount, mutatorWords, entryWords, rootCount}
 use Rattle.layout.specs.Mem.{Mem, mutatorWord, setMutator, Sizes, spliced}
-use Rattle.model.specs.Fields.{absent, stateAt, acksAt, heldFrom, state, acks, root, holding, setHolding, tag, class, place, owner}
+use Rattle.model.specs.Fields.{absent, stateAt, acksAt, heldFrom, state, acks, root, holding, setHolding, tag, class, owner}
 use Rattle.model.specs.Consistent.{MutatorOk}
-use Rattle.laws.proofs.Words.{Recorded, mutator-there, mutator-other}
+use Rattle.laws.proofs.Words.{Untouched, mutator-there, mutator-other}
 use Rattle.laws.proofs.Windows.{spliced-in, spliced-out}
 use Rattle.model.specs.Tag as Tag
 
@@ -117,7 +117,7 @@ module _ (g : Geometry) (m : Mem) (s : Sizes g m) (ok : (j : ℕ) → j < mutato
 module _ (g : Geometry) (m m₁ : Mem) (ok : (j : ℕ) → j < mutatorCount → MutatorOk g m j) (k cl : ℕ) (states : (j : ℕ) → state m₁ j ≡ state m j) (answers : (j : ℕ) → acks m₁ j ≡ acks m j)
     (absents : (j : ℕ) → state m j ≡ absent → (i : ℕ) → i < entryWords → mutatorWord m₁ (j * mutatorWords + i) ≡ mutatorWord m (j * mutatorWords + i))
     (tables : (j c : ℕ) → IsClass c → (j ≡ k → c ≡ cl → ⊥) → holding m₁ j c ≡ holding m j c)
-    (kept : (j c q : ℕ) → (j ≡ k → c ≡ cl → ⊥) → tag m q ≡ Tag.held → class m q ≡ c → owner m q ≡ j → Recorded m₁ q (tag m q) (class m q) (place m q) (owner m q))
+    (kept : (j c q : ℕ) → (j ≡ k → c ≡ cl → ⊥) → tag m q ≡ Tag.held → class m q ≡ c → owner m q ≡ j → Untouched m m₁ q)
     (new : (q : ℕ) → holding m₁ k cl ≡ suc q → (q < g .segments) × (tag m₁ q ≡ Tag.held) × (class m₁ q ≡ cl) × (owner m₁ q ≡ k)) where
   pub mutators-table : (j : ℕ) → j < mutatorCount → MutatorOk g m₁ j
   mutators-table j l = record {

@@ -7,11 +7,11 @@ use native.Mathlib.Omega.{arith}
 use Rattle.rules.proofs.Order.{same-or-not}
 use Rattle.layout.specs.declared.Geometry.{Geometry}
 use Rattle.layout.specs.Mem.{Mem, Sizes}
-use Rattle.model.specs.Fields.{tag, class, place, owner}
+use Rattle.model.specs.Fields.{tag, class}
 use Rattle.model.specs.Segments.{freeStack, partStack, stacked}
 use Rattle.classes.specs.Class.{IsClass}
 use Rattle.model.specs.Consistent.{StackOk, isFree, isPart}
-use Rattle.laws.proofs.Words.{Recorded}
+use Rattle.laws.proofs.Words.{Untouched}
 use Rattle.laws.proofs.Stacks.{push-ok}
 use Rattle.laws.proofs.OtherStacks.{part-few, part-apart, stack-by, push-left}
 use Rattle.laws.proofs.Segments.{is-part, not-part, part-other, free-left, part-left}
@@ -22,7 +22,7 @@ Stacks g m = StackOk g m freeStack (isFree m) × ((d : ℕ) → IsClass d → St
 
 -- m before, m₁ with the segment's state set, m₂ with the segment on its stack
 module _ (g : Geometry) (m m₁ : Mem) (s : Sizes g m₁) (same : m₁ .stacks ≡ m .stacks) (d r : ℕ) (k : IsClass d) (l : r < g .segments) (busy : Tag.held ≤ tag m r)
-    (other : (i : ℕ) → (i ≡ r → ⊥) → Recorded (stacked g m₁ (partStack d) r) i (tag m i) (class m i) (place m i) (owner m i))
+    (other : (i : ℕ) → (i ≡ r → ⊥) → Untouched m (stacked g m₁ (partStack d) r) i)
     (t : tag (stacked g m₁ (partStack d) r) r ≡ Tag.part) (c : class (stacked g m₁ (partStack d) r) r ≡ d) (o : Stacks g m) where
   abbrev m₂ : Mem
   m₂ = stacked g m₁ (partStack d) r

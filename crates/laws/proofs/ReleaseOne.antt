@@ -17,7 +17,7 @@ use Rattle.model.specs.Fields.{holding, tag, class, place, owner}
 use Rattle.model.specs.Segments.{setSegmentState, partStack, count, stacked}
 use Rattle.model.specs.Mutators.{releasedOne}
 use Rattle.model.specs.Consistent.{isPart}
-use Rattle.laws.proofs.Words.{Recorded, recorded-as, recorded-by, state-there, state-other}
+use Rattle.laws.proofs.Words.{Recorded, Untouched, untouched-then, untouched-as, recorded-by, recorded-as, state-there, state-other}
 use Rattle.laws.proofs.Stacks.{stack-room}
 use Rattle.laws.proofs.Segments.{not-part}
 use Rattle.laws.proofs.Parted.{Stacks, parted}
@@ -35,7 +35,7 @@ module _ (g : Geometry) (m : Mem) (s : Sizes g m) (c : Releasable g m) (k : ℕ)
   pub held-before : (r < g .segments) × (tag m r ≡ Tag.held) × (class m r ≡ d) × (owner m r ≡ k)
   held-before = c .mutators k few .holds d r is-class e
 
-  still : Recorded m′ r (tag m r) (class m r) (place m r) (owner m r)
+  still : Untouched m m′ r
   still = h .stay r (λ z. let l : class m r < firstClass + n = z .2 in let y = held-before .2 in omega arith)
 
   abbrev m₁ : Mem
@@ -70,21 +70,20 @@ module _ (g : Geometry) (m : Mem) (s : Sizes g m) (c : Releasable g m) (k : ℕ)
   there : Recorded m₂ r Tag.part d (place m′ r) 0
   there = let z = h .sizes .segments in let l = held-before .0 in recorded-as m₁ m₂ r Tag.part d (place m′ r) 0 segments-as (state-there g m′ r (Part d (place m′ r)) (omega arith))
 
-  other : (q : ℕ) → (q ≡ r → ⊥) → Recorded m₂ q (tag m′ q) (class m′ q) (place m′ q) (owner m′ q)
-  other q f = recorded-as m₁ m₂ q (tag m′ q) (class m′ q) (place m′ q) (owner m′ q) segments-as (state-other g m′ r (Part d (place m′ r)) q f)
-
-  through : (q t x p o : ℕ) → (q ≡ r → ⊥) → Recorded m′ q t x p o → Recorded m₂ q t x p o
-  through q t x p o f z = recorded-by m′ m₂ q t x p o z (other q f)
+  other : (q : ℕ) → (q ≡ r → ⊥) → Untouched m′ m₂ q
+  other q f = untouched-as segments-as (state-other g m′ r (Part d (place m′ r)) q f)
 
   gone₂ : (q : ℕ) → Gone m k (suc n) q → Recorded m₂ q Tag.part (class m q) (place m q) 0
   gone₂ q z = go (same-or-not q r)
     where
       go : (q ≡ r) ⊎ (q ≡ r → ⊥) → Recorded m₂ q Tag.part (class m q) (place m q) 0
       go (inl x) = subst (λ w. Recorded m₂ w Tag.part (class m w) (place m w) 0) (sym x) (record { tag = there .tag; class = there .class ∙ sym (held-before .2); place = there .place ∙ still .place; owner = there .owner })
-      go (inr f) = through q Tag.part (class m q) (place m q) 0 f (h .gone q (gone-other g m s c k n q z (λ y. f (let w : suc q ≡ suc r = sym y ∙ e in omega arith))))
+      go (inr f) = recorded-by m′ m₂ q _ _ _ _ (h .gone q (gone-other g m s c k n q z (λ y. f (let w : suc q ≡ suc r = sym y ∙ e in omega arith)))) (other q f)
 
-  stay₂ : (q : ℕ) → (Gone m k (suc n) q → ⊥) → Recorded m₂ q (tag m q) (class m q) (place m q) (owner m q)
-  stay₂ q f = through q (tag m q) (class m q) (place m q) (owner m q) (λ x. f (subst (Gone m k (suc n)) (sym x) (held-before .1, held-before .3, let y = held-before .2 in omega arith))) (h .stay q (λ z. f (gone-less g m s c k n q z)))
+  stay₂ : (q : ℕ) → (Gone m k (suc n) q → ⊥) → Untouched m m₂ q
+  stay₂ q f =
+      let apart : q ≡ r → ⊥ = λ x. f (subst (Gone m k (suc n)) (sym x) (held-before .1, held-before .3, let y = held-before .2 in omega arith)) in
+      untouched-then (h .stay q (λ z. f (gone-less g m s c k n q z))) (other q apart)
 
   -- ---- the stacks
 

@@ -6,13 +6,13 @@ use mathlib.Core.List.{List}
 use Prim.Native.Nat.{ℕ, suc, _+_, _≤_, _<_}
 use native.Mathlib.Omega.{arith}
 use Rattle.rules.proofs.Order.{same-or-not, le-or-lt}
-use Rattle.classes.specs.Class.{firstClass, IsClass}
+use Rattle.classes.specs.Class.{firstClass}
 use Rattle.layout.specs.declared.Geometry.{Geometry}
 use Rattle.layout.specs.Geometry.{mutatorCount}
 use Rattle.layout.specs.Mem.{Mem, Sizes}
 use Rattle.model.specs.Fields.{holding, tag, class, place, owner}
 use Rattle.model.specs.Consistent.{SegmentOk, MutatorOk}
-use Rattle.laws.proofs.Words.{Recorded}
+use Rattle.laws.proofs.Words.{Recorded, Untouched, untouched-same}
 use Rattle.words.proofs.Counts.{lt-of}
 use Rattle.laws.proofs.Segments.{in-range}
 use Rattle.laws.proofs.Parted.{Stacks}
@@ -45,7 +45,7 @@ pub record Releasing (g : Geometry) (m m′ : Mem) (k n : ℕ) : Type 0 where
   pub sizes : Sizes g m′
   pub frame : m′ ≡ withRecords m (m′ .segments) (m′ .stacks)
   pub gone : (q : ℕ) → Gone m k n q → Recorded m′ q Tag.part (class m q) (place m q) 0
-  pub stay : (q : ℕ) → (Gone m k n q → ⊥) → Recorded m′ q (tag m q) (class m q) (place m q) (owner m q)
+  pub stay : (q : ℕ) → (Gone m k n q → ⊥) → Untouched m m′ q
   pub stacks : Stacks g m′
 
 module _ (g : Geometry) (m : Mem) (s : Sizes g m) (c : Releasable g m) where
@@ -72,7 +72,7 @@ module _ (g : Geometry) (m : Mem) (s : Sizes g m) (c : Releasable g m) where
     sizes = s;
     frame = refl;
     gone = λ q z. let a = c .segments q (held-range q (z .0)) .classes (λ e. let y = z .0 in omega arith) .0 in let l : class m q < firstClass + 0 = z .2 in absurd (omega arith);
-    stay = λ q f. record { tag = refl; class = refl; place = refl; owner = refl };
+    stay = λ q f. untouched-same m m q refl;
     stacks = c .stacks;
   }
 

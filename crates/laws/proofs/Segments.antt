@@ -21,7 +21,7 @@ use Rattle.model.specs.Segments.{above, bitmap, usedBit, inUse}
 use Rattle.classes.specs.Class.{IsClass}
 use Rattle.model.specs.Consistent.{SegmentOk, Occupied, TreeOk, isFree, isPart}
 use Rattle.laws.proofs.Bools.{and-both}
-use Rattle.laws.proofs.Words.{Recorded}
+use Rattle.laws.proofs.Words.{Recorded, Untouched, untouched-state}
 use Rattle.model.specs.Tag as Tag
 
 -- only a segment of the memory has a tag that is not 0
@@ -46,23 +46,32 @@ in-use-le g m s = go (eqb (tag m s) Tag.free)
     go true = omega arith
     go false = among-le (usedBit g m s) (used-small g m s) (blocksIn g (class m s))
 
--- a segment whose record and bitmap stay is in order as before, once its mutator still holds it
-pub segment-same : (g : Geometry) (m m₁ : Mem) (q : ℕ) → SegmentOk g m q → Recorded m₁ q (tag m q) (class m q) (place m q) (owner m q) → bitmap g m₁ q ≡ bitmap g m q
-    → (tag m q ≡ Tag.held → (state m₁ (owner m q) ≡ absent → ⊥) × (holding m₁ (owner m q) (class m q) ≡ suc q)) → SegmentOk g m₁ q
-segment-same g m m₁ q o x e h = record {
+-- if it was held, its mutator is attached and holds it
+abbrev StaysHeld : Mem → Mem → ℕ → Type 0
+StaysHeld m m₁ q = tag m q ≡ Tag.held → (state m₁ (owner m q) ≡ absent → ⊥) × (holding m₁ (owner m q) (class m q) ≡ suc q)
+
+-- a segment is in order by its state and its blocks' bits: where these stay it is so as before, once its mutator still holds it
+pub segment-by : (g : Geometry) (m m₁ : Mem) (q : ℕ) → SegmentOk g m q → Recorded m₁ q (tag m q) (class m q) (place m q) (owner m q)
+    → ((b : ℕ) → (tag m q ≡ Tag.free → ⊥) → b < blocksIn g (class m q) → bitAt (bitmap g m₁ q) b ≡ bitAt (bitmap g m q) b) → StaysHeld m m₁ q → SegmentOk g m₁ q
+segment-by g m m₁ q o x e h = record {
   tags = let y = x .tag in let z = o .tags in omega arith;
   free = λ f. let y = o .free (sym (x .tag) ∙ f) in (x .class ∙ y .0, x .place ∙ y .1, x .owner ∙ y .2);
   unowned = λ f. x .owner ∙ o .unowned (λ y. f (x .tag ∙ y));
   classes = λ f. subst IsClass (sym (x .class)) (o .classes (λ y. f (x .tag ∙ y)));
-  remains = λ a b. let y = x .tag in remain (o .remains (omega arith) (omega arith));
+  remains = λ a b. let y = x .tag in remain (λ z. omega arith) (o .remains (omega arith) (omega arith));
   full = λ a. x .place ∙ o .full (sym (x .tag) ∙ a) ∙ ap (blocksIn g) (sym (x .class));
   condemned = λ a. x .place ∙ o .condemned (sym (x .tag) ∙ a) ∙ ap (blocksIn g) (sym (x .class));
   held = λ f. let y : tag m q ≡ Tag.held = sym (x .tag) ∙ f in
       (subst (λ z. z < mutatorCount) (sym (x .owner)) (o .held y .0), λ z. h y .0 (ap (state m₁) (sym (x .owner)) ∙ z), ap (λ z. holding m₁ z (class m₁ q)) (x .owner) ∙ ap (holding m₁ (owner m q)) (x .class) ∙ h y .1);
 }
   where
-    remain : (b : ℕ) × (place m q ≤ b) × (b < blocksIn g (class m q)) × (bitAt (bitmap g m q) b ≡ 0) → (b : ℕ) × (place m₁ q ≤ b) × (b < blocksIn g (class m₁ q)) × (bitAt (bitmap g m₁ q) b ≡ 0)
-    remain (b, l, k, z) = (b, subst (λ w. w ≤ b) (sym (x .place)) l, subst (λ w. b < blocksIn g w) (sym (x .class)) k, ap (λ w. bitAt w b) e ∙ z)
+    remain : (tag m q ≡ Tag.free → ⊥) → (b : ℕ) × (place m q ≤ b) × (b < blocksIn g (class m q)) × (bitAt (bitmap g m q) b ≡ 0)
+        → (b : ℕ) × (place m₁ q ≤ b) × (b < blocksIn g (class m₁ q)) × (bitAt (bitmap g m₁ q) b ≡ 0)
+    remain u (b, l, k, z) = (b, subst (λ w. w ≤ b) (sym (x .place)) l, subst (λ w. b < blocksIn g w) (sym (x .class)) k, e b u k ∙ z)
+
+-- a segment whose record and bitmap stay is in order as before, once its mutator still holds it
+pub segment-same : (g : Geometry) (m m₁ : Mem) (q : ℕ) → SegmentOk g m q → Untouched m m₁ q → bitmap g m₁ q ≡ bitmap g m q → StaysHeld m m₁ q → SegmentOk g m₁ q
+segment-same g m m₁ q o x e h = segment-by g m m₁ q o (untouched-state x) (λ b u l. ap (λ w. bitAt w b) e) h
 
 -- a segment whose class and bitmap stay, and that is free if it was, keeps its bitmap's tree
 pub tree-same : (g : Geometry) (m m₁ : Mem) (q : ℕ) → TreeOk g m q → (tag m q ≡ Tag.free → tag m₁ q ≡ Tag.free) → class m₁ q ≡ class m q → bitmap g m₁ q ≡ bitmap g m q → TreeOk g m₁ q
@@ -73,7 +82,7 @@ pub occupied-same : (g : Geometry) (m m₁ : Mem) (q : ℕ) → Occupied g m q �
 occupied-same g m m₁ q o t c p e l h = let y = t l h in let b = o (y .0) (y .1) in (b .0, subst (λ z. b .0 < blocksIn g z) (sym c) (b .1), used-same g m m₁ q (b .0) p e ∙ b .2)
 
 -- a segment whose record and bitmap stay has a block in use as before
-pub occupied-by : (g : Geometry) (m m₁ : Mem) (q : ℕ) → Occupied g m q → Recorded m₁ q (tag m q) (class m q) (place m q) (owner m q) → bitmap g m₁ q ≡ bitmap g m q → Occupied g m₁ q
+pub occupied-by : (g : Geometry) (m m₁ : Mem) (q : ℕ) → Occupied g m q → Untouched m m₁ q → bitmap g m₁ q ≡ bitmap g m q → Occupied g m₁ q
 occupied-by g m m₁ q o x e = let y = x .tag in occupied-same g m m₁ q o (λ l h. (omega arith, omega arith)) (x .class) (x .place) e
 
 -- ---- free and part
@@ -94,7 +103,7 @@ not-part m d r f = go (same-or-not (tag m r) 1)
 pub part-same : (m m′ : Mem) (d i : ℕ) → eqb (tag m′ i) Tag.part ≡ eqb (tag m i) Tag.part → class m′ i ≡ class m i → isPart m′ d i ≡ isPart m d i
 part-same m m′ d i t c = ap (λ z. z && eqb (class m′ i) d) t ∙ ap (λ z. eqb (tag m i) Tag.part && eqb z d) c
 
-module _ (m m′ : Mem) (r : ℕ) (other : (i : ℕ) → (i ≡ r → ⊥) → Recorded m′ i (tag m i) (class m i) (place m i) (owner m i)) where
+module _ (m m′ : Mem) (r : ℕ) (other : (i : ℕ) → (i ≡ r → ⊥) → Untouched m m′ i) where
   pub free-other : (i : ℕ) → (i ≡ r → ⊥) → isFree m′ i ≡ isFree m i
   free-other i n = ap (λ z. eqb z 0) (other i n .tag)
 

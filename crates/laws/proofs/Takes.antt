@@ -9,10 +9,10 @@ use Rattle.layout.specs.declared.Geometry.{Geometry}
 use Rattle.layout.specs.Geometry.{mutatorCount, mutatorWords}
 use Rattle.layout.specs.Mem.{Mem, mutatorWord, setMutator, setSegment, setStack, Sizes}
 use Rattle.model.specs.declared.SegmentState.the-variants.{Held}
-use Rattle.model.specs.Fields.{holding, heldFrom, tag, class, place, owner}
+use Rattle.model.specs.Fields.{holding, heldFrom}
 use Rattle.model.specs.Segments.{setSegmentState}
 use Rattle.model.specs.Making.{takes}
-use Rattle.laws.proofs.Words.{Recorded, recorded-as, state-there, state-other}
+use Rattle.laws.proofs.Words.{Recorded, Untouched, untouched-same, untouched-then, untouched-as, recorded-as, state-there, state-other}
 use Rattle.laws.proofs.Entries.{table-there, table-other}
 use Rattle.laws.proofs.Lengths.{sizes-stack, sizes-state, sizes-mutator}
 
@@ -39,9 +39,9 @@ module _ (g : Geometry) (m : Mem) (s : Sizes g m) (n v k cl r p : ℕ) where
   pub takes-there : r < g .segments → Recorded after r 2 cl p k
   takes-there l = let z = sizes-stack g m s n v .segments in recorded-as noted after r 2 cl p k segments-as (state-there g popped r (Held cl p k) (omega arith))
 
-  pub takes-other : (q : ℕ) → (q ≡ r → ⊥) → Recorded after q (tag m q) (class m q) (place m q) (owner m q)
+  pub takes-other : (q : ℕ) → (q ≡ r → ⊥) → Untouched m after q
   unfolding setStack
-  takes-other q f = recorded-as noted after q (tag m q) (class m q) (place m q) (owner m q) segments-as (state-other g popped r (Held cl p k) q f)
+  takes-other q f = untouched-as segments-as (untouched-then (untouched-same m popped q refl) (state-other g popped r (Held cl p k) q f))
 
   mutators-as : noted .mutators ≡ m .mutators
   unfolding setStack setSegmentState setSegment

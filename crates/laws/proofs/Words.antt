@@ -27,21 +27,53 @@ module _ (g : Geometry) (m : Mem) (s : Sizes g m) (k o v : ℕ) (l : k < mutator
 
 -- ---- segments' records
 
+-- the words of a segment's state
 pub record Recorded (m : Mem) (s t c p k : ℕ) : Type 0 where
   pub tag : tag m s ≡ t
   pub class : class m s ≡ c
   pub place : place m s ≡ p
   pub owner : owner m s ≡ k
 
--- it is read from the segments' records only
-pub recorded-as : (m m′ : Mem) (q t c p k : ℕ) → m′ .segments ≡ m .segments → Recorded m q t c p k → Recorded m′ q t c p k
-recorded-as m m′ q t c p k e x =
-    let w : (i : ℕ) → segmentRecordWord m′ i ≡ segmentRecordWord m i = λ i. ap (λ l. getD l i 0) e in
-    record { tag = w _ ∙ x .tag; class = w _ ∙ x .class; place = w _ ∙ x .place; owner = w _ ∙ x .owner }
+-- a segment's record stays, but for its tag, which is t
+pub record Retagged (m m′ : Mem) (s t : ℕ) : Type 0 where
+  pub tag : tag m′ s ≡ t
+  pub class : class m′ s ≡ class m s
+  pub place : place m′ s ≡ place m s
+  pub owner : owner m′ s ≡ owner m s
 
--- a record with the words of another's
-pub recorded-by : (m m′ : Mem) (x t c p k : ℕ) → Recorded m x t c p k → Recorded m′ x (tag m x) (class m x) (place m x) (owner m x) → Recorded m′ x t c p k
+-- a segment's record stays
+abbrev pub Untouched : Mem → Mem → ℕ → Type 0
+Untouched m m′ s = Retagged m m′ s (tag m s)
+
+-- it is read from the segments' records only
+pub untouched-same : (m m′ : Mem) (s : ℕ) → m′ .segments ≡ m .segments → Untouched m m′ s
+untouched-same m m′ s e =
+    let w : (i : ℕ) → segmentRecordWord m′ i ≡ segmentRecordWord m i = λ i. ap (λ l. getD l i 0) e in
+    record { tag = w _; class = w _; place = w _; owner = w _ }
+
+-- one change after another
+pub retagged-then : {m m₁ m₂ : Mem} {s t u : ℕ} → Retagged m m₁ s t → Retagged m₁ m₂ s u → Retagged m m₂ s u
+retagged-then r q = record { tag = q .tag; class = q .class ∙ r .class; place = q .place ∙ r .place; owner = q .owner ∙ r .owner }
+
+pub retagged-to : {m m′ : Mem} {s t u : ℕ} → Retagged m m′ s t → t ≡ u → Retagged m m′ s u
+retagged-to r e = record { tag = r .tag ∙ e; class = r .class; place = r .place; owner = r .owner }
+
+pub untouched-then : {m m₁ m₂ : Mem} {s t : ℕ} → Retagged m m₁ s t → Untouched m₁ m₂ s → Retagged m m₂ s t
+untouched-then r q = retagged-to (retagged-then r q) (r .tag)
+
+pub untouched-as : {m m₁ m₂ : Mem} {s t : ℕ} → m₂ .segments ≡ m₁ .segments → Retagged m m₁ s t → Retagged m m₂ s t
+untouched-as e r = untouched-then r (untouched-same _ _ _ e)
+
+-- the state of a segment whose record stays
+pub recorded-by : (m m′ : Mem) (x t c p k : ℕ) → Recorded m x t c p k → Untouched m m′ x → Recorded m′ x t c p k
 recorded-by m m′ x t c p k r q = record { tag = q .tag ∙ r .tag; class = q .class ∙ r .class; place = q .place ∙ r .place; owner = q .owner ∙ r .owner }
+
+pub recorded-as : (m m′ : Mem) (q t c p k : ℕ) → m′ .segments ≡ m .segments → Recorded m q t c p k → Recorded m′ q t c p k
+recorded-as m m′ q t c p k e x = recorded-by m m′ q t c p k x (untouched-same m m′ q e)
+
+-- the words of its state are those from before
+pub untouched-state : {m m′ : Mem} {s : ℕ} → Untouched m m′ s → Recorded m′ s (tag m s) (class m s) (place m s) (owner m s)
+untouched-state q = record { tag = q .tag; class = q .class; place = q .place; owner = q .owner }
 
 segment-word-there : (m : Mem) (i v : ℕ) → i < length (m .segments) → segmentRecordWord (setSegment m i v) i ≡ v
 unfolding setSegment
@@ -80,14 +112,14 @@ module _ (m : Mem) (s t c p k : ℕ) where
   word-far : (j : ℕ) → (j / segmentRecordWords ≡ s → ⊥) → segmentRecordWord (setRecord m s t c p k) j ≡ segmentRecordWord m j
   word-far j f = segment-word-other m₃ _ k j (λ e. f (omega arith)) ∙ segment-word-other m₂ _ p j (λ e. f (omega arith)) ∙ segment-word-other m₁ _ c j (λ e. f (omega arith)) ∙ segment-word-other m _ t j (λ e. f (omega arith))
 
-  pub record-other : (r : ℕ) → (r ≡ s → ⊥) → Recorded (setRecord m s t c p k) r (tag m r) (class m r) (place m r) (owner m r)
+  pub record-other : (r : ℕ) → (r ≡ s → ⊥) → Untouched m (setRecord m s t c p k) r
   record-other r f = record { tag = word-far _ (λ e. f (omega arith)); class = word-far _ (λ e. f (omega arith)); place = word-far _ (λ e. f (omega arith)); owner = word-far _ (λ e. f (omega arith)) }
 
 -- the tag alone: the rest of the record stays, and other records
-pub tag-there : (m : Mem) (s t : ℕ) → s * segmentRecordWords + tagAt < length (m .segments) → Recorded (setTag m s t) s t (class m s) (place m s) (owner m s)
+pub tag-there : (m : Mem) (s t : ℕ) → s * segmentRecordWords + tagAt < length (m .segments) → Retagged m (setTag m s t) s t
 tag-there m s t h = record { tag = segment-word-there m _ t h; class = segment-word-other m _ t _ (λ e. omega arith); place = segment-word-other m _ t _ (λ e. omega arith); owner = segment-word-other m _ t _ (λ e. omega arith) }
 
-pub tag-other : (m : Mem) (s t r : ℕ) → (r ≡ s → ⊥) → Recorded (setTag m s t) r (tag m r) (class m r) (place m r) (owner m r)
+pub tag-other : (m : Mem) (s t r : ℕ) → (r ≡ s → ⊥) → Untouched m (setTag m s t) r
 tag-other m s t r f = record { tag = segment-word-other m _ t _ (λ e. f (omega arith)); class = segment-word-other m _ t _ (λ e. omega arith); place = segment-word-other m _ t _ (λ e. omega arith); owner = segment-word-other m _ t _ (λ e. omega arith) }
 
 -- the words of a state
@@ -131,7 +163,7 @@ state-is g m s (state.Condemned c) = refl
 pub state-there : (g : Geometry) (m : Mem) (s : ℕ) (x : SegmentState) → s * segmentRecordWords + ownerAt < length (m .segments) → Recorded (setSegmentState g m s x) s (tagOf x) (classIn x) (placeIn g x) (ownerIn x)
 state-there g m s x h = rw (state-is g m s x) (record-there m s (tagOf x) (classIn x) (placeIn g x) (ownerIn x) h)
 
-pub state-other : (g : Geometry) (m : Mem) (s : ℕ) (x : SegmentState) (r : ℕ) → (r ≡ s → ⊥) → Recorded (setSegmentState g m s x) r (tag m r) (class m r) (place m r) (owner m r)
+pub state-other : (g : Geometry) (m : Mem) (s : ℕ) (x : SegmentState) (r : ℕ) → (r ≡ s → ⊥) → Untouched m (setSegmentState g m s x) r
 state-other g m s x r f = rw (state-is g m s x) (record-other m s (tagOf x) (classIn x) (placeIn g x) (ownerIn x) r f)
 
 -- the other regions stay

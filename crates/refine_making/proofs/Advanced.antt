@@ -18,7 +18,7 @@ use Rattle.model.specs.declared.SegmentState.the-variants.{Held, Full}
 use Rattle.model.specs.Fields.{heldFrom, setHolding, ownerAt}
 use Rattle.model.specs.Segments.{setSegmentState, bitmap, free}
 use Rattle.model.specs.Making.{advanced}
-use Rattle.laws.proofs.Words.{recorded-as, state-others, state-there, state-other}
+use Rattle.laws.proofs.Words.{untouched-as, recorded-as, state-others, state-there, state-other}
 use Rattle.laws.proofs.Entries.{table-there, table-other}
 use Rattle.laws.proofs.Lengths.{sizes-state, sizes-mutator}
 use Rattle.refine_making.proofs.Request.{Request}
@@ -68,7 +68,7 @@ module _ (g : Geometry) (m : Mem) (s : Sizes g m) (k d cl r b : ℕ) (shape : Re
         trace = f .trace;
         heap = f .heap;
         words = λ j o h x. table-other g full s₁ k cl 0 (q .few) (q .isClass) j o h x ∙ ap (λ (ws : List ℕ). getD ws (j * mutatorWords + o) 0) (f .mutators);
-        others = λ x h. recorded-as full (setHolding full k cl 0) _ _ _ _ _ refl (state-other g m r (Full cl) x h);
+        others = λ x h. untouched-as refl (state-other g m r (Full cl) x h);
         segment = inr (record { recorded = recorded-as full (setHolding full k cl 0) _ _ _ _ _ refl (state-there g m r (Full cl) room); held = table-there g full s₁ k cl 0 (q .few) (q .isClass) });
       }
 

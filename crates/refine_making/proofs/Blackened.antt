@@ -15,12 +15,12 @@ use Rattle.layout.specs.declared.Geometry.{Geometry}
 use Rattle.layout.specs.Geometry.{mutatorWords, markBit}
 use Rattle.layout.specs.Mem.{Mem, setMutator, setHeap, setRun, Sizes}
 use Rattle.theory.specs.Phases.{black}
-use Rattle.model.specs.Fields.{phase, heldFrom, acks, setRoot, tag, class, place, owner}
+use Rattle.model.specs.Fields.{phase, heldFrom, acks, setRoot}
 use Rattle.model.specs.Records.{headerOf, written, setEntered}
 use Rattle.model.specs.Making.{blackened, handedOut}
 use Rattle.layout.proofs.Sizes.{marks-are, marks-words}
 use Rattle.classes.proofs.Filling.{two-words}
-use Rattle.laws.proofs.Words.{Recorded, recorded-as}
+use Rattle.laws.proofs.Words.{Recorded, Untouched, untouched-as, recorded-as}
 use Rattle.laws.proofs.Blocks.{header-inside}
 use Rattle.refine_view.proofs.Frames.{beside}
 use Rattle.laws.proofs.Lengths.{sizes-mutator, sizes-heap, sizes-heap-run, sizes-entered}
@@ -59,8 +59,8 @@ module _ (g : Geometry) (m : Mem) (k d cl r b : ℕ) (shape : RecordShape) (q : 
     record-on : {x t c a o : ℕ} → Recorded m₁ x t c a o → Recorded m₄ x t c a o
     record-on z = recorded-as m₁ m₄ _ _ _ _ _ same z
 
-    others-on : (x : ℕ) → (x ≡ r → ⊥) → Recorded m₄ x (tag m x) (class m x) (place m x) (owner m x)
-    others-on x f = record-on (v .others x f)
+    others-on : (x : ℕ) → (x ≡ r → ⊥) → Untouched m m₄ x
+    others-on x f = untouched-as same (v .others x f)
 
     segment-on : StillHeld g m m₄ k cl r b ⊎ NowFull g m₄ k cl r
     segment-on = go (v .segment)

@@ -11,10 +11,10 @@ use Rattle.layout.specs.declared.Geometry.{Geometry}
 use Rattle.layout.specs.Geometry.{mutatorWords, blocksIn, markBit}
 use Rattle.layout.specs.Mem.{Mem, mutatorWord, heapWord, Sizes}
 use Rattle.theory.specs.Phases.{black}
-use Rattle.model.specs.Fields.{phase, heldFrom, acks, root, holding, tag, class, place, owner}
+use Rattle.model.specs.Fields.{phase, heldFrom, acks, root, holding}
 use Rattle.model.specs.Segments.{bitmap}
 use Rattle.model.specs.Records.{headerOf, headerWord, entered}
-use Rattle.laws.proofs.Words.{Recorded}
+use Rattle.laws.proofs.Words.{Recorded, Untouched}
 
 -- the segment is still held, with a free block at or after its place
 pub record StillHeld (g : Geometry) (m m′ : Mem) (k cl r b : ℕ) : Type 0 where
@@ -40,7 +40,7 @@ pub record Moved (g : Geometry) (m m′ : Mem) (k cl r b : ℕ) : Type 0 where
   pub trace : m′ .trace ≡ m .trace
   pub heap : m′ .heap ≡ m .heap
   pub words : (j o : ℕ) → o < mutatorWords → (j ≡ k → o ≡ heldFrom + (cl - firstClass) → ⊥) → mutatorWord m′ (j * mutatorWords + o) ≡ mutatorWord m (j * mutatorWords + o)
-  pub others : (x : ℕ) → (x ≡ r → ⊥) → Recorded m′ x (tag m x) (class m x) (place m x) (owner m x)
+  pub others : (x : ℕ) → (x ≡ r → ⊥) → Untouched m m′ x
   pub segment : StillHeld g m m′ k cl r b ⊎ NowFull g m′ k cl r
 
 -- a record of a shape in block b of segment r, in root d of mutator k
@@ -52,7 +52,7 @@ pub record Result (g : Geometry) (m m′ : Mem) (k d cl r b : ℕ) (shape : Reco
   pub trace : m′ .trace ≡ m .trace
   pub words : (j o : ℕ) → o < mutatorWords → (j ≡ k → o ≡ heldFrom + (cl - firstClass) → ⊥) → (j ≡ k → o ≡ d → ⊥) → mutatorWord m′ (j * mutatorWords + o) ≡ mutatorWord m (j * mutatorWords + o)
   pub named : root m′ k d ≡ suc (headerOf g r cl b)
-  pub others : (x : ℕ) → (x ≡ r → ⊥) → Recorded m′ x (tag m x) (class m x) (place m x) (owner m x)
+  pub others : (x : ℕ) → (x ≡ r → ⊥) → Untouched m m′ x
   pub segment : StillHeld g m m′ k cl r b ⊎ NowFull g m′ k cl r
   pub header : heapWord m′ (headerOf g r cl b) ≡ headerWord shape
   pub fields : (i : ℕ) → i < fieldCountOf shape → heapWord m′ (headerOf g r cl b + 1 + i) ≡ 0

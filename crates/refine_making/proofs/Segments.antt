@@ -2,7 +2,7 @@
 use mathlib.Core.Path.{_≡_, sym, _∙_, ap, subst}
 use mathlib.Core.Logic.{_⊎_, inl, inr, ⊎-elim}
 use mathlib.Core.List.{List}
-use Prim.Native.Nat.{ℕ, suc, _-_, _≤_, _<_}
+use Prim.Native.Nat.{ℕ, suc, _≤_, _<_}
 use native.Mathlib.Omega.{arith}
 use Rattle.rules.proofs.Order.{same-or-not}
 use Rattle.words.specs.Bits.{bitAt}
@@ -10,7 +10,7 @@ use Rattle.classes.specs.declared.RecordShape.{RecordShape}
 use Rattle.layout.specs.declared.Geometry.{Geometry}
 use Rattle.layout.specs.Geometry.{mutatorCount, blocksIn}
 use Rattle.layout.specs.Mem.{Mem}
-use Rattle.model.specs.Fields.{state, holding, tag, class, place, owner}
+use Rattle.model.specs.Fields.{state, holding, tag, class, owner}
 use Rattle.classes.specs.Class.{IsClass}
 use Rattle.model.specs.Consistent.{SegmentOk, Occupied, TreeOk}
 use Rattle.refine_view.specs.Kept.{Ordered, EachOccupied}
@@ -80,7 +80,10 @@ module _ (g : Geometry) (m : Mem) (c : Ordered g m) (m′ : Mem) (k d cl r b : �
   segments-ok x l = ⊎-elim (λ e. subst (SegmentOk g m′) (sym e) (same-segment (a .segment))) (other-ok x l) (same-or-not x r)
 
   pub trees-ok : (x : ℕ) → x < g .segments → TreeOk g m′ x
-  trees-ok x l = tree-same g m m′ x (c .trees x l) (λ e. a .others x (λ f. let y : tag m r ≡ Tag.free = ap (tag m) (sym f) ∙ e in let z = q .isHeld in omega arith) .tag ∙ e) (standing.class-same g m m′ k d cl r b shape q a x) (standing.bitmap-same g m m′ k d cl r b shape q a x)
+  trees-ok x l = tree-same g m m′ x (c .summed .trees x l) free-on (standing.class-same g m m′ k d cl r b shape q a x) (standing.bitmap-same g m m′ k d cl r b shape q a x)
+    where
+      free-on : tag m x ≡ Tag.free → tag m′ x ≡ Tag.free
+      free-on e = a .others x (λ f. let y : tag m r ≡ Tag.free = ap (tag m) (sym f) ∙ e in let z = q .isHeld in omega arith) .tag ∙ e
 
   -- the block handed out is in use, and the other segments are as they were
   pub occupied-ok : ((x : ℕ) → x < g .segments → (x ≡ r → ⊥) → Occupied g m x) → EachOccupied g m′

@@ -1,7 +1,7 @@
 -- The words that a make leaves are in order: mutators, stacks, records, trace stack and marks. Assumes nothing.
 use mathlib.Core.Path.{_≡_, refl, sym, _∙_, ap, subst}
 use mathlib.Core.Logic.{_⊎_, inl, inr, _≢_}
-use Prim.Native.Nat.{ℕ, suc, _-_, _*_, _≤_, _<_}
+use Prim.Native.Nat.{ℕ, suc, _*_, _≤_, _<_}
 use native.Mathlib.Omega.{arith}
 use Rattle.rules.proofs.Order.{same-or-not}
 use Rattle.words.specs.Bits.{bitAt}
@@ -64,10 +64,11 @@ module _ (g : Geometry) (m : Mem) (s : Sizes g m) (c : Ordered g m) (m′ : Mem)
   -- ---- stacks of segments
 
   free-ok : StackOk g m′ freeStack (isFree m′)
-  free-ok = stack-by g m m′ freeStack (isFree m) (isFree m′) (a .stacks) (c .freeSegments) (λ x l. standing.tag-test g m m′ k d cl r b shape q a 0 x (λ z. omega arith) (λ z. omega arith))
+  free-ok = stack-by g m m′ freeStack (isFree m) (isFree m′) (a .stacks) (c .summed .freeSegments) (λ x l. standing.tag-test g m m′ k d cl r b shape q a 0 x (λ z. omega arith) (λ z. omega arith))
 
   part-ok : (x : ℕ) → IsClass x → StackOk g m′ (partStack x) (isPart m′ x)
-  part-ok x i = stack-by g m m′ (partStack x) (isPart m x) (isPart m′ x) (a .stacks) (c .partSegments x i) (λ y l. part-same m m′ x y (standing.tag-test g m m′ k d cl r b shape q a 1 y (λ z. omega arith) (λ z. omega arith)) (standing.class-same g m m′ k d cl r b shape q a y))
+  part-ok x i = stack-by g m m′ (partStack x) (isPart m x) (isPart m′ x) (a .stacks) (c .summed .partSegments x i)
+      (λ y l. part-same m m′ x y (standing.tag-test g m m′ k d cl r b shape q a 1 y (λ z. omega arith) (λ z. omega arith)) (standing.class-same g m m′ k d cl r b shape q a y))
 
   -- ---- records
 
@@ -152,10 +153,8 @@ module _ (g : Geometry) (m : Mem) (s : Sizes g m) (c : Ordered g m) (m′ : Mem)
   structure = record {
     phases = subst (λ z. z ≤ 4) (sym (standing.phase-word g m m′ k d cl r b shape q a)) (c .phases);
     segments = segments-ok g m c m′ k d cl r b shape q a;
-    trees = trees-ok g m c m′ k d cl r b shape q a;
+    summed = record { trees = trees-ok g m c m′ k d cl r b shape q a; freeSegments = free-ok; partSegments = part-ok };
     mutators = mutators-ok;
-    freeSegments = free-ok;
-    partSegments = part-ok;
     records = records-ok;
     trace = trace-ok;
     marks = subst (λ ph. MarksIn ph g m′) (sym (standing.phase-same g m m′ k d cl r b shape q a)) (marks-by g m m′ (λ x t. standing.tag-back g m m′ k d cl r b shape q a x t .0) marks-of (phase m) blank (structure-of g m c .marks));

@@ -10,7 +10,7 @@ use Rattle.layout.specs.Geometry.{mutatorCount, mutatorWords}
 use Rattle.layout.specs.Mem.{Mem, controlWord, mutatorWord, setControl, Sizes}
 use Rattle.model.specs.Fields.{traceCount, acksAt, acks, cursor}
 use Rattle.model.specs.Collector.{condemned, acksReset, started}
-use Rattle.laws.proofs.Words.{recorded-as, OtherRegions}
+use Rattle.laws.proofs.Words.{untouched-as, OtherRegions}
 use Rattle.laws.proofs.Operations.{sizes-condemned, sizes-reset}
 use Rattle.words.proofs.Zeros.{zeros-bit}
 use Rattle.refine_start.proofs.Condemned.{After, others-condemned, segments-condemned}
@@ -57,7 +57,7 @@ module _ (g : Geometry) (m : Mem) (z : Sizes g m) where
     cursor = let y = reset-sizes .control in getD-set-other (set (m₂ .control) 2 0) 0 2 1 0 (λ e. omega arith) ∙ getD-set-same (m₂ .control) 2 0 0 (omega arith);
     acks = reset-acks g m₁ condemned-sizes;
     mutators = λ k o l f. reset-kept g m₁ condemned-sizes k o l f ∙ ap (λ x. getD x (k * mutatorWords + o) 0) (condemned-others .mutators);
-    segments = λ s. recorded-as m₁ (started g m) s _ _ _ _ (reset-others .segments) (segments-condemned g m z s);
+    segments = λ s. untouched-as (reset-others .segments) (segments-condemned g m z s);
     stacks = reset-others .stacks ∙ condemned-others .stacks;
     bitmaps = reset-others .bitmaps ∙ condemned-others .bitmaps;
     marks = zeros-bit (length (m₂ .marks));

@@ -10,10 +10,10 @@ use Rattle.rules.specs.Pick.{pick}
 use Rattle.rules.proofs.Order.{le-or-lt, same-or-not}
 use Rattle.layout.specs.declared.Geometry.{Geometry}
 use Rattle.layout.specs.Mem.{Mem, Sizes}
-use Rattle.model.specs.Fields.{tag, setTag, class, place, owner}
+use Rattle.model.specs.Fields.{tag, setTag}
 use Rattle.model.specs.Collector.{collects, condemned}
 use Rattle.model.proofs.Collecting.{collects-full}
-use Rattle.laws.proofs.Words.{Recorded, recorded-by, OtherRegions, tag-others, tag-there, tag-other}
+use Rattle.laws.proofs.Words.{Retagged, Untouched, untouched-same, untouched-then, retagged-then, retagged-to, OtherRegions, tag-others, tag-there, tag-other}
 use Rattle.words.proofs.Counts.{lt-of}
 use Rattle.laws.proofs.Operations.{sizes-condemned}
 use Rattle.model.specs.Tag as Tag
@@ -46,35 +46,31 @@ others-condemned m (suc s) = go (collects m s) (others-condemned m s)
 abbrev pub tagAfter : Mem → ℕ → ℕ
 tagAfter m s = pick (collects m s) Tag.condemned (tag m s)
 
-abbrev pub Before : Mem → Mem → ℕ → Type 0
-Before m m′ x = Recorded m′ x (tag m x) (class m x) (place m x) (owner m x)
-
 abbrev pub After : Mem → Mem → ℕ → Type 0
-After m m′ x = Recorded m′ x (tagAfter m x) (class m x) (place m x) (owner m x)
+After m m′ x = Retagged m m′ x (tagAfter m x)
 
 -- what a start does not collect is as before
-not-collected : (m m′ : Mem) (x : ℕ) → collects m x ≡ false → Before m m′ x → After m m′ x
-not-collected m m′ x e o = record { tag = o .tag ∙ sym (ap (λ b. pick b Tag.condemned (tag m x)) e); class = o .class; place = o .place; owner = o .owner }
+not-collected : (m m′ : Mem) (x : ℕ) → collects m x ≡ false → Untouched m m′ x → After m m′ x
+not-collected m m′ x e o = retagged-to o (sym (ap (λ b. pick b Tag.condemned (tag m x)) e))
 
 module _ (g : Geometry) (m : Mem) (z : Sizes g m) where
   -- below n condemned, from n on as before
-  below-from : (n : ℕ) → n ≤ g .segments → (x : ℕ) → (x < n → After m (condemned m n) x) × (n ≤ x → Before m (condemned m n) x)
+  below-from : (n : ℕ) → n ≤ g .segments → (x : ℕ) → (x < n → After m (condemned m n) x) × (n ≤ x → Untouched m (condemned m n) x)
   unfolding condemned
-  below-from zero h x = (λ l. absurd (omega arith), λ l. record { tag = refl; class = refl; place = refl; owner = refl })
+  below-from zero h x = (λ l. absurd (omega arith), λ l. untouched-same m m x refl)
   below-from (suc s) h x = go (collects m s) refl (same-or-not x s) (below-from s (omega arith) x)
     where
-      here : collects m s ≡ true → Before m (condemned m s) s → After m (setTag (condemned m s) s Tag.condemned) s
+      here : collects m s ≡ true → Untouched m (condemned m s) s → After m (setTag (condemned m s) s Tag.condemned) s
       here e o =
           let l = sizes-condemned g m z s .segments in
-          let r = tag-there (condemned m s) s Tag.condemned (omega arith) in
-          record { tag = r .tag ∙ sym (ap (λ b. pick b Tag.condemned (tag m s)) e); class = r .class ∙ o .class; place = r .place ∙ o .place; owner = r .owner ∙ o .owner }
+          retagged-to (retagged-then o (tag-there (condemned m s) s Tag.condemned (omega arith))) (sym (ap (λ b. pick b Tag.condemned (tag m s)) e))
 
-      go : (b : Bool) → collects m s ≡ b → (x ≡ s) ⊎ (x ≡ s → ⊥) → (x < s → After m (condemned m s) x) × (s ≤ x → Before m (condemned m s) x)
-          → (x < suc s → After m (pick b (setTag (condemned m s) s Tag.condemned) (condemned m s)) x) × (suc s ≤ x → Before m (pick b (setTag (condemned m s) s Tag.condemned) (condemned m s)) x)
-      go true e (inl q) ih = (λ l. subst (After m (setTag (condemned m s) s Tag.condemned)) (sym q) (here e (subst (Before m (condemned m s)) q (ih .1 (omega arith)))), λ l. absurd (omega arith))
+      go : (b : Bool) → collects m s ≡ b → (x ≡ s) ⊎ (x ≡ s → ⊥) → (x < s → After m (condemned m s) x) × (s ≤ x → Untouched m (condemned m s) x)
+          → (x < suc s → After m (pick b (setTag (condemned m s) s Tag.condemned) (condemned m s)) x) × (suc s ≤ x → Untouched m (pick b (setTag (condemned m s) s Tag.condemned) (condemned m s)) x)
+      go true e (inl q) ih = (λ l. subst (After m (setTag (condemned m s) s Tag.condemned)) (sym q) (here e (subst (Untouched m (condemned m s)) q (ih .1 (omega arith)))), λ l. absurd (omega arith))
       go true e (inr q) ih =
           let o = tag-other (condemned m s) s Tag.condemned x q in
-          (λ l. recorded-by (condemned m s) _ x _ _ _ _ (ih .0 (lt-of l q)) o, λ l. recorded-by (condemned m s) _ x _ _ _ _ (ih .1 (omega arith)) o)
+          (λ l. untouched-then (ih .0 (lt-of l q)) o, λ l. untouched-then (ih .1 (omega arith)) o)
       go false e (inl q) ih = (λ l. not-collected m (condemned m s) x (ap (collects m) q ∙ e) (ih .1 (omega arith)), λ l. absurd (omega arith))
       go false e (inr q) ih = (λ l. ih .0 (lt-of l q), λ l. ih .1 (omega arith))
 

@@ -16,14 +16,14 @@ use Rattle.theory.specs.Phases.{idle, sync1}
 use Rattle.theory.specs.Machine.{start}
 use Rattle.theory.proofs.Agree.{Agree}
 use Rattle.model.specs.Rules.{phaseOf}
-use Rattle.model.specs.Fields.{phase, traceCount, absent, stateAt, acksAt, state, tag, class, place, owner, root, holding}
+use Rattle.model.specs.Fields.{phase, traceCount, absent, stateAt, acksAt, state, tag, class, owner, root, holding}
 use Rattle.model.specs.Segments.{freeStack, partStack, usedBit}
-use Rattle.model.specs.Records.{record?, pointerCount, pointer, blockOf}
+use Rattle.model.specs.Records.{record?, blockOf}
 use Rattle.model.specs.Collector.{isFull, collects, started}
 use Rattle.model.proofs.Collecting.{collects-full}
 use Rattle.model.specs.Reaching.{Live, isMarked}
 use Rattle.classes.specs.Class.{IsClass}
-use Rattle.model.specs.Consistent.{InPhase, SegmentOk, Occupied, MutatorOk, RecordOk, isFree, isPart}
+use Rattle.model.specs.Consistent.{InPhase, SegmentOk, Occupied, MutatorOk, Summed, RecordOk, isFree, isPart}
 use Rattle.refine_view.specs.View.{view, stackOf, isHead, isUsed}
 use Rattle.refine_view.specs.Kept.{Ordered, EachOccupied, EntriesOk, MarksIn, Structure, StartKept}
 use Rattle.laws.proofs.Bools.{and-false, test-same}
@@ -32,10 +32,10 @@ use Rattle.refine_view.proofs.Seeing.{root-was, edge-was, live-was}
 use Rattle.laws.proofs.OtherStacks.{stack-by}
 use Rattle.refine_view.proofs.Carried.{block-by, record-by}
 use Rattle.laws.proofs.Marked.{unentered}
-use Rattle.refine_view.proofs.Invariants.{structure-of}
 use Rattle.laws.proofs.Entries.{holding-by, table-below}
 use Rattle.laws.proofs.Segments.{segment-same, tree-same, occupied-same, part-same, used-same, in-range}
 use Rattle.laws.proofs.Bitmaps.{bitmap-by}
+use Rattle.laws.proofs.Words.{retagged-to}
 use Rattle.refine_start.proofs.Beginning.{Begun, begun}
 use Rattle.model.specs.Tag as Tag
 
@@ -115,7 +115,7 @@ module _ (g : Geometry) (m m′ : Mem) (z : Sizes g m) (ok : Ordered g m) (quiet
       go : Changed s → SegmentOk g m′ s
       go (inr q) =
           let w = b .segments s in
-          segment-same g m m′ s o (record { tag = q .1; class = w .class; place = w .place; owner = w .owner }) (bitmap-by g m m′ (b .bitmaps) s)
+          segment-same g m m′ s o (retagged-to w (sym (w .tag) ∙ q .1)) (bitmap-by g m m′ (b .bitmaps) s)
           (λ e. let h = o .held e in (λ n. h .1 (sym (state-same (owner m s)) ∙ n), holding-same (owner m s) (class m s) (o .classes (λ n. omega arith)) ∙ h .2))
       go (inl q) =
           let w = b .segments s in
@@ -154,10 +154,17 @@ module _ (g : Geometry) (m m′ : Mem) (z : Sizes g m) (ok : Ordered g m) (quiet
       blank e i l (inl q) = ap (λ x. mutatorWord m′ (k * mutatorWords + x)) q ∙ b .acks k
       blank e i l (inr f) = b .mutators k i (omega arith) f ∙ o .gone (sym (state-same k) ∙ e) i l
 
-  -- ---- stacks
+  -- ---- trees and stacks
 
   part-test : (c s : ℕ) → isPart m′ c s ≡ isPart m c s
   part-test c s = part-same m m′ c s (tag-test s 1 (omega arith)) (b .segments s .class)
+
+  summed-ok : Summed g m → Summed g m′
+  summed-ok o = record {
+    trees = λ s l. tree-same g m m′ s (o .trees s l) (tag-on s 0 (omega arith)) (b .segments s .class) (bitmap-by g m m′ (b .bitmaps) s);
+    freeSegments = stack-by g m m′ freeStack (isFree m) (isFree m′) (b .stacks) (o .freeSegments) (λ s l. tag-test s 0 (omega arith));
+    partSegments = λ c h. stack-by g m m′ (partStack c) (isPart m c) (isPart m′ c) (b .stacks) (o .partSegments c h) (λ s l. part-test c s);
+  }
 
   -- ---- records
 
@@ -182,10 +189,8 @@ module _ (g : Geometry) (m m′ : Mem) (z : Sizes g m) (ok : Ordered g m) (quiet
   structure = record {
     phases = let e = b .phase in omega arith;
     segments = λ s l. segment-ok s (ok .segments s l);
-    trees = λ s l. tree-same g m m′ s (ok .trees s l) (tag-on s 0 (omega arith)) (b .segments s .class) (bitmap-by g m m′ (b .bitmaps) s);
+    summed = summed-ok (ok .summed);
     mutators = λ k l. mutator-ok k (ok .mutators k l);
-    freeSegments = stack-by g m m′ freeStack (isFree m) (isFree m′) (b .stacks) (ok .freeSegments) (λ s l. tag-test s 0 (omega arith));
-    partSegments = λ c h. stack-by g m m′ (partStack c) (isPart m c) (isPart m′ c) (b .stacks) (ok .partSegments c h) (λ s l. part-test c s);
     records = λ at p. record-ok at (ok .records at (live-before at p));
     trace = trace-ok;
     marks = subst (λ p. MarksIn p g m′) (sym begun-phase) (λ k l e. absurd (let q = b .marks k in omega arith));

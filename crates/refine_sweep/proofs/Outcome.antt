@@ -5,11 +5,11 @@ use Prim.Native.Nat.{ℕ, _<_}
 use Rattle.layout.specs.Geometry.{blocksIn}
 use Rattle.layout.specs.declared.Geometry.{Geometry}
 use Rattle.layout.specs.Mem.{Mem}
-use Rattle.model.specs.Fields.{tag, class, place, owner}
+use Rattle.model.specs.Fields.{tag, class}
 use Rattle.model.specs.Segments.{bitmap, usedBit}
 use Rattle.model.specs.Records.{headerOf, entered}
 use Rattle.model.specs.Consistent.{SegmentOk, Occupied, TreeOk}
-use Rattle.laws.proofs.Words.{Recorded}
+use Rattle.laws.proofs.Words.{Untouched}
 use Rattle.laws.proofs.Parted.{Stacks}
 use Rattle.model.specs.Tag as Tag
 
@@ -20,7 +20,7 @@ pub record Left (g : Geometry) (m m′ : Mem) (r : ℕ) : Type 0 where
   pub marks : m′ .marks ≡ m .marks
   pub trace : m′ .trace ≡ m .trace
   pub heap : m′ .heap ≡ m .heap
-  pub other : (x : ℕ) → (x ≡ r → ⊥) → Recorded m′ x (tag m x) (class m x) (place m x) (owner m x)
+  pub other : (x : ℕ) → (x ≡ r → ⊥) → Untouched m m′ x
   pub bitmaps : (x : ℕ) → (x ≡ r → ⊥) → bitmap g m′ x ≡ bitmap g m x
 
 pub record Outcome (g : Geometry) (m m′ : Mem) (r : ℕ) : Type 0 where

@@ -14,7 +14,7 @@ use Rattle.model.specs.Segments.{setSegmentState, above, bitmap, stacked}
 use Rattle.model.specs.Collector.{rebuiltBy}
 use Rattle.model.specs.Records.{headerOf, entered}
 use Rattle.classes.specs.Class.{IsClass}
-use Rattle.laws.proofs.Words.{Recorded, recorded-as, tagOf, classIn, placeIn, ownerIn, OtherRegions, state-others, state-there, state-other}
+use Rattle.laws.proofs.Words.{Recorded, recorded-as, untouched-same, untouched-then, untouched-as, tagOf, classIn, placeIn, ownerIn, OtherRegions, state-others, state-there, state-other}
 use Rattle.laws.proofs.Bitmaps.{bitmap-by}
 use Rattle.laws.proofs.Lengths.{sizes-bitmap, sizes-state}
 use Rattle.refine_sweep.proofs.Outcome.{Left}
@@ -52,7 +52,7 @@ module _ (g : Geometry) (m : Mem) (s : Sizes g m) (r : ℕ) (l : r < g .segments
       marks = others .marks;
       trace = others .trace;
       heap = others .heap;
-      other = λ y d. state-other g (rebuiltBy g m r) r x y d;
+      other = λ y d. untouched-then (untouched-same m (rebuiltBy g m r) y refl) (state-other g (rebuiltBy g m r) r x y d);
       bitmaps = λ y d. bitmap-left y ∙ rebuilt-other g m s r l k y d;
     };
     there = state-there g (rebuiltBy g m r) r x (let z = s .segments in omega arith);
@@ -66,7 +66,7 @@ unfolding setStack
 settled-stacked g m m′ r x t q =
     let o = q .left in
     record {
-      left = record { control = o .control; mutators = o .mutators; marks = o .marks; trace = o .trace; heap = o .heap; other = λ y d. recorded-as m′ _ y _ _ _ _ refl (o .other y d); bitmaps = o .bitmaps };
+      left = record { control = o .control; mutators = o .mutators; marks = o .marks; trace = o .trace; heap = o .heap; other = λ y d. untouched-as refl (o .other y d); bitmaps = o .bitmaps };
       there = recorded-as m′ _ r _ _ _ _ refl (q .there);
       bits = q .bits;
       tree = q .tree;

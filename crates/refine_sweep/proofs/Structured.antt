@@ -36,7 +36,7 @@ module _ (g : Geometry) (m : Mem) (s : Sizes g m) (c : Ordered g m) (ph : phase 
 
   tree-after : (x : ℕ) → x < g .segments → (x ≡ r) ⊎ (x ≡ r → ⊥) → TreeOk g m′ x
   tree-after x h (inl e) = subst (TreeOk g m′) (sym e) (o .tree)
-  tree-after x h (inr d) = let w = o .left .other x d in tree-same g m m′ x (c .trees x h) (λ e. w .tag ∙ e) (w .class) (o .left .bitmaps x d)
+  tree-after x h (inr d) = let w = o .left .other x d in tree-same g m m′ x (c .summed .trees x h) (λ e. w .tag ∙ e) (w .class) (o .left .bitmaps x d)
 
   pub occupied-after : EachOccupied g m → EachOccupied g m′
   occupied-after u x h = ⊎-elim (λ e. subst (Occupied g m′) (sym e) (o .occupied)) (λ d. occupied-by g m m′ x (u x h) (o .left .other x d) (o .left .bitmaps x d)) (same-or-not x r)
@@ -70,10 +70,8 @@ module _ (g : Geometry) (m : Mem) (s : Sizes g m) (c : Ordered g m) (ph : phase 
   structure-after = record {
     phases = subst (λ z. z ≤ 4) (sym (control-same g m s c ph m′ r l t o 0)) (c .phases);
     segments = λ x h. segment-after x h (same-or-not x r);
-    trees = λ x h. tree-after x h (same-or-not x r);
+    summed = record { trees = λ x h. tree-after x h (same-or-not x r); freeSegments = o .stacks .0; partSegments = o .stacks .1 };
     mutators = mutator-after;
-    freeSegments = o .stacks .0;
-    partSegments = o .stacks .1;
     records = λ x p. record-after x (live-was g m s c ph m′ r l t o p);
     trace = entries-by g m m′ (structure-of g m c .trace) (control-same g m s c ph m′ r l t o 1) (λ i. ap (λ (z : List ℕ). getD z i 0) (o .left .trace)) (o .left .marks);
     marks = subst (λ p. MarksIn p g m′) (sym (phase-after g m s c ph m′ r l t o)) marks-after;

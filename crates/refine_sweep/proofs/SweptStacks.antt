@@ -34,8 +34,10 @@ module _ (g : Geometry) (m : Mem) (s : Sizes g m) (c : Ordered g m) (r : ℕ) (l
 
   pub full-stacks : Stacks g fullMem
   full-stacks = (
-    kept-stack (segment.Full (class m r)) freeStack (isFree m) (isFree fullMem) (c .freeSegments) (free-left m fullMem r (full-state .left .other) (λ e. omega arith) (λ e. let z = full-state .there .tag in omega arith)),
-    λ d h. kept-stack (segment.Full (class m r)) (partStack d) (isPart m d) (isPart fullMem d) (c .partSegments d h) (part-left m fullMem r (full-state .left .other) d (λ e f. omega arith) (λ e f. let z = full-state .there .tag in omega arith)),
+    kept-stack (segment.Full (class m r)) freeStack (isFree m) (isFree fullMem) (c .summed .freeSegments)
+        (free-left m fullMem r (full-state .left .other) (λ e. omega arith) (λ e. let z = full-state .there .tag in omega arith)),
+    λ d h. kept-stack (segment.Full (class m r)) (partStack d) (isPart m d) (isPart fullMem d) (c .summed .partSegments d h)
+        (part-left m fullMem r (full-state .left .other) d (λ e f. omega arith) (λ e f. let z = full-state .there .tag in omega arith)),
   )
 
   -- free: on the free stack
@@ -49,13 +51,14 @@ module _ (g : Geometry) (m : Mem) (s : Sizes g m) (c : Ordered g m) (r : ℕ) (l
   unstacked = settledMem g m s r l k segment.Free
 
   before : StackOk g unstacked freeStack (isFree m)
-  before = kept-stack segment.Free freeStack (isFree m) (isFree m) (c .freeSegments) (λ i. refl)
+  before = kept-stack segment.Free freeStack (isFree m) (isFree m) (c .summed .freeSegments) (λ i. refl)
 
   pub free-stacks : Stacks g freeMem
   free-stacks = (
     push-ok g unstacked (settled-sizes g m s r l k segment.Free) freeStack (omega arith) (isFree m) before (isFree freeMem) r l (not-free m r (λ e. omega arith)) (eq-eqb _ _ (free-state .there .tag)) (λ i h n. free-other m freeMem r (free-state .left .other) i n),
     λ d h. push-left g unstacked (settled-sizes g m s r l k segment.Free) freeStack (omega arith) (isFree m) before (isFree freeMem) r l (not-free m r (λ e. omega arith)) (eq-eqb _ _ (free-state .there .tag)) (λ i h n. free-other m freeMem r (free-state .left .other) i n)
-        (partStack d) (λ e. omega arith) (isPart m d) (isPart freeMem d) (kept-stack segment.Free (partStack d) (isPart m d) (isPart m d) (c .partSegments d h) (λ i. refl)) (λ i y. part-left m freeMem r (free-state .left .other) d (λ e f. omega arith) (λ e f. let z = free-state .there .tag in omega arith) i),
+        (partStack d) (λ e. omega arith) (isPart m d) (isPart freeMem d) (kept-stack segment.Free (partStack d) (isPart m d) (isPart m d) (c .summed .partSegments d h) (λ i. refl))
+        (λ i y. part-left m freeMem r (free-state .left .other) d (λ e f. omega arith) (λ e f. let z = free-state .there .tag in omega arith) i),
   )
 
   -- part: on its class's part stack
@@ -69,4 +72,5 @@ module _ (g : Geometry) (m : Mem) (s : Sizes g m) (c : Ordered g m) (r : ℕ) (l
   part-state = settled-stacked g m (settledMem g m s r l k partState) r partState (partStack (class m r)) (settled-state g m s r l k partState)
 
   pub part-stacks : Stacks g partMem
-  part-stacks = parted g m (settledMem g m s r l k partState) (settled-sizes g m s r l k partState) (settled-stacks g m s r l k partState) (class m r) r k l (omega arith) (part-state .left .other) (part-state .there .tag) (part-state .there .class) (c .freeSegments, c .partSegments)
+  part-stacks = parted g m (settledMem g m s r l k partState) (settled-sizes g m s r l k partState) (settled-stacks g m s r l k partState) (class m r) r k l (omega arith)
+      (part-state .left .other) (part-state .there .tag) (part-state .there .class) (c .summed .freeSegments, c .summed .partSegments)

@@ -19,7 +19,7 @@ use Rattle.theory.proofs.Agree.{Agree}
 use Rattle.theory.proofs.Updates.{upd-cases, upd-miss₁}
 use Rattle.theory.proofs.CycleKeeps.{detach-live}
 use Rattle.model.specs.Fields.{traceCount, absent, stateAt, acksAt, state, acks, root, holding, tag, class, place, owner}
-use Rattle.model.specs.Segments.{freeStack, partStack, bitmap}
+use Rattle.model.specs.Segments.{freeStack, partStack}
 use Rattle.model.specs.Records.{record?}
 use Rattle.model.specs.Mutators.{released, detached}
 use Rattle.model.specs.Calls.{isAttached, isInside}
@@ -27,12 +27,12 @@ use Rattle.model.specs.Reaching.{IsRoot, Live}
 use Rattle.model.specs.Consistent.{SegmentOk, Occupied, TreeOk, MutatorOk, isFree, isPart}
 use Rattle.refine_view.specs.View.{view}
 use Rattle.refine_view.specs.Kept.{Ordered, EachOccupied, Structure, Moves}
-use Rattle.laws.proofs.Words.{Recorded, recorded-as}
+use Rattle.laws.proofs.Words.{Recorded, Untouched, untouched-as, recorded-as}
 use Rattle.theory.proofs.Updates.{upd-by}
 use Rattle.laws.proofs.Entries.{holding-word, holding-by, table-below, entry-in, entry-out}
 use Rattle.laws.proofs.Stacks.{stack-same}
 use Rattle.laws.proofs.Segments.{segment-same, tree-same, occupied-same, occupied-by}
-use Rattle.laws.proofs.Releasing.{Releasable, Gone, gone?, Releasing}
+use Rattle.laws.proofs.Releasing.{Gone, gone?, Releasing}
 use Rattle.laws.proofs.Released.{releasing}
 use Rattle.refine_view.proofs.Seeing.{entries-same}
 use Rattle.refine_view.proofs.Invariants.{to-live, to-inv}
@@ -47,7 +47,7 @@ module _ (g : Geometry) (m : Mem) (s : Sizes g m) (c : Ordered g m) (k : ℕ) (f
   parted = released g m k classCount
 
   parts : Releasing g m parted k classCount
-  parts = releasing g m s (record { segments = c .segments; mutators = c .mutators; stacks = (c .freeSegments, c .partSegments) }) k few classCount (omega arith)
+  parts = releasing g m s (record { segments = c .segments; mutators = c .mutators; stacks = (c .summed .freeSegments, c .summed .partSegments) }) k few classCount (omega arith)
 
   abbrev emptied : List ℕ
   emptied = spliced (m .mutators) (k * mutatorWords) zeros
@@ -83,8 +83,8 @@ module _ (g : Geometry) (m : Mem) (s : Sizes g m) (c : Ordered g m) (k : ℕ) (f
   gone : (q : ℕ) → Gone m k classCount q → Recorded m₁ q Tag.part (class m q) (place m q) 0
   gone q z = recorded-as parted m₁ q Tag.part (class m q) (place m q) 0 refl (parts .gone q z)
 
-  stay : (q : ℕ) → (Gone m k classCount q → ⊥) → Recorded m₁ q (tag m q) (class m q) (place m q) (owner m q)
-  stay q f = recorded-as parted m₁ q (tag m q) (class m q) (place m q) (owner m q) refl (parts .stay q f)
+  stay : (q : ℕ) → (Gone m k classCount q → ⊥) → Untouched m m₁ q
+  stay q f = untouched-as refl (parts .stay q f)
 
   -- what another mutator holds stays
   others : (q j : ℕ) → owner m q ≡ j → (j ≡ k → ⊥) → Gone m k classCount q → ⊥
@@ -134,8 +134,8 @@ module _ (g : Geometry) (m : Mem) (s : Sizes g m) (c : Ordered g m) (k : ℕ) (f
   trees-ok q l = go (gone? m k classCount q)
     where
       go : Gone m k classCount q ⊎ (Gone m k classCount q → ⊥) → TreeOk g m₁ q
-      go (inl z) = tree-same g m m₁ q (c .trees q l) (λ e. let y = z .0 in absurd (omega arith)) (gone q z .class) refl
-      go (inr f) = tree-same g m m₁ q (c .trees q l) (λ e. stay q f .tag ∙ e) (stay q f .class) refl
+      go (inl z) = tree-same g m m₁ q (c .summed .trees q l) (λ e. let y = z .0 in absurd (omega arith)) (gone q z .class) refl
+      go (inr f) = tree-same g m m₁ q (c .summed .trees q l) (λ e. stay q f .tag ∙ e) (stay q f .class) refl
 
   -- a held segment that goes to part keeps its block in use
   occupied-ok : EachOccupied g m → EachOccupied g m₁
@@ -206,10 +206,12 @@ module _ (g : Geometry) (m : Mem) (s : Sizes g m) (c : Ordered g m) (k : ℕ) (f
   structure = record {
     phases = c .phases;
     segments = segments-ok;
-    trees = trees-ok;
+    summed = record {
+      trees = trees-ok;
+      freeSegments = stack-same g parted m₁ freeStack (isFree parted) (isFree m₁) (parts .stacks .0) refl (λ i l. refl) (λ q l. refl);
+      partSegments = λ d i. stack-same g parted m₁ (partStack d) (isPart parted d) (isPart m₁ d) (parts .stacks .1 d i) refl (λ j l. refl) (λ q l. refl);
+    };
     mutators = mutators-ok;
-    freeSegments = stack-same g parted m₁ freeStack (isFree parted) (isFree m₁) (parts .stacks .0) refl (λ i l. refl) (λ q l. refl);
-    partSegments = λ d i. stack-same g parted m₁ (partStack d) (isPart parted d) (isPart m₁ d) (parts .stacks .1 d i) refl (λ j l. refl) (λ q l. refl);
     records = records-stand g m s c emptied (parted .segments) (parted .stacks) (m .bitmaps) stands roots-before;
     trace = trace-stands g m s c emptied (parted .segments) (parted .stacks) (m .bitmaps) stands;
     marks = marks-stand g m s c emptied (parted .segments) (parted .stacks) (m .bitmaps) stands;

@@ -34,7 +34,7 @@ module _ (g : Geometry) (m : Mem) (s : Sizes g m) (c : Ordered g m) (k cl : ℕ)
       where
         go : (n : ℕ) → count g m (partStack cl) ≡ n → n ≡ 0
         go zero e = refl
-        go (suc n) e = let z = c .partSegments cl ic .members 0 (omega arith) in absurd (never (entry g m (partStack cl) 0) (z .0) (z .1))
+        go (suc n) e = let z = c .summed .partSegments cl ic .members 0 (omega arith) in absurd (never (entry g m (partStack cl) 0) (z .0) (z .1))
           where
             never : (q : ℕ) → q < g .segments → isPart m cl q ≡ true → ⊥
             never q l h = o .noPart q l (eqb-true _ _ (and-left (eqb (tag m q) Tag.part) (eqb (class m q) cl) h)) (eqb-true _ _ (and-right (eqb (tag m q) Tag.part) (eqb (class m q) cl) h))
@@ -44,7 +44,7 @@ module _ (g : Geometry) (m : Mem) (s : Sizes g m) (c : Ordered g m) (k cl : ℕ)
       where
         go : (n : ℕ) → count g m freeStack ≡ n → n ≡ 0
         go zero e = refl
-        go (suc n) e = let z = c .freeSegments .members 0 (omega arith) in absurd (o .noFree (entry g m freeStack 0) (z .0) (eqb-true _ _ (z .1)))
+        go (suc n) e = let z = c .summed .freeSegments .members 0 (omega arith) in absurd (o .noFree (entry g m freeStack 0) (z .0) (eqb-true _ _ (z .1)))
 
     pub room-source : sourceOf g m k cl ≡ noRoom
     room-source = rw (eq-eqb (holding m k cl) 0 holds-none, eq-eqb (count g m (partStack cl)) 0 parts-none, eq-eqb (count g m freeStack) 0 frees-none) refl
@@ -82,6 +82,8 @@ module _ (g : Geometry) (m : Mem) (s : Sizes g m) (c : Ordered g m) (k cl : ℕ)
     pub source-room : NoRoom g m k cl
     source-room = record {
       noHeld = λ q l t d w. let z : holding m k cl ≡ suc q = ap (λ x. holding m x cl) (sym w) ∙ ap (holding m (owner m q)) (sym d) ∙ c .segments q l .held t .2 in let y = words-none .0 in omega arith;
-      noPart = λ q l t d. let z = c .partSegments cl ic .all q l (and-both _ _ (eq-eqb (tag m q) 1 t) (eq-eqb (class m q) cl d)) in let y = words-none .1 in let x : z .0 < count g m (partStack cl) = z .1 in omega arith;
-      noFree = λ q l t. let z = c .freeSegments .all q l (eq-eqb (tag m q) 0 t) in let y = words-none .2 in let x : z .0 < count g m freeStack = z .1 in omega arith;
+      noPart = λ q l t d.
+          let z = c .summed .partSegments cl ic .all q l (and-both _ _ (eq-eqb (tag m q) 1 t) (eq-eqb (class m q) cl d)) in
+          let y = words-none .1 in let x : z .0 < count g m (partStack cl) = z .1 in omega arith;
+      noFree = λ q l t. let z = c .summed .freeSegments .all q l (eq-eqb (tag m q) 0 t) in let y = words-none .2 in let x : z .0 < count g m freeStack = z .1 in omega arith;
     }

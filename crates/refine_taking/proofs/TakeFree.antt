@@ -1,5 +1,5 @@
 -- A free segment taken by a mutator that holds none of its class, with a bitmap of free blocks. Assumes nothing.
-use mathlib.Core.Path.{_≡_, refl, sym, _∙_, ap, subst}
+use mathlib.Core.Path.{_≡_, refl, sym, subst}
 use mathlib.Core.Bool.{true}
 use mathlib.Core.List.{List}
 use Prim.Native.Nat.{ℕ, _+_, _-_, _*_, _≤_, _<_}
@@ -7,14 +7,14 @@ use native.Mathlib.Omega.{arith}
 use Rattle.layout.specs.declared.Geometry.{Geometry}
 use Rattle.layout.specs.Geometry.{mutatorCount, bitmapWords}
 use Rattle.layout.specs.Mem.{Mem, setStack, setSegment, setMutator, setRun, Sizes, spliced}
-use Rattle.model.specs.Fields.{holding, tag, class, place, owner}
+use Rattle.model.specs.Fields.{holding, tag}
 use Rattle.model.specs.Segments.{setSegmentState, freeStack, partStack, count, top, pop}
 use Rattle.model.specs.Making.{takes, freshened}
 use Rattle.model.specs.Calls.{isAttached}
 use Rattle.classes.specs.Class.{IsClass}
 use Rattle.model.specs.Consistent.{StackOk, isFree, isPart}
 use Rattle.refine_view.specs.Kept.{Ordered}
-use Rattle.laws.proofs.Words.{Recorded, recorded-as}
+use Rattle.laws.proofs.Words.{Recorded, Untouched, untouched-as, recorded-as}
 use Rattle.laws.proofs.Segments.{not-free, free-other, part-left}
 use Rattle.laws.proofs.Windows.{window-other}
 use Rattle.laws.proofs.Lengths.{sizes-bitmap}
@@ -32,10 +32,10 @@ module _ (g : Geometry) (m : Mem) (s : Sizes g m) (c : Ordered g m) (k cl : ℕ)
   r = top g m freeStack
 
   below : r < g .segments
-  below = top-free g m (c .freeSegments) some .0
+  below = top-free g m (c .summed .freeSegments) some .0
 
   top-tag : tag m r ≡ Tag.free
-  top-tag = free-tag g m (c .freeSegments) some
+  top-tag = free-tag g m (c .summed .freeSegments) some
 
   abbrev n : ℕ
   n = freeStack * (1 + g .segments)
@@ -61,8 +61,8 @@ module _ (g : Geometry) (m : Mem) (s : Sizes g m) (c : Ordered g m) (k cl : ℕ)
   there : Recorded m₁ r 2 cl 0 k
   there = recorded-as taken m₁ r 2 cl 0 k refl (takes-there g m s n v k cl r 0 below)
 
-  other : (q : ℕ) → (q ≡ r → ⊥) → Recorded m₁ q (tag m q) (class m q) (place m q) (owner m q)
-  other q f = recorded-as taken m₁ q (tag m q) (class m q) (place m q) (owner m q) refl (takes-other g m s n v k cl r 0 q f)
+  other : (q : ℕ) → (q ≡ r → ⊥) → Untouched m m₁ q
+  other q f = untouched-as refl (takes-other g m s n v k cl r 0 q f)
 
   took : Took g m m₁ k cl r 0
   took = record {
@@ -83,10 +83,12 @@ module _ (g : Geometry) (m : Mem) (s : Sizes g m) (c : Ordered g m) (k cl : ℕ)
 
   free-stack : StackOk g m₁ freeStack (isFree m₁)
   free-stack = stack-same g (pop g m freeStack) m₁ freeStack (isFree m₁) (isFree m₁)
-      (pop-ok g m s freeStack (omega arith) (isFree m) (c .freeSegments) (isFree m₁) some (not-free m₁ r (λ e. let z = there .tag in omega arith)) (λ q l f. free-other m m₁ r other q f)) refl (λ i l. refl) (λ q l. refl)
+      (pop-ok g m s freeStack (omega arith) (isFree m) (c .summed .freeSegments) (isFree m₁) some (not-free m₁ r (λ e. let z = there .tag in omega arith)) (λ q l f. free-other m m₁ r other q f))
+      refl (λ i l. refl) (λ q l. refl)
 
   part-stacks : (d : ℕ) → IsClass d → StackOk g m₁ (partStack d) (isPart m₁ d)
-  part-stacks d i = stack-apart g m s m₁ freeStack v (omega arith) refl (partStack d) (λ e. omega arith) (isPart m d) (isPart m₁ d) (c .partSegments d i) (λ q l. part-left m m₁ r other d (λ e z. let y = top-tag in omega arith) (λ e z. let y = there .tag in omega arith) q)
+  part-stacks d i = stack-apart g m s m₁ freeStack v (omega arith) refl (partStack d) (λ e. omega arith) (isPart m d) (isPart m₁ d) (c .summed .partSegments d i)
+      (λ q l. part-left m m₁ r other d (λ e z. let y = top-tag in omega arith) (λ e z. let y = there .tag in omega arith) q)
 
   taken-over : Taken g m m₁ k cl r
   taken-over = taken-by g m s c (taken .mutators) (taken .segments) (popped g m s n v k cl r 0 .stacks) (spliced (m .bitmaps) (r * bitmapWords g) tree) k cl r 0 few here ic none took free-stack part-stacks

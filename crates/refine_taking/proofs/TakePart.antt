@@ -8,14 +8,14 @@ use Rattle.rules.proofs.Order.{same-or-not}
 use Rattle.layout.specs.declared.Geometry.{Geometry}
 use Rattle.layout.specs.Geometry.{mutatorCount}
 use Rattle.layout.specs.Mem.{Mem, setStack, setSegment, setMutator, Sizes}
-use Rattle.model.specs.Fields.{holding, tag, class, place, owner}
+use Rattle.model.specs.Fields.{holding, tag, class, place}
 use Rattle.model.specs.Segments.{setSegmentState, freeStack, partStack, count, top, pop}
 use Rattle.model.specs.Making.{takes}
 use Rattle.model.specs.Calls.{isAttached}
 use Rattle.classes.specs.Class.{IsClass}
 use Rattle.model.specs.Consistent.{StackOk, isFree, isPart}
 use Rattle.refine_view.specs.Kept.{Ordered}
-use Rattle.laws.proofs.Words.{Recorded}
+use Rattle.laws.proofs.Words.{Recorded, Untouched}
 use Rattle.laws.proofs.Segments.{not-part, part-other, free-left, part-left}
 use Rattle.laws.proofs.Topmost.{top-part, part-tag, part-class, part-tree, part-remains}
 use Rattle.laws.proofs.Stacks.{stack-same, pop-ok}
@@ -31,7 +31,7 @@ module _ (g : Geometry) (m : Mem) (s : Sizes g m) (c : Ordered g m) (k cl : ℕ)
   r = top g m (partStack cl)
 
   abbrev stack : StackOk g m (partStack cl) (isPart m cl)
-  stack = c .partSegments cl ic
+  stack = c .summed .partSegments cl ic
 
   below : r < g .segments
   below = top-part g m cl stack some .0
@@ -61,8 +61,8 @@ module _ (g : Geometry) (m : Mem) (s : Sizes g m) (c : Ordered g m) (k cl : ℕ)
   there : Recorded m₁ r 2 cl (place m r) k
   there = subst (λ z. Recorded z r 2 cl (place m r) k) same (takes-there g m s n v k cl r (place m r) below)
 
-  other : (q : ℕ) → (q ≡ r → ⊥) → Recorded m₁ q (tag m q) (class m q) (place m q) (owner m q)
-  other q f = subst (λ z. Recorded z q (tag m q) (class m q) (place m q) (owner m q)) same (takes-other g m s n v k cl r (place m r) q f)
+  other : (q : ℕ) → (q ≡ r → ⊥) → Untouched m m₁ q
+  other q f = subst (λ z. Untouched m z q) same (takes-other g m s n v k cl r (place m r) q f)
 
   took : Took g m m₁ k cl r (place m r)
   took = record {
@@ -71,7 +71,7 @@ module _ (g : Geometry) (m : Mem) (s : Sizes g m) (c : Ordered g m) (k cl : ℕ)
     there = there;
     other = other;
     bitmaps = λ q f. refl;
-    tree = part-tree g m cl stack some (c .trees r below);
+    tree = part-tree g m cl stack some (c .summed .trees r below);
     remains = part-remains g m cl stack some (c .segments r below);
     holds = subst (λ z. holding z k cl ≡ suc r) same (takes-holds g m s n v k cl r (place m r) few ic);
     entries = takes-entries g m s n v k cl r (place m r) few ic;
@@ -86,17 +86,20 @@ module _ (g : Geometry) (m : Mem) (s : Sizes g m) (c : Ordered g m) (k cl : ℕ)
 
   part-stack : StackOk g m₁ (partStack cl) (isPart m₁ cl)
   part-stack = stack-same g (pop g m (partStack cl)) m₁ (partStack cl) (isPart m₁ cl) (isPart m₁ cl)
-      (pop-ok g m s (partStack cl) (part-few cl ic) (isPart m cl) (c .partSegments cl ic) (isPart m₁ cl) some (not-part m₁ cl r (λ e. absurd (held-now e))) (λ q l f. part-other m m₁ r other cl q f)) refl (λ i l. refl) (λ q l. refl)
+      (pop-ok g m s (partStack cl) (part-few cl ic) (isPart m cl) stack (isPart m₁ cl) some (not-part m₁ cl r (λ e. absurd (held-now e))) (λ q l f. part-other m m₁ r other cl q f))
+      refl (λ i l. refl) (λ q l. refl)
 
   part-stacks : (d : ℕ) → IsClass d → StackOk g m₁ (partStack d) (isPart m₁ d)
   part-stacks d i = go (same-or-not d cl)
     where
       go : (d ≡ cl) ⊎ (d ≡ cl → ⊥) → StackOk g m₁ (partStack d) (isPart m₁ d)
       go (inl e) = subst (λ z. StackOk g m₁ (partStack z) (isPart m₁ z)) (sym e) part-stack
-      go (inr f) = stack-apart g m s m₁ (partStack cl) v (part-few cl ic) refl (partStack d) (part-apart d cl i ic f) (isPart m d) (isPart m₁ d) (c .partSegments d i) (λ q l. part-left m m₁ r other d (λ e z. f (sym z ∙ top-class)) (λ e. absurd (held-now e)) q)
+      go (inr f) = stack-apart g m s m₁ (partStack cl) v (part-few cl ic) refl (partStack d) (part-apart d cl i ic f) (isPart m d) (isPart m₁ d) (c .summed .partSegments d i)
+          (λ q l. part-left m m₁ r other d (λ e z. f (sym z ∙ top-class)) (λ e. absurd (held-now e)) q)
 
   free-stack : StackOk g m₁ freeStack (isFree m₁)
-  free-stack = stack-apart g m s m₁ (partStack cl) v (part-few cl ic) refl freeStack (λ e. omega arith) (isFree m) (isFree m₁) (c .freeSegments) (λ q l. free-left m m₁ r other (λ e. let z = top-tag in omega arith) (λ e. let z = there .tag in omega arith) q)
+  free-stack = stack-apart g m s m₁ (partStack cl) v (part-few cl ic) refl freeStack (λ e. omega arith) (isFree m) (isFree m₁) (c .summed .freeSegments)
+      (λ q l. free-left m m₁ r other (λ e. let z = top-tag in omega arith) (λ e. let z = there .tag in omega arith) q)
 
   taken-over : Taken g m m₁ k cl r
   taken-over = taken-by g m s c (taken .mutators) (taken .segments) (popped g m s n v k cl r (place m r) .stacks) (m .bitmaps) k cl r (place m r) few here ic none took free-stack part-stacks

@@ -19,7 +19,7 @@ use Rattle.layout.specs.Geometry.{mutatorCount, mutatorWords, rootCount, blocks
 use Rattle.layout.specs.Mem.{Mem, mutatorWord, Sizes}
 use Rattle.theory.specs.Calls.{shapeIf}
 use Rattle.theory.proofs.Agree.{Agree}
-use Rattle.model.specs.Fields.{traceCount, absent, stateAt, acksAt, state, acks, root, holding, heldFrom, tag, class, place, owner}
+use Rattle.model.specs.Fields.{traceCount, absent, stateAt, acksAt, state, acks, root, holding, heldFrom, tag, class, owner}
 use Rattle.model.specs.Segments.{freeStack, partStack, above, bitmap}
 use Rattle.model.specs.Records.{record?}
 use Rattle.model.specs.Calls.{isAttached, isInside}
@@ -28,7 +28,7 @@ use Rattle.model.specs.Consistent.{SegmentOk, TreeOk, MutatorOk, StackOk, isFre
 use Rattle.refine_view.specs.Kept.{Ordered}
 use Rattle.refine_view.specs.View.{view}
 use Rattle.laws.proofs.Bools.{not-eq}
-use Rattle.laws.proofs.Words.{Recorded}
+use Rattle.laws.proofs.Words.{Recorded, Untouched}
 use Rattle.laws.proofs.Entries.{holding-by, table-below, mutators-table}
 use Rattle.laws.proofs.Segments.{segment-same, tree-same, occupied-by}
 use Rattle.refine_view.proofs.Seeing.{entries-same, root-was}
@@ -44,7 +44,7 @@ pub record Took (g : Geometry) (m m₁ : Mem) (k cl r p : ℕ) : Type 0 where
   pub sizes : Sizes g m₁
   pub below : r < g .segments
   pub there : Recorded m₁ r 2 cl p k
-  pub other : (q : ℕ) → (q ≡ r → ⊥) → Recorded m₁ q (tag m q) (class m q) (place m q) (owner m q)
+  pub other : (q : ℕ) → (q ≡ r → ⊥) → Untouched m m₁ q
   pub bitmaps : (q : ℕ) → (q ≡ r → ⊥) → bitmap g m₁ q ≡ bitmap g m q
   pub tree : Tree (above g cl) (blocksIn g cl) (bitmap g m₁ r)
   pub remains : (b : ℕ) × (p ≤ b) × (b < blocksIn g cl) × (bitAt (bitmap g m₁ r) b ≡ 0)
@@ -122,7 +122,7 @@ module _ (g : Geometry) (m : Mem) (s : Sizes g m) (c : Ordered g m) (mu se st bi
 
       go : (q ≡ r) ⊎ (q ≡ r → ⊥) → TreeOk g m₁ q
       go (inl e) = subst (TreeOk g m₁) (sym e) there
-      go (inr f) = let x = t .other q f in tree-same g m m₁ q (c .trees q l) (λ e. x .tag ∙ e) (x .class) (t .bitmaps q f)
+      go (inr f) = let x = t .other q f in tree-same g m m₁ q (c .summed .trees q l) (λ e. x .tag ∙ e) (x .class) (t .bitmaps q f)
 
   -- ---- mutators
 
@@ -198,10 +198,8 @@ module _ (g : Geometry) (m : Mem) (s : Sizes g m) (c : Ordered g m) (mu se st bi
     structure = record {
       phases = c .phases;
       segments = segments-ok;
-      trees = trees-ok;
+      summed = record { trees = trees-ok; freeSegments = free; partSegments = part };
       mutators = mutators-ok;
-      freeSegments = free;
-      partSegments = part;
       records = records-stand g m s c mu se st bi stands roots-before;
       trace = trace-stands g m s c mu se st bi stands;
       marks = marks-stand g m s c mu se st bi stands;

@@ -8,6 +8,8 @@ use lib.ListN.{getD}
 use Rattle.classes.specs.Class.{IsClass}
 use Rattle.classes.specs.Record.{classOfRecord}
 use Rattle.laws.proofs.Headers.{shape-by}
+use Rattle.laws.proofs.Words.{untouched-same}
+use Rattle.laws.proofs.Segments.{segment-same}
 use Rattle.layout.specs.declared.Geometry.{Geometry}
 use Rattle.layout.specs.Geometry.{mutatorCount}
 use Rattle.layout.specs.Mem.{Mem, heapWord}
@@ -15,7 +17,7 @@ use Rattle.theory.specs.Phases.{Phase}
 use Rattle.model.specs.Rules.{phaseOf}
 use Rattle.model.specs.Fields.{traceCount, absent, state, holding}
 use Rattle.model.specs.Reaching.{Live}
-use Rattle.model.specs.Consistent.{SegmentOk, MutatorOk, StackOk, RecordOk, HeadInUse, bitWord}
+use Rattle.model.specs.Consistent.{SegmentOk, MutatorOk, StackOk, Summed, RecordOk, HeadInUse, bitWord}
 use Rattle.refine_view.specs.Kept.{Structure, EntriesOk, MarksIn}
 use Rattle.refine_view.proofs.Carried.{marks-by}
 use Rattle.refine_view.proofs.Seeing.{entry-was}
@@ -41,19 +43,14 @@ module _ (g : Geometry) (m : Mem) (co mu ma tr he : List ℕ) where
   Held = (k c : ℕ) → k < mutatorCount → IsClass c → (state m k ≡ absent → ⊥) → (state now k ≡ absent → ⊥) × (holding now k c ≡ holding m k c)
 
   pub segment-beside : Held → (s : ℕ) → SegmentOk g m s → SegmentOk g now s
-  segment-beside h s o = record {
-    tags = o .tags;
-    free = o .free;
-    unowned = o .unowned;
-    classes = o .classes;
-    remains = o .remains;
-    full = o .full;
-    condemned = o .condemned;
-    held = λ e. let q = o .held e in let z = h _ _ (q .0) (o .classes (λ y. let w = sym y ∙ e in omega arith)) (q .1) in (q .0, z .0, z .1 ∙ q .2);
-  }
+  segment-beside h s o = segment-same g m now s o (untouched-same m now s refl) refl
+      (λ e. let q = o .held e in let z = h _ _ (q .0) (o .classes (λ y. let w = sym y ∙ e in omega arith)) (q .1) in (z .0, z .1 ∙ q .2))
 
   pub stack-beside : (t : ℕ) (test : ℕ → Bool) → StackOk g m t test → StackOk g now t test
   stack-beside t test o = record { number = o .number; members = o .members; once = o .once; all = o .all }
+
+  pub summed-beside : Summed g m → Summed g now
+  summed-beside o = record { trees = o .trees; freeSegments = stack-beside _ _ (o .freeSegments); partSegments = λ c i. stack-beside _ _ (o .partSegments c i) }
 
   pub record-beside : (at : ℕ) → heapWord now at ≡ heapWord m at → RecordOk g m at → RecordOk g now at
   record-beside at e r = record { inside = r .inside; used = r .used; aligned = r .aligned; block = r .block; sized = ap classOfRecord (shape-by m now at e) ∙ r .sized }
@@ -65,10 +62,8 @@ module _ (g : Geometry) (m : Mem) (co mu ma tr he : List ℕ) where
   structure-beside o p h u r q k = record {
     phases = p;
     segments = λ s l. segment-beside h s (o .segments s l);
-    trees = o .trees;
+    summed = summed-beside (o .summed);
     mutators = u;
-    freeSegments = stack-beside _ _ (o .freeSegments);
-    partSegments = λ c i. stack-beside _ _ (o .partSegments c i);
     records = λ at l. let z = r at l in record-beside at (z .1) (z .0);
     trace = q;
     marks = k;

@@ -6,7 +6,7 @@ use mathlib.Core.List.{[]}
 use Prim.Native.Nat.{ℕ, zero, suc, _-_, _≤_, _<_}
 use native.Mathlib.Omega.{arith}
 use lib.ListN.{List·getD-eq-default}
-use borrow.Author.Tests.{eq-eqb, ne-eqb, eqb-true, eqb-false}
+use borrow.Author.Tests.{eq-eqb, ne-eqb, eqb-true}
 use Rattle.rules.proofs.Order.{le-or-lt, same-or-not}
 use Rattle.words.proofs.Word.{zero-of-not-one}
 use Rattle.layout.specs.Geometry.{mutatorCount, segmentOf, markBit}
@@ -25,11 +25,11 @@ use Rattle.model.specs.Consistent.{Consistent, Behind, InPhase, AcksIn, Tricolo
 use Rattle.refine_view.specs.View.{view, stackOf, isHead, isUsed}
 use Rattle.refine_view.specs.Kept.{Ordered, EachOccupied, Structure, MarksIn}
 use Rattle.words.proofs.Counts.{lt-of}
-use Rattle.laws.proofs.Bools.{not-eq, ne-not, and-both, and-right, and-not, and-false}
+use Rattle.laws.proofs.Bools.{not-eq, ne-not, and-both, and-right, and-false}
 use Rattle.layout.proofs.Sizes.{segment-below}
 use Rattle.laws.proofs.Blocks.{bit-below, head-word}
 use Rattle.laws.proofs.Marked.{entry-unmarked, marked-entered, marked-lt}
-use Rattle.refine_view.proofs.Seeing.{entry-of, entry-in, live-on, live-back, reached-on, reached-back, entry-on, entry-back, edge-on, edge-back, naming, covered-on, covered-back, head-of, few-mutators}
+use Rattle.refine_view.proofs.Seeing.{entry-of, entry-in, live-on, live-back, reached-on, reached-back, entry-back, edge-on, edge-back, naming, covered-on, covered-back, head-of, few-mutators}
 use Rattle.laws.proofs.Rooted.{named}
 use Rattle.theory.specs.Machine as machine
 
@@ -48,11 +48,9 @@ consistent-ordered g m c =
     record {
       phases = s .phases;
       segments = s .segments;
-      trees = c .summed .trees;
+      summed = c .summed;
       mutators = s .mutators;
       acknowledgements = s .acknowledgements;
-      freeSegments = c .summed .freeSegments;
-      partSegments = c .summed .partSegments;
       records = s .records;
       trace = s .trace;
       cycle = s .cycle;
@@ -62,10 +60,8 @@ pub structure-of : (g : Geometry) (m : Mem) → Ordered g m → Structure g m
 structure-of g m c = record {
   phases = c .phases;
   segments = c .segments;
-  trees = c .trees;
+  summed = c .summed;
   mutators = c .mutators;
-  freeSegments = c .freeSegments;
-  partSegments = c .partSegments;
   records = c .records;
   trace = record { named = c .trace .named; bits = c .trace .bits; number = c .trace .number };
   marks = marks-in (phase m) g m (c .cycle);
@@ -243,11 +239,9 @@ module _ (g : Geometry) (m : Mem) (s : Sizes g m) (o : Structure g m) (inv : Inv
   ordered-of = record {
     phases = o .phases;
     segments = o .segments;
-    trees = o .trees;
+    summed = o .summed;
     mutators = o .mutators;
     acknowledgements = λ k l a. from-acks (phase m) refl k a;
-    freeSegments = o .freeSegments;
-    partSegments = o .partSegments;
     records = o .records;
     trace = record {
       named = o .trace .named;
@@ -260,6 +254,6 @@ module _ (g : Geometry) (m : Mem) (s : Sizes g m) (o : Structure g m) (inv : Inv
 
   pub consistent-of : EachOccupied g m → Behind g m → Consistent g m
   consistent-of u b = let c = ordered-of in record {
-    summed = record { trees = c .trees; freeSegments = c .freeSegments; partSegments = c .partSegments };
+    summed = c .summed;
     sound = record { phases = c .phases; segments = c .segments; occupied = u; behind = b; mutators = c .mutators; acknowledgements = c .acknowledgements; records = c .records; trace = c .trace; cycle = c .cycle };
   }

@@ -13,12 +13,10 @@ use Rattle.theory.specs.Machine.{State, start}
 use Rattle.theory.proofs.Agree.{Agree}
 use Rattle.theory.proofs.CollectorKeeps.{Pick}
 use Rattle.model.specs.Fields.{phase, traceCount, absent, state, acks, tag, class}
-use Rattle.model.specs.Segments.{freeStack, partStack}
 use Rattle.model.specs.Records.{entered}
 use Rattle.model.specs.Collector.{collects, started, lowest, stepOf}
 use Rattle.model.specs.Reaching.{IsEntry, Live}
-use Rattle.classes.specs.Class.{IsClass}
-use Rattle.model.specs.Consistent.{Consistent, SegmentOk, Occupied, Behind, MutatorOk, AcksIn, StackOk, isFree, isPart, TreeOk, RecordOk, TraceOk, MarksOf, bitWord, InPhase}
+use Rattle.model.specs.Consistent.{Consistent, SegmentOk, Occupied, Behind, MutatorOk, AcksIn, Summed, RecordOk, TraceOk, MarksOf, bitWord, InPhase}
 use Rattle.refine_view.specs.View.{view}
 use Rattle.model.specs.Calls as model
 use Rattle.theory.specs.MachineCalls as machine
@@ -29,11 +27,9 @@ use Rattle.model.specs.Tag as Tag
 pub record Ordered (g : Geometry) (m : Mem) : Type 0 where
   pub phases : controlWord m 0 ≤ 4
   pub segments : (s : ℕ) → s < g .segments → SegmentOk g m s
-  pub trees : (s : ℕ) → s < g .segments → TreeOk g m s
   pub mutators : (k : ℕ) → k < mutatorCount → MutatorOk g m k
   pub acknowledgements : (k : ℕ) → k < mutatorCount → (state m k ≡ absent → ⊥) → AcksIn (phase m) (acks m k)
-  pub freeSegments : StackOk g m freeStack (isFree m)
-  pub partSegments : (c : ℕ) → IsClass c → StackOk g m (partStack c) (isPart m c)
+  pub summed : Summed g m
   pub records : (at : ℕ) → Live m at → RecordOk g m at
   pub trace : TraceOk g m
   pub cycle : InPhase (phase m) g m
@@ -55,10 +51,8 @@ MarksIn sweep g m = MarksOf g m (λ s. tag m s ≡ Tag.condemned)
 pub record Structure (g : Geometry) (m : Mem) : Type 0 where
   pub phases : controlWord m 0 ≤ 4
   pub segments : (s : ℕ) → s < g .segments → SegmentOk g m s
-  pub trees : (s : ℕ) → s < g .segments → TreeOk g m s
   pub mutators : (k : ℕ) → k < mutatorCount → MutatorOk g m k
-  pub freeSegments : StackOk g m freeStack (isFree m)
-  pub partSegments : (c : ℕ) → IsClass c → StackOk g m (partStack c) (isPart m c)
+  pub summed : Summed g m
   pub records : (at : ℕ) → Live m at → RecordOk g m at
   pub trace : EntriesOk g m
   pub marks : MarksIn (phase m) g m

@@ -9,31 +9,28 @@ use Rattle.rules.specs.Pick.{pick}
 use Rattle.layout.specs.declared.Geometry.{Geometry}
 use Rattle.layout.specs.Geometry.{mutatorCount}
 use Rattle.layout.specs.Mem.{Mem, Sizes, withRegion, clearRegion, setControl}
-use Rattle.model.specs.Fields.{tag, setTag, class, place, owner, setAcks}
+use Rattle.model.specs.Fields.{setTag, setAcks}
 use Rattle.model.specs.Collector.{collects, condemned, acksReset, started}
 use Rattle.model.proofs.Collecting.{collects-full}
-use Rattle.laws.proofs.Words.{Recorded, recorded-by, tag-other}
+use Rattle.laws.proofs.Words.{Untouched, untouched-same, untouched-then, tag-other}
 use Rattle.laws.proofs.Operations.{sizes-condemned, sizes-reset}
 use Rattle.layout.specs.Region as Region
 use Rattle.model.specs.Tag as Tag
 
 -- ---- segments, in number order
 
-abbrev As : Mem → Mem → ℕ → Type 0
-As m m′ s = Recorded m′ s (tag m s) (class m s) (place m s) (owner m s)
-
 -- whether a start condemns a segment is read from its record
-collects-as : (m m′ : Mem) (s : ℕ) → As m m′ s → collects m′ s ≡ collects m s
+collects-as : (m m′ : Mem) (s : ℕ) → Untouched m m′ s → collects m′ s ≡ collects m s
 collects-as m m′ s r = collects-full m′ s ∙ ap (λ t. eqb t Tag.full) (r .tag) ∙ sym (collects-full m s)
 
 -- the records of those still to come are as before
-still : (m : Mem) (n s : ℕ) → n ≤ s → As m (condemned m n) s
+still : (m : Mem) (n s : ℕ) → n ≤ s → Untouched m (condemned m n) s
 unfolding condemned
-still m zero s l = record { tag = refl; class = refl; place = refl; owner = refl }
+still m zero s l = untouched-same m m s refl
 still m (suc n) s l = go (collects m n) (still m n s (omega arith))
   where
-    go : (b : Bool) → As m (condemned m n) s → As m (pick b (setTag (condemned m n) n Tag.condemned) (condemned m n)) s
-    go true r = recorded-by (condemned m n) (setTag (condemned m n) n Tag.condemned) s _ _ _ _ r (tag-other (condemned m n) n Tag.condemned s (λ e. omega arith))
+    go : (b : Bool) → Untouched m (condemned m n) s → Untouched m (pick b (setTag (condemned m n) n Tag.condemned) (condemned m n)) s
+    go true r = untouched-then r (tag-other (condemned m n) n Tag.condemned s (λ e. omega arith))
     go false r = r
 
 pub condemned-none : (m : Mem) → m ≡ condemned m 0
