@@ -37,7 +37,7 @@ module _ (g : Geometry) (m : Mem) (z : Sizes g m) (some : 0 < g .segments) where
   }
 
   alike : SameButSummaries g before unstacked
-  alike = record { control = refl; mutators = refl; heap = refl; segments = refl; blocks = λ s b l u h. refl; marks = refl; trace = refl }
+  alike = record { control = refl; mutators = refl; heap = refl; tags = λ s. refl; classes = λ s. refl; places = λ s. refl; owners = λ s. refl; blocks = λ s b l u h. refl; marks = refl; trace = refl }
 
   -- segment 0 is free, and the free stack is empty
   not-summed : Summed g unstacked → ⊥
