@@ -1,5 +1,6 @@
 -- `bracket_steps::answer_line` meets its contract. Assumes nothing.
 use borrow.Author.Needs.{needs}
+use Rattle.layout.specs.Geometry.{segmentBytes}
 use Rattle.bracket_steps.proofs.Carrying.{of-form, of-none}
 use Rattle.bracket_steps.proofs.answer_line.Statement.{statement}
 use Rattle.bracket_steps.proofs.answer_line.Tie as tie
@@ -14,6 +15,7 @@ task-of-requires : tie.Need-task-of-requires
 task-of-requires c κs = search needs
 
 carry-out-requires : tie.Need-carry-out-requires
+unfolding segmentBytes
 carry-out-requires c κs = search needs
 
 enum-told : tie.Need-enum-told
