@@ -53,7 +53,7 @@ pub const SEGMENT_RECORD_WORDS: usize = 4;
 
 pub const STACKS: usize = 1 + classes::CLASS_COUNT as usize;
 
-// A mutator's entry: its roots, then its state, its acknowledgements and its held segments, how many words it uses of it, and its length.
+// A mutator's entry: its roots, then its state, its acknowledgements and its held segments, how many of its words are in use, and its length.
 pub const STATE_AT: usize = ROOTS as usize;
 
 pub const ACKS_AT: usize = STATE_AT + 1;
