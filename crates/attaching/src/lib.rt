@@ -20,7 +20,7 @@ fn admit(g: Geometry, mem: &mut [u32], k: u32, root: u32) -> Answer
     requires { ⌜ (Sized g (length (now mem))) × (k < mutatorCount) ⌝ }
     ensures { λ r. ⌜ Admits (memOf g (now (mem .entry))) k root r (memOf g (now (mem .exit))) ⌝ }
 {
-    let phase = mutators::phase(g, mem);
+    let phase = control::phase(g, mem);
     if phase.in_handshake() {
         return Answer::Refused(11);
     }
@@ -125,7 +125,7 @@ pub fn detach(g: Geometry, mem: &mut [u32], k: u32) -> Answer
     if refused != 0 {
         return Answer::Refused(refused);
     }
-    let now = mutators::phase(g, mem);
+    let now = control::phase(g, mem);
     if now.in_handshake() {
         return Answer::Refused(11);
     }

@@ -44,11 +44,12 @@ abbrev pub RecordFine : Asked → Geometry → Mem → List ℕ → ℕ → ℕ 
 RecordFine Pointers g m cover s at k = bitAt (m .marks) k ≡ 1 → FineRun g m cover (m .heap) (at + 1) (pointerCount m at)
 RecordFine Marks g m cover s at k = tag m s ≡ Tag.condemned → bitAt (m .marks) k ≡ 1
 
-abbrev pub BlockJudged : Asked → Geometry → Mem → List ℕ → List ℕ → ℕ → ℕ → ℕ → Type 0
-BlockJudged asked g m bits cover s c b = bitAt bits (markBit (headerOf g s c b)) ≡ 1 → RecordFine asked g m cover s (headerOf g s c b) (markBit (headerOf g s c b))
+-- of the block at a word of segment s, if its bit is in the set
+abbrev pub BlockJudged : Asked → Geometry → Mem → List ℕ → List ℕ → ℕ → ℕ → Type 0
+BlockJudged asked g m bits cover s at = bitAt bits (markBit at) ≡ 1 → RecordFine asked g m cover s at (markBit at)
 
 abbrev pub SegmentJudged : Asked → Geometry → Mem → List ℕ → List ℕ → ℕ → Type 0
-SegmentJudged asked g m bits cover s = IsClass (class m s) → (b : ℕ) → b < blocksIn g (class m s) → BlockJudged asked g m bits cover s (class m s) b
+SegmentJudged asked g m bits cover s = IsClass (class m s) → (b : ℕ) → b < blocksIn g (class m s) → BlockJudged asked g m bits cover s (headerOf g s (class m s) b)
 
 abbrev pub Judged : Asked → Geometry → Mem → List ℕ → List ℕ → Type 0
 Judged asked g m bits cover = (s : ℕ) → s < g .segments → SegmentJudged asked g m bits cover s

@@ -1,19 +1,19 @@
 // The examination's parts on the cycle that need a search, over memory of any content: the tricolour invariant, and in sweep the marks of what is
 // reached. Bits of live or reached records, each of which passes the test, and cover bits lie beside each other in a lent scratch.
 use layout::Geometry;
+use marks::Bit;
 use model::Segment;
 use searching::Edges;
 use searching::Source;
-use tracing::Bit;
 ghost use mathlib.Core.Path.{_≡_};
 ghost use mathlib.Core.Logic.{_⊎_};
 ghost use Prim.Native.Nat.{ℕ, suc, _+_, _*_, _≤_, _<_};
 ghost use lib.ListN.{length};
 ghost use Rattle.rules.specs.Decides.{Decides};
 ghost use Rattle.words.specs.Bits.{bitAt};
-ghost use Rattle.layout.specs.Geometry.{Sized, len, mostBlocks, blocksIn, mutatorCount};
+ghost use Rattle.layout.specs.Geometry.{Sized, len, mostBlocks, blocksIn, markBit, mutatorCount};
 ghost use Rattle.layout.specs.Mem.{memOf};
-ghost use Rattle.model.specs.Records.{pointerCount};
+ghost use Rattle.model.specs.Records.{headerOf, pointerCount};
 ghost use Rattle.model.specs.Consistent.{RecordOk};
 ghost use Rattle.searching.specs.Graph.{wordsOf, lengthOf};
 ghost use Rattle.examine_cycle.specs.Judged.{Known, OfClass, Fine, FineRun, RootsFine, RecordFine, BlockJudged, SegmentJudged, Judged};
@@ -30,7 +30,7 @@ fn fine_bit(g: Geometry, mem: &[u32], cover: &[u32], k: usize) -> bool
     requires { ⌜ (Sized g (length (now mem))) × (len g Region.marks ≤ length (now cover)) × (k < g .segments * mostBlocks g) ⌝ }
     ensures { λ r. ⌜ Decides r ((bitAt (memOf g (now (mem .entry)) .marks) k ≡ 1) ⊎ (bitAt (now (cover .entry)) k ≡ 1)) ⌝ }
 {
-    if examine_trace::mark_bit(g, mem, k) {
+    if marks::is_set(g, mem, k) {
         return true;
     }
     words::bit_at(cover, k as u32) == 1
@@ -80,7 +80,7 @@ fn mutator_fine(g: Geometry, mem: &[u32], cover: &[u32], k: u32) -> bool
     requires { ⌜ (Sized g (length (now mem))) × (len g Region.marks ≤ length (now cover)) × (k < mutatorCount) ⌝ }
     ensures { λ r. ⌜ Decides r (RootsFine g (memOf g (now (mem .entry))) (now (cover .entry)) k) ⌝ }
 {
-    if mutators::state(g, mem, k) == 0 {
+    if mutators::state(g, mem, k) == mutators::ABSENT {
         return true;
     }
     if mutators::acks(g, mem, k) < 2 {
@@ -128,24 +128,23 @@ fn record_fine(
     requires { ⌜ (Sized g (length (now mem))) × (len g Region.marks ≤ length (now cover)) × (s < g .segments) × (k < g .segments * mostBlocks g) × RecordOk g (memOf g (now mem)) at ⌝ }
     ensures { λ r. ⌜ Decides r (RecordFine asked g (memOf g (now (mem .entry))) (now (cover .entry)) s at k) ⌝ }
 {
-    let marked = examine_trace::mark_bit(g, mem, k);
     match asked {
         Asked::Pointers => {
-            if !marked {
-                return true;
+            if marks::is_set(g, mem, k) {
+                return pointers_fine(g, mem, cover, at);
             }
-            pointers_fine(g, mem, cover, at)
+            true
         }
         Asked::Marks => {
             if segments::tag(g, mem, s) == Segment::TAG_CONDEMNED {
-                return marked;
+                return marks::is_set(g, mem, k);
             }
             true
         }
     }
 }
 
-// Whether what is asked holds of block b of segment s of a class, if its bit is in the set.
+// Whether what is asked holds of the block at a word of segment s, if its bit is in the set.
 fn block_judged(
     g: Geometry,
     mem: &[u32],
@@ -153,15 +152,12 @@ fn block_judged(
     bits: &[u32],
     cover: &[u32],
     s: usize,
-    class: u32,
-    b: usize,
+    at: usize,
 ) -> bool
-    requires { ⌜ (Sized g (length (now mem))) × (len g Region.marks ≤ length (now cover)) × Known g (memOf g (now mem)) (now bits) ⌝ }
-    requires { ⌜ (s < g .segments) × OfClass (memOf g (now mem)) s class × (b < blocksIn g class) ⌝ }
-    ensures { λ r. ⌜ Decides r (BlockJudged asked g (memOf g (now (mem .entry))) (now (bits .entry)) (now (cover .entry)) s class b) ⌝ }
+    requires { ⌜ (Sized g (length (now mem))) × (len g Region.marks ≤ length (now cover)) × (len g Region.marks ≤ length (now bits)) ⌝ }
+    requires { ⌜ (s < g .segments) × (at < len g Region.heap) × (bitAt (now bits) (markBit at) ≡ 1 → RecordOk g (memOf g (now mem)) at) ⌝ }
+    ensures { λ r. ⌜ Decides r (BlockJudged asked g (memOf g (now (mem .entry))) (now (bits .entry)) (now (cover .entry)) s at) ⌝ }
 {
-    let offset = b * classes::block_words(class);
-    let at = layout::word_in(g, s, offset);
     let k = layout::mark_bit(at);
     if words::bit_at(bits, k as u32) != 1 {
         return true;
@@ -169,7 +165,7 @@ fn block_judged(
     record_fine(g, mem, asked, cover, s, at, k)
 }
 
-// Whether what is asked holds of every block of segment s, which is of a class.
+// Whether what is asked holds of every block of segment s, which is of a class; each begins a block's words after the one before.
 fn segment_judged(
     g: Geometry,
     mem: &[u32],
@@ -181,16 +177,19 @@ fn segment_judged(
 ) -> bool
     requires { ⌜ (Sized g (length (now mem))) × (len g Region.marks ≤ length (now cover)) × Known g (memOf g (now mem)) (now bits) ⌝ }
     requires { ⌜ (s < g .segments) × OfClass (memOf g (now mem)) s class ⌝ }
-    ensures { λ r. ⌜ Decides r ((b : ℕ) → b < blocksIn g class → BlockJudged asked g (memOf g (now (mem .entry))) (now (bits .entry)) (now (cover .entry)) s class b) ⌝ }
+    ensures { λ r. ⌜ Decides r ((b : ℕ) → b < blocksIn g class → BlockJudged asked g (memOf g (now (mem .entry))) (now (bits .entry)) (now (cover .entry)) s (headerOf g s class b)) ⌝ }
 {
     let blocks = layout::blocks_in(g, class) as usize;
+    let words = classes::block_words(class);
     let mut b: usize = 0;
+    let mut at = layout::word_in(g, s, 0);
     while b < blocks {
-        let ok = block_judged(g, mem, asked, bits, cover, s, class, b);
+        let ok = block_judged(g, mem, asked, bits, cover, s, at);
         if !ok {
             return false;
         }
         b += 1;
+        at += words;
     }
     true
 }

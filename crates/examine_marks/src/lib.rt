@@ -57,7 +57,7 @@ fn bit_fine(g: Geometry, mem: &[u32], k: usize, condemned_only: bool) -> bool
     requires { ⌜ (Sized g (length (now mem))) × (k < g .segments * mostBlocks g) × Classes g (memOf g (now mem)) ⌝ }
     ensures { λ r. ⌜ Decides r (BitFine «condemned_only» g (memOf g (now (mem .entry))) k) ⌝ }
 {
-    let set = examine_trace::mark_bit(g, mem, k);
+    let set = marks::is_set(g, mem, k);
     if !set {
         return true;
     }
@@ -111,7 +111,7 @@ pub fn only_entries(g: Geometry, mem: &[u32]) -> bool
     requires { ⌜ (Sized g (length (now mem))) × Traced g (memOf g (now mem)) ⌝ }
     ensures { λ r. ⌜ Decides r (OnlyEntries g (memOf g (now (mem .entry)))) ⌝ }
 {
-    let n = layout::control(g, mem, 1);
-    let ones = examine_trace::mark_count(g, mem);
+    let n = control::trace_count(g, mem);
+    let ones = marks::count(g, mem);
     ones == n
 }

@@ -232,9 +232,9 @@ fn acknowledged(g: Geometry, mem: &[u32], k: u32) -> bool
     if state == mutators::ABSENT {
         return true;
     }
-    let p = layout::control(g, mem, 0);
+    let phase = control::phase(g, mem);
     let acks = mutators::acks(g, mem, k);
-    acks_in(p, acks)
+    acks_in(phase.number, acks)
 }
 
 // Whether the words of mutator k's entry are in range, and 0 where it is absent.
@@ -310,7 +310,7 @@ fn behind(g: Geometry, mem: &[u32]) -> bool
     ensures { λ r. ⌜ Decides r (Behind g (memOf g (now (mem .entry)))) ⌝ }
 {
     let n = g.segments;
-    let cursor = layout::control(g, mem, 2) as usize;
+    let cursor = control::cursor(g, mem) as usize;
     if cursor < n {
         return none_before(g, mem, cursor);
     }
@@ -322,8 +322,8 @@ pub fn parts(g: Geometry, mem: &[u32]) -> bool
     requires { ⌜ Sized g (length (now mem)) ⌝ }
     ensures { λ r. ⌜ Decides r (Parts g (memOf g (now (mem .entry)))) ⌝ }
 {
-    let p = layout::control(g, mem, 0);
-    if Phase::SWEEP < p {
+    let phase = control::phase(g, mem);
+    if Phase::SWEEP < phase.number {
         return false;
     }
     let ok = segments(g, mem);

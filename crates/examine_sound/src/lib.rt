@@ -1,6 +1,7 @@
 // The examination's second half, decided both ways over memory of any content: `Sound`, from the parts of segments and mutators, the trace stack, what
 // is live, and what the phase asks. The scratch may hold anything, and ends all zero.
 use layout::Geometry;
+use model::Phase;
 ghost use mathlib.Core.Path.{_≡_};
 ghost use Prim.Native.Nat.{ℕ, _≤_};
 ghost use lib.ListN.{length, replicate};
@@ -21,7 +22,7 @@ fn idle_ok(g: Geometry, mem: &[u32], scratch: &mut [u32]) -> bool
     requires { ⌜ (Sized g (length (now mem))) × (length (now scratch) ≡ scratchWords g) ⌝ }
     ensures { λ r. ⌜ Decides r (IdleRest g (memOf g (now (mem .entry)))) ⌝ }
 {
-    let count = layout::control(g, mem, 1);
+    let count = control::trace_count(g, mem);
     if count != 0 {
         return false;
     }
@@ -61,7 +62,7 @@ fn sweep_ok(g: Geometry, mem: &[u32], scratch: &mut [u32]) -> bool
     requires { ⌜ (Sized g (length (now mem))) × (length (now scratch) ≡ scratchWords g) × Classes g (memOf g (now mem)) ⌝ }
     ensures { λ r. ⌜ Decides r (SweepRest g (memOf g (now (mem .entry)))) ⌝ }
 {
-    let count = layout::control(g, mem, 1);
+    let count = control::trace_count(g, mem);
     if count != 0 {
         return false;
     }
@@ -77,14 +78,15 @@ fn rest_ok(g: Geometry, mem: &[u32], scratch: &mut [u32]) -> bool
     requires { ⌜ (Sized g (length (now mem))) × (length (now scratch) ≡ scratchWords g) × Classes g (memOf g (now mem)) × (controlWord (memOf g (now mem)) 0 ≤ phaseNumber sweep) × Traced g (memOf g (now mem)) ⌝ }
     ensures { λ r. ⌜ Decides r (Rest (phase (memOf g (now (mem .entry)))) g (memOf g (now (mem .entry)))) ⌝ }
 {
-    let number = layout::control(g, mem, 0);
-    if number == 0 {
+    let phase = control::phase(g, mem);
+    let number = phase.number;
+    if number == Phase::IDLE {
         return idle_ok(g, mem, scratch);
     }
-    if number == 1 {
+    if number == Phase::SYNC1 {
         return sync_ok(g, mem, scratch);
     }
-    if number < 4 {
+    if number < Phase::SWEEP {
         return mark_ok(g, mem, scratch);
     }
     sweep_ok(g, mem, scratch)

@@ -1,4 +1,4 @@
--- One bit, one entry, one more entry and the whole trace stack. Assumes nothing.
+-- A bit of an entry, one entry, one more entry and the whole trace stack.
 use mathlib.Core.Path.{_≡_, refl, sym, ap, _∙_, subst}
 use mathlib.Core.Bool.{Bool, true, false, true≢false}
 use mathlib.Core.Logic.{_⊎_, inl, inr}
@@ -32,30 +32,6 @@ use Rattle.searching.proofs.Steps.{placed}
 use Rattle.examine_trace.specs.Traced.{Traced, entryAt, entryBit, EntryOk, BitEnters, Enters, Seen, EntersAll}
 use Rattle.layout.specs.Region as Region
 
--- ---- one bit of a list of words
-
-pub bit-by : (ws : List ℕ) (k w x : ℕ) → w ≡ getD ws (k / 32) 0 → x ≡ bitOf w (k % 32) → Decides (eqb x 1) (bitAt ws k ≡ 1)
-bit-by ws k w x ew ex =
-    let e : bitAt ws k ≡ x = bit-split ws k ∙ ap (λ z. bitOf z (k % 32)) (sym ew) ∙ sym ex in
-    record { sound = λ t. e ∙ eqb-true x 1 t; complete = λ q. eq-eqb x 1 (sym e ∙ q) }
-
--- ---- the marks as a part of the slice
-
-module _ (g : Geometry) (l : List ℕ) (z : Sized g (length l)) (a b most : ℕ) (em : most ≡ len g Region.trace) (ea : a ≡ from g Region.marks + 0 * markWords g) (eb : b ≡ length l - most) where
-  pub part-ends : (b ≡ a + len g Region.marks) × (b ≤ length l) × (most ≤ length l)
-  part-ends = let t = z .is in (omega arith, omega arith, omega arith)
-
-  part-is : midOf a (b - a) l ≡ memOf g l .marks
-  part-is =
-      read-at g l Region.marks 0 (len g Region.marks) a b (omega arith, part-ends .0, omega arith, omega arith)
-      ∙ take-all (len g Region.marks) (memOf g l .marks) (let q = sizes-of g l z .marks in omega arith)
-
-  pub part-room : wordsFor most ≤ length (midOf a (b - a) l)
-  part-room = rw part-is (let q = sizes-of g l z .marks in let w = marks-are g (g .segments) in omega arith)
-
-  pub part-count : (r : ℕ) → r ≡ onesAmong (bitAt (midOf a (b - a) l)) most → r ≡ onesAmong (bitAt (memOf g l .marks)) (g .segments * mostBlocks g)
-  part-count r e = e ∙ ap (λ (y : List ℕ). onesAmong (bitAt y) most) part-is ∙ ap (onesAmong (bitAt (memOf g l .marks))) em
-
 -- ---- a bit of an entry
 
 module _ (m : Mem) (k : ℕ) (before : List ℕ) where
@@ -82,7 +58,10 @@ module _ (g : Geometry) (m : Mem) (i : ℕ) (before : List ℕ) (w : ℕ) (ew : 
 
   pub enter-by : (w ≡ 0 → ⊥) → RecordOk g m (w - 1) → (k : ℕ) → k ≡ markBit (w - 1) → (r : Bool) (after : List ℕ) → BitEnters m k before r after → Enters g m i before r after
   enter-by f ok k ek r after q = record {
-    new = λ t. let n = q .new t in (record { named = omega arith; passes = subst (λ (x : ℕ). RecordOk g m (x - 1)) ew ok; bit = ap (bitAt (m .marks)) (sym is) ∙ n .0 }, ap (bitAt before) (sym is) ∙ n .1, n .2 ∙ ap (setBit before) is);
+    new = λ t.
+        let n = q .new t in
+        let passes = subst (λ (x : ℕ). RecordOk g m (x - 1)) ew ok in
+        (record { named = omega arith; passes = passes; bit = ap (bitAt (m .marks)) (sym is) ∙ n .0 }, ap (bitAt before) (sym is) ∙ n .1, n .2 ∙ ap (setBit before) is);
     wrong = λ t o z. q .wrong t (ap (bitAt (m .marks)) is ∙ o .bit) (ap (bitAt before) is ∙ z);
   }
     where
@@ -195,7 +174,3 @@ module _ (g : Geometry) (m : Mem) where
 -- a cleared scratch has no bit
 pub clear-bits : (n : ℕ) (s : List ℕ) → s ≡ replicate n 0 → (k : ℕ) → bitAt s k ≡ 0
 clear-bits n s e k = ap (λ (l : List ℕ). bitAt l k) e ∙ zeros-bit n k
-
--- the bit of a record that passes the test
-pub tested-small : (g : Geometry) (m : Mem) (at k : ℕ) → RecordOk g m at → k ≡ markBit at → k < g .segments * mostBlocks g
-tested-small g m at k ok e = subst (λ z. z < g .segments * mostBlocks g) (sym e) (placed g m .small at ok)

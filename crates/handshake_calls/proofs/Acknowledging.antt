@@ -24,7 +24,7 @@ use Rattle.laws.proofs.Lengths.{sizes-of}
 use Rattle.laws.proofs.Acknowledgements.{root-acks, roots-acks, roots-ready}
 use Rattle.laws.proofs.Promised.{done, torn-13}
 use Rattle.mutators.specs.Inside.{insideThen}
-use Rattle.tracing.specs.Pushing.{recordBitAt, PushFails}
+use Rattle.tracing.specs.Pushing.{PushFails}
 use Rattle.tracing.specs.Roots.{RootFails, PushesRoots}
 use Rattle.tracing.proofs.Roots.{roots-succeed}
 use Rattle.handshake_calls.specs.Acknowledging.{Acknowledges}
@@ -41,7 +41,7 @@ first-owed (suc (suc (suc (suc n)))) a t f = absurd (true≢false (sym t))
 
 -- nothing but roots and trace stack hinders a push
 hinders-acks : (g : Geometry) (m : Mem) (k v w : ℕ) → PushFails g (setAcks m k v) w → PushFails g m w
-unfolding setMutator recordBitAt
+unfolding setMutator
 hinders-acks g m k v w h = record { at = h .at; names = h .names; why = h .why }
 
 fails-acks : (g : Geometry) (m : Mem) (k v : ℕ) → RootFails g (setAcks m k v) k → RootFails g m k

@@ -17,7 +17,7 @@ pub fn acknowledge(g: Geometry, mem: &mut [u32], k: u32) -> bool
     requires { ⌜ (Sized g (length (now mem))) × (k < mutatorCount) ⌝ }
     ensures { λ r. ⌜ Acknowledges g (memOf g (now (mem .entry))) k r (memOf g (now (mem .exit))) ⌝ }
 {
-    let phase = mutators::phase(g, mem);
+    let phase = control::phase(g, mem);
     let number = phase.number;
     if phase.owes(mutators::acks(g, mem, k)) {
         if number == Phase::SYNC2 {

@@ -22,7 +22,7 @@ pub fn phase(g: Geometry, mem: &[u32]) -> PhaseLook
     if layout::wrong_size(g, mem.len()) {
         return PhaseLook::Refused(1);
     }
-    let phase = mutators::phase(g, mem);
+    let phase = control::phase(g, mem);
     let number = phase.number;
     if Phase::SWEEP < number {
         return PhaseLook::Refused(13);

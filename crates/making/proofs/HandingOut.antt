@@ -41,7 +41,7 @@ use Rattle.laws.proofs.Blocks.{blocks-most}
 use Rattle.laws.proofs.Words.{Recorded, recorded-as, state-there}
 use Rattle.segments.proofs.Records.{place-alone}
 use Rattle.bitmaps.specs.Given.{NearIn}
-use Rattle.tracing.specs.Pushing.{withMark}
+use Rattle.marks.specs.Bits.{withMark}
 use Rattle.making.specs.declared.Taken.{Taken}
 use Rattle.making.specs.declared.Handed.{Handed}
 use Rattle.making.specs.Taking.{segmentIn, takenFrom, Takes}

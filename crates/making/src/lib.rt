@@ -146,9 +146,9 @@ fn blacken(g: Geometry, mem: &mut [u32], k: u32, at: usize)
     requires { ⌜ (Sized g (length (now mem))) × (k < mutatorCount) × (at < len g Region.heap) ⌝ }
     ensures { λ _. ⌜ memOf g (now (mem .exit)) ≡ blackened g (memOf g (now (mem .entry))) k at ⌝ }
 {
-    let phase = mutators::phase(g, mem);
+    let phase = control::phase(g, mem);
     if phase.black(mutators::acks(g, mem, k)) {
-        tracing::mark_bit(g, mem, layout::mark_bit(at));
+        marks::set(g, mem, layout::mark_bit(at));
         return;
     }
 }

@@ -50,8 +50,8 @@ fn visit(g: Geometry, mem: &mut [u32], at: usize) -> Step
     if layout::heap_words(g) <= at + n {
         return Step::Refused(13);
     }
-    let count = layout::control(g, mem, 1);
-    layout::set_control(g, mem, 1, count - 1);
+    let count = control::trace_count(g, mem);
+    control::set_trace_count(g, mem, count - 1);
     if push_pointers(g, mem, at, n) {
         return Step::Traced;
     }
@@ -63,9 +63,9 @@ pub fn trace(g: Geometry, mem: &mut [u32]) -> Step
     requires { ⌜ Sized g (length (now mem)) ⌝ }
     ensures { λ r. ⌜ StepsAs (λ g m. traces g (traceCount m) m) g (memOf g (now (mem .entry))) r (memOf g (now (mem .exit))) ⌝ }
 {
-    let count = layout::control(g, mem, 1);
+    let count = control::trace_count(g, mem);
     if count == 0 {
-        mutators::set_phase(g, mem, Phase::SWEEP);
+        control::set_phase(g, mem, Phase::SWEEP);
         return Step::Moved;
     }
     let last = (count - 1) as usize;

@@ -1,14 +1,12 @@
-// Mutators' entries in the lent slice: whether a mutator may call, its roots, its state and its acknowledgements; and the phase, which says
-// what a mutator owes.
+// Mutators' entries in the lent slice: whether a mutator may call, its roots, its state, its acknowledgements and what it holds.
 use layout::Geometry;
-use model::Phase;
 ghost use mathlib.Core.Path.{_≡_};
 ghost use Prim.Native.Nat.{_<_};
 ghost use lib.ListN.{length};
 ghost use Rattle.rules.specs.Decides.{Decides};
 ghost use Rattle.classes.specs.Class.{IsClass};
 ghost use Rattle.layout.specs.Geometry.{Sized, mutatorCount, rootCount};
-ghost use Rattle.layout.specs.Mem.{memOf, controlWord, setControl};
+ghost use Rattle.layout.specs.Mem.{memOf};
 ghost use Rattle.theory.specs.Calls.{ifRoot};
 ghost use Rattle.model.specs.Fields.{inside, root, setRoot, state, setMutatorState, acks, setAcks, holding, setHolding};
 ghost use Rattle.model.specs.Mutators.{setEntry};
@@ -21,23 +19,6 @@ pub const ABSENT: u32 = 0;
 pub const INSIDE: u32 = 1;
 
 pub const OUTSIDE: u32 = 2;
-
-// The phase.
-pub fn phase(g: Geometry, mem: &[u32]) -> Phase
-    requires { ⌜ Sized g (length (now mem)) ⌝ }
-    ensures { λ r. ⌜ r .number ≡ controlWord (memOf g (now (mem .entry))) 0 ⌝ }
-{
-    Phase {
-        number: layout::control(g, mem, 0),
-    }
-}
-
-pub fn set_phase(g: Geometry, mem: &mut [u32], number: u32)
-    requires { ⌜ Sized g (length (now mem)) ⌝ }
-    ensures { λ _. ⌜ memOf g (now (mem .exit)) ≡ setControl (memOf g (now (mem .entry))) 0 number ⌝ }
-{
-    layout::set_control(g, mem, 0, number);
-}
 
 // The state of mutator k.
 pub fn state(g: Geometry, mem: &[u32], k: u32) -> u32

@@ -1,6 +1,6 @@
--- The test of a word: a block in use at whose head lies a record of the segment's class, and nothing else. Assumes nothing.
+-- The test of a word: a block in use at whose head lies a record of the segment's class, and nothing else.
 use mathlib.Core.Path.{_≡_, refl, sym, _∙_, ap, subst}
-use mathlib.Core.Bool.{true, false, true≢false}
+use mathlib.Core.Bool.{Bool, true, false, true≢false}
 use mathlib.Core.List.{List}
 use Prim.Native.Nat.{ℕ, _+_, _-_, _*_, _/_, _%_, _≤_, _<_}
 use native.Mathlib.Nat.{mod-lt}
@@ -8,11 +8,10 @@ use native.Mathlib.Omega.{arith}
 use lib.Dec.{eqb}
 use lib.ListN.{length}
 use borrow.Rule.Slice.PartMut.{midOf}
-use borrow.Author.Tests.{lt-ltb, le-ltb, eq-eqb, eqb-true}
+use borrow.Author.Tests.{lt-ltb, le-ltb, eq-eqb, ne-eqb, eqb-true}
 use Rattle.rules.specs.Decides.{Decides}
-use Rattle.rules.proofs.Deciding.{holds}
-use Rattle.words.specs.Bits.{bitOf, bitAt}
-use Rattle.words.proofs.Lists.{bit-split}
+use Rattle.rules.proofs.Deciding.{holds, refuted}
+use Rattle.words.specs.Bits.{bitAt}
 use Rattle.words.proofs.Trees.{words-in}
 use Rattle.classes.specs.Class.{blockWords, firstClass, classTest}
 use Rattle.classes.specs.Record.{classOfRecord}
@@ -21,7 +20,7 @@ use Rattle.classes.specs.declared.SizeClass.the-variants.{Class}
 use Rattle.classes.proofs.Every.{class-passed, class-passes}
 use Rattle.layout.specs.declared.Geometry.{Geometry}
 use Rattle.layout.specs.Geometry.{Sized, len, from, segmentWords, mostBlocks, blocksIn, bitmapWords, segmentOf, markBit}
-use Rattle.layout.specs.Mem.{Mem, markWord}
+use Rattle.layout.specs.Mem.{Mem}
 use Rattle.model.specs.Fields.{tag, class, place}
 use Rattle.model.specs.Segments.{above, bitmap, usedBit}
 use Rattle.model.specs.Records.{shapeOf, blockOf, entered}
@@ -46,7 +45,8 @@ module _ (g : Geometry) (m : Mem) (s b p : ℕ) (is : p ≡ place m s) where
       record { sound = λ t. f ∙ eqb-true x 1 t; complete = λ q. eq-eqb x 1 (sym f ∙ q) }
 
 -- the bitmap that is lent
-module _ (g : Geometry) (l : List ℕ) (z : Sized g (length l)) (s : ℕ) (h : s < g .segments) (a b : ℕ) (ea : a ≡ from g Region.bitmaps + s * bitmapWords g) (eb : b ≡ from g Region.bitmaps + (s + 1) * bitmapWords g) where
+module _ (g : Geometry) (l : List ℕ) (z : Sized g (length l)) (s : ℕ) (h : s < g .segments) (a b : ℕ)
+    (ea : a ≡ from g Region.bitmaps + s * bitmapWords g) (eb : b ≡ from g Region.bitmaps + (s + 1) * bitmapWords g) where
   pub lent : TreePart g l s firstClass a b
   lent = tree-at g l z s h a b ea eb firstClass (omega arith, omega arith)
 
@@ -94,6 +94,10 @@ module _ (g : Geometry) (m : Mem) (at s c : ℕ) (es : s ≡ segmentOf g at) (k 
 
 -- ---- any word
 
+-- d is the number of the heap's words, s the segment
+pub segment-in : (g : Geometry) (at d s : ℕ) → d ≡ len g Region.heap → at < d → s ≡ segmentOf g at → s < g .segments
+segment-in g at d s z l e = subst (λ x. x < g .segments) (sym e) (segment-below g at (subst (λ x. at < x) z l))
+
 module _ (g : Geometry) (m : Mem) (at d : ℕ) (z : d ≡ len g Region.heap) where
   pub off-heap : d ≤ at → RecordOk g m at → ⊥
   off-heap l r = let i : at < d = subst (λ x. at < x) (sym z) (r .inside) in omega arith
@@ -102,14 +106,14 @@ module _ (g : Geometry) (m : Mem) (at d : ℕ) (z : d ≡ len g Region.heap) whe
   in-heap l = subst (λ x. at < x) z l
 
 module _ (g : Geometry) (m : Mem) (at s : ℕ) (es : s ≡ segmentOf g at) where
-  pub not-free : (t : ℕ) → t ≡ tag m s → t ≡ 0 → RecordOk g m at → ⊥
+  pub not-free : (t : ℕ) → t ≡ tag m s → t ≡ Tag.free → RecordOk g m at → ⊥
   not-free t e z r = r .used (ap (tag m) (sym es) ∙ sym e ∙ z)
 
   pub no-class : (c : ℕ) → c ≡ class m s → classTest c ≡ false → RecordOk g m at → ⊥
   no-class c e f r =
       let z : classTest c ≡ true = ap classTest (e ∙ ap (class m) es) ∙ class-passes _ (class-of g m at r) in true≢false (sym z ∙ f)
 
-  pub classed : (t c : ℕ) → t ≡ tag m s → (t ≡ 0 → ⊥) → c ≡ class m s → classTest c ≡ true → Classed m s c
+  pub classed : (t c : ℕ) → t ≡ tag m s → (t ≡ Tag.free → ⊥) → c ≡ class m s → classTest c ≡ true → Classed m s c
   classed t c et f e h = record { is = e; class = class-passed c h; used = λ q. f (et ∙ q) }
 
 -- ---- the bit of a record
@@ -118,5 +122,11 @@ module _ (g : Geometry) (m : Mem) (at : ℕ) where
   pub bit-room : RecordOk g m at → markBit at < g .segments * mostBlocks g
   bit-room r = bit-below g m at (class-of g m at r) (r .inside)
 
-  pub entered-by : (k w x : ℕ) → k ≡ markBit at → w ≡ markWord m (k / 32) → x ≡ bitOf w (k % 32) → eqb x 1 ≡ eqb (entered g m at) 1
-  entered-by k w x ek ew ex = ap (λ z. eqb z 1) (ex ∙ ap (λ z. bitOf z (k % 32)) ew ∙ sym (bit-split (m .marks) k) ∙ ap (bitAt (m .marks)) ek)
+  -- the bit that a word has, tested
+  pub entered-by : (k : ℕ) → k ≡ markBit at → (r : Bool) → Decides r (bitAt (m .marks) k ≡ 1) → r ≡ eqb (entered g m at) 1
+  entered-by k e true d = sym (eq-eqb _ _ (ap (bitAt (m .marks)) (sym e) ∙ d .sound refl))
+  entered-by k e false d = sym (ne-eqb _ _ (λ q. refuted d refl (ap (bitAt (m .marks)) e ∙ q)))
+
+  -- the bit of a record that passes the test
+  pub tested-small : (k : ℕ) → RecordOk g m at → k ≡ markBit at → k < g .segments * mostBlocks g
+  tested-small k ok e = subst (λ z. z < g .segments * mostBlocks g) (sym e) (bit-room ok)

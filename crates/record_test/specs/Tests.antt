@@ -7,8 +7,8 @@ use Rattle.layout.specs.declared.Geometry.{Geometry}
 use Rattle.layout.specs.Mem.{Mem}
 use Rattle.model.specs.Fields.{tag, class}
 use Rattle.model.specs.Consistent.{RecordOk}
-use Rattle.tracing.specs.declared.Bit.{Bit}
-use Rattle.tracing.specs.declared.Bit.the-variants.{At, Torn}
+use Rattle.marks.specs.declared.Bit.{Bit}
+use Rattle.marks.specs.declared.Bit.the-variants.{At, Torn}
 use Rattle.model.specs.Tag as Tag
 
 -- segment s is in use and of class c

@@ -1,7 +1,8 @@
 // The test of a record: whether a word of the heap is the head of a block in use that holds a record of its segment's class. Memory may have any
 // content; the answer decides `RecordOk`, and with it comes the record's bit.
 use layout::Geometry;
-use tracing::Bit;
+use marks::Bit;
+use model::Segment;
 ghost use mathlib.Core.Path.{_≡_};
 ghost use Prim.Native.Nat.{_<_};
 ghost use lib.ListN.{length};
@@ -76,7 +77,7 @@ pub fn test(g: Geometry, mem: &[u32], at: usize) -> Bit
         return Bit::Torn;
     }
     let s = layout::segment_of(g, at);
-    if segments::tag(g, mem, s) == 0 {
+    if segments::tag(g, mem, s) == Segment::TAG_FREE {
         return Bit::Torn;
     }
     let class = segments::class(g, mem, s);
@@ -91,7 +92,5 @@ pub fn is_entered(g: Geometry, mem: &[u32], at: usize) -> bool
     requires { ⌜ (Sized g (length (now mem))) × RecordOk g (memOf g (now mem)) at ⌝ }
     ensures { λ r. ⌜ r ≡ eqb (entered g (memOf g (now (mem .entry))) at) 1 ⌝ }
 {
-    let k = layout::mark_bit(at);
-    let w = layout::mark(g, mem, k / 32);
-    words::bit_of(w, (k % 32) as u32) == 1
+    marks::is_set(g, mem, layout::mark_bit(at))
 }

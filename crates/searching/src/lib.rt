@@ -1,7 +1,7 @@
 // The search of the heap for the examination: one search over the lent memory, with visited bits and a stack in a lent scratch. Every word may have
 // any content: a record is tested before its pointers are followed, and each is visited once.
 use layout::Geometry;
-use tracing::Bit;
+use marks::Bit;
 ghost use mathlib.Core.Path.{_≡_};
 ghost use mathlib.Core.Bool.{true};
 ghost use Prim.Native.Nat.{ℕ, suc, _+_, _-_, _*_, _≤_, _<_};
@@ -190,7 +190,7 @@ fn mutator_at(g: Geometry, mem: &[u32], k: u32, scratch: &mut [u32], top: usize)
     requires { ⌜ Lent g (now mem) (now scratch) × Valid (recordsOf g (memOf g (now mem))) (stateOf g (now scratch) top) × (k < mutatorCount) ⌝ }
     ensures { λ r. ⌜ Came g (memOf g (now (mem .entry))) (RootOf (memOf g (now (mem .entry))) k) (stateOf g (now (scratch .entry)) top) r (now (scratch .exit)) ⌝ }
 {
-    if mutators::state(g, mem, k) == 0 {
+    if mutators::state(g, mem, k) == mutators::ABSENT {
         return Met::Top(top);
     }
     let from = k as usize * layout::MUTATOR_WORDS;
@@ -234,7 +234,7 @@ fn entry_count(g: Geometry, mem: &[u32]) -> usize
     requires { ⌜ Sized g (length (now mem)) ⌝ }
     ensures { λ r. ⌜ EntryCount g (memOf g (now (mem .entry))) r ⌝ }
 {
-    let count = layout::control(g, mem, 1) as usize;
+    let count = control::trace_count(g, mem) as usize;
     let most = layout::trace_words(g);
     if most < count {
         return most;

@@ -66,8 +66,8 @@ fn begin(g: Geometry, mem: &mut [u32])
     condemn(g, mem);
     reset_acks(g, mem);
     layout::clear_marks(g, mem);
-    layout::set_control(g, mem, 2, 0);
-    mutators::set_phase(g, mem, Phase::SYNC1);
+    control::set_cursor(g, mem, 0);
+    control::set_phase(g, mem, Phase::SYNC1);
 }
 
 // A cycle begins, unless one runs; where no segment is full, a cycle over none.
@@ -77,7 +77,7 @@ pub fn start(g: Geometry, mem: &mut [u32]) -> Answer
     if layout::wrong_size(g, mem.len()) {
         return Answer::Refused(1);
     }
-    let phase = mutators::phase(g, mem);
+    let phase = control::phase(g, mem);
     if phase.number != Phase::IDLE {
         return Answer::Refused(11);
     }

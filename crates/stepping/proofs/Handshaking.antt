@@ -1,4 +1,4 @@
--- How a step in a handshake promises its part: waiting, moved, or torn; x is the memory after the acknowledgements of the mutators outside. Assumes nothing.
+-- How a step in a handshake promises its part: waiting, moved, or torn; x is the memory after the acknowledgements of the mutators outside.
 use mathlib.Core.Path.{_≡_, refl, sym, _∙_, ap}
 use mathlib.Core.Bool.{Bool, true, false}
 use mathlib.Core.Option.{Option·none-ne-some, Option·some-injective}
@@ -6,26 +6,17 @@ use Prim.Native.Nat.{ℕ, zero, suc, _≤_}
 use native.Mathlib.Omega.{arith}
 use Rattle.layout.specs.declared.Geometry.{Geometry}
 use Rattle.layout.specs.Geometry.{mutatorCount}
-use Rattle.layout.specs.Mem.{Mem, Sizes, setControl}
-use Rattle.theory.specs.Phases.{Phase, sweep}
+use Rattle.layout.specs.Mem.{Mem, Sizes}
+use Rattle.theory.specs.Phases.{Phase}
 use Rattle.theory.specs.Calls.{a-waiting}
 use Rattle.model.specs.declared.Step.the-variants.{Waiting, Moved, Refused}
-use Rattle.model.specs.Rules.{phaseOf, phaseNumber}
+use Rattle.model.specs.Fields.{setPhase}
 use Rattle.model.specs.Answers.{isWaiting, isMoved}
 use Rattle.model.specs.Collector.{waiting, moves}
 use Rattle.model.specs.StepParts.{StepsAs}
 use Rattle.stepping.specs.Handshaking.{AnswersOutside, handshakes}
 use Rattle.stepping.proofs.Answering.{answers-succeed}
 use Rattle.stepping.proofs.Counting.{waiting-most}
-
--- a number of a phase is its phase's
-number-of : (n : ℕ) → n ≤ phaseNumber sweep → phaseNumber (phaseOf n) ≡ n
-number-of zero l = refl
-number-of (suc zero) l = refl
-number-of (suc (suc zero)) l = refl
-number-of (suc (suc (suc zero))) l = refl
-number-of (suc (suc (suc (suc zero)))) l = refl
-number-of (suc (suc (suc (suc (suc n))))) l = absurd (omega arith)
 
 waits-for : (n : ℕ) (m : Mem) (p : Phase) → (n ≡ 0 → ⊥) → moves n m p ≡ (a-waiting n, m)
 waits-for zero m p f = absurd (f refl)
@@ -50,11 +41,11 @@ module _ (g : Geometry) (m : Mem) (r : Bool) (x : Mem) (a : AnswersOutside g m r
           torn = λ k q. absurd (Option·none-ne-some k q);
         }
 
-    pub step-moves : n ≡ 0 → (next : ℕ) → next ≤ phaseNumber sweep → (m′ : Mem) → m′ ≡ setControl x 0 next → StepsAs (handshakes (phaseOf next)) g m Moved m′
-    step-moves z next l m′ e =
-        let d = counted (phaseOf next) ∙ ap (λ k. moves k x (phaseOf next)) z in
+    pub step-moves : n ≡ 0 → (p : Phase) (m′ : Mem) → m′ ≡ setPhase x p → StepsAs (handshakes p) g m Moved m′
+    step-moves z p m′ e =
+        let d = counted p ∙ ap (λ k. moves k x p) z in
         record {
-          exact = λ _. (sym (ap (λ z. z .0) d), e ∙ ap (setControl x 0) (sym (number-of next l)) ∙ sym (ap (λ z. z .1) d));
+          exact = λ _. (sym (ap (λ z. z .0) d), e ∙ sym (ap (λ z. z .1) d));
           kind = λ _. isMoved;
           torn = λ k q. absurd (Option·none-ne-some k q);
         }

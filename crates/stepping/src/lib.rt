@@ -65,7 +65,7 @@ fn waiting(g: Geometry, mem: &[u32]) -> u32
     requires { ⌜ Sized g (length (now mem)) ⌝ }
     ensures { λ r. ⌜ r ≡ waiting (memOf g (now (mem .entry))) mutatorCount ⌝ }
 {
-    let phase = mutators::phase(g, mem);
+    let phase = control::phase(g, mem);
     let mut n: u32 = 0;
     let mut i: u32 = 0;
     while i < layout::MUTATORS {
@@ -85,7 +85,7 @@ fn handshake(g: Geometry, mem: &mut [u32], next: u32) -> Step
         if n != 0 {
             return Step::Waiting(n);
         }
-        mutators::set_phase(g, mem, next);
+        control::set_phase(g, mem, next);
         return Step::Moved;
     }
     Step::Refused(13)
@@ -98,7 +98,7 @@ pub fn step(g: Geometry, mem: &mut [u32]) -> Step
     if layout::wrong_size(g, mem.len()) {
         return Step::Refused(1);
     }
-    let phase = mutators::phase(g, mem);
+    let phase = control::phase(g, mem);
     let number = phase.number;
     if number == Phase::MARK {
         return marking::trace(g, mem);

@@ -19,7 +19,7 @@ fn store_at(g: Geometry, mem: &mut [u32], k: u32, word: usize, new: u32) -> Answ
     requires { ⌜ (Sized g (length (now mem))) × (k < mutatorCount) × (word < len g Region.heap) ⌝ }
     ensures { λ r. ⌜ Stores g (memOf g (now (mem .entry))) k word new r (memOf g (now (mem .exit))) ⌝ }
 {
-    let phase = mutators::phase(g, mem);
+    let phase = control::phase(g, mem);
     let duty = phase.duty(mutators::acks(g, mem, k));
     let old = records::field(g, mem, word);
     if tracing::barrier(g, mem, duty, new, old) {

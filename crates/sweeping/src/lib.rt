@@ -44,7 +44,7 @@ fn lowest_condemned(g: Geometry, mem: &[u32]) -> Lowest
     requires { ⌜ Sized g (length (now mem)) ⌝ }
     ensures { λ r. ⌜ Finds g (memOf g (now (mem .entry))) r ⌝ }
 {
-    let s = next_condemned(g, mem, layout::control(g, mem, 2) as usize);
+    let s = next_condemned(g, mem, control::cursor(g, mem) as usize);
     if s < g.segments {
         return Lowest::Segment(s);
     }
@@ -127,7 +127,7 @@ fn finish(g: Geometry, mem: &mut [u32], s: usize, class: u32, used: u32, kept: u
     ensures { λ r. ⌜ Finishes g (memOf g (now (mem .entry))) s class used kept r (memOf g (now (mem .exit))) ⌝ }
 {
     if settle(g, mem, s, class, kept) {
-        layout::set_control(g, mem, 2, s as u32 + 1);
+        control::set_cursor(g, mem, s as u32 + 1);
         return Step::Swept(s as u32, less(used, kept));
     }
     Step::Refused(13)
@@ -162,7 +162,7 @@ pub fn sweep(g: Geometry, mem: &mut [u32]) -> Step
     match lowest_condemned(g, mem) {
         Lowest::Segment(s) => sweep_segment(g, mem, s),
         Lowest::Nothing => {
-            mutators::set_phase(g, mem, Phase::IDLE);
+            control::set_phase(g, mem, Phase::IDLE);
             Step::Done
         }
     }

@@ -1,6 +1,4 @@
--- Laws of bits and pushes.
-pub mod Bits
-pub mod Masks
+-- Laws of pushes.
 pub mod Pushed
 pub mod Succeeds
 pub mod Roots

@@ -3,67 +3,46 @@ use mathlib.Core.Path.{_≡_, refl, sym, _∙_, ap, subst}
 use mathlib.Core.Bool.{Bool, true, false, true≢false}
 use mathlib.Core.Option.{some}
 use mathlib.Core.Logic.{inl, inr}
-use Prim.Native.Nat.{ℕ, suc, _+_, _-_, _/_, _%_, _≤_, _<_}
+use Prim.Native.Nat.{ℕ, suc, _+_, _-_, _≤_}
 use native.Mathlib.Omega.{arith}
 use native.Mathlib.Nat.{pos-of-ne-zero}
-use lib.Bits.{bitOr}
 use borrow.Author.Tests.{eq-eqb, ne-eqb}
-use Rattle.words.specs.Bits.{bitAt, setBit}
+use Rattle.words.specs.Bits.{bitAt}
 use Rattle.layout.specs.declared.Geometry.{Geometry}
 use Rattle.layout.specs.Geometry.{len, markBit}
-use Rattle.layout.specs.Mem.{Mem, markWord, setMarkWord, setTrace, setControl}
-use Rattle.model.specs.Fields.{traceCount}
+use Rattle.layout.specs.Mem.{Mem, setTrace}
+use Rattle.model.specs.Fields.{traceCount, setTraceCount}
 use Rattle.model.specs.Records.{record?}
 use Rattle.model.specs.Tracing.{push}
 use Rattle.model.specs.declared.Duty.{Duty}
-use Rattle.tracing.specs.declared.Bit.the-variants.{At, Torn}
-use Rattle.tracing.proofs.Bits.{bit-within}
-use Rattle.tracing.proofs.Masks.{mask, mask-or, or-same, or-other}
-use Rattle.tracing.specs.Pushing.{recordBitAt, withMark, pushedBit, PushesBit, PushFails, Pushes, BarrierRuns}
-use Rattle.words.specs.Bits as bits
+use Rattle.marks.specs.declared.Bit.the-variants.{At, Torn}
+use Rattle.marks.specs.Bits.{recordBitAt, withMark}
+use Rattle.marks.proofs.Bits.{bit-within}
+use Rattle.tracing.specs.Pushing.{pushedBit, PushesBit, PushFails, Pushes, BarrierRuns}
 use Rattle.model.specs.Records as records
 use Rattle.model.specs.declared.Duty.the-variants as duty
 use Rattle.layout.specs.Region as Region
 
--- ---- x is the word of the marks, and what it is with bit k
+-- ---- bit k is set, or it is not
 
-module _ (g : Geometry) (m : Mem) (w k : ℕ) (x : ℕ) (e : x ≡ markWord m (k / 32)) where
-  low : k % 32 < 32
-  low = omega arith
-
-  is-bit : bits.bitOf x (k % 32) ≡ bitAt (m .marks) k
-  unfolding bitAt
-  is-bit = ap (λ z. bits.bitOf z (k % 32)) e
-
-  pub push-old : bitOr x (mask (k % 32)) ≡ x → PushesBit g m w k true m
+module _ (g : Geometry) (m : Mem) (w k : ℕ) where
+  pub push-old : bitAt (m .marks) k ≡ 1 → PushesBit g m w k true m
   unfolding pushedBit
-  push-old h = record { done = λ _. rw (eq-eqb _ _ (sym is-bit ∙ or-same x (k % 32) low h)) refl; full = λ t. absurd (true≢false t) }
+  push-old q = record { done = λ _. rw (eq-eqb _ _ q) refl; full = λ t. absurd (true≢false t) }
 
-  module _ (h : bitOr x (mask (k % 32)) ≡ x → ⊥) (n : ℕ) (j : n ≡ traceCount m) where
-    unset : bitAt (m .marks) k ≡ 1 → ⊥
-    unset q = or-other x (k % 32) low h (is-bit ∙ q)
-
+  module _ (unset : bitAt (m .marks) k ≡ 1 → ⊥) (n : ℕ) (j : n ≡ traceCount m) where
     pub push-full : (d : ℕ) → d ≡ len g Region.trace → d ≤ n → PushesBit g m w k false m
     push-full d t o = record {
       done = λ y. absurd (true≢false (sym y));
       full = λ _. (unset, subst (λ z. len g Region.trace ≤ z) j (subst (λ z. z ≤ n) t o));
     }
 
-    pub push-done : (m₁ m₂ m₃ : Mem) → m₁ ≡ setMarkWord m (k / 32) (bitOr x (mask (k % 32))) → m₂ ≡ setTrace m₁ n w → m₃ ≡ setControl m₂ 1 (n + 1)
-        → PushesBit g m w k true m₃
-    unfolding pushedBit withMark setBit setMarkWord
-    push-done m₁ m₂ m₃ e₁ e₂ e₃ =
-        let a = e₁ ∙ ap (setMarkWord m (k / 32)) (mask-or x (k % 32) low) in
-        record {
-          done = λ _. e₃ ∙ rw (e₂, a, e, j, ne-eqb _ _ unset) refl;
-          full = λ t. absurd (true≢false t);
-        }
-
--- ---- x is the word of the marks that has bit k
-
-pub marked-bit : (m : Mem) (k x : ℕ) → x ≡ markWord m (k / 32) → (m′ : Mem) → m′ ≡ setMarkWord m (k / 32) (bitOr x (mask (k % 32))) → m′ ≡ withMark m k
-unfolding withMark setBit setMarkWord
-marked-bit m k x e m′ u = u ∙ ap (setMarkWord m (k / 32)) (mask-or x (k % 32) (let l : k % 32 < 32 = omega arith in l)) ∙ rw e refl
+    pub push-done : (m₁ m₂ m₃ : Mem) → m₁ ≡ withMark m k → m₂ ≡ setTrace m₁ n w → m₃ ≡ setTraceCount m₂ (n + 1) → PushesBit g m w k true m₃
+    unfolding pushedBit
+    push-done m₁ m₂ m₃ e₁ e₂ e₃ = record {
+      done = λ _. e₃ ∙ rw (e₂, e₁, j, ne-eqb _ _ unset) refl;
+      full = λ t. absurd (true≢false t);
+    }
 
 -- ---- a push of a word
 

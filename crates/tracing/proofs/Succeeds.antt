@@ -21,9 +21,10 @@ use Rattle.model.specs.Consistent.{RecordOk, Consistent}
 use Rattle.laws.proofs.Blocks.{bit-below}
 use Rattle.laws.proofs.Apart.{class-of}
 use Rattle.laws.proofs.Pushes.{Counted, Ready, record-untouched, untouched-push, ready-push, fold-untouched, fold-ready}
-use Rattle.tracing.specs.declared.Bit.the-variants.{At, Torn}
-use Rattle.tracing.specs.Pushing.{recordBitAt, PushFails}
-use Rattle.tracing.proofs.Bits.{isAt}
+use Rattle.marks.specs.declared.Bit.the-variants.{At, Torn}
+use Rattle.marks.specs.Bits.{recordBitAt}
+use Rattle.marks.proofs.Bits.{isAt}
+use Rattle.tracing.specs.Pushing.{PushFails}
 use Rattle.layout.specs.Region as Region
 
 -- ---- one push

@@ -1,31 +1,23 @@
--- The bit of a record, and a push on the trace stack with what can hinder it, over memory of any content.
+-- A push on the trace stack, with what can hinder it, over memory of any content.
 use mathlib.Core.Path.{_≡_}
 use mathlib.Core.Bool.{Bool, true, false}
 use mathlib.Core.Logic.{_⊎_}
 use Prim.Native.Nat.{ℕ, suc, _+_, _≤_}
-use lib.Dec.{eqb, ltb}
+use lib.Dec.{eqb}
 use Rattle.rules.specs.Pick.{pick}
-use Rattle.words.specs.Bits.{bitAt, setBit}
+use Rattle.words.specs.Bits.{bitAt}
 use Rattle.layout.specs.declared.Geometry.{Geometry}
-use Rattle.layout.specs.Geometry.{len, markBit}
-use Rattle.layout.specs.Mem.{Mem, setTrace, withRegion}
+use Rattle.layout.specs.Geometry.{len}
+use Rattle.layout.specs.Mem.{Mem, setTrace}
 use Rattle.model.specs.Fields.{traceCount, setTraceCount}
 use Rattle.model.specs.declared.Duty.{Duty}
 use Rattle.model.specs.Records.{record?, entered}
 use Rattle.model.specs.Tracing.{push, barrier}
-use Rattle.tracing.specs.declared.Bit.{Bit}
-use Rattle.tracing.specs.declared.Bit.the-variants.{At, Torn}
+use Rattle.marks.specs.declared.Bit.the-variants.{Torn}
+use Rattle.marks.specs.Bits.{recordBitAt, withMark}
 use Rattle.theory.specs.Phases as theory
 use Rattle.model.specs.declared.Duty.the-variants as duty
 use Rattle.layout.specs.Region as Region
-
--- the bit of the record at a word; none off the heap
-unfoldable pub recordBitAt : Geometry → ℕ → Bit
-recordBitAt g at = pick (ltb at (len g Region.heap)) (At (markBit at)) Torn
-
--- bit k set
-unfoldable pub withMark : Mem → ℕ → Mem
-withMark m k = withRegion m Region.marks (setBit (m .marks) k)
 
 -- the word w on top of the stack, with bit k, unless the bit is set
 unfoldable pub pushedBit : Mem → ℕ → ℕ → Mem

@@ -1,50 +1,31 @@
-// The trace stack in the lent slice: the bit of a record, and what is pushed. Over memory of any content nothing is read or written off its
-// region; where a record has no bit, or the stack no room, the answer says so.
+// The trace stack in the lent slice: what is pushed. Over memory of any content nothing is read or written off its region; where a record has no
+// bit, or the stack no room, the answer says so.
 use layout::Geometry;
+use marks::Bit;
 use model::Duty;
 ghost use mathlib.Core.Path.{_≡_};
-ghost use Prim.Native.Nat.{_*_, _≤_, _<_};
+ghost use Prim.Native.Nat.{_*_, _<_};
 ghost use lib.ListN.{length};
-ghost use Rattle.layout.specs.Geometry.{Sized, maxSegments, mostBlocks, mutatorCount};
+ghost use Rattle.layout.specs.Geometry.{Sized, mostBlocks, mutatorCount};
 ghost use Rattle.layout.specs.Mem.{memOf};
-ghost use Rattle.tracing.specs.Pushing.{recordBitAt, withMark, PushesBit, Pushes, BarrierRuns};
+ghost use Rattle.tracing.specs.Pushing.{PushesBit, Pushes, BarrierRuns};
 ghost use Rattle.tracing.specs.Roots.{PushesRoots};
-
-// The number of a record's bit among the marks, or none.
-pub enum Bit {
-    At(usize),
-    Torn,
-}
-
-// The bit of the record at a word; none off the heap.
-pub fn bit_of(g: Geometry, at: usize) -> Bit
-    requires { ⌜ g .segments ≤ maxSegments ⌝ }
-    ensures { λ r. ⌜ r ≡ recordBitAt g at ⌝ }
-{
-    if layout::heap_words(g) <= at {
-        return Bit::Torn;
-    }
-    Bit::At(layout::mark_bit(at))
-}
 
 // Pushes the record of a word and a bit, unless its bit is set; false where the stack has no room.
 fn push_bit(g: Geometry, mem: &mut [u32], w: u32, k: usize) -> bool
     requires { ⌜ (Sized g (length (now mem))) × (k < g .segments * mostBlocks g) ⌝ }
     ensures { λ r. ⌜ PushesBit g (memOf g (now (mem .entry))) w k r (memOf g (now (mem .exit))) ⌝ }
 {
-    let q = k / 32;
-    let bits = layout::mark(g, mem, q);
-    let new = bits | 1u32 << (k % 32);
-    if new == bits {
+    if marks::is_set(g, mem, k) {
         return true;
     }
-    let count = layout::control(g, mem, 1);
+    let count = control::trace_count(g, mem);
     if layout::trace_words(g) <= count as usize {
         return false;
     }
-    layout::set_mark(g, mem, q, new);
+    marks::set(g, mem, k);
     layout::set_trace(g, mem, count as usize, w);
-    layout::set_control(g, mem, 1, count + 1);
+    control::set_trace_count(g, mem, count + 1);
     true
 }
 
@@ -56,20 +37,10 @@ pub fn push(g: Geometry, mem: &mut [u32], w: u32) -> bool
     if w == 0 {
         return true;
     }
-    match bit_of(g, (w - 1) as usize) {
+    match marks::record_bit(g, (w - 1) as usize) {
         Bit::Torn => false,
         Bit::At(k) => push_bit(g, mem, w, k),
     }
-}
-
-// Sets bit k.
-pub fn mark_bit(g: Geometry, mem: &mut [u32], k: usize)
-    requires { ⌜ (Sized g (length (now mem))) × (k < g .segments * mostBlocks g) ⌝ }
-    ensures { λ _. ⌜ memOf g (now (mem .exit)) ≡ withMark (memOf g (now (mem .entry))) k ⌝ }
-{
-    let q = k / 32;
-    let bits = layout::mark(g, mem, q);
-    layout::set_mark(g, mem, q, bits | 1u32 << (k % 32));
 }
 
 // The write barrier of a store: the new value and then the old, the old, or nothing.

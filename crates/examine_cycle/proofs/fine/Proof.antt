@@ -5,7 +5,7 @@ use native.Mathlib.Omega.{arith}
 use Rattle.rules.proofs.Deciding.{holds}
 use Rattle.layout.specs.Mem.{memOf}
 use Rattle.record_test.specs.Tests.{Tested}
-use Rattle.examine_trace.proofs.Entering.{tested-small}
+use Rattle.record_test.proofs.Testing.{tested-small}
 use Rattle.examine_cycle.proofs.Judging.{fine-torn, fine-by}
 use borrow.Author.Needs.{needs}
 use Rattle.examine_cycle.proofs.fine.Statement.{statement}
@@ -30,13 +30,30 @@ enum-known-k : tie.Need-enum-known-k
 enum-known-k c = search needs
 
 fine-bit-requires : tie.Need-fine-bit-requires
-fine-bit-requires c κs = let a = c .before .before .before .before .before .before .before in let t = subst (Tested (a .args .g) (memOf (a .args .g) (a .args .mem .now)) (a .args .w - 1)) (c .before .k .given .1) (c .before .before .before .test .ensures) in (a .pre .0, a .pre .1, tested-small _ _ _ _ (t .0) (t .1))
+fine-bit-requires c κs =
+    let known = c .before in
+    let tested = known .before .before in
+    let entry = tested .before .before .before .before in
+    let t = subst (Tested (entry .args .g) (memOf (entry .args .g) (entry .args .mem .now)) (entry .args .w - 1)) (known .k .given .1) (tested .test .ensures) in
+    (entry .pre .0, entry .pre .1, tested-small _ _ _ _ (t .0) (t .1))
 
 returns-2 : tie.Need-returns-2
-returns-2 c = let a = c .before .before .before .before .before .before in fine-torn (a .args .g) (memOf (a .args .g) (a .args .mem .now)) _ (a .args .w) (c .before .before .before .if1 .left) (subst (Tested (a .args .g) (memOf (a .args .g) (a .args .mem .now)) (a .args .w - 1)) (c .enum-told .given .1) (c .before .before .test .ensures))
+returns-2 c =
+    let tested = c .before .before in
+    let branched = tested .before in
+    let entry = branched .before .before .before in
+    fine-torn (entry .args .g) (memOf (entry .args .g) (entry .args .mem .now)) _ (entry .args .w) (branched .if1 .left)
+    (subst (Tested (entry .args .g) (memOf (entry .args .g) (entry .args .mem .now)) (entry .args .w - 1)) (c .enum-told .given .1) (tested .test .ensures))
 
 returns-3 : tie.Need-returns-3
-returns-3 c = let a = c .before .before .before .before .before .before .before .before in let m = memOf (a .args .g) (a .args .mem .now) in let t = subst (Tested (a .args .g) m (a .args .w - 1)) (c .before .before .k .given .1) (c .before .before .before .before .test .ensures) in fine-by (a .args .g) m (a .args .cover .now) (a .args .w) (c .before .before .before .before .before .if1 .left) (t .0) _ (t .1) _ (c .fine-bit .ensures)
+returns-3 c =
+    let known = c .before .before in
+    let tested = known .before .before in
+    let branched = tested .before in
+    let entry = branched .before .before .before in
+    let m = memOf (entry .args .g) (entry .args .mem .now) in
+    let t = subst (Tested (entry .args .g) m (entry .args .w - 1)) (known .k .given .1) (tested .test .ensures) in
+    fine-by (entry .args .g) m (entry .args .cover .now) (entry .args .w) (branched .if1 .left) (t .0) _ (t .1) _ (c .fine-bit .ensures)
 
 pub fine-spec : {M : Type 1} → statement M
 fine-spec =

@@ -1,4 +1,4 @@
--- `examine_parts::acknowledged` meets its contract. Assumes nothing.
+-- `examine_parts::acknowledged` meets its contract.
 use Rattle.layout.specs.Mem.{memOf}
 use Rattle.examine_parts.proofs.Tables.{acked-absent, acked-there}
 use borrow.Author.Needs.{needs}
@@ -9,10 +9,14 @@ state-requires : tie.Need-state-requires
 state-requires c κs = search needs
 
 returns : tie.Need-returns
-returns c = let a = c .before .before .before .args in acked-absent (memOf (a .g) (a .mem .now)) (a .k) _ (c .before .state .ensures) (c .if1 .taken)
+returns c =
+    let stated = c .before in
+    let entry = stated .before .before in
+    let a = entry .args in
+    acked-absent (memOf (a .g) (a .mem .now)) (a .k) _ (stated .state .ensures) (c .if1 .taken)
 
-control-requires : tie.Need-control-requires
-control-requires c κs = search needs
+phase-requires : tie.Need-phase-requires
+phase-requires c κs = search needs
 
 acks-requires : tie.Need-acks-requires
 acks-requires c κs = search needs
@@ -21,9 +25,16 @@ acks-in-requires : tie.Need-acks-in-requires
 acks-in-requires c κs = search needs
 
 returns-2 : tie.Need-returns-2
-returns-2 c = let a = c .before .before .before .before .before .before .args in acked-there (memOf (a .g) (a .mem .now)) (a .k) _ (c .before .before .before .before .state .ensures) (c .before .before .before .if1 .left) _ (c .before .before .control .ensures) _ (c .before .acks .ensures) _ (c .acks-in .ensures)
+returns-2 c =
+    let counted = c .before in
+    let phased = counted .before in
+    let branched = phased .before in
+    let stated = branched .before in
+    let entry = stated .before .before in
+    let a = entry .args in
+    acked-there (memOf (a .g) (a .mem .now)) (a .k) _ (stated .state .ensures) (branched .if1 .left) _ (phased .phase .ensures) _ (counted .acks .ensures) _ (c .acks-in .ensures)
 
 pub acknowledged-spec : {M : Type 1} → statement M
 acknowledged-spec =
     tie.close
-    (tie.spec state-requires returns control-requires acks-requires acks-in-requires returns-2)
+    (tie.spec state-requires returns phase-requires acks-requires acks-in-requires returns-2)

@@ -1,4 +1,4 @@
--- `examine_sound::idle_ok` meets its contract. Assumes nothing.
+-- `examine_sound::idle_ok` meets its contract.
 use mathlib.Core.Path.{_≡_, _∙_, sym}
 use borrow.Author.Tests.{not-true, not-false}
 use Rattle.rules.proofs.Deciding.{fails, refuted, via}
@@ -6,11 +6,11 @@ use borrow.Author.Needs.{needs}
 use Rattle.examine_sound.proofs.idle_ok.Statement.{statement}
 use Rattle.examine_sound.proofs.idle_ok.Tie as tie
 
-control-requires : tie.Need-control-requires
-control-requires c κs = search needs
+trace-count-requires : tie.Need-trace-count-requires
+trace-count-requires c κs = search needs
 
 returns : tie.Need-returns
-returns c = fails (λ q. c .if1 .taken (c .before .control .ensures ∙ q .empty))
+returns c = fails (λ q. c .if1 .taken (c .before .trace-count .ensures ∙ q .empty))
 
 none-condemned-requires : tie.Need-none-condemned-requires
 none-condemned-requires c κs = search needs
@@ -25,13 +25,24 @@ same-length : tie.Need-same-length
 same-length c = search needs
 
 returns-3 : tie.Need-returns-3
-returns-3 c = via (λ h. record { empty = sym (c .before .before .before .before .before .before .before .control .ensures) ∙ c .before .before .before .before .before .before .if1 .left; none = c .before .before .before .before .before .none-condemned .ensures .sound (not-false _ (c .before .before .before .before .if2 .left)); records = h }) (λ q. q .records) (c .before .before .live-ok .ensures)
+returns-3 c =
+    let alive = c .before .before in
+    let second = alive .before .before in
+    let none = second .before in
+    let first = none .before in
+    via
+    (λ h. record {
+      empty = sym (first .before .trace-count .ensures) ∙ first .if1 .left;
+      none = none .none-condemned .ensures .sound (not-false _ (second .if2 .left));
+      records = h;
+    })
+    (λ q. q .records) (alive .live-ok .ensures)
 
 pub idle-ok-spec : {M : Type 1} → statement M
 idle-ok-spec =
     tie.close
     (tie.spec
-    control-requires
+    trace-count-requires
     returns
     none-condemned-requires
     returns-2

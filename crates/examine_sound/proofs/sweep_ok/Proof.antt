@@ -1,4 +1,4 @@
--- `examine_sound::sweep_ok` meets its contract. Assumes nothing.
+-- `examine_sound::sweep_ok` meets its contract.
 use mathlib.Core.Path.{_≡_, _∙_, sym}
 use borrow.Author.Tests.{not-true, not-false}
 use Rattle.rules.proofs.Deciding.{fails, refuted, via}
@@ -6,11 +6,11 @@ use borrow.Author.Needs.{needs}
 use Rattle.examine_sound.proofs.sweep_ok.Statement.{statement}
 use Rattle.examine_sound.proofs.sweep_ok.Tie as tie
 
-control-requires : tie.Need-control-requires
-control-requires c κs = search needs
+trace-count-requires : tie.Need-trace-count-requires
+trace-count-requires c κs = search needs
 
 returns : tie.Need-returns
-returns c = fails (λ q. c .if1 .taken (c .before .control .ensures ∙ q .empty))
+returns c = fails (λ q. c .if1 .taken (c .before .trace-count .ensures ∙ q .empty))
 
 marks-requires : tie.Need-marks-requires
 marks-requires c κs = search needs
@@ -25,13 +25,24 @@ same-length : tie.Need-same-length
 same-length c = search needs
 
 returns-3 : tie.Need-returns-3
-returns-3 c = via (λ h. record { empty = sym (c .before .before .before .before .before .before .before .control .ensures) ∙ c .before .before .before .before .before .before .if1 .left; marks = c .before .before .before .before .before .marks .ensures .sound (not-false _ (c .before .before .before .before .if2 .left)); swept = h }) (λ q. q .swept) (c .before .before .swept .ensures)
+returns-3 c =
+    let searched = c .before .before in
+    let second = searched .before .before in
+    let marked = second .before in
+    let first = marked .before in
+    via
+    (λ h. record {
+      empty = sym (first .before .trace-count .ensures) ∙ first .if1 .left;
+      marks = marked .marks .ensures .sound (not-false _ (second .if2 .left));
+      swept = h;
+    })
+    (λ q. q .swept) (searched .swept .ensures)
 
 pub sweep-ok-spec : {M : Type 1} → statement M
 sweep-ok-spec =
     tie.close
     (tie.spec
-    control-requires
+    trace-count-requires
     returns
     marks-requires
     returns-2

@@ -4,7 +4,8 @@ use Prim.Native.Nat.{_-_}
 use Rattle.layout.specs.Mem.{memOf}
 use Rattle.record_test.specs.Tests.{Tested}
 use Rattle.searching.proofs.Steps.{bit-room}
-use Rattle.examine_trace.proofs.Entering.{enter-nil, enter-torn, enter-by, tested-small}
+use Rattle.record_test.proofs.Testing.{tested-small}
+use Rattle.examine_trace.proofs.Entering.{enter-nil, enter-torn, enter-by}
 use borrow.Author.Needs.{needs}
 use Rattle.examine_trace.proofs.enter.Statement.{statement}
 use Rattle.examine_trace.proofs.enter.Tie as tie
@@ -31,16 +32,35 @@ enum-known-k : tie.Need-enum-known-k
 enum-known-k c = search needs
 
 enter-bit-requires : tie.Need-enter-bit-requires
-enter-bit-requires c κs = let a = c .before .before .before .before .before .before .before .before .before in let t = subst (Tested (a .args .g) (memOf (a .args .g) (a .args .mem .now)) (c .before .before .before .before .before .before .trace .result - 1)) (c .before .before .k .given .1) (c .before .before .before .before .test .ensures) in (a .pre .0, tested-small _ _ _ _ (t .0) (t .1), a .pre .2)
+enter-bit-requires c κs =
+    let known = c .before .before in
+    let tested = known .before .before in
+    let read = tested .before .before in
+    let entry = read .before .before .before in
+    let t = subst (Tested (entry .args .g) (memOf (entry .args .g) (entry .args .mem .now)) (read .trace .result - 1)) (known .k .given .1) (tested .test .ensures) in
+    (entry .pre .0, tested-small _ _ _ _ (t .0) (t .1), entry .pre .2)
 
 returns-2 : tie.Need-returns-2
-returns-2 c = let a = c .before .before .before .before .before .before .before in enter-torn _ _ _ _ _ (c .before .before .before .before .trace .ensures) (subst (Tested (a .args .g) (memOf (a .args .g) (a .args .mem .now)) (c .before .before .before .before .trace .result - 1)) (c .enum-told .given .1) (c .before .before .test .ensures))
+returns-2 c =
+    let tested = c .before .before in
+    let read = tested .before .before in
+    let entry = read .before .before .before in
+    enter-torn _ _ _ _ _ (read .trace .ensures)
+    (subst (Tested (entry .args .g) (memOf (entry .args .g) (entry .args .mem .now)) (read .trace .result - 1)) (c .enum-told .given .1) (tested .test .ensures))
 
 same-length : tie.Need-same-length
 same-length c = search needs
 
 returns-3 : tie.Need-returns-3
-returns-3 c = let a = c .before .before .before .before .before .before .before .before .before .before .before .before in let t = subst (Tested (a .args .g) (memOf (a .args .g) (a .args .mem .now)) (c .before .before .before .before .before .before .before .before .before .trace .result - 1)) (c .before .before .before .before .before .k .given .1) (c .before .before .before .before .before .before .before .test .ensures) in enter-by _ _ _ _ _ (c .before .before .before .before .before .before .before .before .before .trace .ensures) (c .before .before .before .before .before .before .before .before .if1 .left) (t .0) _ (t .1) _ _ (c .before .before .enter-bit .ensures)
+returns-3 c =
+    let entered = c .before .before in
+    let known = entered .before .before .before in
+    let tested = known .before .before in
+    let branched = tested .before in
+    let read = branched .before in
+    let entry = read .before .before .before in
+    let t = subst (Tested (entry .args .g) (memOf (entry .args .g) (entry .args .mem .now)) (read .trace .result - 1)) (known .k .given .1) (tested .test .ensures) in
+    enter-by _ _ _ _ _ (read .trace .ensures) (branched .if1 .left) (t .0) _ (t .1) _ _ (entered .enter-bit .ensures)
 
 pub enter-spec : {M : Type 1} → statement M
 enter-spec =

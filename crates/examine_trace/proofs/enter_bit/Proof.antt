@@ -10,17 +10,12 @@ use Rattle.examine_trace.proofs.Entering.{bit-unset, bit-again, bit-new
 use borrow.Author.Needs.{needs}
 use Rattle.examine_trace.proofs.enter_bit.Statement.{statement}
 use Rattle.examine_trace.proofs.enter_bit.Tie as tie
-use Rattle.examine_trace.proofs.enter_bit.Reads as reads
-use Rattle.examine_trace.proofs.enter_bit.Lts as lts
-use Rattle.examine_trace.proofs.mark_bit.Reads as mark-bit-reads
-use Rattle.words.proofs.bit_at.Reads as bit-at-reads
-use Rattle.words.proofs.set_bit.Reads as set-bit-reads
 
-mark-bit-requires : tie.Need-mark-bit-requires
-mark-bit-requires c κs = search needs
+is-set-requires : tie.Need-is-set-requires
+is-set-requires c κs = search needs
 
 returns : tie.Need-returns
-returns c = bit-unset _ _ _ (refuted (c .before .mark-bit .ensures) (not-true _ (c .if1 .taken)))
+returns c = bit-unset _ _ _ (refuted (c .before .is-set .ensures) (not-true _ (c .if1 .taken)))
 
 cast-bit : tie.Need-cast-bit
 cast-bit c = omega (arith, trace-most (c .before .before .before .before .args .g) (c .before .before .before .before .pre .0 .few), c .before .before .before .before .pre .1)
@@ -36,9 +31,9 @@ returns-2 c = bit-again _ _ _ (sym (c .before .bit-at .ensures) ∙ c .if2 .take
 
 set-bit-requires : tie.Need-set-bit-requires
 set-bit-requires c κs =
-    let did-mark-bit = c .before .before .before .before .before in
-    let entry = did-mark-bit .before .before .before in
-    let a = entry in omega (arith, mark-word (a .args .g) (a .args .k) (a .pre .1), a .pre .2)
+    let tested = c .before .before .before .before .before in
+    let entry = tested .before .before .before in
+    omega (arith, mark-word (entry .args .g) (entry .args .k) (entry .pre .1), entry .pre .2)
 
 same-length-2 : tie.Need-same-length-2
 same-length-2 c = search needs
@@ -48,15 +43,17 @@ returns-3 c =
     let branched2 = c .before .before .before .before in
     let did-bit-at = branched2 .before in
     let branched1 = did-bit-at .before .before in
-    let did-mark-bit = branched1 .before in
-    let entry = did-mark-bit .before .before .before in
-    let a = entry in let m = memOf (a .args .g) (a .args .mem .now) in subst (BitEnters m (a .args .k) (a .args .scratch .now) _) (sym (c .before .before .set-bit .ensures)) (bit-new m (a .args .k) (a .args .scratch .now) (did-mark-bit .mark-bit .ensures .sound (not-false _ (branched1 .if1 .left))) (λ q. branched2 .if2 .left (did-bit-at .bit-at .ensures ∙ q)))
+    let tested = branched1 .before in
+    let entry = tested .before .before .before in
+    let m = memOf (entry .args .g) (entry .args .mem .now) in
+    subst (BitEnters m (entry .args .k) (entry .args .scratch .now) _) (sym (c .before .before .set-bit .ensures))
+    (bit-new m (entry .args .k) (entry .args .scratch .now) (tested .is-set .ensures .sound (not-false _ (branched1 .if1 .left))) (λ q. branched2 .if2 .left (did-bit-at .bit-at .ensures ∙ q)))
 
 pub enter-bit-spec : {M : Type 1} → statement M
 enter-bit-spec =
     tie.close
     (tie.spec
-    mark-bit-requires
+    is-set-requires
     returns
     cast-bit
     bit-at-requires

@@ -1,4 +1,4 @@
--- `examine_trace::trace_ok` meets its contract. Assumes nothing.
+-- `examine_trace::trace_ok` meets its contract.
 use mathlib.Core.Path.{_≡_, _∙_, sym, subst}
 use Prim.Native.Nat.{ℕ, _≤_}
 use lib.ListN.{length}
@@ -10,14 +10,18 @@ use borrow.Author.Needs.{needs}
 use Rattle.examine_trace.proofs.trace_ok.Statement.{statement}
 use Rattle.examine_trace.proofs.trace_ok.Tie as tie
 
-control-requires : tie.Need-control-requires
-control-requires c κs = search needs
+trace-count-requires : tie.Need-trace-count-requires
+trace-count-requires c κs = search needs
 
-mark-count-requires : tie.Need-mark-count-requires
-mark-count-requires c κs = search needs
+count-requires : tie.Need-count-requires
+count-requires c κs = search needs
 
 returns : tie.Need-returns
-returns c = let a = c .before .before .before .before .before in count-wrong (a .args .g) (memOf (a .args .g) (a .args .mem .now)) _ _ (c .before .before .control .ensures) (c .before .mark-count .ensures) (c .if1 .taken)
+returns c =
+    let summed = c .before in
+    let counted = summed .before in
+    let entry = counted .before .before .before in
+    count-wrong (entry .args .g) (memOf (entry .args .g) (entry .args .mem .now)) _ _ (counted .trace-count .ensures) (summed .count .ensures) (c .if1 .taken)
 
 clear-all-requires : tie.Need-clear-all-requires
 clear-all-requires c κs = search needs
@@ -27,31 +31,35 @@ cast-enter-all c = search needs
 
 enter-all-requires : tie.Need-enter-all-requires
 enter-all-requires c κs =
-    let did-clear-all = c .before .before .before in
-    let branched1 = did-clear-all .before .before in
-    let did-mark-count = branched1 .before in
-    let did-control = did-mark-count .before in
-    let entry = did-control .before .before .before in
-    let a = entry in let m = memOf (a .args .g) (a .args .mem .now) in ((a .pre .0, did-control .control .ensures, count-few (a .args .g) m _ _ (did-control .control .ensures) (did-mark-count .mark-count .ensures) (branched1 .if1 .left)), (subst (λ (n : ℕ). len (a .args .g) Region.marks ≤ n) (sym (did-clear-all .clear-all .kept .0)) (a .pre .1), clear-bits (length (a .args .scratch .now)) _ (did-clear-all .clear-all .ensures)))
+    let cleared = c .before .before .before in
+    let compared = cleared .before .before in
+    let summed = compared .before in
+    let counted = summed .before in
+    let entry = counted .before .before .before in
+    let m = memOf (entry .args .g) (entry .args .mem .now) in
+    let few = count-few (entry .args .g) m _ _ (counted .trace-count .ensures) (summed .count .ensures) (compared .if1 .left) in
+    let room = subst (λ (n : ℕ). len (entry .args .g) Region.marks ≤ n) (sym (cleared .clear-all .kept .0)) (entry .pre .1) in
+    ((entry .pre .0, counted .trace-count .ensures, few), (room, clear-bits (length (entry .args .scratch .now)) _ (cleared .clear-all .ensures)))
 
 same-length : tie.Need-same-length
 same-length c = search needs
 
 returns-2 : tie.Need-returns-2
 returns-2 c =
-    let did-clear-all = c .before .before .before .before .before .before in
-    let branched1 = did-clear-all .before .before in
-    let did-mark-count = branched1 .before in
-    let did-control = did-mark-count .before in
-    let entry = did-control .before .before .before in
-    let a = entry in let m = memOf (a .args .g) (a .args .mem .now) in count-right (a .args .g) m _ _ (did-control .control .ensures) (did-mark-count .mark-count .ensures) (branched1 .if1 .left) _ _ (c .before .before .enter-all .ensures)
+    let cleared = c .before .before .before .before .before .before in
+    let compared = cleared .before .before in
+    let summed = compared .before in
+    let counted = summed .before in
+    let entry = counted .before .before .before in
+    let m = memOf (entry .args .g) (entry .args .mem .now) in
+    count-right (entry .args .g) m _ _ (counted .trace-count .ensures) (summed .count .ensures) (compared .if1 .left) _ _ (c .before .before .enter-all .ensures)
 
 pub trace-ok-spec : {M : Type 1} → statement M
 trace-ok-spec =
     tie.close
     (tie.spec
-    control-requires
-    mark-count-requires
+    trace-count-requires
+    count-requires
     returns
     clear-all-requires
     cast-enter-all

@@ -1,8 +1,7 @@
 -- `record_test::test` meets its contract. Assumes nothing.
 use mathlib.Core.Path.{_∙_, sym}
 use Rattle.layout.specs.Mem.{memOf}
-use Rattle.tracing.proofs.Bits.{segment-in}
-use Rattle.record_test.proofs.Testing.{off-heap, in-heap, not-free, no-class, classed}
+use Rattle.record_test.proofs.Testing.{segment-in, off-heap, in-heap, not-free, no-class, classed}
 use borrow.Author.Needs.{needs}
 use Rattle.record_test.proofs.test.Tie as tie
 use Rattle.record_test.proofs.test.Statement.{statement}
@@ -17,25 +16,50 @@ segment-of-requires : tie.Need-segment-of-requires
 segment-of-requires c κs = search needs
 
 tag-requires : tie.Need-tag-requires
-tag-requires c κs = (c .before .before .before .before .pre, segment-in _ _ _ _ (c .before .before .heap-words .ensures) (c .before .if1 .left) (c .segment-of .ensures))
+tag-requires c κs =
+    let branched = c .before in
+    let sized = branched .before in
+    let entry = sized .before .before in
+    (entry .pre, segment-in _ _ _ _ (sized .heap-words .ensures) (branched .if1 .left) (c .segment-of .ensures))
 
 returns-2 : tie.Need-returns-2
 returns-2 c = not-free _ _ _ _ (c .before .before .segment-of .ensures) _ (c .before .tag .ensures) (c .if2 .taken)
 
 class-requires : tie.Need-class-requires
-class-requires c κs = (c .before .before .before .before .before .before .pre, segment-in _ _ _ _ (c .before .before .before .before .heap-words .ensures) (c .before .before .before .if1 .left) (c .before .before .segment-of .ensures))
+class-requires c κs =
+    let located = c .before .before in
+    let branched = located .before in
+    let sized = branched .before in
+    let entry = sized .before .before in
+    (entry .pre, segment-in _ _ _ _ (sized .heap-words .ensures) (branched .if1 .left) (located .segment-of .ensures))
 
 is-class-requires : tie.Need-is-class-requires
 is-class-requires c κs = search needs
 
 test-block-requires : tie.Need-test-block-requires
-test-block-requires c κs = let a = c .before .before .before .before .before .before .before .before .before in (a .pre, in-heap _ (memOf (a .args .g) (a .args .mem .now)) _ _ (c .before .before .before .before .before .before .before .heap-words .ensures) (c .before .before .before .before .before .before .if1 .left), c .before .before .before .before .before .segment-of .ensures, classed _ _ _ _ (c .before .before .before .before .before .segment-of .ensures) _ _ (c .before .before .before .before .tag .ensures) (c .before .before .before .if2 .left) (c .before .before .class .ensures) (sym (c .before .is-class .ensures) ∙ c .if3 .taken))
+test-block-requires c κs =
+    let asked = c .before in
+    let read = asked .before in
+    let used = read .before in
+    let tagged = used .before in
+    let located = tagged .before in
+    let branched = located .before in
+    let sized = branched .before in
+    let entry = sized .before .before in
+    let here = located .segment-of .ensures in
+    let inside = in-heap _ (memOf (entry .args .g) (entry .args .mem .now)) _ _ (sized .heap-words .ensures) (branched .if1 .left) in
+    let passed = sym (asked .is-class .ensures) ∙ c .if3 .taken in
+    (entry .pre, inside, here, classed _ _ _ _ here _ _ (tagged .tag .ensures) (used .if2 .left) (read .class .ensures) passed)
 
 returns-3 : tie.Need-returns-3
 returns-3 c = search needs
 
 returns-4 : tie.Need-returns-4
-returns-4 c = no-class _ _ _ _ (c .before .before .before .before .before .segment-of .ensures) _ (c .before .before .class .ensures) (sym (c .before .is-class .ensures) ∙ c .if3 .left)
+returns-4 c =
+    let asked = c .before in
+    let read = asked .before in
+    let located = read .before .before .before in
+    no-class _ _ _ _ (located .segment-of .ensures) _ (read .class .ensures) (sym (asked .is-class .ensures) ∙ c .if3 .left)
 
 pub test-spec : {M : Type 1} → statement M
 test-spec = tie.close (tie.spec heap-words-requires returns segment-of-requires tag-requires returns-2 class-requires is-class-requires test-block-requires returns-3 returns-4)

@@ -2,7 +2,7 @@
 use mathlib.Core.Path.{subst}
 use Prim.Native.Nat.{_-_}
 use Rattle.layout.specs.Mem.{memOf}
-use Rattle.tracing.specs.declared.Bit.{Bit}
+use Rattle.marks.specs.declared.Bit.{Bit}
 use Rattle.walk.proofs.Walking.{run-still}
 use Rattle.record_test.specs.Tests.{Tested}
 use Rattle.searching.proofs.Steps.{enter-room, bit-room, enter-run}
@@ -31,25 +31,43 @@ enum-known-k c = search needs
 
 enter-requires : tie.Need-enter-requires
 enter-requires c κs =
-    let a = c .before .before .before .before .before .before .before .before in
-    let m = memOf (a .args .g) (a .args .mem .now) in
-    let t = subst (λ (x : Bit). Tested (a .args .g) m (a .args .w - 1) x) (c .before .before .k .given .1) (c .before .before .before .before .test .ensures) in
-    (a .pre .0 .sized .few, a .pre .0 .room, bit-room (a .args .g) m (a .args .scratch .now) (a .args .top) (a .args .w - 1) _ (a .pre .1) (t .0) (t .1), enter-room (a .args .g) m (a .args .scratch .now) (a .args .top) (a .args .w - 1) _ (a .pre .1) (t .0) (t .1))
+    let known = c .before .before in
+    let tested = known .before .before in
+    let entry = tested .before .before .before .before in
+    let m = memOf (entry .args .g) (entry .args .mem .now) in
+    let t = subst (λ (x : Bit). Tested (entry .args .g) m (entry .args .w - 1) x) (known .k .given .1) (tested .test .ensures) in
+    let small = bit-room (entry .args .g) m (entry .args .scratch .now) (entry .args .top) (entry .args .w - 1) _ (entry .pre .1) (t .0) (t .1) in
+    let room = enter-room (entry .args .g) m (entry .args .scratch .now) (entry .args .top) (entry .args .w - 1) _ (entry .pre .1) (t .0) (t .1) in
+    (entry .pre .0 .sized .few, entry .pre .0 .room, small, room)
 
 returns-2 : tie.Need-returns-2
 returns-2 c =
-    let a = c .before .before .before .before .before .before in
-    record { node = a .args .w - 1; named = omega (arith, c .before .before .before .if1 .left); fails = subst (λ (x : Bit). Tested (a .args .g) (memOf (a .args .g) (a .args .mem .now)) (a .args .w - 1) x) (c .enum-told .given .1) (c .before .before .test .ensures) }
+    let tested = c .before .before in
+    let branched = tested .before in
+    let entry = branched .before .before .before in
+    record {
+      node =
+          entry .args .w - 1;
+      named =
+          omega (arith, branched .if1 .left);
+      fails = subst (λ (x : Bit). Tested (entry .args .g) (memOf (entry .args .g) (entry .args .mem .now)) (entry .args .w - 1) x) (c .enum-told .given .1)
+          (tested .test .ensures);
+    }
 
 same-length : tie.Need-same-length
 same-length c = search needs
 
 returns-3 : tie.Need-returns-3
 returns-3 c =
-    let a = c .before .before .before .before .before .before .before .before .before .before .before in
-    let m = memOf (a .args .g) (a .args .mem .now) in
-    let t = subst (λ (x : Bit). Tested (a .args .g) m (a .args .w - 1) x) (c .before .before .before .before .before .k .given .1) (c .before .before .before .before .before .before .before .test .ensures) in
-    enter-run (a .args .g) m (a .args .scratch .now) (a .args .top) (a .args .w - 1) _ (a .pre .1) (t .0) (t .1) (a .pre .0 .room) (a .args .w) (omega (arith, c .before .before .before .before .before .before .before .before .if1 .left)) (c .before .before .enter .result) (c .before .before .enter .last .1 .0) (c .before .before .enter .ensures)
+    let entered = c .before .before in
+    let known = entered .before .before .before in
+    let tested = known .before .before in
+    let branched = tested .before in
+    let entry = branched .before .before .before in
+    let m = memOf (entry .args .g) (entry .args .mem .now) in
+    let t = subst (λ (x : Bit). Tested (entry .args .g) m (entry .args .w - 1) x) (known .k .given .1) (tested .test .ensures) in
+    enter-run (entry .args .g) m (entry .args .scratch .now) (entry .args .top) (entry .args .w - 1) _ (entry .pre .1) (t .0) (t .1) (entry .pre .0 .room) (entry .args .w)
+    (omega (arith, branched .if1 .left)) (entered .enter .result) (entered .enter .last .1 .0) (entered .enter .ensures)
 
 pub follow-at-spec : {M : Type 1} → statement M
 follow-at-spec = tie.close (tie.spec returns sub-at cast-test test-requires enum-told enum-known-k enter-requires returns-2 same-length returns-3)

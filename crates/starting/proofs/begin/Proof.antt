@@ -1,4 +1,4 @@
--- `starting::begin` meets its contract. Assumes nothing.
+-- `starting::begin` meets its contract.
 use borrow.Author.Needs.{needs}
 use Rattle.laws.proofs.Lengths.{sizes-of}
 use Rattle.starting.proofs.Beginning.{started-by}
@@ -14,8 +14,8 @@ reset-acks-requires c κs = search needs
 clear-marks-requires : tie.Need-clear-marks-requires
 clear-marks-requires c κs = search needs
 
-set-control-requires : tie.Need-set-control-requires
-set-control-requires c κs = search needs
+set-cursor-requires : tie.Need-set-cursor-requires
+set-cursor-requires c κs = search needs
 
 set-phase-requires : tie.Need-set-phase-requires
 set-phase-requires c κs = search needs
@@ -25,12 +25,13 @@ same-length c = search needs
 
 returns : tie.Need-returns
 returns c =
-    let did-set-control = c .before .before .before .before .before .before in
-    let did-clear-marks = did-set-control .before .before .before .before in
-    let did-reset-acks = did-clear-marks .before .before .before .before in
-    let did-condemn = did-reset-acks .before .before .before .before in
-    let entry = did-condemn .before .before .before in
-    started-by _ _ (sizes-of _ _ (entry .pre)) _ _ _ _ _ (did-condemn .condemn .ensures) (did-reset-acks .reset-acks .ensures) (did-clear-marks .clear-marks .ensures) (did-set-control .set-control .ensures) (c .before .before .set-phase .ensures)
+    let reset = c .before .before .before .before .before .before in
+    let cleared = reset .before .before .before .before in
+    let anew = cleared .before .before .before .before in
+    let condemned = anew .before .before .before .before in
+    let entry = condemned .before .before .before in
+    started-by _ _ (sizes-of _ _ (entry .pre)) _ _ _ _ _ (condemned .condemn .ensures) (anew .reset-acks .ensures) (cleared .clear-marks .ensures) (reset .set-cursor .ensures)
+    (c .before .before .set-phase .ensures)
 
 pub begin-spec : {M : Type 1} → statement M
 begin-spec =
@@ -39,7 +40,7 @@ begin-spec =
     condemn-requires
     reset-acks-requires
     clear-marks-requires
-    set-control-requires
+    set-cursor-requires
     set-phase-requires
     same-length
     returns)

@@ -1,4 +1,4 @@
--- `stepping::handshake` meets its contract. Assumes nothing.
+-- `stepping::handshake` meets its contract.
 use borrow.Author.Needs.{needs}
 use Rattle.laws.proofs.Lengths.{sizes-of}
 use Rattle.stepping.proofs.Handshaking.{step-waits, step-moves, step-torn}
@@ -15,7 +15,10 @@ same-length : tie.Need-same-length
 same-length c = search needs
 
 returns : tie.Need-returns
-returns c = step-waits _ _ _ _ (c .before .before .before .before .before .before .answer-outside .ensures) (c .before .before .before .if1 .taken) _ (c .before .waiting .ensures) (c .if2 .taken) _
+returns c =
+    let counted = c .before in
+    let given = counted .before .before in
+    step-waits _ _ _ _ (given .before .before .before .answer-outside .ensures) (given .if1 .taken) _ (counted .waiting .ensures) (c .if2 .taken) _
 
 set-phase-requires : tie.Need-set-phase-requires
 set-phase-requires c κs = search needs
@@ -24,7 +27,13 @@ same-length-2 : tie.Need-same-length-2
 same-length-2 c = search needs
 
 returns-2 : tie.Need-returns-2
-returns-2 c = step-moves _ _ _ _ (c .before .before .before .before .before .before .before .before .before .before .answer-outside .ensures) (c .before .before .before .before .before .before .before .if1 .taken) _ (c .before .before .before .before .before .waiting .ensures) (c .before .before .before .before .if2 .left) _ (c .before .before .before .before .before .before .before .before .before .before .before .before .before .pre .1) _ (c .before .before .set-phase .ensures)
+returns-2 c =
+    let moved = c .before .before in
+    let done = moved .before .before in
+    let counted = done .before in
+    let given = counted .before .before in
+    step-moves _ _ _ _ (given .before .before .before .answer-outside .ensures) (given .if1 .taken) _ (counted .waiting .ensures) (done .if2 .left) _ _
+    (moved .set-phase .ensures)
 
 same-length-3 : tie.Need-same-length-3
 same-length-3 c = search needs

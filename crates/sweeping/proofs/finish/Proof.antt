@@ -7,14 +7,14 @@ use Rattle.sweeping.proofs.finish.Tie as tie
 settle-requires : tie.Need-settle-requires
 settle-requires c κs = search needs
 
-cast-set-control : tie.Need-cast-set-control
-cast-set-control c = search needs
+cast-set-cursor : tie.Need-cast-set-cursor
+cast-set-cursor c = search needs
 
-add-set-control : tie.Need-add-set-control
-add-set-control c = search needs
+add-set-cursor : tie.Need-add-set-cursor
+add-set-cursor c = search needs
 
-set-control-requires : tie.Need-set-control-requires
-set-control-requires c κs = search needs
+set-cursor-requires : tie.Need-set-cursor-requires
+set-cursor-requires c κs = search needs
 
 cast-t13 : tie.Need-cast-t13
 cast-t13 c = search needs
@@ -30,7 +30,7 @@ returns c =
     let passed = c .before .before .before in
     let settling = passed .before .before .before .before .before in
     let a = settling .before .before .before .args in
-    finished _ _ (a .s) (a .class) (a .used) (a .kept) _ _ (settling .settle .ensures) (passed .before .before .if1 .taken) _ (passed .set-control .ensures) _ (c .less .ensures)
+    finished _ _ (a .s) (a .class) (a .used) (a .kept) _ _ (settling .settle .ensures) (passed .before .before .if1 .taken) _ (passed .set-cursor .ensures) _ (c .less .ensures)
 
 same-length-2 : tie.Need-same-length-2
 same-length-2 c = search needs
@@ -46,9 +46,9 @@ finish-spec =
     tie.close
     (tie.spec
     settle-requires
-    cast-set-control
-    add-set-control
-    set-control-requires
+    cast-set-cursor
+    add-set-cursor
+    set-cursor-requires
     cast-t13
     less-requires
     same-length

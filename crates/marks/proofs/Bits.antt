@@ -1,5 +1,5 @@
--- The bit of a record: where it has one, and that it is one of its region's. Assumes nothing.
-use mathlib.Core.Path.{_≡_, refl, sym, _∙_, ap, subst}
+-- The bit of a record: where it has one, and that it is one of its region's.
+use mathlib.Core.Path.{_≡_, refl, sym, _∙_, ap}
 use mathlib.Core.Bool.{Bool, true, false, true≢false}
 use Prim.Native.Nat.{ℕ, _*_, _≤_, _<_}
 use native.Mathlib.Omega.{arith}
@@ -7,17 +7,14 @@ use lib.Dec.{ltb}
 use borrow.Author.Tests.{lt-ltb, le-ltb, ltb-true}
 use Rattle.rules.specs.Pick.{pick}
 use Rattle.layout.specs.declared.Geometry.{Geometry}
-use Rattle.layout.specs.Geometry.{mostBlocks, len, segmentOf, markBit}
-use Rattle.layout.proofs.Sizes.{marks-words, segment-below}
-use Rattle.tracing.specs.declared.Bit.{Bit}
-use Rattle.tracing.specs.declared.Bit.the-variants.{At, Torn}
-use Rattle.tracing.specs.Pushing.{recordBitAt}
+use Rattle.layout.specs.Geometry.{mostBlocks, len, markBit}
+use Rattle.layout.proofs.Sizes.{marks-words}
+use Rattle.marks.specs.declared.Bit.{Bit}
+use Rattle.marks.specs.declared.Bit.the-variants.{At, Torn}
+use Rattle.marks.specs.Bits.{recordBitAt}
 use Rattle.layout.specs.Region as Region
 
--- d is the number of the heap's words, s the segment
-pub segment-in : (g : Geometry) (at d s : ℕ) → d ≡ len g Region.heap → at < d → s ≡ segmentOf g at → s < g .segments
-segment-in g at d s z l e = subst (λ x. x < g .segments) (sym e) (segment-below g at (subst (λ x. at < x) z l))
-
+-- d is the number of the heap's words
 module _ (g : Geometry) (at d : ℕ) (z : d ≡ len g Region.heap) where
   pub off-torn : d ≤ at → Torn ≡ recordBitAt g at
   unfolding recordBitAt

@@ -1,0 +1,2 @@
+-- The law of the phases' numbers.
+pub mod Numbers

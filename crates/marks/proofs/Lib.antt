@@ -1,0 +1,3 @@
+-- Laws of mark bits.
+pub mod Bits
+pub mod Marking

@@ -1,0 +1,2 @@
+-- Mark bits, over memory of any content.
+pub mod Bits
