@@ -1,4 +1,4 @@
--- A mutator that comes: its entry unless a handshake is on, and how attach and spawn keep their promises with it. Assumes nothing.
+-- A mutator that comes: its entry unless a handshake is on, and how attach and spawn keep their promises with it.
 use mathlib.Core.Path.{_≡_, refl, sym, _∙_, ap, subst}
 use mathlib.Core.Bool.{Bool, true, false}
 use mathlib.Core.Logic.{_⊎_, inl, inr}

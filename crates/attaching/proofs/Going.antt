@@ -1,5 +1,5 @@
 -- The loop over the classes of what a mutator holds: what it keeps, one release more, one that is hindered; that none is in consistent memory; and how
--- detach keeps its promise. Assumes nothing.
+-- detach keeps its promise.
 use mathlib.Core.Path.{_≡_, refl, sym, _∙_, ap, subst}
 use mathlib.Core.Bool.{Bool, true, false, true≢false}
 use mathlib.Core.Logic.{_⊎_, inl, inr}

@@ -1,4 +1,4 @@
--- What the tests of the check show. Assumes nothing.
+-- What the tests of the check show.
 use mathlib.Core.Path.{_≡_, refl, sym, ap, _∙_, subst}
 use mathlib.Core.Bool.{Bool}
 use mathlib.Core.List.{List}

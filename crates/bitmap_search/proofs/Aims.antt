@@ -1,5 +1,5 @@
 -- The pointer that the search hands back points to its block at every level, over words of any content: above each bit stands the
--- bit of its word. Assumes nothing.
+-- bit of its word.
 use mathlib.Core.Path.{_≡_, refl, sym, ap, _∙_, subst}
 use mathlib.Core.Bool.{Bool, true, false}
 use mathlib.Core.List.{List}
@@ -67,7 +67,9 @@ module _ (k b : ℕ) (h : b < 32) where
   up : (k * 32 + b) / 32 ≡ k
   up = omega arith
 
-  under-high : (low : BitPos) → _≡_ {A = BitPtr} (record { low = low; mid = record { word = k; bit = b }; high = posOf k }) (record { low = low; mid = posOf (k * 32 + b); high = posOf ((k * 32 + b) / 32) })
+  under-high : (low : BitPos)
+      → _≡_ {A = BitPtr} (record { low = low; mid = record { word = k; bit = b }; high = posOf k })
+      (record { low = low; mid = posOf (k * 32 + b); high = posOf ((k * 32 + b) / 32) })
   under-high low = let m = pos-index k b h in let u = ap posOf (sym up) in λ i. record { low = low; mid = m i; high = u i }
 
   under-mid : _≡_ {A = BitPtr} (record { low = record { word = k; bit = b }; mid = posOf k; high = posOf (k / 32) }) (ptrTo (k * 32 + b))

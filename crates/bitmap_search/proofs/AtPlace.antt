@@ -1,4 +1,4 @@
--- A clear bit at or after a place in its own word, and another after it there or in the next word: the plain scan's answer. Assumes nothing.
+-- A clear bit at or after a place in its own word, and another after it there or in the next word: the plain scan's answer.
 use mathlib.Core.Path.{_≡_, refl, sym, _∙_}
 use mathlib.Core.Bool.{true}
 use mathlib.Core.List.{List}

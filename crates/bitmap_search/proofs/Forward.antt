@@ -1,4 +1,4 @@
--- The search: where it can end over any words, and that in a consistent tree it ends at what the plain scan finds. Assumes nothing.
+-- The search: where it can end over any words, and that in a consistent tree it ends at what the plain scan finds.
 use mathlib.Core.Path.{_≡_, refl}
 use mathlib.Core.Bool.{Bool, true, false}
 use mathlib.Core.List.{List}

@@ -1,4 +1,4 @@
--- The moves, by the tests that the code makes and with the values that it has in hand. Assumes nothing.
+-- The moves, by the tests that the code makes and with the values that it has in hand.
 use mathlib.Core.Path.{_≡_, sym, ap, _∙_, subst}
 use mathlib.Core.List.{List}
 use Prim.Native.Nat.{ℕ, _+_, _-_, _*_, _^_, _≤_, _<_}

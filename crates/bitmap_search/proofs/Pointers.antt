@@ -1,4 +1,4 @@
--- Laws of a bit pointer's positions. Assumes nothing.
+-- Laws of a bit pointer's positions.
 use mathlib.Core.Path.{_≡_, refl}
 use Prim.Native.Nat.{ℕ, zero, suc}
 use Rattle.bitmap_search.specs.declared.BitPos.{BitPos}

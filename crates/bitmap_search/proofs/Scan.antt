@@ -1,4 +1,4 @@
--- What the plain scan answers, as facts, and that nothing else meets them. Assumes nothing.
+-- What the plain scan answers, as facts, and that nothing else meets them.
 use mathlib.Core.Path.{_≡_, refl}
 use mathlib.Core.Bool.{Bool, true, false}
 use mathlib.Core.Logic.{_⊎_, inl, inr}

@@ -1,4 +1,4 @@
--- The steps of the search as facts on one level of n bits, whatever n is. Assumes nothing.
+-- The steps of the search as facts on one level of n bits, whatever n is.
 use mathlib.Core.Path.{_≡_, _∙_}
 use mathlib.Core.List.{List}
 use Prim.Native.Nat.{ℕ, _+_, _*_, _^_, _≤_, _<_}

@@ -1,5 +1,5 @@
 -- The next free block and whether another remains after it: where one word answers, what the answer is in a consistent tree, and what it says of the
--- two scans. Assumes nothing.
+-- two scans.
 use mathlib.Core.Path.{_≡_, refl, sym, ap, _∙_, subst}
 use mathlib.Core.Bool.{true}
 use mathlib.Core.Logic.{_⊎_, inl, inr, ⊎-elim}

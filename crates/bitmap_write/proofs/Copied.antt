@@ -1,4 +1,4 @@
--- Level 0 cleared, or copied from elsewhere, and the tree over it: its bits, that it is one, and its length. Assumes nothing.
+-- Level 0 cleared, or copied from elsewhere, and the tree over it: its bits, that it is one, and its length.
 use mathlib.Core.Path.{_≡_, refl, sym, ap, ap₂, _∙_}
 use mathlib.Core.List.{List, _∷_, _++_}
 use Prim.Native.Nat.{ℕ, zero, suc, _+_, _*_, _/_, _%_, _≤_, _<_}

@@ -1,4 +1,4 @@
--- A word of the level above, from all ones, over the words that there are: one more word passed keeps the bit or clears it. Assumes nothing.
+-- A word of the level above, from all ones, over the words that there are: one more word passed keeps the bit or clears it.
 use mathlib.Core.Path.{_≡_, sym, ap, _∙_}
 use mathlib.Core.Logic.{_⊎_, inl, inr}
 use mathlib.Core.List.{List}

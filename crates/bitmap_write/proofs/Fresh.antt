@@ -1,4 +1,4 @@
--- A fresh tree level by level: words of zeros, their bits past the end set, sum up to words of zeros likewise. Assumes nothing.
+-- A fresh tree level by level: words of zeros, their bits past the end set, sum up to words of zeros likewise.
 use mathlib.Core.Path.{_≡_, refl, sym, ap, ap₂, _∙_}
 use mathlib.Core.Logic.{_⊎_, inl, inr}
 use mathlib.Core.List.{List, _∷_, _++_}

@@ -1,4 +1,4 @@
--- Every step-th bit of some words side by side: a word of them bit by bit, and the words one after the other at the head of the same list. Assumes nothing.
+-- Every step-th bit of some words side by side: a word of them bit by bit, and the words one after the other at the head of the same list.
 use mathlib.Core.Path.{_≡_, refl, sym, ap, ap₂, _∙_}
 use mathlib.Core.Logic.{_⊎_, inl, inr}
 use mathlib.Core.Bool.{Bool, true, false}
@@ -87,7 +87,9 @@ module _ (ws : List ℕ) (step b : ℕ) where
     turn-one e l =
         let d : b + i - b ≡ i = omega arith in
         let q : b + i + 1 ≡ b + (i + 1) = omega arith in
-        let z = word-less (gatheredBit ws step (b + i + 1)) (gatheredBit ws step (b + i)) (b + i) 32 b (gathered-in ws step (b + i + 1) (b + i) (omega arith) ∙ e) (gathered-past ws step (b + i) (b + i) (omega arith)) (elsewhere ws step (b + i)) (omega arith) (omega arith) in
+        let z = word-less (gatheredBit ws step (b + i + 1)) (gatheredBit ws step (b + i)) (b + i) 32 b
+        (gathered-in ws step (b + i + 1) (b + i) (omega arith) ∙ e) (gathered-past ws step (b + i) (b + i) (omega arith))
+        (elsewhere ws step (b + i)) (omega arith) (omega arith) in
         ap₂ (λ x y. x + 2 ^ y) at (sym d) ∙ sym z ∙ ap sofar q
 
     pub turn-none : (bitAt ws ((b + i) * step) ≡ 1 → ⊥) → w ≡ sofar (b + (i + 1))
@@ -100,7 +102,10 @@ module _ (ws : List ℕ) (step b : ℕ) where
             zero-bit = zero-of-not-one _ (at-lt ws ((b + i) * step)) f
 
             go : (b + i ≤ k) ⊎ (k < b + i) → (k ≤ b + i) ⊎ (b + i < k) → gatheredBit ws step (b + i) k ≡ gatheredBit ws step (b + i + 1) k
-            go (inl l) (inl h) = let e : k ≡ b + i = omega arith in ap (gatheredBit ws step (b + i)) e ∙ gathered-past ws step (b + i) (b + i) (omega arith) ∙ sym (gathered-in ws step (b + i + 1) (b + i) (omega arith) ∙ zero-bit) ∙ ap (gatheredBit ws step (b + i + 1)) (sym e)
+            go (inl l) (inl h) =
+                let e : k ≡ b + i = omega arith in
+                ap (gatheredBit ws step (b + i)) e ∙ gathered-past ws step (b + i) (b + i) (omega arith)
+                ∙ sym (gathered-in ws step (b + i + 1) (b + i) (omega arith) ∙ zero-bit) ∙ ap (gatheredBit ws step (b + i + 1)) (sym e)
             go (inl l) (inr h) = gathered-past ws step (b + i) k l ∙ sym (gathered-past ws step (b + i + 1) k (omega arith))
             go (inr l) q = gathered-in ws step (b + i) k l ∙ sym (gathered-in ws step (b + i + 1) k (omega arith))
 
@@ -156,13 +161,19 @@ module _ (from n step : ℕ) (s : List ℕ) (apart : wordsFor n ≤ from) (room 
   -- the next word, read from what is there by now
   pub part-turn : (t : List ℕ) (j : ℕ) → j < words → t ≡ copied j all s → (w : ℕ) → w ≡ wordFrom (gatheredBit (drop from t) step n) 32 (j * 32) → set t j w ≡ copied (j + 1) all s
   unfolding gatheredBit
-  part-turn t j h e w u = ap₂ (λ (x : List ℕ) (v : ℕ). set x j v) e (u ∙ word-same (gatheredBit (drop from t) step n) (gatheredBit (drop from s) step n) same 32 (j * 32) ∙ sym read) ∙ copied-more all s j (let l = long in omega arith) (omega arith)
+  part-turn t j h e w u =
+      ap₂ (λ (x : List ℕ) (v : ℕ). set x j v) e
+      (u ∙ word-same (gatheredBit (drop from t) step n) (gatheredBit (drop from s) step n) same 32 (j * 32) ∙ sym read)
+      ∙ copied-more all s j (let l = long in omega arith) (omega arith)
     where
       read : getD all j 0 ≡ wordFrom (gatheredBit (drop from s) step n) 32 (j * 32)
       read = packed-at (gatheredBit (drop from s) step n) words 0 j h ∙ ap (λ k. wordFrom (gatheredBit (drop from s) step n) 32 (k * 32)) (let q : 0 + j ≡ j = omega arith in q)
 
       bit : (k : ℕ) → bitAt (drop from t) k ≡ bitAt (drop from s) k
-      bit k = bits-same (drop from t) (drop from s) k (getD-drop from t (k / 32) 0 ∙ ap (λ (x : List ℕ). getD x (from + k / 32) 0) e ∙ copied-behind all s j (from + k / 32) (let l = long in omega arith) (omega arith) ∙ sym (getD-drop from s (k / 32) 0))
+      bit k =
+          bits-same (drop from t) (drop from s) k
+          (getD-drop from t (k / 32) 0 ∙ ap (λ (x : List ℕ). getD x (from + k / 32) 0) e
+          ∙ copied-behind all s j (from + k / 32) (let l = long in omega arith) (omega arith) ∙ sym (getD-drop from s (k / 32) 0))
 
       same : (k : ℕ) → gatheredBit (drop from t) step n k ≡ gatheredBit (drop from s) step n k
       same k = ap (λ (z : ℕ). pick (ltb k n) z 0) (bit (k * step))

@@ -1,5 +1,5 @@
 -- What is written depends on the tree's own words, and leaves what stands behind them as it was: writing a tree at the head of xs ++ ys
--- is writing it at the head of xs. Assumes nothing.
+-- is writing it at the head of xs.
 use mathlib.Core.Path.{_≡_, refl, sym, ap, _∙_}
 use mathlib.Core.Logic.{_⊎_, inl, inr}
 use mathlib.Core.List.{List, _++_, append-assoc}
@@ -35,7 +35,12 @@ module _ (ys : List ℕ) where
       let inside : wordsFor n + wordsFor (wordsFor n) ≤ length xs = omega (arith, words-in a (wordsFor n)) in
       let l = length-behind (wordsFor n) xs inside in
       let s = length-summed xs (wordsFor n) inside in
-      rw (take-append-le (wordsFor n) xs ys (omega arith), summed-append (wordsFor n) xs inside, drop-append-le (wordsFor n) (summed xs (wordsFor n)) ys (omega arith), rebuilt-append a (wordsFor n) (drop (wordsFor n) (summed xs (wordsFor n))) (omega arith))
+      rw (
+        take-append-le (wordsFor n) xs ys (omega arith),
+        summed-append (wordsFor n) xs inside,
+        drop-append-le (wordsFor n) (summed xs (wordsFor n)) ys (omega arith),
+        rebuilt-append a (wordsFor n) (drop (wordsFor n) (summed xs (wordsFor n))) (omega arith),
+      )
       (sym (append-assoc (take (wordsFor n) xs) (rebuilt a (wordsFor n) (drop (wordsFor n) (summed xs (wordsFor n)))) ys))
 
   pub padded-append : (n : ℕ) (xs : List ℕ) → wordsFor n ≤ length xs → padded n (xs ++ ys) ≡ padded n xs ++ ys

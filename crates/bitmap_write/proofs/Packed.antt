@@ -1,4 +1,4 @@
--- Laws of bits packed into words, and of the bits above a level's words. Assumes nothing.
+-- Laws of bits packed into words, and of the bits above a level's words.
 use mathlib.Core.Path.{_≡_, refl, sym, ap, _∙_}
 use mathlib.Core.Bool.{Bool, true, false}
 use mathlib.Core.Logic.{_⊎_, inl, inr}

@@ -38,7 +38,8 @@ word-join bit (suc a) b k =
     let f : k + suc a ≡ suc k + a = omega arith in
     let ih = word-join bit a b (suc k) in
     let p = pow-suc 2 a in
-    let q : wordFrom bit b (suc k + a) * 2 ^ suc a ≡ wordFrom bit b (suc k + a) * 2 ^ a * 2 = ap (λ (x : ℕ). wordFrom bit b (suc k + a) * x) p ∙ sym (mul-assoc (wordFrom bit b (suc k + a)) (2 ^ a) 2) in
+    let q : wordFrom bit b (suc k + a) * 2 ^ suc a ≡ wordFrom bit b (suc k + a) * 2 ^ a * 2 =
+    ap (λ (x : ℕ). wordFrom bit b (suc k + a) * x) p ∙ sym (mul-assoc (wordFrom bit b (suc k + a)) (2 ^ a) 2) in
     rw (e, f) (omega arith)
 
 -- a number below 2 ^ c is the word of its c bits
@@ -48,7 +49,9 @@ word-of zero w h = omega arith
 word-of (suc c) w h =
     let p = pow-suc 2 c in
     let r = word-of c (w / 2) (omega arith) in
-    let m : wordFrom (bitOf w) c 1 ≡ wordFrom (bitOf (w / 2)) c 0 = word-move (bitOf w) 1 c 0 ∙ word-alike (λ i. bitOf w (1 + i)) (bitOf (w / 2)) c 0 (λ i l k. ap (bitOf w) (let e : 1 + i ≡ suc i = omega arith in e) ∙ bit-half w i) in
+    let m : wordFrom (bitOf w) c 1 ≡ wordFrom (bitOf (w / 2)) c 0 =
+    word-move (bitOf w) 1 c 0
+    ∙ word-alike (λ i. bitOf w (1 + i)) (bitOf (w / 2)) c 0 (λ i l k. ap (bitOf w) (let e : 1 + i ≡ suc i = omega arith in e) ∙ bit-half w i) in
     let b = bit-low w in
     omega arith
 
@@ -73,10 +76,15 @@ module _ (x : ℕ) where
   every-second i = bit-lt x (i * 2)
 
   low-bits : wordFrom (λ i. bitOf halves (i * 2)) 8 0 ≡ pressed 4 8 x
-  low-bits = word-alike (λ i. bitOf halves (i * 2)) (λ i. bitOf x (i * 4)) 8 0 (λ i l k. word-bit (λ i. bitOf x (i * 2)) every-second 16 0 (i * 2) (omega arith) ∙ ap (bitOf x) (let e : (0 + i * 2) * 2 ≡ i * 4 = omega arith in e))
+  low-bits =
+      word-alike (λ i. bitOf halves (i * 2)) (λ i. bitOf x (i * 4)) 8 0
+      (λ i l k. word-bit (λ i. bitOf x (i * 2)) every-second 16 0 (i * 2) (omega arith) ∙ ap (bitOf x) (let e : (0 + i * 2) * 2 ≡ i * 4 = omega arith in e))
 
   no-bits : wordFrom (λ i. bitOf halves (i * 2)) 8 8 ≡ 0
-  no-bits = word-alike (λ i. bitOf halves (i * 2)) (λ _. 0) 8 8 (λ i l k. bit-high 16 halves (i * 2) (word-lt (λ i. bitOf x (i * 2)) every-second 16 0) (omega arith)) ∙ word-zeros (λ _. 0) 8 8 (λ i l. refl)
+  no-bits =
+      word-alike (λ i. bitOf halves (i * 2)) (λ _. 0) 8 8
+      (λ i l k. bit-high 16 halves (i * 2) (word-lt (λ i. bitOf x (i * 2)) every-second 16 0) (omega arith))
+      ∙ word-zeros (λ _. 0) 8 8 (λ i l. refl)
 
   pub press-quarter : pressed 2 16 (pressed 2 16 x) ≡ pressed 4 8 x
   press-quarter = word-join (λ i. bitOf halves (i * 2)) 8 8 0 ∙ omega (arith, low-bits, no-bits)
@@ -98,7 +106,9 @@ abbrev Index : ℕ → ℕ → Type 0
 Index step count = (j k i : ℕ) → k < step → i < count → ((j * 32 + k * count + i) * step ≡ (j * step + k) * 32 + i * step) × (i * step < 32) × (k * count + i < 32)
 
 index : (step count : ℕ) → Pressable step count → Index step count
-index = by-step Index (λ j k i l h. (omega arith, omega arith, omega arith)) (λ j k i l h. (omega arith, omega arith, omega arith)) (λ j k i l h. (omega arith, omega arith, omega arith)) (λ j k i l h. (omega arith, omega arith, omega arith))
+index =
+    by-step Index (λ j k i l h. (omega arith, omega arith, omega arith)) (λ j k i l h. (omega arith, omega arith, omega arith))
+    (λ j k i l h. (omega arith, omega arith, omega arith)) (λ j k i l h. (omega arith, omega arith, omega arith))
 
 -- the words that are read are there, and no number on the way is large
 abbrev Room : ℕ → ℕ → Type 0
@@ -107,7 +117,11 @@ Room step count =
     → (from + j * step + k < most) × (j * step < 2 ^ 20) × (k * count < 32) × (count + k * count ≤ 32) × ((k + 1) * count ≤ 32)
 
 pub room : (step count : ℕ) → Pressable step count → Room step count
-room = by-step Room (λ n j k from most a b c d e. (omega arith, omega arith, omega arith, omega arith, omega arith)) (λ n j k from most a b c d e. (omega arith, omega arith, omega arith, omega arith, omega arith)) (λ n j k from most a b c d e. (omega arith, omega arith, omega arith, omega arith, omega arith)) (λ n j k from most a b c d e. (omega arith, omega arith, omega arith, omega arith, omega arith))
+room =
+    by-step Room (λ n j k from most a b c d e. (omega arith, omega arith, omega arith, omega arith, omega arith))
+    (λ n j k from most a b c d e. (omega arith, omega arith, omega arith, omega arith, omega arith))
+    (λ n j k from most a b c d e. (omega arith, omega arith, omega arith, omega arith, omega arith))
+    (λ n j k from most a b c d e. (omega arith, omega arith, omega arith, omega arith, omega arith))
 
 pub whole-count : (step count : ℕ) → Pressable step count → step * count ≡ 32
 whole-count = by-step (λ step count. step * count ≡ 32) refl refl refl refl

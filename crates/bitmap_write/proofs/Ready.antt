@@ -1,4 +1,4 @@
--- A level made a tree: what its bits are, and that it is one. Assumes nothing.
+-- A level made a tree: what its bits are, and that it is one.
 use mathlib.Core.Path.{_≡_, sym, ap, _∙_}
 use mathlib.Core.Logic.{_⊎_, inl, inr}
 use mathlib.Core.List.{List}

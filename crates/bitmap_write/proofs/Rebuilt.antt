@@ -1,4 +1,4 @@
--- The levels above, written anew: what stands where, and that they make a bitmap tree. Assumes nothing.
+-- The levels above, written anew: what stands where, and that they make a bitmap tree.
 use mathlib.Core.Path.{_≡_, refl, sym, ap, _∙_}
 use mathlib.Core.List.{List, _++_}
 use Prim.Native.Nat.{ℕ, zero, suc, _+_, _-_, _*_, _/_, _≤_, _<_}

@@ -1,4 +1,4 @@
--- The level above a level's words, as it is written behind them word by word. Assumes nothing.
+-- The level above a level's words, as it is written behind them word by word.
 use mathlib.Core.Path.{_≡_, refl, sym, ap, _∙_}
 use mathlib.Core.List.{List, _++_, append-assoc}
 use Prim.Native.Nat.{ℕ, _+_, _*_, _≤_, _<_}

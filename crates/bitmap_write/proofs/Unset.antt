@@ -1,4 +1,4 @@
--- The words of a list put together by or: where that is 0, every word is 0, and so is every bit. Assumes nothing.
+-- The words of a list put together by or: where that is 0, every word is 0, and so is every bit.
 use mathlib.Core.Path.{_≡_, refl, sym, _∙_, ap}
 use mathlib.Core.Logic.{⊎-elim}
 use mathlib.Core.Bool.{true}

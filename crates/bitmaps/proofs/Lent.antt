@@ -1,4 +1,4 @@
--- The part of the lent slice that is a segment's bitmap, that is its marks, and that spans from the one to the other. Assumes nothing.
+-- The part of the lent slice that is a segment's bitmap, that is its marks, and that spans from the one to the other.
 use mathlib.Core.Path.{_≡_, refl, sym, ap, _∙_}
 use mathlib.Core.Bool.{Bool, true, false}
 use lib.Dec.{ltb}
@@ -53,7 +53,11 @@ drop-take (suc k) (suc n) (x ∷ l) = let e : suc n - suc k ≡ n - k = omega ar
 -- ---- a segment's parts
 
 pub step-small : (g : Geometry) (c : ℕ) → IsClass c → blockWords c / 2 ≤ 2 ^ 12
-step-small g c k = let a : 1 * (blockWords c / 2) ≤ blocksIn g c * (blockWords c / 2) = mul-le-mul-right (blockWords c / 2) (blocks-some g c k) in let e = blocks-step g c k in let u = most-small g in omega arith
+step-small g c k =
+    let a : 1 * (blockWords c / 2) ≤ blocksIn g c * (blockWords c / 2) = mul-le-mul-right (blockWords c / 2) (blocks-some g c k) in
+    let e = blocks-step g c k in
+    let u = most-small g in
+    omega arith
 
 -- the part from a to b is the bitmap of segment s, and a tree of class c fits in it
 pub record TreePart (g : Geometry) (l : List ℕ) (s c a b : ℕ) : Type 0 where
@@ -85,7 +89,8 @@ module _ (g : Geometry) (l : List ℕ) (z : Sized g (length l)) (s : ℕ) (h : s
     pub tree-at : (c : ℕ) → IsClass c → TreePart g l s c a b
     tree-at c k = record { ends = tree-end .0; within = tree-end .1; is = tree-part; fits = rw tree-part (tree-room g (memOf g l) (sizes-of g l z) s h c k) }
 
-    pub tree-put : (make : List ℕ → List ℕ) (ys : List ℕ) → ys ≡ make (midOf a (b - a) l) → length ys ≡ length (midOf a (b - a) l) → memOf g (putMid a (b - a) l ys) ≡ setBitmap g (memOf g l) s (make (bitmap g (memOf g l) s))
+    pub tree-put : (make : List ℕ → List ℕ) (ys : List ℕ) → ys ≡ make (midOf a (b - a) l) → length ys ≡ length (midOf a (b - a) l)
+        → memOf g (putMid a (b - a) l ys) ≡ setBitmap g (memOf g l) s (make (bitmap g (memOf g l) s))
     tree-put make ys t u = part-at g l Region.bitmaps (s * bitmapWords g) (bitmapWords g) a b make ys t u (at, tree-end .0, row (bitmapWords g), omega arith, tree-end .1)
 
   -- the words of its mark bits
@@ -110,7 +115,10 @@ module _ (g : Geometry) (l : List ℕ) (z : Sized g (length l)) (s : ℕ) (h : s
 
     marks-gathered : gathered markRun step (blocksIn g c) ≡ marksIn g (memOf g l) s c
     unfolding gatheredBit
-    marks-gathered = packed-same (gatheredBit markRun step (blocksIn g c)) (λ b. pick (ltb b (blocksIn g c)) (entered g (memOf g l) (headerOf g s c b)) 0) (λ b. go b (ltb b (blocksIn g c)) refl) (wordsFor (blocksIn g c)) 0
+    marks-gathered =
+        packed-same (gatheredBit markRun step (blocksIn g c))
+        (λ b. pick (ltb b (blocksIn g c)) (entered g (memOf g l) (headerOf g s c b)) 0) (λ b. go b (ltb b (blocksIn g c)) refl)
+        (wordsFor (blocksIn g c)) 0
       where
         go : (b : ℕ) (x : Bool) → ltb b (blocksIn g c) ≡ x → pick x (bitAt markRun (b * step)) 0 ≡ pick x (entered g (memOf g l) (headerOf g s c b)) 0
         go b true e = bit-of b (ltb-true _ _ e)
@@ -143,7 +151,10 @@ module _ (g : Geometry) (l : List ℕ) (z : Sized g (length l)) (s : ℕ) (h : s
     span-length : length (midOf a (b - a) l) ≡ b - a
     span-length = let x = span .2 in length-take-le (b - a) (drop a l) (omega (arith, length-drop a l))
 
-    pub span-fits : (c : ℕ) → IsClass c → (treeWords (above g c) (blocksIn g c) ≤ m - a) × (m - a ≤ length (midOf a (b - a) l)) × (blocksIn g c * (blockWords c / 2) ≤ (length (midOf a (b - a) l) - (m - a)) * 32) × (blocksIn g c * (blockWords c / 2) ≤ 2 ^ 20) × (1 ≤ (blockWords c / 2))
+    pub span-fits : (c : ℕ) → IsClass c
+        → (treeWords (above g c) (blocksIn g c) ≤ m - a) × (m - a ≤ length (midOf a (b - a) l))
+        × (blocksIn g c * (blockWords c / 2) ≤ (length (midOf a (b - a) l) - (m - a)) * 32) × (blocksIn g c * (blockWords c / 2) ≤ 2 ^ 20)
+        × (1 ≤ (blockWords c / 2))
     span-fits c k =
         let x = span .0 in
         let y = span .1 in
@@ -191,11 +202,13 @@ module _ (g : Geometry) (l : List ℕ) (z : Sized g (length l)) (s : ℕ) (h : s
         marks-long : wordsFor (blocksIn g c) ≤ length (marksIn g (memOf g l) s c)
         marks-long = let e = length-packed (λ b. pick (ltb b (blocksIn g c)) (entered g (memOf g l) (headerOf g s c b)) 0) (wordsFor (blocksIn g c)) 0 in omega arith
 
-        whole-tree : adopted (above g c) (blocksIn g c) (gathered (drop (m - a) (midOf a (b - a) l)) ((blockWords c / 2)) (blocksIn g c)) (midOf a (b - a) l) ≡ make (bitmap g (memOf g l) s) ++ drop (bitmapWords g) (midOf a (b - a) l)
+        whole-tree : adopted (above g c) (blocksIn g c) (gathered (drop (m - a) (midOf a (b - a) l)) ((blockWords c / 2)) (blocksIn g c))
+            (midOf a (b - a) l) ≡ make (bitmap g (memOf g l) s) ++ drop (bitmapWords g) (midOf a (b - a) l)
         whole-tree =
             ap (λ (v : List ℕ). adopted (above g c) (blocksIn g c) v (midOf a (b - a) l)) (ap (λ (v : List ℕ). gathered v ((blockWords c / 2)) (blocksIn g c)) behind ∙ marks-gathered c k)
             ∙ ap make (sym (take-append-drop (bitmapWords g) (midOf a (b - a) l)) ∙ ap (λ (v : List ℕ). v ++ drop (bitmapWords g) (midOf a (b - a) l)) head)
-            ∙ adopted-append (drop (bitmapWords g) (midOf a (b - a) l)) (above g c) (blocksIn g c) (marksIn g (memOf g l) s c) (bitmap g (memOf g l) s) marks-long (tree-room g (memOf g l) (sizes-of g l z) s h c k)
+            ∙ adopted-append (drop (bitmapWords g) (midOf a (b - a) l)) (above g c) (blocksIn g c) (marksIn g (memOf g l) s c)
+            (bitmap g (memOf g l) s) marks-long (tree-room g (memOf g l) (sizes-of g l z) s h c k)
 
     -- how many bits of the tree's level 0 are 1
     pub span-ones : (c : ℕ) → IsClass c → (ys : List ℕ) → ys ≡ adopted (above g c) (blocksIn g c) (gathered (drop (m - a) (midOf a (b - a) l)) (blockWords c / 2) (blocksIn g c)) (midOf a (b - a) l)

@@ -1,4 +1,4 @@
--- What a place's own word tells of a segment's next free block, where the place is taken below the most blocks of a segment. Assumes nothing.
+-- What a place's own word tells of a segment's next free block, where the place is taken below the most blocks of a segment.
 use mathlib.Core.Path.{_≡_, sym, _∙_, subst}
 use mathlib.Core.List.{List}
 use Prim.Native.Nat.{ℕ, _+_, _*_, _/_, _%_, _≤_, _<_}

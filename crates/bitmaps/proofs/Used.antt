@@ -1,4 +1,4 @@
--- How many of the first n bits are 1 where those before a place count as 1: by the place and the ones from there on. Assumes nothing.
+-- How many of the first n bits are 1 where those before a place count as 1: by the place and the ones from there on.
 use mathlib.Core.Path.{_≡_}
 use mathlib.Core.Bool.{Bool, true, false}
 use Prim.Native.Nat.{ℕ, _+_, _-_, _≤_, _<_}
@@ -21,7 +21,8 @@ module _ (bit : ℕ → ℕ) (p : ℕ) where
       let a : onesAmong (usedBits bit p) n ≡ onesAmong (usedBits bit p) p + onesAmong (λ i. usedBits bit p (p + i)) (n - p) = rw e at (among-add (usedBits bit p) p (n - p)) in
       let d : onesAmong bit n ≡ onesAmong bit p + onesAmong (λ i. bit (p + i)) (n - p) = rw e at (among-add bit p (n - p)) in
       let b : onesAmong (usedBits bit p) p ≡ p = used-all p (omega arith) in
-      let c : onesAmong (λ i. usedBits bit p (p + i)) (n - p) ≡ onesAmong (λ i. bit (p + i)) (n - p) = among-same (λ i. usedBits bit p (p + i)) (λ i. bit (p + i)) (n - p) (λ i l. rw (le-ltb (p + i) p (omega arith))) in
+      let c : onesAmong (λ i. usedBits bit p (p + i)) (n - p) ≡ onesAmong (λ i. bit (p + i)) (n - p) =
+      among-same (λ i. usedBits bit p (p + i)) (λ i. bit (p + i)) (n - p) (λ i l. rw (le-ltb (p + i) p (omega arith))) in
       (omega arith, omega arith)
 
   -- by the values that the code has in hand

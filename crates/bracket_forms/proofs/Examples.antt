@@ -1,4 +1,4 @@
--- Lines of document 01 as texts of forms and of replies, and lines that no form has, as rows of tables. Assumes nothing.
+-- Lines of document 01 as texts of forms and of replies, and lines that no form has, as rows of tables.
 use Prim.Native.Nat.{ℕ, _<_}
 use mathlib.Core.Path.{_≡_, refl}
 use mathlib.Core.Bool.{Bool, true, false}

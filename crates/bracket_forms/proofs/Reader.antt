@@ -1,5 +1,5 @@
 -- The reader is right: the forms and the kinds are tied, so that a line is read as a form exactly when it is that form's
--- text. No two forms share a text, and the text of a form is read as that form. Assumes nothing.
+-- text. No two forms share a text, and the text of a form is read as that form.
 use Prim.Native.Nat.{ℕ, zero, suc, _≤_, _<_}
 use mathlib.Core.Path.{_≡_, refl, sym, _∙_, ap, subst}
 use mathlib.Core.Bool.{Bool, true, false, cond}
@@ -218,7 +218,8 @@ module _ (line : List ℕ) (k : ℕ) (h : k < 18) (ns : List ℕ) (e : matched (
           absurd
           (differ-apart (templateAt k) (templateAt (kindOf f)) ns (padded (numbersOf f)) (template-told k h (kindOf f) (form-tied f .below) n) (read-text ∙ sym q ∙ sym (form-tied f .text)))
       go (yes p) =
-          let m : matched (templateAt (kindOf f)) 0 zeros line ≡ some (padded (numbersOf f)) = subst (λ (x : List ℕ). matched (templateAt (kindOf f)) 0 zeros x ≡ some (padded (numbersOf f))) q (form-matched f w) in
+          let m : matched (templateAt (kindOf f)) 0 zeros line ≡ some (padded (numbersOf f)) =
+          subst (λ (x : List ℕ). matched (templateAt (kindOf f)) 0 zeros x ≡ some (padded (numbersOf f))) q (form-matched f w) in
           let n : matched (templateAt (kindOf f)) 0 zeros line ≡ some ns = subst (λ (j : ℕ). matched (templateAt j) 0 zeros line ≡ some ns) p e in
           let x : ns ≡ padded (numbersOf f) = cc in
           ap (λ (j : ℕ). readingAt j ns) p ∙ ap (readingAt (kindOf f)) x ∙ form-back f

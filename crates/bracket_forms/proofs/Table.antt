@@ -1,5 +1,5 @@
 -- The templates of the forms: how long each gets, and how they are told apart, each by one test of every form, which the
--- checker computes. Assumes nothing.
+-- checker computes.
 use Prim.Native.Nat.{ℕ, _≤_, _<_}
 use mathlib.Core.Path.{_≡_}
 use mathlib.Core.Bool.{Bool, _||_}

@@ -1,5 +1,4 @@
 -- The writers go by a fixed byte string and its numbers: they stand for the text of the form or the reply, which fits the buffer.
--- Assumes nothing.
 use Rattle.bracket_forms.specs.declared.Reading.the-variants.{Is}
 use Rattle.bracket_forms.specs.declared.Reading.{Reading}
 use lib.Seq.{take-at}
@@ -32,7 +31,9 @@ form-stands f p q =
     subst (Stands (textOf f) 80) (sym q)
     (record {
       is = is;
-      short = rw is (subst (λ (x : List ℕ). length x ≤ 80) (form-tied f .text) (omega (arith, template-most (kindOf f) (form-tied f .below), fill-length (templateAt (kindOf f)) (padded (numbersOf f)))));
+      short =
+          rw is
+          (subst (λ (x : List ℕ). length x ≤ 80) (form-tied f .text) (omega (arith, template-most (kindOf f) (form-tied f .below), fill-length (templateAt (kindOf f)) (padded (numbersOf f)))));
     })
   where
     is : fill (trimmed (wide (spelt f .template))) (padded (numbersOf f)) ≡ textOf f

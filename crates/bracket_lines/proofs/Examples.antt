@@ -1,4 +1,4 @@
--- The lines of small streams, as rows of a table: `a` is 97, `b` 98, and a line feed 10. Assumes nothing.
+-- The lines of small streams, as rows of a table: `a` is 97, `b` 98, and a line feed 10.
 use Prim.Native.Nat.{ℕ}
 use mathlib.Core.Path.{_≡_, refl}
 use mathlib.Core.List.{List, [], _∷_}

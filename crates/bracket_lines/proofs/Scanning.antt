@@ -1,4 +1,4 @@
--- The loop over a piece of a stream: what holds while no line has ended, a turn, and the two ways out. Assumes nothing.
+-- The loop over a piece of a stream: what holds while no line has ended, a turn, and the two ways out.
 use Prim.Native.Nat.{ℕ, suc, _+_, _-_, _≤_, _<_}
 use mathlib.Core.Path.{_≡_, refl, sym, _∙_, ap}
 use mathlib.Core.Bool.{Bool, true, false, cond}
@@ -107,12 +107,15 @@ module _ (chunk : List ℕ) (from count : ℕ) (line : List ℕ) where
 
       -- the run at this byte
       one-run : scanned from before (drop from chunk)
-          ≡ goOn (s .found) (record { answer = record { next = at + 1; count = s .count; found = s .found }; line = next }) (scanned (at + 1) (record { count = s .count; line = next }) (drop (at + 1) chunk))
+          ≡ goOn (s .found) (record { answer = record { next = at + 1; count = s .count; found = s .found }; line = next })
+          (scanned (at + 1) (record { count = s .count; line = next }) (drop (at + 1) chunk))
       unfolding scanned after
       one-run =
           v .rest
           ∙ ap (scanned at (record { count = n; line = now })) (drop-cons chunk at 0 h ∙ ap (λ (k : ℕ). byte ∷ drop k chunk) (sym (add-one at)))
-          ∙ (λ i. goOn (sym e i .found) (record { answer = record { next = at + 1; count = sym e i .count; found = sym e i .found }; line = sym f i }) (scanned (at + 1) (record { count = sym e i .count; line = sym f i }) (drop (at + 1) chunk)))
+          ∙ (λ i. goOn (sym e i .found)
+          (record { answer = record { next = at + 1; count = sym e i .count; found = sym e i .found }; line = sym f i })
+          (scanned (at + 1) (record { count = sym e i .count; line = sym f i }) (drop (at + 1) chunk)))
 
       stops : (x : Found) → (x ≡ More → ⊥) → (p q : Scanned) → goOn x p q ≡ p
       stops More r p q = absurd (r refl)
@@ -126,7 +129,11 @@ module _ (chunk : List ℕ) (from count : ℕ) (line : List ℕ) where
             inside = λ k. omega arith;
             state = one-state;
             none = one-told ∙ ap (λ (x : Found). heard x next) q;
-            rest = one-run ∙ ap (λ (x : Found). goOn x (record { answer = record { next = at + 1; count = s .count; found = s .found }; line = next }) (scanned (at + 1) (record { count = s .count; line = next }) (drop (at + 1) chunk))) q;
+            rest =
+                one-run
+                ∙ ap
+                (λ (x : Found). goOn x (record { answer = record { next = at + 1; count = s .count; found = s .found }; line = next })
+                (scanned (at + 1) (record { count = s .count; line = next }) (drop (at + 1) chunk))) q;
           }
 
       pub scanning-told : (x : Found) → s .found ≡ x → (x ≡ More → ⊥)
@@ -148,4 +155,13 @@ module _ (chunk : List ℕ) (from count : ℕ) (line : List ℕ) where
     pub scanning-all : length chunk ≤ at → Scans chunk from count line (record { next = at; count = n; found = More }) now
     unfolding scanned
     scanning-all h =
-        record { exact = v .rest ∙ ap (scanned at (record { count = n; line = now })) (drop-of-length-le chunk h); bounded = λ k z. none-line z; onward = v .onward; moves = λ k. omega arith; inside = v .inside; state = v .state; all = v .none; done = λ z. h }
+        record {
+          exact = v .rest ∙ ap (scanned at (record { count = n; line = now })) (drop-of-length-le chunk h);
+          bounded = λ k z. none-line z;
+          onward = v .onward;
+          moves = λ k. omega arith;
+          inside = v .inside;
+          state = v .state;
+          all = v .none;
+          done = λ z. h;
+        }

@@ -1,5 +1,5 @@
 -- A stream that is fed in any pieces tells exactly its lines: each line of at most 80 bytes whole, and of each longer one that
--- it was too long, once. Assumes nothing.
+-- it was too long, once.
 use Prim.Native.Nat.{ℕ, _+_, _-_, _≤_, _<_, min}
 use mathlib.Core.Path.{_≡_, refl, sym, _∙_, ap}
 use mathlib.Core.Bool.{Bool, true, false, cond}

@@ -1,4 +1,4 @@
--- A reply behind the bytes that a buffer has, and where a line that is told lies. Assumes nothing.
+-- A reply behind the bytes that a buffer has, and where a line that is told lies.
 use mathlib.Core.Path.{_≡_, refl, sym, _∙_, ap}
 use mathlib.Core.Bool.{Bool, true, false, cond}
 use mathlib.Core.List.{List, [], _∷_, _++_, append-assoc, append-nil}

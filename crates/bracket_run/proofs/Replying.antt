@@ -1,4 +1,4 @@
--- The replies to the lines of a stream, piece by piece. Assumes nothing.
+-- The replies to the lines of a stream, piece by piece.
 use mathlib.Core.Path.{_≡_, refl, sym, _∙_, ap, subst}
 use mathlib.Core.List.{List, [], _∷_, _++_, append-assoc, append-nil}
 use Prim.Native.Nat.{ℕ, _+_, _-_, _≤_}

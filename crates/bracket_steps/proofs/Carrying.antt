@@ -1,4 +1,4 @@
--- A task over the first of the lent words, and a line by its form. Assumes nothing.
+-- A task over the first of the lent words, and a line by its form.
 use mathlib.Core.Path.{_≡_, refl, sym, _∙_, ap, subst}
 use mathlib.Core.Bool.{Bool, true, false}
 use mathlib.Core.List.{List, _++_}

@@ -1,4 +1,4 @@
--- What a call promises is what its task owes, and it keeps the memory consistent. Assumes nothing.
+-- What a call promises is what its task owes, and it keeps the memory consistent.
 use mathlib.Core.Path.{_≡_, refl, sym, _∙_, ap, subst}
 use mathlib.Core.Bool.{true, false, true≢false}
 use mathlib.Core.List.{List}

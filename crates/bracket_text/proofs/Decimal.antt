@@ -1,5 +1,4 @@
 -- The decimal of a number: one digit below 10, else the decimal of a tenth and a last digit; and how long it is.
--- Assumes nothing.
 use Prim.Native.Nat.{ℕ, zero, suc, _+_, _*_, _/_, _%_, _^_, _≤_, _<_}
 use mathlib.Core.Path.{_≡_, refl, sym, ap}
 use mathlib.Core.Bool.{Bool, true, false}

@@ -1,4 +1,4 @@
--- The length of a template that has spaces after it, one byte from the end at a time. Assumes nothing.
+-- The length of a template that has spaces after it, one byte from the end at a time.
 use Prim.Native.Nat.{ℕ, zero, suc, _-_, _≤_, _<_}
 use mathlib.Core.Path.{_≡_, sym}
 use mathlib.Core.Bool.{Bool, true, false, cond}

@@ -1,5 +1,4 @@
 -- Laws of lists: the rest at a place, a run of bytes placed in a list, and two lists compared.
--- Assumes nothing.
 use Prim.Native.Nat.{ℕ, _+_, _≤_, _<_}
 use mathlib.Core.Path.{_≡_, refl, sym, _∙_, ap}
 use mathlib.Core.List.{List, [], _∷_, _++_, append-assoc}

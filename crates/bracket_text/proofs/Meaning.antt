@@ -1,5 +1,5 @@
 -- What a decimal is: digits without leading zeros that make the number, and the only such. So `decimal` of specs/Text.antt is
--- document 01's "decimals without leading zeros". Assumes nothing.
+-- document 01's "decimals without leading zeros".
 use Prim.Native.Nat.{ℕ, zero, suc, _+_, _*_, _/_, _%_, _≤_, _<_}
 use mathlib.Core.Path.{_≡_, refl, sym, _∙_, ap, subst}
 use mathlib.Core.Bool.{Bool, true, false}

@@ -1,5 +1,4 @@
 -- Reading a number is right: what `numberOf` reads is a number's decimal, and a decimal that no digit follows is read.
--- Assumes nothing.
 use Prim.Native.Nat.{ℕ, zero, suc, _+_, _-_, _*_, _/_, _%_, _^_, _≤_, _<_}
 use mathlib.Core.Path.{_≡_, refl, sym, _∙_, ap}
 use mathlib.Core.Bool.{Bool, true, false, cond}

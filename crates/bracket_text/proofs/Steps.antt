@@ -1,5 +1,5 @@
 -- One step of reading at a place of a line, for each way that a step can go: what `digitsOn` and `numberOf` make of the rest
--- of the line there. Assumes nothing.
+-- of the line there.
 use Prim.Native.Nat.{ℕ, _+_, _*_, _≤_, _<_}
 use mathlib.Core.Path.{_≡_, refl, _∙_, subst}
 use mathlib.Core.Bool.{Bool, true, false}

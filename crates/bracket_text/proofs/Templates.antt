@@ -1,5 +1,5 @@
 -- Reading by a template is right: it succeeds exactly on the template's texts, and gives the numbers back. Two templates
--- whose words differ share no text. Assumes nothing.
+-- whose words differ share no text.
 use Prim.Native.Nat.{ℕ, zero, suc, _+_, _≤_, _<_}
 use mathlib.Core.Path.{_≡_, refl, sym, _∙_, ap, subst}
 use mathlib.Core.Bool.{Bool, true, false, not, _&&_, _||_, cond}

@@ -1,4 +1,4 @@
--- What the writers leave in a buffer, step by step. Assumes nothing.
+-- What the writers leave in a buffer, step by step.
 use Prim.Native.Nat.{ℕ, _+_, _/_, _%_, _≤_, _<_}
 use mathlib.Core.Path.{_≡_, refl, sym, _∙_, ap}
 use mathlib.Core.List.{List, [], _∷_, _++_}

@@ -1,4 +1,4 @@
--- Every row of the table holds, by computing the definitions. Assumes nothing.
+-- Every row of the table holds, by computing the definitions.
 use mathlib.Core.Path.{_≡_, refl}
 use mathlib.Core.List.{List}
 use Prim.Native.Nat.{ℕ}

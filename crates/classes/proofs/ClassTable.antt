@@ -1,5 +1,4 @@
 -- The class table's rule: entry k is the class of a record of k fields, by one test that is computed over all of its entries.
--- Assumes nothing.
 use mathlib.Core.Path.{_≡_, sym, _∙_, ap}
 use mathlib.Core.List.{List, _++_}
 use mathlib.Core.Bool.{Bool, false}

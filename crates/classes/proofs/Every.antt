@@ -1,4 +1,4 @@
--- A rule of the classes from a test that each of them passes, computed once over all; and what the test of a class says. Assumes nothing.
+-- A rule of the classes from a test that each of them passes, computed once over all; and what the test of a class says.
 use mathlib.Core.Path.{_≡_, refl, sym, subst}
 use mathlib.Core.Bool.{Bool, true, false, true≢false}
 use mathlib.Core.List.{List}

@@ -1,4 +1,4 @@
--- The words of a class's block, and that its blocks fill a segment: computed at a size that every block divides, and so at each multiple of it. Assumes nothing.
+-- The words of a class's block, and that its blocks fill a segment: computed at a size that every block divides, and so at each multiple of it.
 use mathlib.Core.Path.{_≡_, sym, _∙_, ap}
 use mathlib.Core.Bool.{Bool, _&&_}
 use Prim.Native.Nat.{ℕ, _*_, _/_, _^_, _≤_}

@@ -1,5 +1,5 @@
 -- What holds of every class's shape: its blocks are within what three levels hold, its levels end in one word, and its bitmap
--- is no longer than the longest. Assumes nothing.
+-- is no longer than the longest.
 use mathlib.Core.Path.{_≡_, refl}
 use mathlib.Core.Bool.{Bool, true, false}
 use Prim.Native.Nat.{ℕ, _-_, _^_, _≤_}

@@ -1,5 +1,5 @@
 -- What `smallestFrom` finds: a class whose block is large enough, and of which every smaller one is too small; none where none is.
--- Over any run of classes. Assumes nothing.
+-- Over any run of classes.
 use mathlib.Core.Path.{_≡_, refl, subst}
 use mathlib.Core.Bool.{Bool, true, false}
 use mathlib.Core.Logic.{_⊎_, inl, inr}

@@ -1,4 +1,4 @@
--- The scratch in two parts: the part behind, lent and given back, and the words kept in front. Assumes nothing.
+-- The scratch in two parts: the part behind, lent and given back, and the words kept in front.
 use mathlib.Core.Path.{_≡_, refl, sym, ap, ap₂, _∙_, subst}
 use mathlib.Core.List.{List, [], _∷_, _++_, append-nil}
 use Prim.Native.Nat.{ℕ, suc, _+_, _-_, _*_, _/_, _≤_, _<_}

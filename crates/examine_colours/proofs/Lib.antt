@@ -1,3 +1,3 @@
--- The laws of the scratch's fields, and what the bits mean. Assumes nothing.
+-- The laws of the scratch's fields, and what the bits mean.
 pub mod Fields
 pub mod Meaning

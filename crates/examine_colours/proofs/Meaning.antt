@@ -1,4 +1,4 @@
--- What is judged by bits is what the examination is to decide, where the bits are those of the searches. Assumes nothing.
+-- What is judged by bits is what the examination is to decide, where the bits are those of the searches.
 use mathlib.Core.Path.{_≡_, refl, sym, ap, _∙_, subst}
 use mathlib.Core.Logic.{_⊎_, inl, inr, ⊎-elim}
 use mathlib.Core.Bool.{Bool, true, false, true≢false}
@@ -60,10 +60,12 @@ module _ (g : Geometry) (m : Mem) (Set : ℕ → Type 0) where
         let ok = b .passes x q in
         let k = class-of g m x ok in
         let e = is-header g m x k (ok .aligned) in
-        subst (λ (z : ℕ). RecordFine asked g m cover (segmentOf g x) z (markBit z)) (sym e) (j (segmentOf g x) (segment-below g x (ok .inside)) k (blockOf g m x) (of-block g m x k) (subst (λ (z : ℕ). bitAt bits (markBit z) ≡ 1) e (b .found x q)))
+        subst (λ (z : ℕ). RecordFine asked g m cover (segmentOf g x) z (markBit z)) (sym e)
+        (j (segmentOf g x) (segment-below g x (ok .inside)) k (blockOf g m x) (of-block g m x k) (subst (λ (z : ℕ). bitAt bits (markBit z) ≡ 1) e (b .found x q)))
 
   -- what holds of every record of the set is judged of every block
-  module _ (asked : Asked) (bits cover : List ℕ) (b : BitsOf g m Set bits) (room : len g Region.marks ≤ length bits) (h : (x : ℕ) → Set x → RecordFine asked g m cover (segmentOf g x) x (markBit x)) where
+  module _ (asked : Asked) (bits cover : List ℕ) (b : BitsOf g m Set bits) (room : len g Region.marks ≤ length bits)
+      (h : (x : ℕ) → Set x → RecordFine asked g m cover (segmentOf g x) x (markBit x)) where
     pub judged-all : Judged asked g m bits cover
     judged-all s l k i w e = subst (λ (z : ℕ). RecordFine asked g m cover z at (markBit at)) here (h at (b .only at ok e))
       where
@@ -78,7 +80,8 @@ module _ (g : Geometry) (m : Mem) (Set : ℕ → Type 0) where
 
 -- ---- the bits in front
 
-pub bits-front : (g : Geometry) (m : Mem) (Set : ℕ → Type 0) (memory : List ℕ) (n : ℕ) (s : List ℕ) → Room g memory n s → (t u : List ℕ) → take n u ≡ take n t → BitsOf g m Set t → BitsOf g m Set (take n u)
+pub bits-front : (g : Geometry) (m : Mem) (Set : ℕ → Type 0) (memory : List ℕ) (n : ℕ) (s : List ℕ) → Room g memory n s → (t u : List ℕ)
+    → take n u ≡ take n t → BitsOf g m Set t → BitsOf g m Set (take n u)
 bits-front g m Set memory n s r t u e b = bits-as g m Set t (take n u) (λ k l. ap (λ (z : List ℕ). bitAt z k) e ∙ sym (bit-front g memory n s r t k l)) b
 
 -- ---- the tricolour invariant
@@ -108,7 +111,11 @@ module _ (g : Geometry) (m : Mem) where
         fine-of x (a .passes x (root (inl r))) (c .tricolour .roots x r n)
 
     pub pointers-of : Coloured g m → Judged Pointers g m live cover
-    pointers-of c = judged-all g m (Live m) Pointers live cover a room (λ x p k y q. let e : PointsTo m x y = record { field = q .index; within = q .within; names = q .names } in fine-of y (a .passes y (next p e)) (edges-bits g m (c .tricolour .edges) x y p k e))
+    pointers-of c =
+        judged-all g m (Live m) Pointers live cover a room
+        (λ x p k y q.
+        let e : PointsTo m x y = record { field = q .index; within = q .within; names = q .names } in
+        fine-of y (a .passes y (next p e)) (edges-bits g m (c .tricolour .edges) x y p k e))
 
     meant : ((k : ℕ) → k < mutatorCount → RootsFine g m cover k) → Judged Pointers g m live cover → Coloured g m
     meant h j = record {
@@ -132,7 +139,9 @@ module _ (g : Geometry) (m : Mem) where
 
 -- ---- the second search, beside the live bits in front
 
-module _ (g : Geometry) (memory : List ℕ) (n : ℕ) (s : List ℕ) (rm : Room g memory n s) (m : Mem) (live : BitsOf g m (Live m) (take n s)) (t : List ℕ) (sz : length t ≡ length s) (ok : Bool) (f : Finds g m (ByEntries g m) ok (drop n t) × (take n t ≡ take n s)) where
+module _ (g : Geometry) (memory : List ℕ) (n : ℕ) (s : List ℕ) (rm : Room g memory n s) (m : Mem)
+    (live : BitsOf g m (Live m) (take n s)) (t : List ℕ) (sz : length t ≡ length s) (ok : Bool)
+    (f : Finds g m (ByEntries g m) ok (drop n t) × (take n t ≡ take n s)) where
   pub second-room : Room g memory n t
   second-room = resize g memory n s rm t sz
 
@@ -148,5 +157,6 @@ module _ (g : Geometry) (memory : List ℕ) (n : ℕ) (s : List ℕ) (rm : Room 
   pub second-roots : ok ≡ true → (r : Bool) → Decides r ((k : ℕ) → k < mutatorCount → RootsFine g m (drop n t) k) → r ≡ false → Decides false (Coloured g m)
   second-roots e r d q = fails (λ c. refuted d q (roots-of g m (take n t) (drop n t) second-live (f .0 .good e) (front-room g memory n t second-room) c))
 
-  pub second-all : ok ≡ true → (r : Bool) → Decides r ((k : ℕ) → k < mutatorCount → RootsFine g m (drop n t) k) → r ≡ true → (q : Bool) → Decides q (Judged Pointers g m (take n t) (drop n t)) → Decides q (Coloured g m)
+  pub second-all : ok ≡ true → (r : Bool) → Decides r ((k : ℕ) → k < mutatorCount → RootsFine g m (drop n t) k) → r ≡ true → (q : Bool)
+      → Decides q (Judged Pointers g m (take n t) (drop n t)) → Decides q (Coloured g m)
   second-all e r d h q j = meaning g m (take n t) (drop n t) second-live (f .0 .good e) (front-room g memory n t second-room) (d .sound h) q j

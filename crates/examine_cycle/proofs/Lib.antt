@@ -1,2 +1,2 @@
--- The laws of what is judged. Assumes nothing.
+-- The laws of what is judged.
 pub mod Judging

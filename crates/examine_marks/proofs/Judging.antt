@@ -1,4 +1,4 @@
--- A word is the head of a block in use; a bit is fine; as many bits as entries are the entries'. Assumes nothing.
+-- A word is the head of a block in use; a bit is fine; as many bits as entries are the entries'.
 use mathlib.Core.Path.{_≡_, refl, sym, ap, _∙_, subst}
 use mathlib.Core.Bool.{Bool, true, false, true≢false}
 use mathlib.Core.Logic.{_⊎_, inl, inr, ⊎-elim}

@@ -1,2 +1,2 @@
--- The laws of the bits among the marks. Assumes nothing.
+-- The laws of the bits among the marks.
 pub mod Judging

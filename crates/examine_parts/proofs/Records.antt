@@ -1,4 +1,4 @@
--- A segment's record, one return at a time: what its tag asks of its other words and of its bits. Assumes nothing.
+-- A segment's record, one return at a time: what its tag asks of its other words and of its bits.
 use mathlib.Core.Path.{_≡_, sym, _∙_, ap, subst}
 use mathlib.Core.Bool.{Bool, true, false, not}
 use mathlib.Core.Logic.{_⊎_, inl, inr}

@@ -1,4 +1,4 @@
--- A mutator's entry, one return at a time: its words, the segments that it holds, and its acknowledgements by the phase. Assumes nothing.
+-- A mutator's entry, one return at a time: its words, the segments that it holds, and its acknowledgements by the phase.
 use mathlib.Core.Path.{_≡_, refl, sym, _∙_, subst}
 use mathlib.Core.Bool.{Bool, true, false}
 use Prim.Native.Nat.{ℕ, zero, suc, _+_, _-_, _≤_, _<_}

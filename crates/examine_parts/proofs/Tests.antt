@@ -1,4 +1,4 @@
--- A comparison's answer decides what is compared, and answers joined one after the other. Assumes nothing.
+-- A comparison's answer decides what is compared, and answers joined one after the other.
 use mathlib.Core.Path.{_≡_}
 use mathlib.Core.Bool.{not}
 use Prim.Native.Nat.{ℕ, _≤_}

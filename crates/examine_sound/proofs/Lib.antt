@@ -1,2 +1,2 @@
--- The laws of the phases. Assumes nothing.
+-- The laws of the phases.
 pub mod Phases

@@ -1,4 +1,4 @@
--- Which segments belong on a stack, how many, and its entries entered one after the other. Assumes nothing.
+-- Which segments belong on a stack, how many, and its entries entered one after the other.
 use mathlib.Core.Path.{_≡_, refl, sym, _∙_, ap, subst}
 use mathlib.Core.Bool.{Bool, true, false, _&&_, true≢false}
 use mathlib.Core.Logic.{_⊎_, inl, inr}

@@ -1,4 +1,4 @@
--- A stack whose count and whose entries are right is in order, and the trees and the stacks make the first half of consistency. Assumes nothing.
+-- A stack whose count and whose entries are right is in order, and the trees and the stacks make the first half of consistency.
 use mathlib.Core.Path.{_≡_, refl, sym, _∙_, ap, subst}
 use mathlib.Core.Bool.{Bool, true, false}
 use mathlib.Core.Logic.{_⊎_, inl, inr}

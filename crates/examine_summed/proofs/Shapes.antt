@@ -1,4 +1,4 @@
--- The tree of a class, any number: its words are too few below the classes, and past them it has one level. Assumes nothing.
+-- The tree of a class, any number: its words are too few below the classes, and past them it has one level.
 use mathlib.Core.Path.{_≡_, refl, sym, _∙_, ap, subst}
 use mathlib.Core.Bool.{Bool, true, false}
 use mathlib.Core.List.{List}

@@ -1,2 +1,2 @@
--- The laws of the trace stack's examination. Assumes nothing.
+-- The laws of the trace stack's examination.
 pub mod Entering

@@ -1,4 +1,4 @@
--- The promise of the examination, by its answers. Assumes nothing.
+-- The promise of the examination, by its answers.
 use mathlib.Core.Path.{_≡_, refl, sym, ap, _∙_}
 use mathlib.Core.Bool.{Bool, true, false, true≢false}
 use mathlib.Core.List.{List}
@@ -37,7 +37,8 @@ module _ (g : Geometry) (mem scratch : List ℕ) where
     cleared = λ _ f. absurd (w f);
   }
 
-  module _ (right : wrongSize g (length mem) ≡ false) (room : length scratch ≡ scratchWords g) (after : List ℕ) (zeros : after ≡ replicate (scratchWords g) 0) (b : Bool) (d : Decides b (Consistent g (memOf g mem))) where
+  module _ (right : wrongSize g (length mem) ≡ false) (room : length scratch ≡ scratchWords g) (after : List ℕ)
+      (zeros : after ≡ replicate (scratchWords g) 0) (b : Bool) (d : Decides b (Consistent g (memOf g mem))) where
     pub promise-yes : b ≡ true → ExaminePromise g mem scratch examination.Yes after
     promise-yes e = record {
       sizes = (λ w. absurd (true≢false (sym w ∙ right)), λ w. absurd (w room));

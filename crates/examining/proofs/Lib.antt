@@ -1,2 +1,2 @@
--- The laws of the examination's promise. Assumes nothing.
+-- The laws of the examination's promise.
 pub mod Examined

@@ -1,4 +1,4 @@
--- Each call on a field: refused as its mutator and roots stand, reaching the record in its root, and done. Assumes nothing.
+-- Each call on a field: refused as its mutator and roots stand, reaching the record in its root, and done.
 use mathlib.Core.Path.{_≡_, refl, sym, _∙_, ap}
 use mathlib.Core.Bool.{false}
 use mathlib.Core.Logic.{inr}

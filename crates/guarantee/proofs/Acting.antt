@@ -1,4 +1,4 @@
--- An element of a list, lent memory that passes the examination, acts as the definitions say. Assumes nothing.
+-- An element of a list, lent memory that passes the examination, acts as the definitions say.
 use mathlib.Core.Path.{_≡_, sym, _∙_, ap, subst}
 use mathlib.Core.Logic.{_⊎_, inl, inr}
 use mathlib.Core.Bool.{Bool, true}

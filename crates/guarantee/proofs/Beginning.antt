@@ -1,4 +1,4 @@
--- Where a list begins is a point: what an accepted opening leaves is consistent and coupled with the empty unbounded heap. Assumes nothing.
+-- Where a list begins is a point: what an accepted opening leaves is consistent and coupled with the empty unbounded heap.
 use mathlib.Core.Path.{sym, subst}
 use mathlib.Core.List.{List}
 use Prim.Native.Nat.{ℕ}

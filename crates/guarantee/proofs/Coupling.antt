@@ -75,7 +75,9 @@ module _ (g : Geometry) (m : Mem) (z : Sizes g m) (k : Consistent g m) (w : Ghos
     begins : v ≡ startCall Ok → Begun (memOf g after) → Leads v after
 
   -- nothing changes beside
-  unmoved : (v : Event) (after : List ℕ) → fed w (remainingCall struckOut v) g after ≡ w → ((x : Call × Answer) → remainingCall struckOut v ≡ some x → answerOf (x .1) ≡ uexec (w .heap) (x .0) .0) → memOf g after ≡ m → Leads v after
+  unmoved : (v : Event) (after : List ℕ) → fed w (remainingCall struckOut v) g after ≡ w
+      → ((x : Call × Answer) → remainingCall struckOut v ≡ some x → answerOf (x .1) ≡ uexec (w .heap) (x .0) .0) → memOf g after ≡ m
+      → Leads v after
   unmoved v after n a h = goes (record {
     couples = subst (λ x. Couples g (memOf g after) x P) (sym n) (subst (λ x. Couples g x w P) (sym h) o);
     steady = subst (Steady g m) (sym h) (λ s l e. (e, refl));
@@ -109,17 +111,24 @@ module _ (g : Geometry) (m : Mem) (z : Sizes g m) (k : Consistent g m) (w : Ghos
     matched-leads x k e h =
         let st = view g (k .ready) in
         let y : refusal (machineCalls.observe st) c ≡ 0 = ap (λ F. refusal F c) (k .shows ∙ face-same g m) ∙ x in
-        let q : Agree (segmentOf g) (machineCalls.act (k .block) st c .1) (view g (memOf g after)) = subst (λ z. Agree (segmentOf g) (machineCalls.act (k .block) st c .1) (view g z)) (sym h) (k .moves .agree) in
+        let q : Agree (segmentOf g) (machineCalls.act (k .block) st c .1) (view g (memOf g after)) =
+        subst (λ z. Agree (segmentOf g) (machineCalls.act (k .block) st c .1) (view g z)) (sym h) (k .moves .agree) in
         let d = model-call (segmentOf g) P (w .put) st (view g (memOf g after)) (w .heap) c (k .block) (agree-ok (segmentOf g) P (w .put) (view g m) st (w .heap) (k .prepared) o) y (k .permitted) q in
         let a = e ∙ k .answer ∙ d .0 in
         goes (record {
-          couples = subst (λ x. Couples g (memOf g after) (fed w x g after) P) (sym (remaining a)) (subst (λ (z : ℕ → Option ℕ). Coupled (segmentOf g) P z (view g (memOf g after)) (uexec (w .heap) c .1)) (put-same g after (w .heap .count) (w .put) r (k .block) st c y (e ∙ k .answer) q) (d .1));
+          couples =
+              subst (λ x. Couples g (memOf g after) (fed w x g after) P) (sym (remaining a))
+              (subst (λ (z : ℕ → Option ℕ). Coupled (segmentOf g) P z (view g (memOf g after)) (uexec (w .heap) c .1))
+              (put-same g after (w .heap .count) (w .put) r (k .block) st c y (e ∙ k .answer) q) (d .1));
           steady = subst (Steady g m) (sym h) (k .moves .steady);
           answer = told a;
         })
 
     acted-leads : refusal (observe m) c ≡ 0 → CallKept struckOut g m c → answerOf r ≡ act g m c .0 → memOf g after ≡ act g m c .1 → Leads (mutatorCall c r) after
-    acted-leads x (refusedOut n t y) e h = stays (mutatorCall c r) after (ap (λ o. pick (struck struckOut o) none (some (c, r))) (to-number r n (e ∙ ap (λ z. z .0) y)) ∙ ap (λ b. pick b none (some (c, r))) t) (h ∙ ap (λ z. z .1) y)
+    acted-leads x (refusedOut n t y) e h =
+        stays (mutatorCall c r) after
+        (ap (λ o. pick (struck struckOut o) none (some (c, r))) (to-number r n (e ∙ ap (λ z. z .0) y)) ∙ ap (λ b. pick b none (some (c, r))) t)
+        (h ∙ ap (λ z. z .1) y)
     acted-leads x (agrees k) e h = matched-leads x k e h
 
     call-leads : answerOf r ≡ exec g m c .0 → memOf g after ≡ exec g m c .1 → Leads (mutatorCall c r) after

@@ -1,4 +1,4 @@
--- A cycle in a list of calls: the point where it begins, and the point at the step that answers swept. Assumes nothing.
+-- A cycle in a list of calls: the point where it begins, and the point at the step that answers swept.
 use mathlib.Core.Path.{_≡_, refl, sym, _∙_, ap, subst}
 use mathlib.Core.Logic.{_⊎_}
 use mathlib.Core.Bool.{true}
@@ -15,7 +15,8 @@ use Rattle.theory.proofs.Invariant.{none-some}
 use Rattle.model.specs.declared.Answer.the-variants.{Ok}
 use Rattle.model.specs.Fields.{phase, traceCount, tag, class}
 use Rattle.model.specs.Collector.{collects, stepOf, stepIn, moves, traces, sweeps, swept, lowest, waiting, outsideAnswered}
-use Rattle.model.specs.Lists.{startCall, stepCall, Element, startElement, stepElement, Meets, KeepsLength, Gets, wrongSized, eventNumber, onward, Chain, wordsAfter, Ghost, Begins, ghostStep, ghostAfter}
+use Rattle.model.specs.Lists.{startCall, stepCall, Element, startElement, stepElement, Meets, KeepsLength, Gets, wrongSized, eventNumber, onward}
+use Rattle.model.specs.Lists.{Chain, wordsAfter, Ghost, Begins, ghostStep, ghostAfter}
 use Rattle.refine_view.specs.View.{view}
 use Rattle.laws.proofs.Lengths.{sizes-of}
 use Rattle.refine_run.proofs.Elements.{over, is-over, ahead}
@@ -74,17 +75,22 @@ module _ (g : Geometry) (m₀ : Mem) where
   abbrev NoStart : List Element → Type 0
   NoStart ds = (xs ys : List Element) (u v : List ℕ) → ds ≡ xs ++ (startElement g u Ok v ∷ ys) → ⊥
 
-  during-on : (words : List ℕ) (w : Ghost) (P : ℕ → Type 0) (e : Element) → During words w P → ((after : List ℕ) → e ≡ startElement g words Ok after → ⊥) → Meets e → KeepsLength e → (wrongSized e ≡ true) ⊎ Gets g words e → During (onward words e) (ghostStep struckOut w e) P
+  during-on : (words : List ℕ) (w : Ghost) (P : ℕ → Type 0) (e : Element) → During words w P
+      → ((after : List ℕ) → e ≡ startElement g words Ok after → ⊥) → Meets e → KeepsLength e → (wrongSized e ≡ true) ⊎ Gets g words e
+      → During (onward words e) (ghostStep struckOut w e) P
   during-on words w P e d f q l h = go (leads-on g words w e q l h P (d .point))
     where
       go : Leads g (memOf g words) (sizes-of g words (d .point .long)) (d .point .consistent) w P (d .point .couples) (e .event) (onward words e) → During (onward words e) (ghostStep struckOut w e) P
       go (goes n) = record { point = goes-on g words w e q l h P (d .point) (n .couples); collected = λ s k i. let y = n .steady s k i in let x = d .collected s k (y .0) in (x .0, y .1 ∙ x .1) }
       go (begins i b) = absurd (f (e .after) (is-over g words e (not-refused g words e q (ap eventNumber i) h) ∙ ap (λ v. over g words v (e .after)) i))
 
-  walk-during : (ds ys : List Element) (words : List ℕ) (w : Ghost) (P : ℕ → Type 0) → During words w P → NoStart ds → Chain g words (ds ++ ys) → During (wordsAfter words ds) (ghostAfter struckOut w ds) P × Chain g (wordsAfter words ds) ys
+  walk-during : (ds ys : List Element) (words : List ℕ) (w : Ghost) (P : ℕ → Type 0) → During words w P → NoStart ds → Chain g words (ds ++ ys)
+      → During (wordsAfter words ds) (ghostAfter struckOut w ds) P × Chain g (wordsAfter words ds) ys
   walk-during [] ys words w P d n c = (d, c)
   walk-during (e ∷ ds) ys words w P d n c =
-      walk-during ds ys (onward words e) (ghostStep struckOut w e) P (during-on words w P e d (λ after i. n [] ds words after (ap (λ x. x ∷ ds) i)) (c .0) (c .1) (c .2)) (λ xs zs u v i. n (e ∷ xs) zs u v (ap (λ (l : List Element). e ∷ l) i)) (c .3)
+      walk-during ds ys (onward words e) (ghostStep struckOut w e) P
+      (during-on words w P e d (λ after i. n [] ds words after (ap (λ x. x ∷ ds) i)) (c .0) (c .1) (c .2))
+      (λ xs zs u v i. n (e ∷ xs) zs u v (ap (λ (l : List Element). e ∷ l) i)) (c .3)
 
 -- ---- the cycle of a list
 
@@ -125,7 +131,8 @@ module _ (g : Geometry) (words : List ℕ) (w : Ghost) (es : List Element) (c : 
     at-sweep : During g (memOf g (c .startBefore)) (c .stepBefore) heapNow Then → Chain g (c .stepBefore) (cycleSweep ∷ c .rest) → Cycle
     at-sweep d ch =
         let n = ahead g (c .stepBefore) cycleSweep (ch .0) (not-refused g (c .stepBefore) cycleSweep (ch .0) refl (ch .2)) in
-        let a = sweeping g (memOf g (c .stepBefore)) (memOf g (c .stepAfter)) (c .segment) (c .freed) (subst (λ x. Acts g (memOf g (c .stepBefore)) (memOf g x) (cycleSweep .event)) n (acts-on g (c .stepBefore) heapNow cycleSweep (ch .0) (ch .1) (ch .2) Then (d .point))) in
+        let a = sweeping g (memOf g (c .stepBefore)) (memOf g (c .stepAfter)) (c .segment) (c .freed)
+        (subst (λ x. Acts g (memOf g (c .stepBefore)) (memOf g x) (cycleSweep .event)) n (acts-on g (c .stepBefore) heapNow cycleSweep (ch .0) (ch .1) (ch .2) Then (d .point))) in
         record {
           atStart = p;
           quiet = i;
@@ -145,7 +152,8 @@ module _ (g : Geometry) (words : List ℕ) (w : Ghost) (es : List Element) (c : 
   at-start p ch =
       let a = accepted g (memOf g (c .startBefore)) _ (acts-on g (c .startBefore) heapThen cycleStart (ch .0) (ch .1) (ch .2) Any p) in
       let b = begun g (memOf g (c .startBefore)) (sizes-of g (c .startBefore) (p .long)) (p .consistent) heapThen Any (p .couples) _ (a .0) (a .1) in
-      let d : During g (memOf g (c .startBefore)) (onward (c .startBefore) cycleStart) heapThen Then = record { point = point-on g (c .startBefore) heapThen cycleStart (ch .0) (ch .1) (ch .2) Any p heapThen Then (b .couples); collected = b .collected } in
+      let d : During g (memOf g (c .startBefore)) (onward (c .startBefore) cycleStart) heapThen Then =
+      record { point = point-on g (c .startBefore) heapThen cycleStart (ch .0) (ch .1) (ch .2) Any p heapThen Then (b .couples); collected = b .collected } in
       let y = walk-during g (memOf g (c .startBefore)) (c .during) (cycleSweep ∷ c .rest) (onward (c .startBefore) cycleStart) heapThen Then d (c .oneStart) (ch .3) in
       before-sweep p (a .0) (wordsAfter (onward (c .startBefore) cycleStart) (c .during)) (y .0) (y .1)
 
@@ -156,4 +164,6 @@ module _ (g : Geometry) (words : List ℕ) (w : Ghost) (es : List Element) (c : 
       at-start (x .0) (x .1)
 
   pub cycle-of : Begins g words w → Chain g words es → Cycle
-  cycle-of b ch = let a = walk g (c .before) (cycleStart ∷ (c .during ++ (cycleSweep ∷ c .rest))) words w (first-point g words w b) (subst (Chain g words) (c .whole) ch) in before-start (wordsAfter words (c .before)) (a .0) (a .1)
+  cycle-of b ch =
+      let a = walk g (c .before) (cycleStart ∷ (c .during ++ (cycleSweep ∷ c .rest))) words w (first-point g words w b) (subst (Chain g words) (c .whole) ch) in
+      before-start (wordsAfter words (c .before)) (a .0) (a .1)

@@ -1,5 +1,5 @@
 -- The law of elements, and points of a list: the memory is consistent and coupled with the unbounded heap beside it, and every element leads from
--- one point to the next. Assumes nothing.
+-- one point to the next.
 use mathlib.Core.Path.{_≡_, sym, _∙_, ap, subst}
 use mathlib.Core.Logic.{_⊎_, inl, inr}
 use mathlib.Core.Bool.{true}
@@ -26,7 +26,11 @@ every-element g words e right c q l h =
     let z = sized g (length words) right in
     let y = sized-on g words z e q l h in
     let a = acts-of g words z c e q h in
-    record { sized = right-size g (length (onward words e)) y; consistent = acts-consistent g (memOf g words) (sizes-of g words z) c (e .event) (onward words e) (sizes-of g (onward words e) y) a; acts = a }
+    record {
+      sized = right-size g (length (onward words e)) y;
+      consistent = acts-consistent g (memOf g words) (sizes-of g words z) c (e .event) (onward words e) (sizes-of g (onward words e) y) a;
+      acts = a;
+    }
 
 -- an element that is not refused gets the list's memory
 pub not-refused : (g : Geometry) (words : List ℕ) (e : Element) → Meets e → numberOf e ≡ none → (wrongSized e ≡ true) ⊎ Gets g words e → Gets g words e
@@ -57,7 +61,12 @@ module _ (g : Geometry) (words : List ℕ) (w : Ghost) (e : Element) (q : Meets 
     pub point-on : (w′ : Ghost) (Q : ℕ → Type 0) → Couples g (memOf g (onward words e)) w′ Q → Point g (onward words e) w′ Q
     point-on w′ Q o =
         let y = sized-on g words (p .long) e q l h in
-        record { long = y; consistent = acts-consistent g (memOf g words) (sizes-of g words (p .long)) (p .consistent) (e .event) (onward words e) (sizes-of g (onward words e) y) acts-on; couples = o }
+        record {
+          long = y;
+          consistent =
+              acts-consistent g (memOf g words) (sizes-of g words (p .long)) (p .consistent) (e .event) (onward words e) (sizes-of g (onward words e) y) acts-on;
+          couples = o;
+        }
 
     pub goes-on : Couples g (memOf g (onward words e)) (fed w (remainingCall struckOut (e .event)) g (onward words e)) P → Point g (onward words e) (ghostStep struckOut w e) P
     goes-on o = point-on (ghostStep struckOut w e) P (subst (λ x. Couples g (memOf g (onward words e)) x P) (beside h) o)

@@ -1,5 +1,4 @@
 -- The cycle over no segments: from its start on no segment is condemned, and the heap is the one that the mutators' calls would have made in idle.
--- Assumes nothing.
 use mathlib.Core.Path.{_≡_, refl, sym, _∙_, ap, subst}
 use mathlib.Core.Logic.{_⊎_, inl, inr}
 use mathlib.Core.Bool.{Bool, true, false, true≢false}
@@ -26,7 +25,8 @@ use Rattle.model.specs.Fields.{phase, traceCount, tag}
 use Rattle.model.specs.Calls.{exec}
 use Rattle.model.specs.Collector.{isFull, started, startIn, startOf, outsideAnswered, waiting, moves, traces, lowest, sweeps, stepIn, stepOf}
 use Rattle.model.specs.Consistent.{Consistent}
-use Rattle.model.specs.Lists.{Event, mutatorCall, startCall, stepCall, openingCall, lookCall, Element, startElement, Promised, Meets, KeepsLength, Gets, wrongSized, eventNumber, onward, Chain, wordsAfter, keep, struck, remainingCall, remainingCalls, remainingAnswers}
+use Rattle.model.specs.Lists.{Event, mutatorCall, startCall, stepCall, openingCall, lookCall, Element, startElement, Promised, Meets, KeepsLength}
+use Rattle.model.specs.Lists.{Gets, wrongSized, eventNumber, onward, Chain, wordsAfter, keep, struck, remainingCall, remainingCalls, remainingAnswers}
 use Rattle.model.specs.Run.{declaredStep}
 use Rattle.model.proofs.Collecting.{collects-full}
 use Rattle.laws.proofs.Lengths.{sizes-of}
@@ -346,7 +346,8 @@ module _ (g : Geometry) where
         let a = promised (wordsAfter after xs) e (stepCall r) j (w .chain .0) h .exact (w .quiet .right) (w .quiet .consistent) in
         ap declaredStep (sym (a .0)) ∙ step-of r
 
-    steps-held : (xs ys : List Element) (e : Element) (r : Step) → ds ≡ xs ++ (e ∷ ys) → e .event ≡ stepCall r → wrongSized e ≡ false → StepsIn (memOf g (wordsAfter after xs)) (phase (memOf g (wordsAfter after xs))) r
+    steps-held : (xs ys : List Element) (e : Element) (r : Step) → ds ≡ xs ++ (e ∷ ys) → e .event ≡ stepCall r → wrongSized e ≡ false
+        → StepsIn (memOf g (wordsAfter after xs)) (phase (memOf g (wordsAfter after xs))) r
     steps-held xs ys e r i j k =
         let q = at-point xs (e ∷ ys) i .quiet in
         let m : Mem = memOf g (wordsAfter after xs) in
@@ -355,7 +356,8 @@ module _ (g : Geometry) where
     step-done : (xs ys : List Element) (e : Element) (r : Step) → ds ≡ xs ++ (e ∷ ys) → e .event ≡ stepCall r → wrongSized e ≡ false → phase (memOf g (wordsAfter after xs)) ≡ sweep → r ≡ Done
     step-done xs ys e r i j k l = sym (lent-step xs ys e r i j k) ∙ ap declaredStep (sweep-done (memOf g (wordsAfter after xs)) (at-point xs (e ∷ ys) i .quiet .uncondemned) l)
 
-    refused-11 : (xs ys : List Element) (e : Element) (c : Call) (r : Answer) → ds ≡ xs ++ (e ∷ ys) → e .event ≡ mutatorCall c r → refusalOf r ≡ some 11 → inHandshake (phase (memOf g (wordsAfter after xs))) ≡ true
+    refused-11 : (xs ys : List Element) (e : Element) (c : Call) (r : Answer) → ds ≡ xs ++ (e ∷ ys) → e .event ≡ mutatorCall c r
+        → refusalOf r ≡ some 11 → inHandshake (phase (memOf g (wordsAfter after xs))) ≡ true
     refused-11 xs ys e c r i j k =
         let w = at-point xs (e ∷ ys) i in
         let h = lent (wordsAfter after xs) e (λ t. let y = Option·some-injective 1 11 (sym (size-number e (w .chain .0) t) ∙ ap eventNumber j ∙ k) in omega arith) (w .chain .2) in
@@ -376,7 +378,8 @@ module _ (g : Geometry) where
         let b : ds ≡ xs ++ (ys ++ zs) = cc in
         let w = at-point xs (ys ++ zs) b in
         let t : onward words x ≡ after = ap (onward words) (sym a) ∙ begun words after ds p .onward-is in
-        subst (λ u. Grows g (memOf g (wordsAfter u xs)) (memOf g (wordsAfter (wordsAfter u xs) ys))) (sym t) (walk-quiet ys zs (wordsAfter after xs) (idleAfter (memOf g words) xs) (w .quiet) (w .noStart) (w .chain) .grows)
+        subst (λ u. Grows g (memOf g (wordsAfter u xs)) (memOf g (wordsAfter (wordsAfter u xs) ys))) (sym t)
+        (walk-quiet ys zs (wordsAfter after xs) (idleAfter (memOf g words) xs) (w .quiet) (w .noStart) (w .chain) .grows)
 
 pub empty-cycle : EveryEmptyCycle
 empty-cycle g words after ds p =

@@ -1,4 +1,4 @@
--- The second half: garbage in a segment that was full when a cycle began is free once that segment is swept. Assumes nothing.
+-- The second half: garbage in a segment that was full when a cycle began is free once that segment is swept.
 use mathlib.Core.Path.{_≡_, refl, sym, _∙_, ap, subst}
 use mathlib.Core.Logic.{_⊎_, inl, inr}
 use mathlib.Core.Bool.{true}
@@ -47,7 +47,8 @@ module _ (g : Geometry) (words : List ℕ) (w : Ghost) (es : List Element) (c : 
   m = memOf g (c .stepBefore)
 
   module _ (s b : ℕ) where
-    unmarked : traceCount m ≡ 0 → IsClass (class m s) → b < blocksIn g (class m s) → tag m s ≡ Tag.condemned → (BlockReached (heapThen g words w es c) (headerOf g s (class m s) b) → ⊥) → entered g m (headerOf g s (class m s) b) ≡ 0
+    unmarked : traceCount m ≡ 0 → IsClass (class m s) → b < blocksIn g (class m s) → tag m s ≡ Tag.condemned
+        → (BlockReached (heapThen g words w es c) (headerOf g s (class m s) b) → ⊥) → entered g m (headerOf g s (class m s) b) ≡ 0
     unmarked quiet k l e f = go (same-or-not (entered g m (headerOf g s (class m s) b)) 0)
       where
         there : segmentOf g (headerOf g s (class m s) b) ≡ s

@@ -1,5 +1,4 @@
 -- A mutator's call frees no block: each block in use stays in use, in a segment of the same class. Nor does a start, nor a step that sweeps nothing.
--- Assumes nothing.
 use mathlib.Core.Path.{_≡_, refl, sym, _∙_, ap, subst}
 use mathlib.Core.Logic.{_⊎_, inl, inr}
 use mathlib.Core.Bool.{Bool, true, false}
@@ -21,7 +20,8 @@ use Rattle.layout.specs.declared.Geometry.{Geometry}
 use Rattle.layout.specs.Geometry.{mutatorCount, rootCount, blocksIn, bitmapWords}
 use Rattle.layout.specs.Mem.{Mem, Sizes, setMutator, setSegment, setStack, setHeap, setRun}
 use Rattle.theory.specs.Phases.{inHandshake, duty}
-use Rattle.theory.specs.Calls.{Call, c-attach, c-detach, c-check, c-leave, c-enter, c-spawn, c-make, c-load, c-store, c-copy, c-clear, c-put, c-get, c-same, c-shape, Answer, refusal, refuse, unless, onRecord}
+use Rattle.theory.specs.Calls.{Call, c-attach, c-detach, c-check, c-leave, c-enter, c-spawn, c-make, c-load, c-store, c-copy, c-clear, c-put, c-get}
+use Rattle.theory.specs.Calls.{c-same, c-shape, Answer, refusal, refuse, unless, onRecord}
 use Rattle.theory.proofs.Refusals.{by-ok, root-ok}
 use Rattle.model.specs.Fields.{phase, acks, root, holding, tag, class, place}
 use Rattle.model.specs.Segments.{setSegmentState, freeStack, partStack, count, top, pop, bitmap, usedBit}
@@ -90,7 +90,8 @@ grows-same g m m′ e = grows-still g m m′ (e .segments) (e .bitmaps)
 
 -- ---- make
 
-module _ (g : Geometry) (m : Mem) (s : Sizes g m) (c : Ordered g m) (k d cl p n : ℕ) (l : k < mutatorCount) (a : isAttached m k ≡ true) (h : d < rootCount) (e : classOfRecord (ofCounts p n) ≡ Class cl) where
+module _ (g : Geometry) (m : Mem) (s : Sizes g m) (c : Ordered g m) (k d cl p n : ℕ) (l : k < mutatorCount)
+    (a : isAttached m k ≡ true) (h : d < rootCount) (e : classOfRecord (ofCounts p n) ≡ Class cl) where
   -- out of a segment that the mutator holds
   grows-handed : (m₁ : Mem) (r : ℕ) → Taken g m m₁ k cl r → Grows g m m₁ → Grows g m (inSegment g m m₁ k d cl r (ofCounts p n) .1)
   grows-handed m₁ r t w =
@@ -127,7 +128,9 @@ module _ (g : Geometry) (m : Mem) (s : Sizes g m) (c : Ordered g m) (k d cl p n 
         there = takes-there g m s (partStack cl * (1 + g .segments)) (count g m (partStack cl) - 1) k cl x (place m x) (top-part g m cl stack some .0)
 
         go : (i ≡ x) ⊎ (i ≡ x → ⊥) → Stands g m withPart i
-        go (inl q) = subst (Stands g m withPart) (sym q) (stands-by g m withPart x (λ z. let y = there .tag in omega arith) (there .class ∙ sym (part-class g m cl stack some)) (there .place) (bitmap-by g m withPart part-bitmaps x))
+        go (inl q) =
+            subst (Stands g m withPart) (sym q)
+            (stands-by g m withPart x (λ z. let y = there .tag in omega arith) (there .class ∙ sym (part-class g m cl stack some)) (there .place) (bitmap-by g m withPart part-bitmaps x))
         go (inr f) =
             let y = takes-other g m s (partStack cl * (1 + g .segments)) (count g m (partStack cl) - 1) k cl x (place m x) i f in
             stands-by g m withPart i (λ z. u (sym (y .tag) ∙ z)) (y .class) (y .place) (bitmap-by g m withPart part-bitmaps i)
@@ -168,7 +171,8 @@ module _ (g : Geometry) (m : Mem) (s : Sizes g m) (c : Ordered g m) (k d cl p n 
       go true true false q i j = grows-handed _ _ (taken-free g m s c k cl l a (class-found (p + n) cl e) (eqb-true _ _ q) (some-of _ j)) (grows-free (some-of _ j))
       go true true true q i j = grows-self g m
 
-grows-make : (g : Geometry) (m : Mem) → Sizes g m → Ordered g m → (k d p n : ℕ) → refusal (observe m) (c-make k d p n) ≡ 0 → (o : SizeClass) → classOfRecord (ofCounts p n) ≡ o → Grows g m (ofClass m o (λ cl. made g m k d cl (ofCounts p n)) .1)
+grows-make : (g : Geometry) (m : Mem) → Sizes g m → Ordered g m → (k d p n : ℕ) → refusal (observe m) (c-make k d p n) ≡ 0 → (o : SizeClass)
+    → classOfRecord (ofCounts p n) ≡ o → Grows g m (ofClass m o (λ cl. made g m k d cl (ofCounts p n)) .1)
 unfolding made
 grows-make g m s c k d p n e (Class cl) q =
     let x = by-ok (observe m) k _ e in
@@ -229,7 +233,10 @@ grows-act g m s c (c-leave k) e = grows-then g m (acknowledged g m k) _ (grows-s
 grows-act g m s c (c-enter k) e = grows-mutator g m _ _
 grows-act g m s c (c-make k d p n) e = grows-make g m s (consistent-ordered g m c) k d p n e (classOfRecord (ofCounts p n)) refl
 grows-act g m s c (c-load k d i f) e = grows-record g (record? (root m k i)) m _ (λ at. grows-mutator g m _ _)
-grows-act g m s c (c-store k i f j) e = grows-record g (record? (root m k i)) m _ (λ at. grows-then g m (barrier g (duty (phase m) (acks m k)) m (record? (root m k j)) (record? (pointer m at f))) _ (grows-same g m _ (leaves-barrier g (duty (phase m) (acks m k)) m (root m k j) (pointer m at f))) (grows-heap g _ _ _))
+grows-act g m s c (c-store k i f j) e =
+    grows-record g (record? (root m k i)) m _
+    (λ at. grows-then g m (barrier g (duty (phase m) (acks m k)) m (record? (root m k j)) (record? (pointer m at f))) _
+    (grows-same g m _ (leaves-barrier g (duty (phase m) (acks m k)) m (root m k j) (pointer m at f))) (grows-heap g _ _ _))
 grows-act g m s c (c-copy k d i) e = grows-mutator g m _ _
 grows-act g m s c (c-clear k d) e = grows-mutator g m _ _
 grows-act g m s c (c-put k i f v) e = grows-record g (record? (root m k i)) m _ (λ at. grows-heap g m _ _)

@@ -1,4 +1,4 @@
--- The guarantee: both halves of demand 3, over every list of calls from where a list begins. Assumes nothing.
+-- The guarantee: both halves of demand 3, over every list of calls from where a list begins.
 use Rattle.guarantee.specs.Demand3.{Demand3}
 use Rattle.guarantee.proofs.Walks.{answers-on}
 use Rattle.guarantee.proofs.Beginning.{first-point}

@@ -1,5 +1,5 @@
 -- Memories that differ in stacks, upper levels and bits past ends only are sound together. Of a segment's record they share the four words of its
--- state. Assumes nothing.
+-- state.
 use mathlib.Core.Path.{_≡_, refl, sym, _∙_, ap, subst}
 use mathlib.Core.Logic.{inl, inr}
 use mathlib.Core.List.{List}
@@ -78,7 +78,12 @@ module _ (g : Geometry) (m : Mem) (sg st bi : List ℕ) (words : SameStates m (w
       (x .0, subst (λ z. x .0 < blocksIn g z) (sym (words s .class)) (x .1), used-same s (x .0) l (λ e. omega arith) (x .1) ∙ x .2)
 
   mutator-on : (k : ℕ) → MutatorOk g m k → MutatorOk g m′ k
-  mutator-on k o = record { states = o .states; acknowledged = o .acknowledged; gone = o .gone; holds = λ c s i e. let x = o .holds c s i e in (x .0, words s .tag ∙ x .1, words s .class ∙ x .2, words s .owner ∙ x .3) }
+  mutator-on k o = record {
+    states = o .states;
+    acknowledged = o .acknowledged;
+    gone = o .gone;
+    holds = λ c s i e. let x = o .holds c s i e in (x .0, words s .tag ∙ x .1, words s .class ∙ x .2, words s .owner ∙ x .3);
+  }
 
   trace-on : TraceOk g m → TraceOk g m′
   trace-on o = record { named = o .named; once = o .once; bits = λ at e. o .bits at (entry-on at e); number = o .number }
@@ -123,7 +128,9 @@ module _ (g : Geometry) (m : Mem) (sg st bi : List ℕ) (words : SameStates m (w
       record-on : (at : ℕ) → RecordOk g m at → RecordOk g m′ at
       record-on at r =
           let l = segment-below g at (r .inside) in
-          record-by g m m′ at (words (segmentOf g at) .class) r (free-on (segmentOf g at) (r .used)) (used-same (segmentOf g at) (blockOf g m at) l (r .used) (of-block g m at (c .segments (segmentOf g at) l .classes (r .used))) ∙ r .block) refl
+          record-by g m m′ at (words (segmentOf g at) .class) r (free-on (segmentOf g at) (r .used))
+          (used-same (segmentOf g at) (blockOf g m at) l (r .used) (of-block g m at (c .segments (segmentOf g at) l .classes (r .used))) ∙ r .block)
+          refl
 
 -- ---- any two such memories
 

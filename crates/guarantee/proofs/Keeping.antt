@@ -1,4 +1,4 @@
--- What stands beside the guarantee, of single calls over memory that passes the examination, and along lists. Assumes nothing.
+-- What stands beside the guarantee, of single calls over memory that passes the examination, and along lists.
 use mathlib.Core.Path.{_≡_, refl, sym, _∙_, ap, subst}
 use mathlib.Core.Logic.{inl, inr}
 use mathlib.Core.Bool.{Bool, true, false, true≢false}
@@ -57,10 +57,13 @@ pub every-call-keeps : EveryCallKeeps
 every-call-keeps g words e a = subst (λ x. Consistent g (memOf g x)) (ahead g words e (a .meets) (a .gets)) (law g words e a .consistent)
 
 -- a mutator's call that remains answers as the memory itself does as an unbounded heap: a refusal is from 2 to 9
-remains-number : (g : Geometry) (words after : List ℕ) → Sized g (length words) → Consistent g (memOf g words) → (v : Event) → Acts g (memOf g words) (memOf g after) v → (x : Call × Answer) → remainingCall struckOut v ≡ some x → (n : ℕ) → refusalOf (x .1) ≡ some n → n ≤ 9
+remains-number : (g : Geometry) (words after : List ℕ) → Sized g (length words) → Consistent g (memOf g words) → (v : Event)
+    → Acts g (memOf g words) (memOf g after) v → (x : Call × Answer) → remainingCall struckOut v ≡ some x → (n : ℕ)
+    → refusalOf (x .1) ≡ some n → n ≤ 9
 remains-number g words after z c v a x i n t = go (self-leads g (memOf g words) (sizes-of g words z) c v after a)
   where
-    go : Leads g (memOf g words) (sizes-of g words z) c (alone g (memOf g words) (sizes-of g words z) c) Any (self-good g (memOf g words) (sizes-of g words z) (consistent-ordered g (memOf g words) c)) v after → n ≤ 9
+    go : Leads g (memOf g words) (sizes-of g words z) c (alone g (memOf g words) (sizes-of g words z) c) Any
+        (self-good g (memOf g words) (sizes-of g words z) (consistent-ordered g (memOf g words) c)) v after → n ≤ 9
     go (goes y) = unbounded-number (self g (memOf g words)) (x .0) n (sym (ap refusalIn (y .answer x i)) ∙ t) .1
     go (begins e b) = absurd (Option·none-ne-some x (sym (ap (remainingCall struckOut) e) ∙ i))
 
@@ -73,7 +76,10 @@ module _ (g : Geometry) (words : List ℕ) (z : Sized g (length words)) (c : Con
   event-not : (v : Event) (after : List ℕ) → Promised v g words after → Acts g (memOf g words) (memOf g after) v → eventNumber v ≡ some n → ⊥
   event-not v after q (wrong x h) t = let y = Option·some-injective 1 n (sym x ∙ t) in omega arith
   event-not v after q (looks {l = l} h) t = look-not l (q .0) (lookSized g l) refl t
-  event-not v after q (calls {c = k} {r = r} e h) t = let y = remains-number g words after z c v (calls e h) (k, r) (ap (λ o. pick (struck struckOut o) none (some (k, r))) t ∙ ap (λ b. pick b none (some (k, r))) left) n t in omega arith
+  event-not v after q (calls {c = k} {r = r} e h) t =
+      let y = remains-number g words after z c v (calls e h) (k, r)
+      (ap (λ o. pick (struck struckOut o) none (some (k, r))) t ∙ ap (λ b. pick b none (some (k, r))) left) n t in
+      omega arith
   event-not v after q (starts i o h) t = none-some t
   event-not v after q (startRefused {n = x} e h) t = let y = Option·some-injective x n t in let l = start-number g (memOf g words) x e in omega arith
   event-not v after q (steps e h) t = none-some (sym (step-answers g (memOf g words)) ∙ ap refusalIn (sym e) ∙ t)
@@ -81,7 +87,9 @@ module _ (g : Geometry) (words : List ℕ) (z : Sized g (length words)) (c : Con
 pub never-torn : NeverTorn
 never-torn g words e a t =
     let z = sized g (length words) (a .sized) in
-    event-not g words z (a .consistent) _ (omega arith) refl (e .event) (e .after) (subst Meets (is-over g words e (a .gets)) (a .meets)) (subst (λ x. Acts g (memOf g words) (memOf g x) (e .event)) (ahead g words e (a .meets) (a .gets)) (law g words e a .acts)) t
+    event-not g words z (a .consistent) _ (omega arith) refl (e .event) (e .after)
+    (subst Meets (is-over g words e (a .gets)) (a .meets))
+    (subst (λ x. Acts g (memOf g words) (memOf g x) (e .event)) (ahead g words e (a .meets) (a .gets)) (law g words e a .acts)) t
 
 -- refused, the memory is as it was
 refused-same : (g : Geometry) (m m′ : Mem) (v : Event) (n : ℕ) → Acts g m m′ v → eventNumber v ≡ some n → m′ ≡ m
@@ -118,7 +126,10 @@ runs-itself g content rs e =
         opening = record { sizes = λ h. absurd (true≢false (sym h ∙ e)); exact = λ h. (refl, memOf-flat g (opened g (memOf g content)) z) };
         long = l ∙ sym (s .is);
       };
-      chain = own-run g (answer-keeps g) (flat (opened g (memOf g content))) (resized g (length content) _ s (l ∙ sym (s .is))) (subst (Consistent g) (sym (memOf-flat g (opened g (memOf g content)) z)) (opened-consistent g (memOf g content) (sizes-of g content s))) rs;
+      chain =
+          own-run g (answer-keeps g) (flat (opened g (memOf g content))) (resized g (length content) _ s (l ∙ sym (s .is)))
+          (subst (Consistent g) (sym (memOf-flat g (opened g (memOf g content)) z)) (opened-consistent g (memOf g content) (sizes-of g content s)))
+          rs;
     }
 
 -- ---- "no room"
@@ -128,10 +139,20 @@ no-room-exactly = record {
   only = λ g words after k d p n r a e.
       let q = a .meets .exact (a .sized) (a .consistent) in
       let x = roomless-of g (memOf g words) k d p n (sym (q .0) ∙ of-number r 10 e) in
-      record { class = x .class; lower = rw (x .lower); sized = x .sized; noRoom = source-room g (memOf g words) (sizes-of g words (sized g (length words) (a .sized))) (consistent-ordered g (memOf g words) (a .consistent)) k (x .class) (known g words k d p n (x .lower)) (class-found (p + n) (x .class) (x .sized)) (x .source) };
+      record {
+        class = x .class;
+        lower = rw (x .lower);
+        sized = x .sized;
+        noRoom =
+            source-room g (memOf g words) (sizes-of g words (sized g (length words) (a .sized)))
+            (consistent-ordered g (memOf g words) (a .consistent)) k (x .class) (known g words k d p n (x .lower))
+            (class-found (p + n) (x .class) (x .sized)) (x .source);
+      };
   whenever = λ g words after k d p n r a x.
       let q = a .meets .exact (a .sized) (a .consistent) in
-      let s = room-source g (memOf g words) (sizes-of g words (sized g (length words) (a .sized))) (consistent-ordered g (memOf g words) (a .consistent)) k (x .class) (known g words k d p n (x .lower)) (class-found (p + n) (x .class) (x .sized)) (x .noRoom) in
+      let s = room-source g (memOf g words) (sizes-of g words (sized g (length words) (a .sized)))
+      (consistent-ordered g (memOf g words) (a .consistent)) k (x .class) (known g words k d p n (x .lower))
+      (class-found (p + n) (x .class) (x .sized)) (x .noRoom) in
       to-number r 10 (q .0 ∙ roomless-is g (memOf g words) k d p n (record { lower = x .lower; class = x .class; sized = x .sized; source = s }));
 }
   where

@@ -1,4 +1,4 @@
--- Every call of the model keeps what it must: the calls, start and step of the crates below, together. Assumes nothing.
+-- Every call of the model keeps what it must: the calls, start and step of the crates below, together.
 use mathlib.Core.Path.{_≡_, refl, sym, _∙_, subst}
 use mathlib.Core.Bool.{Bool, true, false}
 use Prim.Native.Nat.{ℕ, _-_, zero, suc, _+_, _≤_, _<_}
@@ -50,7 +50,8 @@ pub some-of : (x : ℕ) → eqb x 0 ≡ false → 1 ≤ x
 some-of zero q = absurd (eqb-false 0 0 q refl)
 some-of (suc x) q = omega arith
 
-module _ (g : Geometry) (m : Mem) (s : Sizes g m) (c : Ordered g m) (k d cl p n : ℕ) (l : k < mutatorCount) (a : isAttached m k ≡ true) (h : d < rootCount) (e : classOfRecord (ofCounts p n) ≡ Class cl) where
+module _ (g : Geometry) (m : Mem) (s : Sizes g m) (c : Ordered g m) (k d cl p n : ℕ) (l : k < mutatorCount)
+    (a : isAttached m k ≡ true) (h : d < rootCount) (e : classOfRecord (ofCounts p n) ≡ Class cl) where
   is-class : IsClass cl
   is-class = class-found (p + n) cl e
 
@@ -69,18 +70,35 @@ module _ (g : Geometry) (m : Mem) (s : Sizes g m) (c : Ordered g m) (k d cl p n 
           block = headerOf g r cl (x .0);
           permitted = x .2;
           answer = refl;
-          moves = record { structure = x .3 .structure; occupied = λ u. x .3 .occupied (t .occupied u); behind = λ u. x .3 .behind (t .behind u); agree = x .3 .agree; steady = λ i q y. let z = x .3 .steady i q y in let w = t .steady i q (z .0) in (w .0, z .1 ∙ w .1) };
+          moves = record {
+            structure = x .3 .structure;
+            occupied = λ u. x .3 .occupied (t .occupied u);
+            behind = λ u. x .3 .behind (t .behind u);
+            agree = x .3 .agree;
+            steady = λ i q y. let z = x .3 .steady i q y in let w = t .steady i q (z .0) in (w .0, z .1 ∙ w .1);
+          };
         }))
 
   -- the mutator's own segment
   pub own-taken : holding m k cl ≡ suc (holding m k cl - 1) → Taken g m m k cl (holding m k cl - 1)
-  own-taken q = record { sizes = s; structure = moves-self g m c .structure; occupied = λ u i q f. u i q; behind = λ u. u; prepared = agree-self g m; shows = refl; steady = λ i q y. (y, refl); holds = q; known = a }
+  own-taken q = record {
+    sizes = s;
+    structure = moves-self g m c .structure;
+    occupied = λ u i q f. u i q;
+    behind = λ u. u;
+    prepared = agree-self g m;
+    shows = refl;
+    steady = λ i q y. (y, refl);
+    holds = q;
+    known = a;
+  }
 
   by-source : Kept struckOut g m (c-make k d p n) (fromSource g m k d cl (ofCounts p n) (sourceOf g m k cl))
   by-source = go (eqb (holding m k cl) 0) (eqb (count g m (partStack cl)) 0) (eqb (count g m freeStack) 0) refl refl refl
     where
       go : (x y z : Bool) → eqb (holding m k cl) 0 ≡ x → eqb (count g m (partStack cl)) 0 ≡ y → eqb (count g m freeStack) 0 ≡ z
-          → Kept struckOut g m (c-make k d p n) (fromSource g m k d cl (ofCounts p n) (pick x (pick y (pick z noRoom (unused (top g m freeStack))) (part (top g m (partStack cl)))) (held (holding m k cl - 1))))
+          → Kept struckOut g m (c-make k d p n)
+          (fromSource g m k d cl (ofCounts p n) (pick x (pick y (pick z noRoom (unused (top g m freeStack))) (part (top g m (partStack cl)))) (held (holding m k cl - 1))))
       go false y z q i j = let w = some-of (holding m k cl) q in from-held m (holding m k cl - 1) (own-taken (omega arith))
       go true false z q i j = from-held _ _ (taken-part g m s c k cl l a is-class (eqb-true _ _ q) (some-of _ i))
       go true true false q i j = from-held _ _ (taken-free g m s c k cl l a is-class (eqb-true _ _ q) (some-of _ j))
@@ -94,7 +112,8 @@ make-kept g m s c k d p n e =
     let z = require-ok (leb (p + n) maxFields) 9 0 (omega arith) (y .1) in
     go (classOfRecord (ofCounts p n)) refl (x .0) (x .1) (y .0) (leb-true _ _ (z .0))
   where
-    go : (o : SizeClass) → classOfRecord (ofCounts p n) ≡ o → k < mutatorCount → isAttached m k ≡ true → d < rootCount → p + n ≤ maxFields → Kept struckOut g m (c-make k d p n) (ofClass m o (λ cl. made g m k d cl (ofCounts p n)))
+    go : (o : SizeClass) → classOfRecord (ofCounts p n) ≡ o → k < mutatorCount → isAttached m k ≡ true → d < rootCount → p + n ≤ maxFields
+        → Kept struckOut g m (c-make k d p n) (ofClass m o (λ cl. made g m k d cl (ofCounts p n)))
     go (Class cl) q l a h f = by-source g m s c k d cl p n l a h q
     go TooBig q l a h f = absurd (let w = class-limit (p + n) q in omega arith)
 
@@ -129,4 +148,8 @@ step-kept g m s c = record { picked = picked g m s c; moves = go (phase m) refl 
     go sweep e = sweep-moves g m s c e
 
 pub all-kept : AllKept struckOut
-all-kept = record { calls = λ g m s c. calls-kept g m s (consistent-ordered g m c); starts = λ g m s c. start-kept g m s (consistent-ordered g m c); steps = λ g m s c. step-kept g m s (consistent-ordered g m c) }
+all-kept = record {
+  calls = λ g m s c. calls-kept g m s (consistent-ordered g m c);
+  starts = λ g m s c. start-kept g m s (consistent-ordered g m c);
+  steps = λ g m s c. step-kept g m s (consistent-ordered g m c);
+}

@@ -1,4 +1,4 @@
--- A mutator's call is refused 11 in a handshake only: three calls may be, by their promise, and each asks for the phase. Assumes nothing.
+-- A mutator's call is refused 11 in a handshake only: three calls may be, by their promise, and each asks for the phase.
 use mathlib.Core.Path.{_≡_, refl, sym}
 use mathlib.Core.Logic.{_⊎_, inl, inr}
 use mathlib.Core.Bool.{Bool, true, false, true≢false}
@@ -7,7 +7,8 @@ use native.Mathlib.Omega.{arith}
 use Rattle.layout.specs.declared.Geometry.{Geometry}
 use Rattle.layout.specs.Mem.{Mem}
 use Rattle.theory.specs.Phases.{inHandshake}
-use Rattle.theory.specs.Calls.{Call, c-attach, c-detach, c-check, c-leave, c-enter, c-spawn, c-make, c-load, c-store, c-copy, c-clear, c-put, c-get, c-same, c-shape, a-ok, a-no, refusal, refuse, unless}
+use Rattle.theory.specs.Calls.{Call, c-attach, c-detach, c-check, c-leave, c-enter, c-spawn, c-make, c-load, c-store, c-copy, c-clear, c-put, c-get}
+use Rattle.theory.specs.Calls.{c-same, c-shape, a-ok, a-no, refusal, refuse, unless}
 use Rattle.model.specs.Answers.{among, mayGive}
 use Rattle.model.specs.Fields.{phase}
 use Rattle.model.specs.Calls.{observe, act, exec}

@@ -1,4 +1,4 @@
--- The numbers of refusals: the unbounded heap's are 2 to 9, and none of them is struck out. Assumes nothing.
+-- The numbers of refusals: the unbounded heap's are 2 to 9, and none of them is struck out.
 use mathlib.Core.Path.{_≡_, refl, sym, _∙_, ap}
 use mathlib.Core.Logic.{_⊎_, inl, inr}
 use mathlib.Core.Bool.{Bool, true, false}
@@ -8,7 +8,8 @@ use native.Mathlib.Omega.{arith}
 use lib.Dec.{ltb}
 use Rattle.classes.specs.declared.RecordShape.{RecordShape}
 use Rattle.layout.specs.Geometry.{rootCount}
-use Rattle.theory.specs.Calls.{Call, c-attach, c-detach, c-check, c-leave, c-enter, c-spawn, c-make, c-load, c-store, c-copy, c-clear, c-put, c-get, c-same, c-shape, Observation, require, ifRecord, a-ok, a-no, refusal, refuse, onRecord}
+use Rattle.theory.specs.Calls.{Call, c-attach, c-detach, c-check, c-leave, c-enter, c-spawn, c-make, c-load, c-store, c-copy, c-clear, c-put, c-get}
+use Rattle.theory.specs.Calls.{c-same, c-shape, Observation, require, ifRecord, a-ok, a-no, refusal, refuse, onRecord}
 use Rattle.theory.specs.Unbounded.{Unbounded, uobserve, uact, uexec}
 use Rattle.theory.proofs.Invariant.{none-some}
 use Rattle.model.specs.declared.Answer.{Answer}
@@ -69,7 +70,10 @@ field-stays b = require-stays b 8 0 (omega arith, omega arith) none-stays
 
 pub refusal-stays : (F : Observation) (c : Call) → Stays (refusal F c)
 refusal-stays F (c-attach k) = require-stays _ 2 _ (omega arith, omega arith) (require-stays _ 3 _ (omega arith, omega arith) none-stays)
-refusal-stays F (c-spawn k p i) = require-stays _ 2 _ (omega arith, omega arith) (require-stays _ 2 _ (omega arith, omega arith) (require-stays _ 3 _ (omega arith, omega arith) (require-stays _ 4 _ (omega arith, omega arith) (require-stays _ 5 _ (omega arith, omega arith) (root-stays i 0 none-stays)))))
+refusal-stays F (c-spawn k p i) =
+    require-stays _ 2 _ (omega arith, omega arith)
+    (require-stays _ 2 _ (omega arith, omega arith)
+    (require-stays _ 3 _ (omega arith, omega arith) (require-stays _ 4 _ (omega arith, omega arith) (require-stays _ 5 _ (omega arith, omega arith) (root-stays i 0 none-stays)))))
 refusal-stays F (c-detach k) = inside-stays F k 0 none-stays
 refusal-stays F (c-check k) = inside-stays F k 0 none-stays
 refusal-stays F (c-leave k) = inside-stays F k 0 none-stays

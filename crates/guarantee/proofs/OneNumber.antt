@@ -1,4 +1,4 @@
--- Whatever a call was lent, a refusal is one of the numbers 1 to 13 and not 12, by its promise alone. Assumes nothing.
+-- Whatever a call was lent, a refusal is one of the numbers 1 to 13 and not 12, by its promise alone.
 use mathlib.Core.Path.{_≡_, refl, sym, _∙_, ap}
 use mathlib.Core.Logic.{_⊎_, inl, inr}
 use mathlib.Core.Bool.{Bool, true, false}

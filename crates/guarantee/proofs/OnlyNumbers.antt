@@ -1,5 +1,5 @@
 -- Whatever a call was lent, by its promise alone: which numbers the collector's calls, the openings and the looks refuse with, that 1 is exactly for a
--- size, and that a refusal leaves output and scratch as they were. Assumes nothing.
+-- size, and that a refusal leaves output and scratch as they were.
 use mathlib.Core.Path.{_≡_, refl, sym, _∙_, ap}
 use mathlib.Core.Logic.{_⊎_, inl, inr}
 use mathlib.Core.Bool.{Bool, true, false, not, true≢false}

@@ -1,4 +1,4 @@
--- The record last put into each block, on the memory's side and on the abstract machine's. Assumes nothing.
+-- The record last put into each block, on the memory's side and on the abstract machine's.
 use mathlib.Core.Path.{_≡_, refl, sym, _∙_, ap}
 use mathlib.Core.Option.{Option, none, some}
 use mathlib.Core.List.{List}
@@ -36,7 +36,9 @@ module _ (g : Geometry) (after : List ℕ) (n : ℕ) (put : ℕ → Option ℕ) 
       let w : root (memOf g after) k d ≡ suc b = named _ _ (a .root k d (i .1) (j .0) ∙ upd2-same (st .root) k d (some b)) in
       omega arith
 
-  pub put-same : (c : Call) → refusal (observe st) c ≡ 0 → answerOf r ≡ act b st c .0 → Agree (segmentOf g) (act b st c .1) (view g (memOf g after)) → puts c (λ _ _. b) n put ≡ putUnless (refusalOf r) put (puts c (blockIn g after) n put)
+  pub put-same : (c : Call) → refusal (observe st) c ≡ 0 → answerOf r ≡ act b st c .0
+      → Agree (segmentOf g) (act b st c .1) (view g (memOf g after))
+      → puts c (λ _ _. b) n put ≡ putUnless (refusalOf r) put (puts c (blockIn g after) n put)
   put-same (c-attach k) x e a = plain (refusalOf r)
   put-same (c-spawn k p i) x e a = plain (refusalOf r)
   put-same (c-detach k) x e a = plain (refusalOf r)

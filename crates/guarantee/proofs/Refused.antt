@@ -1,4 +1,4 @@
--- A refusal leaves the memory as it was, by the definitions alone, and "no room" by where a make finds no segment. Assumes nothing.
+-- A refusal leaves the memory as it was, by the definitions alone, and "no room" by where a make finds no segment.
 use mathlib.Core.Path.{_≡_, refl, sym, _∙_, ap}
 use mathlib.Core.Logic.{_⊎_, inl, inr}
 use mathlib.Core.Bool.{Bool, true, false}
@@ -15,7 +15,8 @@ use Rattle.layout.specs.Mem.{Mem}
 use Rattle.bitmap_search.specs.declared.Found.{Found}
 use Rattle.bitmap_search.specs.declared.Found.the-variants.{Block, Nothing, Torn}
 use Rattle.theory.specs.Phases.{Phase, idle, sync1, sync2, mark, sweep, inHandshake}
-use Rattle.theory.specs.Calls.{Call, c-attach, c-detach, c-check, c-leave, c-enter, c-spawn, c-make, c-load, c-store, c-copy, c-clear, c-put, c-get, c-same, c-shape, Answer, a-ok, a-no, refusal, refuse, unless, onRecord}
+use Rattle.theory.specs.Calls.{Call, c-attach, c-detach, c-check, c-leave, c-enter, c-spawn, c-make, c-load, c-store, c-copy, c-clear, c-put, c-get}
+use Rattle.theory.specs.Calls.{c-same, c-shape, Answer, a-ok, a-no, refusal, refuse, unless, onRecord}
 use Rattle.theory.proofs.Invariant.{none-some}
 use Rattle.model.specs.Fields.{phase, place, root}
 use Rattle.model.specs.Segments.{free, freeStack, partStack, pop}
@@ -45,8 +46,14 @@ block-same g m m₁ Torn k d c s shape n e = refl
 
 source-same : (g : Geometry) (m : Mem) (k d c : ℕ) (shape : RecordShape) (o : Source) (n : ℕ) → fromSource g m k d c shape o .0 ≡ a-no n → fromSource g m k d c shape o .1 ≡ m
 source-same g m k d c shape (held s) n e = block-same g m m (free g m s c (place m s)) k d c s shape n e
-source-same g m k d c shape (part s) n e = block-same g m (takes g (pop g m (partStack c)) k c s (place m s)) (free g (takes g (pop g m (partStack c)) k c s (place m s)) s c (place (takes g (pop g m (partStack c)) k c s (place m s)) s)) k d c s shape n e
-source-same g m k d c shape (unused s) n e = block-same g m (freshened g (takes g (pop g m freeStack) k c s 0) s c) (free g (freshened g (takes g (pop g m freeStack) k c s 0) s c) s c (place (freshened g (takes g (pop g m freeStack) k c s 0) s c) s)) k d c s shape n e
+source-same g m k d c shape (part s) n e =
+    block-same g m (takes g (pop g m (partStack c)) k c s (place m s))
+    (free g (takes g (pop g m (partStack c)) k c s (place m s)) s c (place (takes g (pop g m (partStack c)) k c s (place m s)) s)) k d
+    c s shape n e
+source-same g m k d c shape (unused s) n e =
+    block-same g m (freshened g (takes g (pop g m freeStack) k c s 0) s c)
+    (free g (freshened g (takes g (pop g m freeStack) k c s 0) s c) s c (place (freshened g (takes g (pop g m freeStack) k c s 0) s c) s))
+    k d c s shape n e
 source-same g m k d c shape noRoom n e = refl
 
 made-same : (g : Geometry) (m : Mem) (k d : ℕ) (shape : RecordShape) (o : SizeClass) (n : ℕ) → ofClass m o (λ c. made g m k d c shape) .0 ≡ a-no n → ofClass m o (λ c. made g m k d c shape) .1 ≡ m
@@ -119,17 +126,29 @@ roomless-of g m k d p q e = go (refusal (observe m) (c-make k d p q)) refl (refu
     block m₁ Nothing c s e = other 13 10 (λ z. omega arith) e
     block m₁ Torn c s e = other 13 10 (λ z. omega arith) e
 
-    from : refusal (observe m) (c-make k d p q) ≡ 0 → (c : ℕ) → classOf (p + q) ≡ Class c → (o : Source) → sourceOf g m k c ≡ o → fromSource g m k d c (ofCounts p q) o .0 ≡ a-no 10 → Roomless g m k d p q
+    from : refusal (observe m) (c-make k d p q) ≡ 0 → (c : ℕ) → classOf (p + q) ≡ Class c → (o : Source) → sourceOf g m k c ≡ o
+        → fromSource g m k d c (ofCounts p q) o .0 ≡ a-no 10 → Roomless g m k d p q
     from z c h (held s) i e = absurd (block m (free g m s c (place m s)) c s e)
-    from z c h (part s) i e = absurd (block (takes g (pop g m (partStack c)) k c s (place m s)) (free g (takes g (pop g m (partStack c)) k c s (place m s)) s c (place (takes g (pop g m (partStack c)) k c s (place m s)) s)) c s e)
-    from z c h (unused s) i e = absurd (block (freshened g (takes g (pop g m freeStack) k c s 0) s c) (free g (freshened g (takes g (pop g m freeStack) k c s 0) s c) s c (place (freshened g (takes g (pop g m freeStack) k c s 0) s c) s)) c s e)
+    from z c h (part s) i e =
+        absurd
+        (block (takes g (pop g m (partStack c)) k c s (place m s))
+        (free g (takes g (pop g m (partStack c)) k c s (place m s)) s c (place (takes g (pop g m (partStack c)) k c s (place m s)) s)) c s
+        e)
+    from z c h (unused s) i e =
+        absurd
+        (block (freshened g (takes g (pop g m freeStack) k c s 0) s c)
+        (free g (freshened g (takes g (pop g m freeStack) k c s 0) s c) s c (place (freshened g (takes g (pop g m freeStack) k c s 0) s c) s))
+        c s e)
     from z c h noRoom i e = record { lower = z; class = c; sized = h; source = i }
 
-    classed : refusal (observe m) (c-make k d p q) ≡ 0 → (o : SizeClass) → classOf (p + q) ≡ o → ofClass m o (λ c. fromSource g m k d c (ofCounts p q) (sourceOf g m k c)) .0 ≡ a-no 10 → Roomless g m k d p q
+    classed : refusal (observe m) (c-make k d p q) ≡ 0 → (o : SizeClass) → classOf (p + q) ≡ o
+        → ofClass m o (λ c. fromSource g m k d c (ofCounts p q) (sourceOf g m k c)) .0 ≡ a-no 10 → Roomless g m k d p q
     classed z (Class c) h e = from z c h (sourceOf g m k c) refl e
     classed z TooBig h e = other 9 10 (λ y. omega arith) e
 
-    go : (x : ℕ) → refusal (observe m) (c-make k d p q) ≡ x → (x ≡ 0) ⊎ ((2 ≤ x) × (x ≤ 9)) → refuse x m (ofClass m (classOf (p + q)) (λ c. fromSource g m k d c (ofCounts p q) (sourceOf g m k c))) .0 ≡ a-no 10 → Roomless g m k d p q
+    go : (x : ℕ) → refusal (observe m) (c-make k d p q) ≡ x → (x ≡ 0) ⊎ ((2 ≤ x) × (x ≤ 9))
+        → refuse x m (ofClass m (classOf (p + q)) (λ c. fromSource g m k d c (ofCounts p q) (sourceOf g m k c))) .0 ≡ a-no 10
+        → Roomless g m k d p q
     go zero z l e = classed z (classOf (p + q)) refl e
     go (suc x) z (inl y) e = absurd (omega arith)
     go (suc x) z (inr y) e = other (suc x) 10 (λ w. let l = y .1 in omega arith) e

@@ -1,5 +1,4 @@
 -- Which answer a step gives in which phase, where no segment is condemned: in a handshake by the mutators inside that owe, in mark by the trace stack.
--- Assumes nothing.
 use mathlib.Core.Path.{_≡_, refl, sym, _∙_, ap, subst}
 use mathlib.Core.Logic.{_⊎_, inl, inr}
 use mathlib.Core.Bool.{Bool, true, false, _&&_}
@@ -47,7 +46,8 @@ waiting-none m (suc j) e k l = go (same-or-not k j) (λ f. waiting-none m j (ome
 
 module _ (g : Geometry) (m : Mem) (z : Sizes g m) where
   -- the acknowledgements for mutators outside leave the words of one that is inside
-  inside-word : (k : ℕ) → state m k ≡ inside → (o : ℕ) → o < mutatorWords → (n : ℕ) → n ≤ mutatorCount → mutatorWord (outsideAnswered g m n) (k * mutatorWords + o) ≡ mutatorWord m (k * mutatorWords + o)
+  inside-word : (k : ℕ) → state m k ≡ inside → (o : ℕ) → o < mutatorWords → (n : ℕ) → n ≤ mutatorCount
+      → mutatorWord (outsideAnswered g m n) (k * mutatorWords + o) ≡ mutatorWord m (k * mutatorWords + o)
   unfolding outsideAnswered
   inside-word k i o h zero l = refl
   inside-word k i o h (suc j) l = go (eqb (state m j) outside) refl (inside-word k i o h j (omega arith))

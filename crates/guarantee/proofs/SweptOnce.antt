@@ -1,5 +1,5 @@
 -- From a start to its done each segment that was full at the start is swept once: it is condemned until the step that sweeps it, and not again
--- before the next start. Assumes nothing.
+-- before the next start.
 use mathlib.Core.Path.{_≡_, refl, sym, _∙_, ap, subst}
 use mathlib.Core.Logic.{_⊎_, inl, inr}
 use mathlib.Core.Bool.{true, false, true≢false}
@@ -18,7 +18,8 @@ use Rattle.model.specs.declared.Step.the-variants.{Waiting, Moved, Traced, Swep
 use Rattle.model.specs.Collector.{isFull}
 use Rattle.model.specs.Fields.{tag}
 use Rattle.model.specs.Consistent.{Consistent}
-use Rattle.model.specs.Lists.{Event, mutatorCall, startCall, stepCall, openingCall, lookCall, Element, startElement, stepElement, Meets, KeepsLength, Gets, wrongSized, eventNumber, onward, Chain, wordsAfter}
+use Rattle.model.specs.Lists.{Event, mutatorCall, startCall, stepCall, openingCall, lookCall, Element, startElement, stepElement, Meets, KeepsLength}
+use Rattle.model.specs.Lists.{Gets, wrongSized, eventNumber, onward, Chain, wordsAfter}
 use Rattle.laws.proofs.Lengths.{sizes-of}
 use Rattle.laws.proofs.Segments.{in-range}
 use Rattle.refine_run.proofs.Elements.{over, is-over}
@@ -71,7 +72,8 @@ module _ (g : Geometry) where
     right : wrongSize g (length words) ≡ false
     consistent : Consistent g (memOf g words)
 
-  next : (words : List ℕ) (e : Element) → ConsistentWords words → Meets e → KeepsLength e → (wrongSized e ≡ true) ⊎ Gets g words e → ConsistentWords (onward words e) × Acts g (memOf g words) (memOf g (onward words e)) (e .event)
+  next : (words : List ℕ) (e : Element) → ConsistentWords words → Meets e → KeepsLength e → (wrongSized e ≡ true) ⊎ Gets g words e
+      → ConsistentWords (onward words e) × Acts g (memOf g words) (memOf g (onward words e)) (e .event)
   next words e a q l h = let o = every-element g words e (a .right) (a .consistent) q l h in (record { right = o .sized; consistent = o .consistent }, o .acts)
 
   walk-consistent : (xs ys : List Element) (words : List ℕ) → ConsistentWords words → Chain g words (xs ++ ys) → ConsistentWords (wordsAfter words xs) × Chain g (wordsAfter words xs) ys
@@ -100,7 +102,8 @@ module _ (g : Geometry) where
         never-more s e ds m (never-swept ds ys (onward words e) (o .0) (no-later e ds n) (c .3) (k ∙ f))
 
     -- one that is condemned is swept before done, once
-    once-swept : s < g .segments → (ds rest : List Element) (u v words : List ℕ) → ConsistentWords words → NoStart ds → Chain g words (ds ++ (stepElement g u Done v ∷ rest)) → isCondemned (memOf g words) s ≡ true → OnceSwept g s ds
+    once-swept : s < g .segments → (ds rest : List Element) (u v words : List ℕ) → ConsistentWords words → NoStart ds
+        → Chain g words (ds ++ (stepElement g u Done v ∷ rest)) → isCondemned (memOf g words) s ≡ true → OnceSwept g s ds
     once-swept l [] rest u v words a n c t =
         let o = next words (stepElement g u Done v) a (c .0) (c .1) (c .2) in
         let z = sizes-of g words (sized g (length words) (a .right)) in
@@ -122,7 +125,9 @@ module _ (g : Geometry) where
           freed = x .0;
           whole = ap (λ y. y ∷ ds) (is-over g words e (not-refused g words e (c .0) (ap eventNumber (x .1)) (c .2)) ∙ ap (λ w. over g words w (e .after)) (x .1));
           notEarlier = never-none s;
-          notLater = never-swept ds (stepElement g u Done v ∷ rest) (onward words e) (o .0) (no-later e ds n) (c .3) (swept-condemned g (memOf g words) z (a .consistent) s _ (x .0) (subst (Acts g (memOf g words) _) (x .1) (o .1)) .1);
+          notLater =
+              never-swept ds (stepElement g u Done v ∷ rest) (onward words e) (o .0) (no-later e ds n) (c .3)
+              (swept-condemned g (memOf g words) z (a .consistent) s _ (x .0) (subst (Acts g (memOf g words) _) (x .1) (o .1)) .1);
         }
 
         later : (IsSweep s e → ⊥) → OnceSwept g s ds → OnceSwept g s (e ∷ ds)

@@ -1,4 +1,4 @@
--- Along a list of calls: every point is one where the memory is consistent, and the answers that remain are the unbounded heap's. Assumes nothing.
+-- Along a list of calls: every point is one where the memory is consistent, and the answers that remain are the unbounded heap's.
 use mathlib.Core.Path.{_≡_, refl, sym, _∙_, ap, subst}
 use mathlib.Core.Logic.{_⊎_}
 use mathlib.Core.Bool.{true}
@@ -31,12 +31,15 @@ module _ (g : Geometry) where
       go (begins i b) =
           let n : remainingCall struckOut (e .event) ≡ none = ap (remainingCall struckOut) i in
           record {
-            point = point-on g words w e q l h Any p (ghostStep struckOut w e) Any (subst (λ o. Couples g (memOf g (onward words e)) (fed w o (e .geometry) (e .after)) Any) (sym n) (couples-any g (memOf g (onward words e)) w _ (b .couples)));
+            point =
+                point-on g words w e q l h Any p (ghostStep struckOut w e) Any
+                (subst (λ o. Couples g (memOf g (onward words e)) (fed w o (e .geometry) (e .after)) Any) (sym n) (couples-any g (memOf g (onward words e)) w _ (b .couples)));
             answer = λ x f. absurd (Option·none-ne-some x (sym n ∙ f));
           }
 
   -- a list cut in two
-  pub walk : (xs ys : List Element) (words : List ℕ) (w : Ghost) → Point g words w Any → Chain g words (xs ++ ys) → Point g (wordsAfter words xs) (ghostAfter struckOut w xs) Any × Chain g (wordsAfter words xs) ys
+  pub walk : (xs ys : List Element) (words : List ℕ) (w : Ghost) → Point g words w Any → Chain g words (xs ++ ys)
+      → Point g (wordsAfter words xs) (ghostAfter struckOut w xs) Any × Chain g (wordsAfter words xs) ys
   walk [] ys words w p c = (p, c)
   walk (e ∷ xs) ys words w p c = walk xs ys (onward words e) (ghostStep struckOut w e) (pass words w e p (c .0) (c .1) (c .2) .point) (c .3)
 

@@ -1,4 +1,4 @@
--- Along a list: the theorems beside the guarantee, applied at each of its points. Assumes nothing.
+-- Along a list: the theorems beside the guarantee, applied at each of its points.
 use mathlib.Core.Path.{_≡_, sym, _∙_, subst}
 use mathlib.Core.Logic.{_⊎_, inl, inr}
 use mathlib.Core.Bool.{true}

@@ -1,4 +1,4 @@
--- A case as a list of calls: the model's own run of its left column, with the answers of its right column. Assumes nothing.
+-- A case as a list of calls: the model's own run of its left column, with the answers of its right column.
 use mathlib.Core.Path.{_≡_, refl, sym, _∙_, ap, subst}
 use mathlib.Core.Option.{Option, none, some}
 use mathlib.Core.List.{List, [], _∷_, tail}
@@ -116,7 +116,9 @@ module _ (g : Geometry) where
       let words = flat (opening.opened g (memOf g content)) in
       let x : Sized g (length content) = record { some = l; few = h; is = length-flat g m z } in
       let own = runs-itself g content rs (right-size g (length content) x) in
-      let e : opening.opened g m ≡ memOf g words = ap (opening.opened g) (sym (memOf-flat g m z)) ∙ sym (memOf-flat g (opening.opened g (memOf g content)) (sizes-opened g (memOf g content) (sizes-of g content x))) in
+      let e : opening.opened g m ≡ memOf g words =
+      ap (opening.opened g) (sym (memOf-flat g m z))
+      ∙ sym (memOf-flat g (opening.opened g (memOf g content)) (sizes-opened g (memOf g content) (sizes-of g content x))) in
       let s = opened-point g content words (own .opening) .long in
       let y = run-elements words s (opening.opened g m) e rs ∙ ap (elementsOf (wordsAt words rs) rs) (ap tail told) in
       (record { content = content; at = wordsAt words rs; opened = own .opening; chain = subst (Chain g words) y (own .chain) }, memory-at words s (opening.opened g m) e rs)

@@ -1,4 +1,4 @@
--- What the guarantee and the theorems beside it say of document 01's whole case and of the case of its refusals. Assumes nothing.
+-- What the guarantee and the theorems beside it say of document 01's whole case and of the case of its refusals.
 use mathlib.Core.Path.{_≡_, refl, sym, _∙_, ap}
 use mathlib.Core.Bool.{true≢false}
 use mathlib.Core.List.{List, tail}
@@ -102,7 +102,9 @@ module _ (g : Geometry) (p : CaseRun g (commandsIn (inputs refusals)) (tail (out
   fourth-applied = applied-to g (at 0) ghostStart elements (byOpening (p .opened)) (p .chain) (take 42 elements) (drop 43 elements) fourth refl (λ e. none-some e)
 
   fifth-applied : Applied g (at 43) fifth
-  fifth-applied = applied-to g (at 0) ghostStart elements (byOpening (p .opened)) (p .chain) (take 43 elements) (drop 44 elements) fifth refl (λ e. let y : _≡_ {A = ℕ} 10 1 = Option·some-injective 10 1 e in omega arith)
+  fifth-applied =
+      applied-to g (at 0) ghostStart elements (byOpening (p .opened)) (p .chain) (take 43 elements) (drop 44 elements) fifth refl
+      (λ e. let y : _≡_ {A = ℕ} 10 1 = Option·some-injective 10 1 e in omega arith)
 
   of-refusals : OfRefusals
   of-refusals = record {
@@ -126,4 +128,6 @@ module _ (g : Geometry) (p : CaseRun g (commandsIn (inputs refusals)) (tail (out
   }
 
 pub refusals-consequences : OfRefusals
-refusals-consequences = of-refusals (geometry 1) (case-run (geometry 1) (omega arith) (omega arith) (sevens (geometry 1)) (sizes-sevens (geometry 1)) (commandsIn (inputs refusals)) (tail (outputs refusals)) refusals-hold)
+refusals-consequences =
+    of-refusals (geometry 1)
+    (case-run (geometry 1) (omega arith) (omega arith) (sevens (geometry 1)) (sizes-sevens (geometry 1)) (commandsIn (inputs refusals)) (tail (outputs refusals)) refusals-hold)

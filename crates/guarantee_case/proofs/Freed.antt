@@ -1,4 +1,4 @@
--- A sweep that frees a block: one of the segment's blocks is free after it, and the record at its header is then not reached. Assumes nothing.
+-- A sweep that frees a block: one of the segment's blocks is free after it, and the record at its header is then not reached.
 use mathlib.Core.Path.{_≡_, _∙_, ap, subst}
 use mathlib.Core.Logic.{_⊎_, inl, inr}
 use mathlib.Core.Bool.{Bool, true, not}
@@ -44,7 +44,9 @@ module _ (g : Geometry) (m : Mem) (z : Sizes g m) (c : Ordered g m) (s : ℕ) (l
       go (inl f) = let h = in-use-le g m s in (0, omega arith, inr (eq-eqb _ _ f))
       go (inr f) =
           let h = in-use-le g m s in
-          let k : inUse g after s ≡ onesAmong (usedBit g after s) (blocksIn g (class m s)) = ap (λ (x : Bool). pick x 0 (onesAmong (usedBit g after s) (blocksIn g (class after s)))) (ne-eqb (tag after s) 0 f) ∙ ap (λ x. onesAmong (usedBit g after s) (blocksIn g x)) (classed f) in
+          let k : inUse g after s ≡ onesAmong (usedBit g after s) (blocksIn g (class m s)) =
+          ap (λ (x : Bool). pick x 0 (onesAmong (usedBit g after s) (blocksIn g (class after s)))) (ne-eqb (tag after s) 0 f)
+          ∙ ap (λ x. onesAmong (usedBit g after s) (blocksIn g x)) (classed f) in
           let x = one-missing (usedBit g after s) (used-small g after s) (blocksIn g (class m s)) (λ q. omega arith) in
           (x .0, x .1, inl (x .2))
 
@@ -56,12 +58,15 @@ module _ (g : Geometry) (m : Mem) (z : Sizes g m) (c : Ordered g m) (s : ℕ) (l
       there = header-segment g (class m s) k s b h
 
       kept : tag after s ≡ Tag.free → ⊥
-      kept = subst (λ x. tag after x ≡ Tag.free → ⊥) there (not-eq (tag after (segmentOf g (headerOf g s (class m s) b))) 0 (and-left (not (eqb (tag after (segmentOf g (headerOf g s (class m s) b))) Tag.free)) _ u))
+      kept =
+          subst (λ x. tag after x ≡ Tag.free → ⊥) there
+          (not-eq (tag after (segmentOf g (headerOf g s (class m s) b))) 0 (and-left (not (eqb (tag after (segmentOf g (headerOf g s (class m s) b))) Tag.free)) _ u))
 
       used : usedBit g after s b ≡ 1
       used =
           subst (λ x. usedBit g after s x ≡ 1) (header-block g (class m s) k s b h after (classed kept))
-          (subst (λ x. usedBit g after x (blockOf g after (headerOf g s (class m s) b)) ≡ 1) there (eqb-true _ _ (and-right (not (eqb (tag after (segmentOf g (headerOf g s (class m s) b))) Tag.free)) _ u)))
+          (subst (λ x. usedBit g after x (blockOf g after (headerOf g s (class m s) b)) ≡ 1) there
+          (eqb-true _ _ (and-right (not (eqb (tag after (segmentOf g (headerOf g s (class m s) b))) Tag.free)) _ u)))
 
       go : (usedBit g after s b ≡ 0) ⊎ (isFree after s ≡ true) → ⊥
       go (inl e) = let x = used in omega arith

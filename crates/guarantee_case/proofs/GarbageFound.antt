@@ -1,5 +1,5 @@
 -- A cycle whose sweep frees a block, with calls between its start and that sweep that leave the unbounded heap as it was: a block of the swept
--- segment was garbage, and in use, when the cycle began. Assumes nothing.
+-- segment was garbage, and in use, when the cycle began.
 use mathlib.Core.Path.{_≡_, sym, _∙_, ap, subst}
 use mathlib.Core.Bool.{true}
 use mathlib.Core.List.{List}
@@ -77,7 +77,8 @@ module _ (g : Geometry) (words : List ℕ) (w : Ghost) (es : List Element) (c : 
           block = h;
           unreached = λ r. free-unused g m z k s (o .0) (o .1) i (b .0) (b .1) (b .2)
               (subst (λ u. isUsed g u (headerOf g s (class m s) (b .0)) ≡ true) (y .memory ∙ a .leaves)
-              (reached-used g (c .stepAfter) (heapNow g words w es c) Any (headerOf g s (class m s) (b .0)) (y .atEnd) (subst (λ u. BlockReached u (headerOf g s (class m s) (b .0))) (sym still) (subst (λ u. BlockReached v (headerOf g s u (b .0))) (sym e) r))));
+              (reached-used g (c .stepAfter) (heapNow g words w es c) Any (headerOf g s (class m s) (b .0)) (y .atEnd)
+              (subst (λ u. BlockReached u (headerOf g s (class m s) (b .0))) (sym still) (subst (λ u. BlockReached v (headerOf g s u (b .0))) (sym e) r))));
         };
         used = full-used g (memOf g (c .startBefore)) s (y .atStart .consistent .sound .segments s (o .0)) t (b .0) h;
       }

@@ -1,4 +1,4 @@
--- The guarantee is not empty: document 01's whole case, over two segments of sevens, is a list as the guarantee speaks of. Assumes nothing.
+-- The guarantee is not empty: document 01's whole case, over two segments of sevens, is a list as the guarantee speaks of.
 use mathlib.Core.Path.{_≡_, refl, sym, _∙_, ap}
 use mathlib.Core.Bool.{Bool, true, false, true≢false}
 use mathlib.Core.List.{List, [], _∷_, _++_, tail}
@@ -95,7 +95,9 @@ module _ (g : Geometry) (p : CaseRun g asked replied) where
 
   -- the sweep freed one block: it was garbage
   pub garbage : Found g (memOf g (at 9)) (ghostAfter struckOut ghostStart (take 9 elements)) 0
-  garbage = found g (at 0) ghostStart elements swept-in (cycle-of g (at 0) ghostStart elements swept-in (byOpening (p .opened)) (p .chain)) 0 refl (still (ghostAfter struckOut ghostStart (take 9 elements)))
+  garbage =
+      found g (at 0) ghostStart elements swept-in (cycle-of g (at 0) ghostStart elements swept-in (byOpening (p .opened)) (p .chain)) 0
+      refl (still (ghostAfter struckOut ghostStart (take 9 elements)))
 
   abbrev pub case-from : Instance
   case-from = record {

@@ -1,5 +1,5 @@
 -- The theorem of the cycle over no segments, applied to a computed case. That nothing is full at the start follows from the replies: no step
--- answers swept before done, and each full segment would have been swept. Assumes nothing.
+-- answers swept before done, and each full segment would have been swept.
 use mathlib.Core.Path.{_≡_, refl, sym, _∙_, ap}
 use mathlib.Core.Bool.{Bool, true, false, true≢false}
 use mathlib.Core.List.{List, [], _∷_, tail}
@@ -148,7 +148,9 @@ module _ (g : Geometry) (p : CaseRun g asked replied) (used : BlockInUse g (memO
     moveAfter = at 21;
     moved = refl;
     inMark = c .phases (take 14 (drop 6 elements)) (drop 20 elements) refl;
-    emptied = by-mark _ _ (c .phases (take 14 (drop 6 elements)) (drop 20 elements) refl) (c .steps (take 14 (drop 6 elements)) (drop 21 elements) third stepAnswer.Moved refl refl (third-applied .sized));
+    emptied =
+        by-mark _ _ (c .phases (take 14 (drop 6 elements)) (drop 20 elements) refl)
+        (c .steps (take 14 (drop 6 elements)) (drop 21 elements) third stepAnswer.Moved refl refl (third-applied .sized));
     toDone = take 16 (drop 6 elements);
     rest = drop 23 elements;
     stepBefore = at 22;

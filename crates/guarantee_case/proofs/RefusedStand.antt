@@ -1,4 +1,4 @@
--- Calls refused 1 stand in a list. Assumes nothing.
+-- Calls refused 1 stand in a list.
 use mathlib.Core.Path.{_≡_, refl, sym, _∙_, ap, subst}
 use mathlib.Core.Logic.{inl}
 use mathlib.Core.Bool.{true, false, not, true≢false}

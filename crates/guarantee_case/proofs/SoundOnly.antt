@@ -1,4 +1,4 @@
--- What an opening leaves, with the stacks of segments all zero: it is sound, as before, and not summed. Assumes nothing.
+-- What an opening leaves, with the stacks of segments all zero: it is sound, as before, and not summed.
 use mathlib.Core.Path.{_≡_, refl}
 use Prim.Native.Nat.{ℕ, _+_, _*_, _<_}
 use native.Mathlib.Omega.{arith}

@@ -1,4 +1,4 @@
--- An acknowledgement by the phase's number, and how check and leave keep their promises with it. Assumes nothing.
+-- An acknowledgement by the phase's number, and how check and leave keep their promises with it.
 use mathlib.Core.Path.{_≡_, refl, sym, _∙_, ap, subst}
 use mathlib.Core.Bool.{Bool, true, false, true≢false}
 use mathlib.Core.List.{List}

@@ -1,4 +1,4 @@
--- How enter keeps its promise, by the mutator's state word. Assumes nothing.
+-- How enter keeps its promise, by the mutator's state word.
 use mathlib.Core.Path.{_≡_, refl, sym, _∙_}
 use mathlib.Core.Bool.{false}
 use mathlib.Core.List.{List}

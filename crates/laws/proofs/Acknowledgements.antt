@@ -1,4 +1,4 @@
--- An acknowledgement, and those of the mutators outside, one after the other: which words stay, and what they need and keep. Assumes nothing.
+-- An acknowledgement, and those of the mutators outside, one after the other: which words stay, and what they need and keep.
 use mathlib.Core.Path.{_≡_, refl, sym, _∙_, ap}
 use mathlib.Core.Bool.{Bool, true, false}
 use mathlib.Core.Logic.{inl}

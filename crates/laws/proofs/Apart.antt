@@ -1,4 +1,4 @@
--- The words of two blocks lie apart: a word of one is a word of the other only where the blocks are one; so for records. Assumes nothing.
+-- The words of two blocks lie apart: a word of one is a word of the other only where the blocks are one; so for records.
 use mathlib.Core.Path.{_≡_, sym, ap, subst}
 use Prim.Native.Nat.{ℕ, _+_, _*_, _%_, _≤_, _<_}
 use native.Mathlib.Nat.{div-add-mod'}
@@ -16,13 +16,15 @@ use Rattle.laws.proofs.Blocks.{of-block, block-within}
 
 module _ (g : Geometry) (m : Mem) where
   -- the words of a block are words of its segment
-  pub head-within : (at : ℕ) → IsClass (class m (segmentOf g at)) → at % segmentWords g % blockWords (class m (segmentOf g at)) ≡ 0 → (i : ℕ) → i < blockWords (class m (segmentOf g at)) → at % segmentWords g + i < segmentWords g
+  pub head-within : (at : ℕ) → IsClass (class m (segmentOf g at)) → at % segmentWords g % blockWords (class m (segmentOf g at)) ≡ 0 → (i : ℕ)
+      → i < blockWords (class m (segmentOf g at)) → at % segmentWords g + i < segmentWords g
   head-within at k a i l =
       let e = div-add-mod' (at % segmentWords g) (blockWords (class m (segmentOf g at))) in
       let b = block-within g (class m (segmentOf g at)) k (blockOf g m at) (of-block g m at k) in
       omega arith
 
-  pub heads-apart : (x y : ℕ) → IsClass (class m (segmentOf g x)) → IsClass (class m (segmentOf g y)) → x % segmentWords g % blockWords (class m (segmentOf g x)) ≡ 0 → y % segmentWords g % blockWords (class m (segmentOf g y)) ≡ 0
+  pub heads-apart : (x y : ℕ) → IsClass (class m (segmentOf g x)) → IsClass (class m (segmentOf g y))
+      → x % segmentWords g % blockWords (class m (segmentOf g x)) ≡ 0 → y % segmentWords g % blockWords (class m (segmentOf g y)) ≡ 0
       → (i j : ℕ) → i < blockWords (class m (segmentOf g x)) → j < blockWords (class m (segmentOf g y)) → x + i ≡ y + j → x ≡ y
   heads-apart x y k n r q i j l h e =
       let a = head-within x k r i l in

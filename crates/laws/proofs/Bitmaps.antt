@@ -1,4 +1,4 @@
--- A segment's window of the bitmaps: its length, and that the tree of a class fits in it. Assumes nothing.
+-- A segment's window of the bitmaps: its length, and that the tree of a class fits in it.
 use mathlib.Core.Path.{_≡_, sym, ap, subst}
 use mathlib.Core.List.{List}
 use Prim.Native.Nat.{ℕ, suc, _+_, _*_, _≤_, _<_}

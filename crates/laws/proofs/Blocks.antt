@@ -1,4 +1,4 @@
--- Blocks and the words of their headers: segment, block and bit of a header, and back. Assumes nothing.
+-- Blocks and the words of their headers: segment, block and bit of a header, and back.
 use mathlib.Core.Path.{_≡_, sym, _∙_, ap, subst}
 use mathlib.Core.Bool.{Bool}
 use lib.Dec.{eqb, eqb→eq}
@@ -90,7 +90,11 @@ module _ (g : Geometry) (c : ℕ) (k : IsClass c) where
 
     -- the block's words are words of the heap
     pub header-inside : s < g .segments → headerOf g s c b + blockWords c ≤ g .segments * segmentWords g
-    header-inside h = let i = block-within b l in let y : suc s * segmentWords g ≤ g .segments * segmentWords g = mul-le-mul-right (segmentWords g) h in let x = suc-mul s (segmentWords g) in omega arith
+    header-inside h =
+        let i = block-within b l in
+        let y : suc s * segmentWords g ≤ g .segments * segmentWords g = mul-le-mul-right (segmentWords g) h in
+        let x = suc-mul s (segmentWords g) in
+        omega arith
 
 -- ---- a word at the head of a block of its segment
 
@@ -113,9 +117,12 @@ module _ (g : Geometry) (m : Mem) (at : ℕ) (k : IsClass (class m (segmentOf g 
       let h = is-header a in
       let p = marks-words g (segmentOf g at) in
       let e = even-words (class m (segmentOf g at)) k in
-      let q : blockOf g m at * blockWords (class m (segmentOf g at)) ≡ blockOf g m at * (blockWords (class m (segmentOf g at)) / 2) * 2 = ap (λ z. blockOf g m at * z) e ∙ sym (mul-assoc (blockOf g m at) (blockWords (class m (segmentOf g at)) / 2) 2) in
+      let q : blockOf g m at * blockWords (class m (segmentOf g at)) ≡ blockOf g m at * (blockWords (class m (segmentOf g at)) / 2) * 2 =
+      ap (λ z. blockOf g m at * z) e ∙ sym (mul-assoc (blockOf g m at) (blockWords (class m (segmentOf g at)) / 2) 2) in
       omega arith
 
 -- two heads with one bit are one
-pub same-bit : (g : Geometry) (m : Mem) (x y : ℕ) → IsClass (class m (segmentOf g x)) → IsClass (class m (segmentOf g y)) → x % segmentWords g % blockWords (class m (segmentOf g x)) ≡ 0 → y % segmentWords g % blockWords (class m (segmentOf g y)) ≡ 0 → markBit x ≡ markBit y → x ≡ y
+pub same-bit : (g : Geometry) (m : Mem) (x y : ℕ) → IsClass (class m (segmentOf g x)) → IsClass (class m (segmentOf g y))
+    → x % segmentWords g % blockWords (class m (segmentOf g x)) ≡ 0 → y % segmentWords g % blockWords (class m (segmentOf g y)) ≡ 0
+    → markBit x ≡ markBit y → x ≡ y
 same-bit g m x y k l a b e = sym (head-word g m x k a) ∙ ap bitWord e ∙ head-word g m y l b

@@ -1,4 +1,4 @@
--- Tests as Booleans, taken apart and put together. Assumes nothing.
+-- Tests as Booleans, taken apart and put together.
 use mathlib.Core.Path.{_≡_, refl, sym, _∙_, ap}
 use mathlib.Core.Logic.{⊎-elim}
 use mathlib.Core.Bool.{Bool, true, false, not, _&&_, true≢false}

@@ -1,4 +1,4 @@
--- The words of a mutator's entry by their offset, an entry written whole, and one word of it set. Assumes nothing.
+-- The words of a mutator's entry by their offset, an entry written whole, and one word of it set.
 use mathlib.Core.Path.{_≡_, sym, _∙_, ap, subst}
 use mathlib.Core.Logic.{_⊎_, inl, inr, ⊎-elim}
 use mathlib.Core.List.{List}
@@ -72,7 +72,9 @@ module _ (g : Geometry) (m : Mem) (s : Sizes g m) (k c v : ℕ) (l : k < mutator
   table-there = subst (λ z. mutatorWord (setMutator m z v) z ≡ v) slot (mutator-there g m s k (heldFrom + (c - firstClass)) v l (table-below c i))
 
   pub table-other : (j o : ℕ) → o < mutatorWords → (j ≡ k → o ≡ heldFrom + (c - firstClass) → ⊥) → mutatorWord (setHolding m k c v) (j * mutatorWords + o) ≡ mutatorWord m (j * mutatorWords + o)
-  table-other j o h f = subst (λ z. mutatorWord (setMutator m z v) (j * mutatorWords + o) ≡ mutatorWord m (j * mutatorWords + o)) slot (mutator-other g m s k (heldFrom + (c - firstClass)) v l (table-below c i) j o h f)
+  table-other j o h f =
+      subst (λ z. mutatorWord (setMutator m z v) (j * mutatorWords + o) ≡ mutatorWord m (j * mutatorWords + o)) slot
+      (mutator-other g m s k (heldFrom + (c - firstClass)) v l (table-below c i) j o h f)
 
 -- ---- the state, the acknowledgements or a root of an attached mutator set: the mutators stay in order, and hold what they held
 
@@ -88,7 +90,8 @@ module _ (g : Geometry) (m : Mem) (s : Sizes g m) (ok : (j : ℕ) → j < mutato
   word : (j i : ℕ) → i < mutatorWords → ((i ≡ o) × (mutatorWord after (j * mutatorWords + i) ≡ v)) ⊎ (mutatorWord after (j * mutatorWords + i) ≡ mutatorWord m (j * mutatorWords + i))
   word j i q = go (same-or-not j k) (same-or-not i o)
     where
-      go : (j ≡ k) ⊎ (j ≡ k → ⊥) → (i ≡ o) ⊎ (i ≡ o → ⊥) → ((i ≡ o) × (mutatorWord after (j * mutatorWords + i) ≡ v)) ⊎ (mutatorWord after (j * mutatorWords + i) ≡ mutatorWord m (j * mutatorWords + i))
+      go : (j ≡ k) ⊎ (j ≡ k → ⊥) → (i ≡ o) ⊎ (i ≡ o → ⊥)
+          → ((i ≡ o) × (mutatorWord after (j * mutatorWords + i) ≡ v)) ⊎ (mutatorWord after (j * mutatorWords + i) ≡ mutatorWord m (j * mutatorWords + i))
       go (inl e) (inl f) = inl (f, ap (λ z. mutatorWord after (z * mutatorWords + i)) e ∙ ap (λ z. mutatorWord after (k * mutatorWords + z)) f ∙ mutator-there g m s k o v l low)
       go (inl e) (inr f) = inr (mutator-other g m s k o v l low j i q (λ x y. f y))
       go (inr e) f = inr (mutator-other g m s k o v l low j i q (λ x y. e x))

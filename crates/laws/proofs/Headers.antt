@@ -1,4 +1,4 @@
--- A record's header: the shape that it says stays with its word, and is the one that was written. Assumes nothing.
+-- A record's header: the shape that it says stays with its word, and is the one that was written.
 use mathlib.Core.Path.{_≡_, ap}
 use Prim.Native.Nat.{ℕ, _/_, _%_}
 use native.Mathlib.Omega.{arith}

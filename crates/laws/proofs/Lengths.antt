@@ -1,4 +1,4 @@
--- Setting words keeps the lengths of the regions. Assumes nothing.
+-- Setting words keeps the lengths of the regions.
 use mathlib.Core.Path.{_∙_}
 use mathlib.Core.List.{List}
 use Prim.Native.Nat.{ℕ}
@@ -32,43 +32,133 @@ sizes-of g l s = record {
 module _ (g : Geometry) (m : Mem) (s : Sizes g m) where
   pub sizes-control : (i v : ℕ) → Sizes g (setControl m i v)
   unfolding setControl
-  sizes-control i v = record { control = length-set (m .control) i v ∙ s .control; mutators = s .mutators; segments = s .segments; stacks = s .stacks; bitmaps = s .bitmaps; marks = s .marks; trace = s .trace; heap = s .heap }
+  sizes-control i v = record {
+    control = length-set (m .control) i v ∙ s .control;
+    mutators = s .mutators;
+    segments = s .segments;
+    stacks = s .stacks;
+    bitmaps = s .bitmaps;
+    marks = s .marks;
+    trace = s .trace;
+    heap = s .heap;
+  }
 
   pub sizes-mutator : (i v : ℕ) → Sizes g (setMutator m i v)
   unfolding setMutator
-  sizes-mutator i v = record { control = s .control; mutators = length-set (m .mutators) i v ∙ s .mutators; segments = s .segments; stacks = s .stacks; bitmaps = s .bitmaps; marks = s .marks; trace = s .trace; heap = s .heap }
+  sizes-mutator i v = record {
+    control = s .control;
+    mutators = length-set (m .mutators) i v ∙ s .mutators;
+    segments = s .segments;
+    stacks = s .stacks;
+    bitmaps = s .bitmaps;
+    marks = s .marks;
+    trace = s .trace;
+    heap = s .heap;
+  }
 
   pub sizes-entry : (i : ℕ) (vs : List ℕ) → Sizes g (setRun m Region.mutators i vs)
   unfolding setRun
-  sizes-entry i vs = record { control = s .control; mutators = length-spliced (m .mutators) i vs ∙ s .mutators; segments = s .segments; stacks = s .stacks; bitmaps = s .bitmaps; marks = s .marks; trace = s .trace; heap = s .heap }
+  sizes-entry i vs = record {
+    control = s .control;
+    mutators = length-spliced (m .mutators) i vs ∙ s .mutators;
+    segments = s .segments;
+    stacks = s .stacks;
+    bitmaps = s .bitmaps;
+    marks = s .marks;
+    trace = s .trace;
+    heap = s .heap;
+  }
 
   pub sizes-segment : (i v : ℕ) → Sizes g (setSegment m i v)
   unfolding setSegment
-  sizes-segment i v = record { control = s .control; mutators = s .mutators; segments = length-set (m .segments) i v ∙ s .segments; stacks = s .stacks; bitmaps = s .bitmaps; marks = s .marks; trace = s .trace; heap = s .heap }
+  sizes-segment i v = record {
+    control = s .control;
+    mutators = s .mutators;
+    segments = length-set (m .segments) i v ∙ s .segments;
+    stacks = s .stacks;
+    bitmaps = s .bitmaps;
+    marks = s .marks;
+    trace = s .trace;
+    heap = s .heap;
+  }
 
   pub sizes-stack : (i v : ℕ) → Sizes g (setStack m i v)
   unfolding setStack
-  sizes-stack i v = record { control = s .control; mutators = s .mutators; segments = s .segments; stacks = length-set (m .stacks) i v ∙ s .stacks; bitmaps = s .bitmaps; marks = s .marks; trace = s .trace; heap = s .heap }
+  sizes-stack i v = record {
+    control = s .control;
+    mutators = s .mutators;
+    segments = s .segments;
+    stacks = length-set (m .stacks) i v ∙ s .stacks;
+    bitmaps = s .bitmaps;
+    marks = s .marks;
+    trace = s .trace;
+    heap = s .heap;
+  }
 
   pub sizes-bitmap : (i : ℕ) (vs : List ℕ) → Sizes g (setRun m Region.bitmaps i vs)
   unfolding setRun
-  sizes-bitmap i vs = record { control = s .control; mutators = s .mutators; segments = s .segments; stacks = s .stacks; bitmaps = length-spliced (m .bitmaps) i vs ∙ s .bitmaps; marks = s .marks; trace = s .trace; heap = s .heap }
+  sizes-bitmap i vs = record {
+    control = s .control;
+    mutators = s .mutators;
+    segments = s .segments;
+    stacks = s .stacks;
+    bitmaps = length-spliced (m .bitmaps) i vs ∙ s .bitmaps;
+    marks = s .marks;
+    trace = s .trace;
+    heap = s .heap;
+  }
 
   pub sizes-entered : (at : ℕ) → Sizes g (setEntered g m at)
   unfolding setEntered
-  sizes-entered at = record { control = s .control; mutators = s .mutators; segments = s .segments; stacks = s .stacks; bitmaps = s .bitmaps; marks = length-setBit (m .marks) (markBit at) ∙ s .marks; trace = s .trace; heap = s .heap }
+  sizes-entered at = record {
+    control = s .control;
+    mutators = s .mutators;
+    segments = s .segments;
+    stacks = s .stacks;
+    bitmaps = s .bitmaps;
+    marks = length-setBit (m .marks) (markBit at) ∙ s .marks;
+    trace = s .trace;
+    heap = s .heap;
+  }
 
   pub sizes-trace : (i v : ℕ) → Sizes g (setTrace m i v)
   unfolding setTrace
-  sizes-trace i v = record { control = s .control; mutators = s .mutators; segments = s .segments; stacks = s .stacks; bitmaps = s .bitmaps; marks = s .marks; trace = length-set (m .trace) i v ∙ s .trace; heap = s .heap }
+  sizes-trace i v = record {
+    control = s .control;
+    mutators = s .mutators;
+    segments = s .segments;
+    stacks = s .stacks;
+    bitmaps = s .bitmaps;
+    marks = s .marks;
+    trace = length-set (m .trace) i v ∙ s .trace;
+    heap = s .heap;
+  }
 
   pub sizes-heap : (i v : ℕ) → Sizes g (setHeap m i v)
   unfolding setHeap
-  sizes-heap i v = record { control = s .control; mutators = s .mutators; segments = s .segments; stacks = s .stacks; bitmaps = s .bitmaps; marks = s .marks; trace = s .trace; heap = length-set (m .heap) i v ∙ s .heap }
+  sizes-heap i v = record {
+    control = s .control;
+    mutators = s .mutators;
+    segments = s .segments;
+    stacks = s .stacks;
+    bitmaps = s .bitmaps;
+    marks = s .marks;
+    trace = s .trace;
+    heap = length-set (m .heap) i v ∙ s .heap;
+  }
 
   pub sizes-heap-run : (i : ℕ) (vs : List ℕ) → Sizes g (setRun m Region.heap i vs)
   unfolding setRun
-  sizes-heap-run i vs = record { control = s .control; mutators = s .mutators; segments = s .segments; stacks = s .stacks; bitmaps = s .bitmaps; marks = s .marks; trace = s .trace; heap = length-spliced (m .heap) i vs ∙ s .heap }
+  sizes-heap-run i vs = record {
+    control = s .control;
+    mutators = s .mutators;
+    segments = s .segments;
+    stacks = s .stacks;
+    bitmaps = s .bitmaps;
+    marks = s .marks;
+    trace = s .trace;
+    heap = length-spliced (m .heap) i vs ∙ s .heap;
+  }
 
 pub sizes-state : (g : Geometry) (m : Mem) → Sizes g m → (r : ℕ) (x : SegmentState) → Sizes g (setSegmentState g m r x)
 sizes-state g m s r x = rw (state-is g m r x) (sizes-segment g _ (sizes-segment g _ (sizes-segment g _ (sizes-segment g m s _ _) _ _) _ _) _ _)

@@ -1,4 +1,4 @@
--- The segment that a step in sweep takes: one that is condemned, and none only where no segment is. Assumes nothing.
+-- The segment that a step in sweep takes: one that is condemned, and none only where no segment is.
 use mathlib.Core.Path.{_≡_, refl, sym, _∙_, ap}
 use mathlib.Core.Logic.{⊎-elim}
 use mathlib.Core.Bool.{Bool, true, false}
@@ -25,7 +25,8 @@ found-condemned m (suc n) r e = go (lowest m n) refl e (λ q. found-condemned m 
     here true q f = let z : n ≡ r = Option·some-injective n r f in (omega arith, ap (tag m) (sym z) ∙ eqb-true _ _ q)
     here false q f = none-some f
 
-    go : (o : Option ℕ) → lowest m n ≡ o → orThen o (pick (eqb (tag m n) Tag.condemned) (some n) none) ≡ some r → (lowest m n ≡ some r → (r < n) × (tag m r ≡ Tag.condemned)) → (r < suc n) × (tag m r ≡ Tag.condemned)
+    go : (o : Option ℕ) → lowest m n ≡ o → orThen o (pick (eqb (tag m n) Tag.condemned) (some n) none) ≡ some r
+        → (lowest m n ≡ some r → (r < n) × (tag m r ≡ Tag.condemned)) → (r < suc n) × (tag m r ≡ Tag.condemned)
     go none q f ih = here (eqb (tag m n) Tag.condemned) refl f
     go (some s) q f ih = let z = ih (q ∙ f) in let l : r < n = z .0 in (omega arith, z .1)
 

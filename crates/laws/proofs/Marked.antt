@@ -1,4 +1,4 @@
--- A record's bit says that it is marked or on the trace stack, and the stack which of the two. Assumes nothing.
+-- A record's bit says that it is marked or on the trace stack, and the stack which of the two.
 use mathlib.Core.Path.{_≡_, refl, sym, _∙_, ap, ap₂}
 use mathlib.Core.Logic.{_⊎_, inl, inr}
 use mathlib.Core.Bool.{Bool, true, false, _||_, true≢false}
@@ -42,7 +42,8 @@ stack-at ts (suc n) at e = go (eqb (getD ts n 0) (suc at)) refl e (λ h. stack-a
     up : (i : ℕ) × (i < n) × (getD ts i 0 ≡ suc at) → (i : ℕ) × (i < suc n) × (getD ts i 0 ≡ suc at)
     up x = let l : x .0 < n = x .1 in (x .0, omega arith, x .2)
 
-    go : (b : Bool) → eqb (getD ts n 0) (suc at) ≡ b → (b || onStack ts n at) ≡ true → (onStack ts n at ≡ true → (i : ℕ) × (i < n) × (getD ts i 0 ≡ suc at)) → (i : ℕ) × (i < suc n) × (getD ts i 0 ≡ suc at)
+    go : (b : Bool) → eqb (getD ts n 0) (suc at) ≡ b → (b || onStack ts n at) ≡ true
+        → (onStack ts n at ≡ true → (i : ℕ) × (i < n) × (getD ts i 0 ≡ suc at)) → (i : ℕ) × (i < suc n) × (getD ts i 0 ≡ suc at)
     go true q h ih = (n, omega arith, eqb-true _ _ q)
     go false q h ih = up (ih h)
 

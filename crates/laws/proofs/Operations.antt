@@ -1,4 +1,4 @@
--- The operations that calls are made of keep the lengths of the regions, over memory of any content. Assumes nothing.
+-- The operations that calls are made of keep the lengths of the regions, over memory of any content.
 use mathlib.Core.Path.{_∙_}
 use mathlib.Core.Bool.{Bool, true, false}
 use mathlib.Core.Option.{Option, none, some}

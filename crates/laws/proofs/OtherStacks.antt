@@ -1,4 +1,4 @@
--- The stacks that a call does not touch, where it puts a segment on one stack or takes one off. Assumes nothing.
+-- The stacks that a call does not touch, where it puts a segment on one stack or takes one off.
 use mathlib.Core.Path.{_≡_, sym, _∙_, ap, subst}
 use mathlib.Core.Bool.{Bool, true, false}
 use mathlib.Core.List.{List}
@@ -23,7 +23,9 @@ part-apart c d i j f e = let a = i .0 in let b = j .0 in f (omega arith)
 -- a stack's words are those of another memory's stack
 pub stack-words : (g : Geometry) (m m₁ : Mem) (t : ℕ) (test test₁ : ℕ → Bool) → ((j : ℕ) → j < 1 + g .segments → stackWord m₁ (t * (1 + g .segments) + j) ≡ stackWord m (t * (1 + g .segments) + j))
     → StackOk g m t test → ((q : ℕ) → q < g .segments → test₁ q ≡ test q) → StackOk g m₁ t test₁
-stack-words g m m₁ t test test₁ w o h = stack-same g m m₁ t test test₁ o (at-count m₁ ∙ w 0 (omega arith) ∙ sym (at-count m)) (λ i l. let z = count-le g m t test o in at-entry m₁ i ∙ w (1 + i) (omega arith) ∙ sym (at-entry m i)) h
+stack-words g m m₁ t test test₁ w o h =
+    stack-same g m m₁ t test test₁ o (at-count m₁ ∙ w 0 (omega arith) ∙ sym (at-count m))
+    (λ i l. let z = count-le g m t test o in at-entry m₁ i ∙ w (1 + i) (omega arith) ∙ sym (at-entry m i)) h
   where
     at-count : (m′ : Mem) → count g m′ t ≡ stackWord m′ (t * (1 + g .segments) + 0)
     at-count m′ = ap (stackWord m′) (let e : t * (1 + g .segments) ≡ t * (1 + g .segments) + 0 = omega arith in e)
@@ -44,7 +46,10 @@ stack-apart g m s m₁ t v l e t′ f test test₁ o h = stack-words g m m₁ t�
     no-add = omega arith
 
     word : (j : ℕ) → j < 1 + g .segments → stackWord m₁ (t′ * (1 + g .segments) + j) ≡ stackWord m (t′ * (1 + g .segments) + j)
-    word j k = ap (λ x. getD x (t′ * (1 + g .segments) + j) 0) e ∙ subst (λ z. stackWord (setStack m z v) (t′ * (1 + g .segments) + j) ≡ stackWord m (t′ * (1 + g .segments) + j)) no-add (stack-other g m s t 0 v l (omega arith) t′ j k (λ x y. f x))
+    word j k =
+        ap (λ x. getD x (t′ * (1 + g .segments) + j) 0) e
+        ∙ subst (λ z. stackWord (setStack m z v) (t′ * (1 + g .segments) + j) ≡ stackWord m (t′ * (1 + g .segments) + j)) no-add
+        (stack-other g m s t 0 v l (omega arith) t′ j k (λ x y. f x))
 
 -- another stack than the one that segment r is put on
 module _ (g : Geometry) (m : Mem) (s : Sizes g m) (t : ℕ) (lt : t < stackCount) (test : ℕ → Bool) (o : StackOk g m t test) (test′ : ℕ → Bool) (r : ℕ) (l : r < g .segments)

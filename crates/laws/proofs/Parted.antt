@@ -1,4 +1,4 @@
--- A segment that was on no stack becomes part and is put on its class's stack: the stacks of free and of part segments. Assumes nothing.
+-- A segment that was on no stack becomes part and is put on its class's stack: the stacks of free and of part segments.
 use mathlib.Core.Path.{_≡_, refl, sym, _∙_, subst}
 use mathlib.Core.Logic.{⊎-elim}
 use mathlib.Core.Bool.{Bool}
@@ -31,13 +31,20 @@ module _ (g : Geometry) (m m₁ : Mem) (s : Sizes g m₁) (same : m₁ .stacks �
   before u p q = stack-by g m m₁ u p p same q (λ i h. refl)
 
   pushed : StackOk g m₂ (partStack d) (isPart m₂ d)
-  pushed = push-ok g m₁ s (partStack d) (part-few d k) (isPart m d) (before _ _ (o .1 d k)) (isPart m₂ d) r l (not-part m d r (λ e f. omega arith)) (is-part m₂ d r t c) (λ i h n. part-other m m₂ r other d i n)
+  pushed =
+      push-ok g m₁ s (partStack d) (part-few d k) (isPart m d) (before _ _ (o .1 d k)) (isPart m₂ d) r l
+      (not-part m d r (λ e f. omega arith)) (is-part m₂ d r t c) (λ i h n. part-other m m₂ r other d i n)
 
   rest : (u : ℕ) → (u ≡ partStack d → ⊥) → (p p′ : ℕ → Bool) → StackOk g m u p → ((i : ℕ) → p′ i ≡ p i) → StackOk g m₂ u p′
-  rest u n p p′ q e = push-left g m₁ s (partStack d) (part-few d k) (isPart m d) (before _ _ (o .1 d k)) (isPart m₂ d) r l (not-part m d r (λ e f. omega arith)) (is-part m₂ d r t c) (λ i h n. part-other m m₂ r other d i n) u n p p′ (before u p q) (λ i h. e i)
+  rest u n p p′ q e =
+      push-left g m₁ s (partStack d) (part-few d k) (isPart m d) (before _ _ (o .1 d k)) (isPart m₂ d) r l
+      (not-part m d r (λ e f. omega arith)) (is-part m₂ d r t c) (λ i h n. part-other m m₂ r other d i n) u n p p′ (before u p q)
+      (λ i h. e i)
 
   pub parted : Stacks g m₂
   parted = (
     rest freeStack (λ e. omega arith) (isFree m) (isFree m₂) (o .0) (free-left m m₂ r other (λ e. omega arith) (λ e. omega arith)),
-    λ x i. ⊎-elim (λ e. subst (λ z. StackOk g m₂ (partStack z) (isPart m₂ z)) (sym e) pushed) (λ n. rest (partStack x) (part-apart x d i k n) (isPart m x) (isPart m₂ x) (o .1 x i) (part-left m m₂ r other x (λ e f. omega arith) (λ e f. n (sym f ∙ c)))) (same-or-not x d),
+    λ x i. ⊎-elim (λ e. subst (λ z. StackOk g m₂ (partStack z) (isPart m₂ z)) (sym e) pushed)
+        (λ n. rest (partStack x) (part-apart x d i k n) (isPart m x) (isPart m₂ x) (o .1 x i) (part-left m m₂ r other x (λ e f. omega arith) (λ e f. n (sym f ∙ c))))
+        (same-or-not x d),
   )

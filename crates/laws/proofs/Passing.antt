@@ -1,4 +1,4 @@
--- A loop that decides a statement of every number below n, one at a turn: what is known after i turns, and what the loop answers. Assumes nothing.
+-- A loop that decides a statement of every number below n, one at a turn: what is known after i turns, and what the loop answers.
 use mathlib.Core.Path.{_≡_}
 use mathlib.Core.Bool.{Bool, true, false, not}
 use Prim.Native.Nat.{ℕ, _+_, _≤_, _<_}

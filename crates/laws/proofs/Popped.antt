@@ -1,5 +1,5 @@
 -- The last entered record in consistent memory, taken off the trace stack and marked: it is in order, so are the records that its pointers
--- name, and the memory is ready for their pushes. Assumes nothing.
+-- name, and the memory is ready for their pushes.
 use mathlib.Core.Path.{_≡_, refl, sym, _∙_, subst}
 use mathlib.Core.Logic.{inr}
 use Prim.Native.Nat.{ℕ, suc, _+_, _-_, _*_, _/_, _≤_, _<_}

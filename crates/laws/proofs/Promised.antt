@@ -1,4 +1,4 @@
--- How a mutator's call keeps its promise: refused for a size, refused by one of the numbers 2 to 9, or done. Assumes nothing.
+-- How a mutator's call keeps its promise: refused for a size, refused by one of the numbers 2 to 9, or done.
 use mathlib.Core.Path.{_≡_, refl, sym, _∙_, ap, subst}
 use mathlib.Core.Bool.{true, false, true≢false}
 use mathlib.Core.Option.{none, some, Option·none-ne-some, Option·some-injective}

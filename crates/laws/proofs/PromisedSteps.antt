@@ -1,5 +1,5 @@
 -- How a call of the collector keeps its promise: refused for a size, refused by another number with not a word changed, done as its definition says, and
--- for step a part of it. Assumes nothing.
+-- for step a part of it.
 use mathlib.Core.Path.{_≡_, refl, sym, _∙_, ap, subst}
 use mathlib.Core.Bool.{true, false, true≢false}
 use mathlib.Core.Option.{none, Option·none-ne-some, Option·some-injective}
@@ -19,7 +19,8 @@ use Rattle.model.specs.Collector.{stepOf}
 use Rattle.model.specs.StepParts.{StepsAs}
 use Rattle.theory.specs.Calls as theory
 
-module _ {A : Type 0} (value : A → theory.Answer) (Result : Geometry → theory.Answer → Type 0) (mayRefuse : List ℕ) (does : Geometry → Mem → theory.Answer × Mem) (g : Geometry) (xs : List ℕ) (r : A) where
+module _ {A : Type 0} (value : A → theory.Answer) (Result : Geometry → theory.Answer → Type 0) (mayRefuse : List ℕ)
+    (does : Geometry → Mem → theory.Answer × Mem) (g : Geometry) (xs : List ℕ) (r : A) where
   -- "1, size", and not a word is changed
   pub keeps-1 : value r ≡ a-no 1 → among 1 mayRefuse ≡ true → wrongSize g (length xs) ≡ true → Keeps value Result mayRefuse does g xs r xs
   keeps-1 v a e = record {
@@ -32,7 +33,8 @@ module _ {A : Type 0} (value : A → theory.Answer) (Result : Geometry → theor
 
   module _ (e : wrongSize g (length xs) ≡ false) where
     -- refused n, a number that the call may give, where the definition says so
-    pub keeps-refused : (n : ℕ) → value r ≡ a-no n → among n mayRefuse ≡ true → (n ≡ 1 → ⊥) → (ys : List ℕ) → (Consistent g (memOf g xs) → (a-no n, memOf g ys) ≡ does g (memOf g xs)) → Keeps value Result mayRefuse does g xs r ys
+    pub keeps-refused : (n : ℕ) → value r ≡ a-no n → among n mayRefuse ≡ true → (n ≡ 1 → ⊥) → (ys : List ℕ)
+        → (Consistent g (memOf g xs) → (a-no n, memOf g ys) ≡ does g (memOf g xs)) → Keeps value Result mayRefuse does g xs r ys
     keeps-refused n v a f ys d = record {
       sizes = λ h. absurd (true≢false (sym h ∙ e));
       exact = λ _ c. (v ∙ ap (λ w. w .0) (d c), ap (λ w. w .1) (d c));
@@ -42,7 +44,8 @@ module _ {A : Type 0} (value : A → theory.Answer) (Result : Geometry → theor
     }
 
     -- a result of the call's kind, the definition's
-    pub keeps-done : refusalIn (value r) ≡ none → Result g (value r) → (ys : List ℕ) → (Consistent g (memOf g xs) → (value r, memOf g ys) ≡ does g (memOf g xs)) → Keeps value Result mayRefuse does g xs r ys
+    pub keeps-done : refusalIn (value r) ≡ none → Result g (value r) → (ys : List ℕ)
+        → (Consistent g (memOf g xs) → (value r, memOf g ys) ≡ does g (memOf g xs)) → Keeps value Result mayRefuse does g xs r ys
     keeps-done v k ys d = record {
       sizes = λ h. absurd (true≢false (sym h ∙ e));
       exact = λ _ c. (ap (λ w. w .0) (d c), ap (λ w. w .1) (d c));
@@ -52,7 +55,9 @@ module _ {A : Type 0} (value : A → theory.Answer) (Result : Geometry → theor
     }
 
 -- step is one of its parts where its definition is that part's
-pub keeps-part : (part : Geometry → Mem → theory.Answer × Mem) (g : Geometry) (xs : List ℕ) (r : Step) (ys : List ℕ) → wrongSize g (length xs) ≡ false → part g (memOf g xs) ≡ stepOf g (memOf g xs) → StepsAs part g (memOf g xs) r (memOf g ys) → StepPromise g xs r ys
+pub keeps-part : (part : Geometry → Mem → theory.Answer × Mem) (g : Geometry) (xs : List ℕ) (r : Step) (ys : List ℕ)
+    → wrongSize g (length xs) ≡ false → part g (memOf g xs) ≡ stepOf g (memOf g xs) → StepsAs part g (memOf g xs) r (memOf g ys)
+    → StepPromise g xs r ys
 keeps-part part g xs r ys e d s = record {
   sizes = λ h. absurd (true≢false (sym h ∙ e));
   exact = λ _ c. let p = s .exact c in (p .0 ∙ ap (λ w. w .0) d, p .1 ∙ ap (λ w. w .1) d);

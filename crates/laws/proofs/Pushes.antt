@@ -1,4 +1,4 @@
--- Pushes on the trace stack, one and any fold of them: what they leave as it was, and what they need and keep. Assumes nothing.
+-- Pushes on the trace stack, one and any fold of them: what they leave as it was, and what they need and keep.
 use mathlib.Core.Path.{_≡_, refl, sym, _∙_, ap, subst}
 use mathlib.Core.Bool.{Bool, true, false}
 use Prim.Native.Nat.{ℕ, zero, suc, _+_, _*_, _/_, _≤_, _<_}

@@ -1,4 +1,4 @@
--- A call on the record in a root, past the refusals of its mutator and its roots: how the rest refuses it, and when nothing does. Assumes nothing.
+-- A call on the record in a root, past the refusals of its mutator and its roots: how the rest refuses it, and when nothing does.
 use mathlib.Core.Path.{_≡_, refl, sym, _∙_, ap}
 use mathlib.Core.Bool.{true, false}
 use mathlib.Core.Option.{none, some}

@@ -1,4 +1,4 @@
--- A segment's bitmap after its level 0 became the marks: its bits, that it is a tree, and that other segments' bitmaps stay. Assumes nothing.
+-- A segment's bitmap after its level 0 became the marks: its bits, that it is a tree, and that other segments' bitmaps stay.
 use mathlib.Core.Path.{_≡_, sym, _∙_, ap, subst}
 use mathlib.Core.List.{List}
 use Prim.Native.Nat.{ℕ, suc, _+_, _*_, _≤_, _<_}

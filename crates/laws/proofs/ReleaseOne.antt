@@ -1,4 +1,4 @@
--- One held segment of a mutator goes to part; its class's stack has room for it. Assumes nothing.
+-- One held segment of a mutator goes to part; its class's stack has room for it.
 use mathlib.Core.Path.{_≡_, refl, sym, _∙_, ap, subst}
 use mathlib.Core.Logic.{_⊎_, inl, inr}
 use mathlib.Core.List.{List}
@@ -25,7 +25,8 @@ use Rattle.laws.proofs.Lengths.{sizes-stack, sizes-state}
 use Rattle.laws.proofs.Releasing.{Releasable, withRecords, Gone, Releasing, gone-less, gone-other}
 use Rattle.model.specs.Tag as Tag
 
-module _ (g : Geometry) (m : Mem) (s : Sizes g m) (c : Releasable g m) (k : ℕ) (few : k < mutatorCount) (n : ℕ) (ln : n < classCount) (m′ : Mem) (h : Releasing g m m′ k n) (r : ℕ) (e : holding m k (firstClass + n) ≡ suc r) where
+module _ (g : Geometry) (m : Mem) (s : Sizes g m) (c : Releasable g m) (k : ℕ) (few : k < mutatorCount) (n : ℕ)
+    (ln : n < classCount) (m′ : Mem) (h : Releasing g m m′ k n) (r : ℕ) (e : holding m k (firstClass + n) ≡ suc r) where
   abbrev d : ℕ
   d = firstClass + n
 
@@ -77,7 +78,9 @@ module _ (g : Geometry) (m : Mem) (s : Sizes g m) (c : Releasable g m) (k : ℕ)
   gone₂ q z = go (same-or-not q r)
     where
       go : (q ≡ r) ⊎ (q ≡ r → ⊥) → Recorded m₂ q Tag.part (class m q) (place m q) 0
-      go (inl x) = subst (λ w. Recorded m₂ w Tag.part (class m w) (place m w) 0) (sym x) (record { tag = there .tag; class = there .class ∙ sym (held-before .2); place = there .place ∙ still .place; owner = there .owner })
+      go (inl x) =
+          subst (λ w. Recorded m₂ w Tag.part (class m w) (place m w) 0) (sym x)
+          (record { tag = there .tag; class = there .class ∙ sym (held-before .2); place = there .place ∙ still .place; owner = there .owner })
       go (inr f) = recorded-by m′ m₂ q _ _ _ _ (h .gone q (gone-other g m s c k n q z (λ y. f (let w : suc q ≡ suc r = sym y ∙ e in omega arith)))) (other q f)
 
   stay₂ : (q : ℕ) → (Gone m k (suc n) q → ⊥) → Untouched m m₂ q
@@ -109,7 +112,9 @@ module _ (g : Geometry) (m : Mem) (s : Sizes g m) (c : Releasable g m) (k : ℕ)
   is-one =
       let z : holding m′ k d ≡ suc r = ap (λ w. holding w k d) (h .frame) ∙ e in
       let y : holding m′ k d - 1 ≡ r = omega arith in
-      ap (λ b. pick b m′ (stacked g (setSegmentState g m′ (holding m′ k d - 1) (Part d (place m′ (holding m′ k d - 1)))) (partStack d) (holding m′ k d - 1))) (ne-eqb (holding m′ k d) 0 (λ q. omega arith))
+      ap
+      (λ b. pick b m′ (stacked g (setSegmentState g m′ (holding m′ k d - 1) (Part d (place m′ (holding m′ k d - 1)))) (partStack d) (holding m′ k d - 1)))
+      (ne-eqb (holding m′ k d) 0 (λ q. omega arith))
       ∙ ap (λ w. stacked g (setSegmentState g m′ w (Part d (place m′ w))) (partStack d) w) y
 
   pub releasing-one : Releasing g m (releasedOne g m′ k d) k (suc n)

@@ -1,5 +1,4 @@
 -- What is known while a mutator's held segments go to part, class by class: those of the first n classes have gone, the rest is as it was.
--- Assumes nothing.
 use mathlib.Core.Path.{_≡_, refl, sym, _∙_, ap}
 use mathlib.Core.Logic.{_⊎_, inl, inr}
 use mathlib.Core.List.{List}

@@ -1,4 +1,4 @@
--- A record that a root of an attached mutator names: it is live, and so in order in consistent memory. Assumes nothing.
+-- A record that a root of an attached mutator names: it is live, and so in order in consistent memory.
 use mathlib.Core.Path.{_≡_, ap}
 use mathlib.Core.Bool.{true}
 use mathlib.Core.Logic.{inl}

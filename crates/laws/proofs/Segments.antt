@@ -1,4 +1,4 @@
--- One segment's record changes: what becomes of the other segments, and which ones are free or part. Assumes nothing.
+-- One segment's record changes: what becomes of the other segments, and which ones are free or part.
 use mathlib.Core.Path.{_≡_, sym, _∙_, ap, subst}
 use mathlib.Core.Logic.{_⊎_, inl, inr, ⊎-elim}
 use mathlib.Core.Bool.{Bool, true, false, _&&_}
@@ -61,8 +61,11 @@ segment-by g m m₁ q o x e h = record {
   remains = λ a b. let y = x .tag in remain (λ z. omega arith) (o .remains (omega arith) (omega arith));
   full = λ a. x .place ∙ o .full (sym (x .tag) ∙ a) ∙ ap (blocksIn g) (sym (x .class));
   condemned = λ a. x .place ∙ o .condemned (sym (x .tag) ∙ a) ∙ ap (blocksIn g) (sym (x .class));
-  held = λ f. let y : tag m q ≡ Tag.held = sym (x .tag) ∙ f in
-      (subst (λ z. z < mutatorCount) (sym (x .owner)) (o .held y .0), λ z. h y .0 (ap (state m₁) (sym (x .owner)) ∙ z), ap (λ z. holding m₁ z (class m₁ q)) (x .owner) ∙ ap (holding m₁ (owner m q)) (x .class) ∙ h y .1);
+  held = λ f. let y : tag m q ≡ Tag.held = sym (x .tag) ∙ f in (
+    subst (λ z. z < mutatorCount) (sym (x .owner)) (o .held y .0),
+    λ z. h y .0 (ap (state m₁) (sym (x .owner)) ∙ z),
+    ap (λ z. holding m₁ z (class m₁ q)) (x .owner) ∙ ap (holding m₁ (owner m q)) (x .class) ∙ h y .1,
+  );
 }
   where
     remain : (tag m q ≡ Tag.free → ⊥) → (b : ℕ) × (place m q ≤ b) × (b < blocksIn g (class m q)) × (bitAt (bitmap g m q) b ≡ 0)
@@ -78,7 +81,9 @@ pub tree-same : (g : Geometry) (m m₁ : Mem) (q : ℕ) → TreeOk g m q → (ta
 tree-same g m m₁ q t u c e f = subst (λ z. Tree (above g z) (blocksIn g z) (bitmap g m₁ q)) (sym c) (subst (Tree (above g (class m q)) (blocksIn g (class m q))) (sym e) (t (λ y. f (u y))))
 
 -- a segment whose class, place and bitmap stay, and that was part or held if it is, has a block in use as before
-pub occupied-same : (g : Geometry) (m m₁ : Mem) (q : ℕ) → Occupied g m q → (Tag.part ≤ tag m₁ q → tag m₁ q ≤ Tag.held → (Tag.part ≤ tag m q) × (tag m q ≤ Tag.held)) → class m₁ q ≡ class m q → place m₁ q ≡ place m q → bitmap g m₁ q ≡ bitmap g m q → Occupied g m₁ q
+pub occupied-same : (g : Geometry) (m m₁ : Mem) (q : ℕ) → Occupied g m q
+    → (Tag.part ≤ tag m₁ q → tag m₁ q ≤ Tag.held → (Tag.part ≤ tag m q) × (tag m q ≤ Tag.held)) → class m₁ q ≡ class m q
+    → place m₁ q ≡ place m q → bitmap g m₁ q ≡ bitmap g m q → Occupied g m₁ q
 occupied-same g m m₁ q o t c p e l h = let y = t l h in let b = o (y .0) (y .1) in (b .0, subst (λ z. b .0 < blocksIn g z) (sym c) (b .1), used-same g m m₁ q (b .0) p e ∙ b .2)
 
 -- a segment whose record and bitmap stay has a block in use as before

@@ -1,4 +1,4 @@
--- A segment put on a stack and taken off, and a stack that a call leaves alone. Assumes nothing.
+-- A segment put on a stack and taken off, and a stack that a call leaves alone.
 use mathlib.Core.Path.{_≡_, sym, _∙_, ap, subst}
 use mathlib.Core.Logic.{_⊎_, inl, inr, ⊎-elim}
 use mathlib.Core.Bool.{Bool, true, false, true≢false}
@@ -31,7 +31,9 @@ stack-room g m t test o r l e =
 
 -- ---- a stack whose words and whose test stay
 
-pub stack-same : (g : Geometry) (m m′ : Mem) (t : ℕ) (test test′ : ℕ → Bool) → StackOk g m t test → count g m′ t ≡ count g m t → ((i : ℕ) → i < count g m t → entry g m′ t i ≡ entry g m t i) → ((s : ℕ) → s < g .segments → test′ s ≡ test s) → StackOk g m′ t test′
+pub stack-same : (g : Geometry) (m m′ : Mem) (t : ℕ) (test test′ : ℕ → Bool) → StackOk g m t test → count g m′ t ≡ count g m t
+    → ((i : ℕ) → i < count g m t → entry g m′ t i ≡ entry g m t i) → ((s : ℕ) → s < g .segments → test′ s ≡ test s)
+    → StackOk g m′ t test′
 stack-same g m m′ t test test′ o c e h = record {
   number = c ∙ o .number ∙ among-same _ _ (g .segments) (λ s l. ap oneIf (sym (h s l)));
   members = λ i l. let k : i < count g m t = subst (λ z. i < z) c l in let q = o .members i k in (subst (λ z. z < g .segments) (sym (e i k)) (q .0), ap test′ (e i k) ∙ h _ (q .0) ∙ q .1);
@@ -69,11 +71,17 @@ module _ (g : Geometry) (m : Mem) (s : Sizes g m) (t : ℕ) (lt : t < stackCount
     no-add : (x : ℕ) → x ≡ x + 0
     no-add x = omega arith
 
-    pub push-other : (t′ j : ℕ) → j < 1 + g .segments → (t′ ≡ t → j ≡ 1 + count g m t → ⊥) → (t′ ≡ t → j ≡ 0 → ⊥) → stackWord (stacked g m t r) (t′ * (1 + g .segments) + j) ≡ stackWord m (t′ * (1 + g .segments) + j)
-    push-other t′ j h f k = subst (λ z. stackWord (setStack m₁ z (count g m t + 1)) (t′ * (1 + g .segments) + j) ≡ stackWord m₁ (t′ * (1 + g .segments) + j)) (sym (no-add (t * (1 + g .segments)))) (stack-other g m₁ (sizes-stack g m s _ _) t 0 (count g m t + 1) lt (omega arith) t′ j h k) ∙ first-other t′ j h f
+    pub push-other : (t′ j : ℕ) → j < 1 + g .segments → (t′ ≡ t → j ≡ 1 + count g m t → ⊥) → (t′ ≡ t → j ≡ 0 → ⊥)
+        → stackWord (stacked g m t r) (t′ * (1 + g .segments) + j) ≡ stackWord m (t′ * (1 + g .segments) + j)
+    push-other t′ j h f k =
+        subst (λ z. stackWord (setStack m₁ z (count g m t + 1)) (t′ * (1 + g .segments) + j) ≡ stackWord m₁ (t′ * (1 + g .segments) + j))
+        (sym (no-add (t * (1 + g .segments)))) (stack-other g m₁ (sizes-stack g m s _ _) t 0 (count g m t + 1) lt (omega arith) t′ j h k)
+        ∙ first-other t′ j h f
 
     pub push-count : count g (stacked g m t r) t ≡ count g m t + 1
-    push-count = subst (λ z. stackWord (setStack m₁ z (count g m t + 1)) z ≡ count g m t + 1) (sym (no-add (t * (1 + g .segments)))) (stack-there g m₁ (sizes-stack g m s _ _) t 0 (count g m t + 1) lt (omega arith))
+    push-count =
+        subst (λ z. stackWord (setStack m₁ z (count g m t + 1)) z ≡ count g m t + 1) (sym (no-add (t * (1 + g .segments))))
+        (stack-there g m₁ (sizes-stack g m s _ _) t 0 (count g m t + 1) lt (omega arith))
 
     entry-at : (m′ : Mem) (t′ i : ℕ) → entry g m′ t′ i ≡ stackWord m′ (t′ * (1 + g .segments) + (1 + i))
     entry-at m′ t′ i = ap (stackWord m′) (let e : t′ * (1 + g .segments) + 1 + i ≡ t′ * (1 + g .segments) + (1 + i) = omega arith in e)
@@ -83,7 +91,10 @@ module _ (g : Geometry) (m : Mem) (s : Sizes g m) (t : ℕ) (lt : t < stackCount
 
     pub push-last : entry g (stacked g m t r) t (count g m t) ≡ r
     push-last = let p = push-room in entry-at (stacked g m t r) t (count g m t)
-        ∙ subst (λ z. stackWord (setStack m₁ z (count g m t + 1)) (t * (1 + g .segments) + (1 + count g m t)) ≡ stackWord m₁ (t * (1 + g .segments) + (1 + count g m t))) (sym (no-add (t * (1 + g .segments)))) (stack-other g m₁ (sizes-stack g m s _ _) t 0 (count g m t + 1) lt (omega arith) t (1 + count g m t) (omega arith) (λ e x. omega arith))
+        ∙ subst
+        (λ z. stackWord (setStack m₁ z (count g m t + 1)) (t * (1 + g .segments) + (1 + count g m t)) ≡ stackWord m₁ (t * (1 + g .segments) + (1 + count g m t)))
+        (sym (no-add (t * (1 + g .segments))))
+        (stack-other g m₁ (sizes-stack g m s _ _) t 0 (count g m t + 1) lt (omega arith) t (1 + count g m t) (omega arith) (λ e x. omega arith))
         ∙ first-there
 
     is-new : (i : ℕ) → i < g .segments → test i ≡ true → test′ i ≡ true
@@ -139,7 +150,9 @@ module _ (g : Geometry) (m : Mem) (s : Sizes g m) (t : ℕ) (lt : t < stackCount
     pop-count = subst (λ z. stackWord (setStack m z (count g m t - 1)) z ≡ count g m t - 1) (sym (no-more (t * (1 + g .segments)))) (stack-there g m s t 0 (count g m t - 1) lt (omega arith))
 
     pub pop-other : (t′ j : ℕ) → j < 1 + g .segments → (t′ ≡ t → j ≡ 0 → ⊥) → stackWord (pop g m t) (t′ * (1 + g .segments) + j) ≡ stackWord m (t′ * (1 + g .segments) + j)
-    pop-other t′ j h k = subst (λ z. stackWord (setStack m z (count g m t - 1)) (t′ * (1 + g .segments) + j) ≡ stackWord m (t′ * (1 + g .segments) + j)) (sym (no-more (t * (1 + g .segments)))) (stack-other g m s t 0 (count g m t - 1) lt (omega arith) t′ j h k)
+    pop-other t′ j h k =
+        subst (λ z. stackWord (setStack m z (count g m t - 1)) (t′ * (1 + g .segments) + j) ≡ stackWord m (t′ * (1 + g .segments) + j))
+        (sym (no-more (t * (1 + g .segments)))) (stack-other g m s t 0 (count g m t - 1) lt (omega arith) t′ j h k)
 
     pub pop-entry : (i : ℕ) → i < count g m t → entry g (pop g m t) t i ≡ entry g m t i
     pop-entry i h =
@@ -164,7 +177,12 @@ module _ (g : Geometry) (m : Mem) (s : Sizes g m) (t : ℕ) (lt : t < stackCount
     pop-ok = record {
       number = pop-count ∙ (let e = less in omega arith);
       members = λ i h. member i (subst (λ z. i < z) pop-count h);
-      once = λ i j h k e. let y : j < count g m t - 1 = subst (λ z. j < z) pop-count k in let x : j < count g m t = omega arith in let w : i < count g m t = omega arith in o .once i j h x (sym (pop-entry i w) ∙ e ∙ pop-entry j x);
+      once =
+          λ i j h k e.
+          let y : j < count g m t - 1 = subst (λ z. j < z) pop-count k in
+          let x : j < count g m t = omega arith in
+          let w : i < count g m t = omega arith in
+          o .once i j h x (sym (pop-entry i w) ∙ e ∙ pop-entry j x);
       all = λ i h e. found i h e (same-or-not i (top g m t));
     }
       where

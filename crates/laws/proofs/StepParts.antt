@@ -1,4 +1,4 @@
--- How a part of step keeps its promise: as its definition says, or 13 where the memory fails the examination. Assumes nothing.
+-- How a part of step keeps its promise: as its definition says, or 13 where the memory fails the examination.
 use mathlib.Core.Path.{_≡_, sym, _∙_}
 use mathlib.Core.Option.{none, Option·none-ne-some, Option·some-injective}
 use Rattle.layout.specs.declared.Geometry.{Geometry}
@@ -11,7 +11,8 @@ use Rattle.model.specs.StepParts.{StepsAs}
 use Rattle.theory.specs.Calls as theory
 
 module _ (does : Geometry → Mem → theory.Answer × Mem) (g : Geometry) (m : Mem) where
-  pub steps-done : {r : Step} {after : Mem} → stepRefusalOf r ≡ none → StepResult g (stepAnswerOf r) → (Consistent g m → (stepAnswerOf r ≡ does g m .0) × (after ≡ does g m .1)) → StepsAs does g m r after
+  pub steps-done : {r : Step} {after : Mem} → stepRefusalOf r ≡ none → StepResult g (stepAnswerOf r)
+      → (Consistent g m → (stepAnswerOf r ≡ does g m .0) × (after ≡ does g m .1)) → StepsAs does g m r after
   steps-done v k e = record { exact = e; kind = λ _. k; torn = λ n q. absurd (Option·none-ne-some n (sym v ∙ q)) }
 
   -- "13, torn": only where the memory fails the examination

@@ -1,4 +1,4 @@
--- The blocks in use of a segment after its sweep: as many as were marked, whatever the memory holds. Assumes nothing.
+-- The blocks in use of a segment after its sweep: as many as were marked, whatever the memory holds.
 use mathlib.Core.Path.{_≡_, refl, sym, _∙_, ap}
 use mathlib.Core.Bool.{Bool, true, false}
 use mathlib.Core.List.{List}

@@ -1,4 +1,4 @@
--- Tables of values as lists. Assumes nothing.
+-- Tables of values as lists.
 use mathlib.Core.Path.{_≡_, refl, sym, _∙_, ap}
 use mathlib.Core.Logic.{_⊎_, inl, inr}
 use mathlib.Core.List.{List, [], _∷_, _++_}

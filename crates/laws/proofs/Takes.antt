@@ -1,4 +1,4 @@
--- The words of `takes`: a word of a stack set, then a segment held and entered in its mutator's table. Assumes nothing.
+-- The words of `takes`: a word of a stack set, then a segment held and entered in its mutator's table.
 use mathlib.Core.Path.{_≡_, refl, _∙_, ap}
 use mathlib.Core.List.{List}
 use Prim.Native.Nat.{ℕ, suc, _+_, _-_, _*_, _<_}

@@ -1,5 +1,5 @@
 -- The segment that a make takes, where the stacks are in order: the topmost part segment of a class, with its tree and a free block from its place on, and
--- the topmost free segment, with a tree of free blocks. Assumes nothing.
+-- the topmost free segment, with a tree of free blocks.
 use mathlib.Core.Path.{_≡_, _∙_, ap, subst}
 use mathlib.Core.Bool.{true}
 use mathlib.Core.List.{List}

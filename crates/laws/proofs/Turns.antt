@@ -1,4 +1,4 @@
--- A loop that makes the values of a definition one after the other: what it has after i of n turns. Assumes nothing.
+-- A loop that makes the values of a definition one after the other: what it has after i of n turns.
 use mathlib.Core.Path.{_≡_, _∙_, ap, sym}
 use Prim.Native.Nat.{ℕ, suc, _+_, _≤_, _<_}
 use native.Mathlib.Numerals.{add-one}

@@ -1,4 +1,4 @@
--- A run of words set in a list, read inside and outside; the window of its words, and the bits of a window. Assumes nothing.
+-- A run of words set in a list, read inside and outside; the window of its words, and the bits of a window.
 use mathlib.Core.Path.{_≡_, refl, sym, _∙_, ap}
 use mathlib.Core.Logic.{_⊎_, inl, inr, ⊎-elim}
 use mathlib.Core.List.{List, [], _∷_}
@@ -79,7 +79,11 @@ pub window-other : (w r q : ℕ) (vs l : List ℕ) → length vs ≡ w → (q �
 window-other w r q vs l e f = window-same l (spliced l (r * w) vs) (q * w) w (length-spliced l (r * w) vs) (λ j a b. spliced-out vs l (r * w) j (side j a b (le-or-lt q r)))
   where
     side : (j : ℕ) → q * w ≤ j → j < q * w + w → (q ≤ r) ⊎ (r < q) → (j < r * w) ⊎ (r * w + length vs ≤ j)
-    side j a b (inl k) = let l : suc q ≤ r = ⊎-elim (λ z. absurd (f (omega arith))) (λ z. z) (le-or-lt r q) in let z : suc q * w ≤ r * w = mul-le-mul-right w l in let y = suc-mul q w in inl (omega arith)
+    side j a b (inl k) =
+        let l : suc q ≤ r = ⊎-elim (λ z. absurd (f (omega arith))) (λ z. z) (le-or-lt r q) in
+        let z : suc q * w ≤ r * w = mul-le-mul-right w l in
+        let y = suc-mul q w in
+        inl (omega arith)
     side j a b (inr k) = let z : suc r * w ≤ q * w = mul-le-mul-right w k in let y = suc-mul r w in inr (omega arith)
 
 -- bit b of a window is a bit of the list

@@ -1,4 +1,4 @@
--- One word of a mutator's entry, of a segment's record or of a stack, set and read. Assumes nothing.
+-- One word of a mutator's entry, of a segment's record or of a stack, set and read.
 use mathlib.Core.Path.{_≡_, refl, _∙_, ap}
 use Prim.Native.Nat.{ℕ, _+_, _*_, _/_, _<_}
 use native.Mathlib.Omega.{arith}
@@ -110,17 +110,29 @@ module _ (m : Mem) (s t c p k : ℕ) where
       }
 
   word-far : (j : ℕ) → (j / segmentRecordWords ≡ s → ⊥) → segmentRecordWord (setRecord m s t c p k) j ≡ segmentRecordWord m j
-  word-far j f = segment-word-other m₃ _ k j (λ e. f (omega arith)) ∙ segment-word-other m₂ _ p j (λ e. f (omega arith)) ∙ segment-word-other m₁ _ c j (λ e. f (omega arith)) ∙ segment-word-other m _ t j (λ e. f (omega arith))
+  word-far j f =
+      segment-word-other m₃ _ k j (λ e. f (omega arith)) ∙ segment-word-other m₂ _ p j (λ e. f (omega arith))
+      ∙ segment-word-other m₁ _ c j (λ e. f (omega arith)) ∙ segment-word-other m _ t j (λ e. f (omega arith))
 
   pub record-other : (r : ℕ) → (r ≡ s → ⊥) → Untouched m (setRecord m s t c p k) r
   record-other r f = record { tag = word-far _ (λ e. f (omega arith)); class = word-far _ (λ e. f (omega arith)); place = word-far _ (λ e. f (omega arith)); owner = word-far _ (λ e. f (omega arith)) }
 
 -- the tag alone: the rest of the record stays, and other records
 pub tag-there : (m : Mem) (s t : ℕ) → s * segmentRecordWords + tagAt < length (m .segments) → Retagged m (setTag m s t) s t
-tag-there m s t h = record { tag = segment-word-there m _ t h; class = segment-word-other m _ t _ (λ e. omega arith); place = segment-word-other m _ t _ (λ e. omega arith); owner = segment-word-other m _ t _ (λ e. omega arith) }
+tag-there m s t h = record {
+  tag = segment-word-there m _ t h;
+  class = segment-word-other m _ t _ (λ e. omega arith);
+  place = segment-word-other m _ t _ (λ e. omega arith);
+  owner = segment-word-other m _ t _ (λ e. omega arith);
+}
 
 pub tag-other : (m : Mem) (s t r : ℕ) → (r ≡ s → ⊥) → Untouched m (setTag m s t) r
-tag-other m s t r f = record { tag = segment-word-other m _ t _ (λ e. f (omega arith)); class = segment-word-other m _ t _ (λ e. omega arith); place = segment-word-other m _ t _ (λ e. omega arith); owner = segment-word-other m _ t _ (λ e. omega arith) }
+tag-other m s t r f = record {
+  tag = segment-word-other m _ t _ (λ e. f (omega arith));
+  class = segment-word-other m _ t _ (λ e. omega arith);
+  place = segment-word-other m _ t _ (λ e. omega arith);
+  owner = segment-word-other m _ t _ (λ e. omega arith);
+}
 
 -- the words of a state
 abbrev pub tagOf : SegmentState → ℕ
@@ -160,7 +172,8 @@ state-is g m s (state.Full c) = refl
 state-is g m s (state.Condemned c) = refl
 
 -- the record of a segment whose state is set, and of another
-pub state-there : (g : Geometry) (m : Mem) (s : ℕ) (x : SegmentState) → s * segmentRecordWords + ownerAt < length (m .segments) → Recorded (setSegmentState g m s x) s (tagOf x) (classIn x) (placeIn g x) (ownerIn x)
+pub state-there : (g : Geometry) (m : Mem) (s : ℕ) (x : SegmentState) → s * segmentRecordWords + ownerAt < length (m .segments)
+    → Recorded (setSegmentState g m s x) s (tagOf x) (classIn x) (placeIn g x) (ownerIn x)
 state-there g m s x h = rw (state-is g m s x) (record-there m s (tagOf x) (classIn x) (placeIn g x) (ownerIn x) h)
 
 pub state-other : (g : Geometry) (m : Mem) (s : ℕ) (x : SegmentState) (r : ℕ) → (r ≡ s → ⊥) → Untouched m (setSegmentState g m s x) r
@@ -194,6 +207,7 @@ module _ (g : Geometry) (m : Mem) (s : Sizes g m) (t j v : ℕ) (l : t < stackCo
   unfolding setStack
   stack-there = let z = s .stacks in let q = within (1 + g .segments) t stackCount j l h in getD-set-same (m .stacks) (t * (1 + g .segments) + j) v 0 (omega arith)
 
-  pub stack-other : (t′ j′ : ℕ) → j′ < 1 + g .segments → (t′ ≡ t → j′ ≡ j → ⊥) → stackWord (setStack m (t * (1 + g .segments) + j) v) (t′ * (1 + g .segments) + j′) ≡ stackWord m (t′ * (1 + g .segments) + j′)
+  pub stack-other : (t′ j′ : ℕ) → j′ < 1 + g .segments → (t′ ≡ t → j′ ≡ j → ⊥)
+      → stackWord (setStack m (t * (1 + g .segments) + j) v) (t′ * (1 + g .segments) + j′) ≡ stackWord m (t′ * (1 + g .segments) + j′)
   unfolding setStack
   stack-other t′ j′ i f = getD-set-other (m .stacks) (t * (1 + g .segments) + j) (t′ * (1 + g .segments) + j′) v 0 (λ e. let q = one-way (1 + g .segments) t′ j′ t j i h e in f (q .0) (q .1))

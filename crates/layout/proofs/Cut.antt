@@ -1,4 +1,4 @@
--- The laws of a list cut into parts: what is read, set, lent and joined. Assumes nothing.
+-- The laws of a list cut into parts: what is read, set, lent and joined.
 use Prim.Native.Nat.{ℕ, zero, suc, _+_, _≤_, _<_}
 use mathlib.Core.Path.{_≡_, refl, sym, _∙_}
 use mathlib.Core.List.{List, [], _∷_}

@@ -1,4 +1,4 @@
--- Where the regions begin as the source computes it: so many words for each segment, and so many besides. Assumes nothing.
+-- Where the regions begin as the source computes it: so many words for each segment, and so many besides.
 use Prim.Native.Nat.{ℕ, _+_, _*_}
 use Rattle.layout.specs.declared.Geometry.{Geometry}
 use Rattle.layout.specs.Geometry.{segmentWords, bitmapWords, controlWords, mutatorCount, mutatorWords, segmentRecordWords, stackCount}

@@ -1,4 +1,4 @@
--- The words of the lent slice and those of the regions; k is the region. Assumes nothing.
+-- The words of the lent slice and those of the regions; k is the region.
 use Prim.Native.Nat.{ℕ, _+_, _-_, _≤_, _<_}
 use mathlib.Core.Path.{_≡_, refl, sym, _∙_, ap, subst}
 use mathlib.Core.Bool.{Bool, true, false, true≢false}

@@ -1,5 +1,5 @@
 -- A segment's bytes, and what follows for its words, blocks, bits and bitmap. Only `bytes-are` and `class-fits` look at how many they
--- are. Assumes nothing.
+-- are.
 use mathlib.Core.Path.{_≡_, refl, sym, _∙_, ap, subst}
 use Prim.Native.Nat.{ℕ, suc, _+_, _-_, _*_, _/_, _%_, _^_, _≤_, _<_}
 use native.Mathlib.Nat.{mul-assoc, div-lt-iff-lt-mul, mul-add-div-right, div-eq-of-lt, mul-add-mod-self-right, mod-eq-of-lt, suc-mul, mul-le-mul-right}

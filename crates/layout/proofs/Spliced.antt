@@ -1,4 +1,4 @@
--- A list with other elements from a place on, as one splice and as a run of stores. Assumes nothing.
+-- A list with other elements from a place on, as one splice and as a run of stores.
 use mathlib.Core.Path.{_≡_, refl, sym, _∙_, ap}
 use mathlib.Core.List.{List, [], _∷_, _++_}
 use Prim.Native.Nat.{ℕ, zero, suc, _+_, _-_, _≤_}

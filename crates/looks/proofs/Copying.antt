@@ -1,4 +1,4 @@
--- A loop that copies a list word by word: its invariant, kept by a turn and used at the end. Assumes nothing.
+-- A loop that copies a list word by word: its invariant, kept by a turn and used at the end.
 use mathlib.Core.Path.{_≡_, refl, sym, _∙_, ap}
 use mathlib.Core.Logic.{_⊎_, inl, inr}
 use mathlib.Core.List.{List}

@@ -1,4 +1,4 @@
--- How the looks keep their promises: the phase, one record, and the states of all segments. Assumes nothing.
+-- How the looks keep their promises: the phase, one record, and the states of all segments.
 use mathlib.Core.Path.{_≡_, refl, sym, _∙_, ap}
 use mathlib.Core.Bool.{Bool, true, false, true≢false}
 use mathlib.Core.Option.{Option·none-ne-some, Option·some-injective}

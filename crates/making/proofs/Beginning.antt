@@ -1,4 +1,4 @@
--- What a make has come to, carried from a segment to a class and from a class to the call; and where each answer leads. Assumes nothing.
+-- What a make has come to, carried from a segment to a class and from a class to the call; and where each answer leads.
 use mathlib.Core.Path.{_≡_, refl, subst}
 use mathlib.Core.Bool.{false}
 use mathlib.Core.List.{List}

@@ -1,5 +1,5 @@
 -- The block that is handed out and the record there, by what the search in the bitmap answers; and what a make of a class answers, by the segment that it
--- takes. Assumes nothing.
+-- takes.
 use mathlib.Core.Path.{_≡_, refl, sym, _∙_, ap, subst}
 use mathlib.Core.Bool.{Bool, true, false}
 use mathlib.Core.Logic.{inl, inr, ⊎-elim}

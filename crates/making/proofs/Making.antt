@@ -1,4 +1,4 @@
--- How make keeps its promise: refused as its mutator and root stand, too big, or a make of the record's class. Assumes nothing.
+-- How make keeps its promise: refused as its mutator and root stand, too big, or a make of the record's class.
 use mathlib.Core.Path.{_≡_, refl, sym, _∙_, ap, subst}
 use mathlib.Core.Bool.{true, false}
 use mathlib.Core.Logic.{_⊎_, inl, inr}

@@ -1,4 +1,4 @@
--- A block of a segment holds the record that is written there: its words are words of the heap, and a word can name it. Assumes nothing.
+-- A block of a segment holds the record that is written there: its words are words of the heap, and a word can name it.
 use mathlib.Core.Path.{_≡_, sym, _∙_, ap}
 use Prim.Native.Nat.{ℕ, _+_, _*_, _/_, _%_, _^_, _≤_, _<_}
 use native.Mathlib.Nat.{mod-lt, mod-eq-of-lt, div-add-mod', add-mul, mul-assoc, mul-add-mod-self-right, mul-le-mul, mul-le-mul-right}

@@ -1,5 +1,5 @@
 -- In memory that passes the examination the segment that a make takes its block from is ready: held by the mutator and of the class, with a tree and a
--- free block from its place on. Assumes nothing.
+-- free block from its place on.
 use mathlib.Core.Path.{_≡_, refl, sym, _∙_, ap, subst}
 use mathlib.Core.Bool.{Bool, true, false}
 use mathlib.Core.Option.{some, Option·none-ne-some, Option·some-injective}

@@ -1,4 +1,4 @@
--- The segment that a make takes its block from, by what the stacks and the mutator's entry answer. Assumes nothing.
+-- The segment that a make takes its block from, by what the stacks and the mutator's entry answer.
 use mathlib.Core.Path.{_≡_, refl, sym, _∙_, ap, subst}
 use mathlib.Core.Option.{some}
 use Prim.Native.Nat.{ℕ, suc, _-_, _≤_, _<_}

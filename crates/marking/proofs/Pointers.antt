@@ -1,4 +1,4 @@
--- The loop over a record's pointers: what it keeps, one push more, one that is hindered. Assumes nothing.
+-- The loop over a record's pointers: what it keeps, one push more, one that is hindered.
 use mathlib.Core.Path.{_≡_, sym, _∙_, ap, subst}
 use mathlib.Core.Bool.{Bool, true, false, true≢false}
 use Prim.Native.Nat.{ℕ, _+_, _≤_, _<_}

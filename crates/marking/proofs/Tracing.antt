@@ -1,5 +1,4 @@
 -- A step in mark: with an empty trace stack it moves to sweep; else it traces the last entry, and in consistent memory nothing hinders it.
--- Assumes nothing.
 use mathlib.Core.Path.{_≡_, refl, sym, _∙_, ap, subst}
 use mathlib.Core.Logic.{_⊎_, inl, inr}
 use Prim.Native.Nat.{ℕ, suc, _+_, _-_, _≤_}

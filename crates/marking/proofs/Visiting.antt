@@ -1,4 +1,4 @@
--- The visit of the last entered record: what is popped, and how its returns meet its contract. Assumes nothing.
+-- The visit of the last entered record: what is popped, and how its returns meet its contract.
 use mathlib.Core.Path.{_≡_, refl, _∙_, ap, subst}
 use mathlib.Core.Bool.{Bool, true, false}
 use mathlib.Core.Logic.{inl, inr}

@@ -1,4 +1,4 @@
--- Which segments a start condemns, in document 01's word: "every full segment becomes condemned". Assumes nothing.
+-- Which segments a start condemns, in document 01's word: "every full segment becomes condemned".
 use mathlib.Core.Path.{_≡_, refl}
 use Prim.Native.Nat.{ℕ}
 use Rattle.layout.specs.Mem.{Mem}

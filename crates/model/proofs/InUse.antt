@@ -1,5 +1,5 @@
 -- What consistency says of a segment's blocks in use, by its state: all blocks of a full or condemned one; of a part or
--- held one some and not all, so that it has two blocks at least. Assumes nothing.
+-- held one some and not all, so that it has two blocks at least.
 use mathlib.Core.Path.{_≡_, _∙_, ap}
 use mathlib.Core.Bool.{Bool}
 use mathlib.Core.Logic.{⊎-elim}

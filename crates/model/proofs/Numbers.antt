@@ -1,4 +1,4 @@
--- Which numbers a call may give: the lowest of 2 to 9 that applies, 1 and 13, and none that is not of the table, nor 12. Assumes nothing.
+-- Which numbers a call may give: the lowest of 2 to 9 that applies, 1 and 13, and none that is not of the table, nor 12.
 use mathlib.Core.Path.{_≡_, refl, sym, subst}
 use mathlib.Core.Bool.{Bool, true, false, not, _&&_, true≢false}
 use mathlib.Core.Option.{Option, none, some}
@@ -11,7 +11,8 @@ use borrow.Author.Tests.{eqb-true}
 use Rattle.classes.specs.declared.RecordShape.{RecordShape}
 use Rattle.rules.specs.Pick.{pick}
 use Rattle.rules.proofs.Table.{and-left, and-right}
-use Rattle.theory.specs.Calls.{Call, c-attach, c-detach, c-check, c-leave, c-enter, c-spawn, c-make, c-load, c-store, c-copy, c-clear, c-put, c-get, c-same, c-shape, Observation, require, ifRecord, ifInside, ifRoot, refusal}
+use Rattle.theory.specs.Calls.{Call, c-attach, c-detach, c-check, c-leave, c-enter, c-spawn, c-make, c-load, c-store, c-copy, c-clear, c-put, c-get}
+use Rattle.theory.specs.Calls.{c-same, c-shape, Observation, require, ifRecord, ifInside, ifRoot, refusal}
 use Rattle.model.specs.Answers.{among, lastNumber, ownNumbers, mayGive}
 
 -- no refusal, or a number of the list that is not 1

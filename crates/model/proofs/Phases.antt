@@ -1,4 +1,4 @@
--- The rules of the cycle by the phase's number, as the code tests it. Assumes nothing.
+-- The rules of the cycle by the phase's number, as the code tests it.
 use mathlib.Core.Path.{_≡_, refl, sym, _∙_}
 use mathlib.Core.Bool.{Bool, true, false}
 use Prim.Native.Nat.{ℕ, zero, suc, _≤_, _<_}

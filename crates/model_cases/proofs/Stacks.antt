@@ -1,4 +1,4 @@
--- The cases of the stacks hold, by computing the definitions. Assumes nothing.
+-- The cases of the stacks hold, by computing the definitions.
 use mathlib.Core.Path.{refl}
 use Rattle.model_cases.specs.Replies.{replies, Holds}
 use Rattle.model_cases.specs.Stacks.{stacks, fills}

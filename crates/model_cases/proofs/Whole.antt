@@ -1,4 +1,4 @@
--- The whole case holds, by computing the definitions. Assumes nothing.
+-- The whole case holds, by computing the definitions.
 use mathlib.Core.Path.{refl}
 use Rattle.model_cases.specs.Replies.{replies, Holds}
 use Rattle.model_cases.specs.Whole.{whole}

@@ -1,4 +1,4 @@
--- The cycles hold, by computing the definitions. Assumes nothing.
+-- The cycles hold, by computing the definitions.
 use mathlib.Core.Path.{refl}
 use Rattle.model_cases.specs.Replies.{replies, Holds}
 use Rattle.model_cycles.specs.Cycles.{cycle, barriers, mutators}

@@ -1,4 +1,4 @@
--- The cycles over nothing hold, and their calls get the same replies in idle, by computing the definitions. Assumes nothing.
+-- The cycles over nothing hold, and their calls get the same replies in idle, by computing the definitions.
 use mathlib.Core.Path.{refl}
 use Rattle.model_cases.specs.Replies.{replies, Holds}
 use Rattle.model_cycles.specs.EmptyCycles.{nobody, inside, unfilled, inIdle}

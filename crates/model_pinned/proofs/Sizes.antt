@@ -1,4 +1,4 @@
--- The rows hold, by computing the definition. Assumes nothing.
+-- The rows hold, by computing the definition.
 use mathlib.Core.Path.{refl}
 use Rattle.layout.specs.Geometry.{wrongSize, segmentBytes}
 use Rattle.model_pinned.specs.Sizes.{rows, All}

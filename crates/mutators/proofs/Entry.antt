@@ -1,4 +1,4 @@
--- A mutator's entry written whole: cleared, and then three of its words set. Assumes nothing.
+-- A mutator's entry written whole: cleared, and then three of its words set.
 use mathlib.Core.Path.{_≡_, refl, sym, _∙_, ap}
 use mathlib.Core.List.{List, [], _∷_}
 use Prim.Native.Nat.{ℕ, zero, suc, _+_, _*_, _<_}

@@ -1,4 +1,4 @@
--- The refusal of a mutator that must be inside, from its state word, and a call that it and the call's roots pass or refuse. Assumes nothing.
+-- The refusal of a mutator that must be inside, from its state word, and a call that it and the call's roots pass or refuse.
 use mathlib.Core.Path.{_≡_, sym, _∙_, ap, subst}
 use mathlib.Core.Bool.{false}
 use mathlib.Core.Logic.{_⊎_, ⊎-elim}

@@ -1,4 +1,4 @@
--- The free stack as the opening fills it, one entry at a time, and what the whole comes to. Assumes nothing.
+-- The free stack as the opening fills it, one entry at a time, and what the whole comes to.
 use mathlib.Core.Path.{_≡_, refl, sym, _∙_, ap}
 use mathlib.Core.Bool.{true, false, true≢false}
 use mathlib.Core.List.{List, _∷_, _++_}

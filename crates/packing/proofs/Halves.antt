@@ -1,4 +1,4 @@
--- A number whose upper half is a value or whose lower half is a refusal, taken apart: it stands for that value or that refusal. Assumes nothing.
+-- A number whose upper half is a value or whose lower half is a refusal, taken apart: it stands for that value or that refusal.
 use mathlib.Core.Path.{_≡_, refl}
 use Prim.Native.Nat.{ℕ, zero, suc, _*_, _/_, _%_, _≤_, _<_}
 use native.Mathlib.Omega.{arith}

@@ -1,4 +1,4 @@
--- The length of a lent slice for a count of segments. Assumes nothing.
+-- The length of a lent slice for a count of segments.
 use mathlib.Core.Path.{_≡_, sym, _∙_, ap}
 use mathlib.Core.Bool.{Bool, true, false, true≢false}
 use Prim.Native.Nat.{ℕ, _≤_}

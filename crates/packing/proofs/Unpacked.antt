@@ -1,4 +1,4 @@
--- An answer that keeps a call's promise, packed and unpacked, is that answer: so the promise is the exported function's. Assumes nothing.
+-- An answer that keeps a call's promise, packed and unpacked, is that answer: so the promise is the exported function's.
 use mathlib.Core.Path.{_≡_, refl, sym, _∙_, ap, subst}
 use mathlib.Core.Bool.{Bool, true, false}
 use mathlib.Core.Option.{none, some, Option·some-injective}
@@ -79,7 +79,8 @@ module _ {Result : Geometry → theory.Answer → Type 0} {may : List ℕ} {does
   carried : (r : Answer) → r ≡ a → Keeps answerOf Result may does g xs r ys
   carried r e = subst (λ z. Keeps answerOf Result may does z xs r ys) same (subst (λ z. Keeps answerOf Result may does g′ xs z ys) (sym e) p)
 
-  exports-by : (Sort : theory.Answer → Type 0) (unpacks : ℕ → Answer) (packs : Answer → ℕ) → (Kind Sort a → unpacks (packs a) ≡ a) → (Result g′ (answerOf a) → Sort (answerOf a)) → (n : ℕ) → n ≡ packs a → Keeps answerOf Result may does g xs (unpacks n) ys
+  exports-by : (Sort : theory.Answer → Type 0) (unpacks : ℕ → Answer) (packs : Answer → ℕ) → (Kind Sort a → unpacks (packs a) ≡ a)
+      → (Result g′ (answerOf a) → Sort (answerOf a)) → (n : ℕ) → n ≡ packs a → Keeps answerOf Result may does g xs (unpacks n) ys
   exports-by Sort unpacks packs back k n e = carried (unpacks n) (ap unpacks e ∙ back (kind-of Sort k))
 
 module _ (c : Call) (g′ g : Geometry) (xs ys : List ℕ) (a : Answer) (same : g′ ≡ g) (p : Promise c g′ xs a ys) where
@@ -103,5 +104,8 @@ pub exports-open : (g′ g : Geometry) (xs ys : List ℕ) (a : Answer) → g′ 
 exports-open g′ g xs ys a same p n e = subst (λ z. OpenPromise z xs (unpack n) ys) same (subst (λ z. OpenPromise g′ xs z ys) (sym (ap unpack e ∙ go (wrongSize g′ (length xs)) refl)) p)
   where
     go : (b : Bool) → wrongSize g′ (length xs) ≡ b → unpack (pack a) ≡ a
-    go true q = let z = p .sizes q .0 in unpacked a (record { kind = λ i. none-some (sym i ∙ ap refusalIn z); number = λ n i. let j = Option·some-injective 1 n (sym (ap refusalIn z) ∙ i) in (omega arith, omega arith) })
+    go true q =
+        let z = p .sizes q .0 in
+        unpacked a
+        (record { kind = λ i. none-some (sym i ∙ ap refusalIn z); number = λ n i. let j = Option·some-injective 1 n (sym (ap refusalIn z) ∙ i) in (omega arith, omega arith) })
     go false q = let z = p .exact q .0 in unpacked a (record { kind = λ i. z; number = λ n i. none-some (sym (ap refusalIn z) ∙ i) })

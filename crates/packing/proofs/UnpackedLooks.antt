@@ -1,4 +1,4 @@
--- The answer of a look that keeps its promise, packed and unpacked, is that answer. Assumes nothing.
+-- The answer of a look that keeps its promise, packed and unpacked, is that answer.
 use mathlib.Core.Path.{_≡_, refl, sym, _∙_, ap, subst}
 use mathlib.Core.Bool.{Bool, true, false}
 use mathlib.Core.Option.{none, some, Option·some-injective}
@@ -57,7 +57,9 @@ exports-states g′ g xs out after a same p n e =
     is-1 k i j = of-1 k (Option·some-injective k 1 (sym i ∙ j))
 
     number : (k : ℕ) → refusalOf a ≡ some k → OfTable k
-    number k i = by-sizes g′ xs (length out) (len g′ Region.segments) (λ w. is-1 k i (ap refusalIn (p .sizes .0 w))) (λ f. is-1 k i (ap refusalIn (p .sizes .1 f))) (λ w q. let z = p .torn w q k i in (omega arith, omega arith))
+    number k i =
+        by-sizes g′ xs (length out) (len g′ Region.segments) (λ w. is-1 k i (ap refusalIn (p .sizes .0 w)))
+        (λ f. is-1 k i (ap refusalIn (p .sizes .1 f))) (λ w q. let z = p .torn w q k i in (omega arith, omega arith))
 
 -- ---- the examination
 
@@ -66,7 +68,8 @@ unpacked-examined examination.Yes t = refl
 unpacked-examined examination.No t = refl
 unpacked-examined (examination.Refused n) t = refused-back examination.Refused judged n (t n refl .0) (below n (t n refl))
 
-pub exports-examine : (g′ g : Geometry) (xs scratch after : List ℕ) (a : Examined) → g′ ≡ g → ExaminePromise g′ xs scratch a after → (n : ℕ) → n ≡ packExamined a → ExaminePromise g xs scratch (unpackExamined n) after
+pub exports-examine : (g′ g : Geometry) (xs scratch after : List ℕ) (a : Examined) → g′ ≡ g → ExaminePromise g′ xs scratch a after → (n : ℕ)
+    → n ≡ packExamined a → ExaminePromise g xs scratch (unpackExamined n) after
 exports-examine g′ g xs scratch after a same p n e =
     subst (λ z. ExaminePromise z xs scratch (unpackExamined n) after) same (subst (λ z. ExaminePromise g′ xs scratch z after) (sym (ap unpackExamined e ∙ unpacked-examined a number)) p)
   where

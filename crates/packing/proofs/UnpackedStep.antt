@@ -1,4 +1,4 @@
--- The answer of a step that keeps step's promise, packed and unpacked, is that answer. Assumes nothing.
+-- The answer of a step that keeps step's promise, packed and unpacked, is that answer.
 use mathlib.Core.Path.{_≡_, refl, sym, _∙_, ap, subst}
 use mathlib.Core.Bool.{Bool, true, false}
 use mathlib.Core.Option.{none, some}

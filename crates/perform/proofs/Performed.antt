@@ -1,4 +1,4 @@
--- The promise of a request is that of the call that it stands for. Assumes nothing.
+-- The promise of a request is that of the call that it stands for.
 use mathlib.Core.Path.{_≡_, sym, subst}
 use mathlib.Core.List.{List}
 use Prim.Native.Nat.{ℕ}

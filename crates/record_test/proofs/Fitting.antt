@@ -1,4 +1,4 @@
--- Whether a record of so many fields is of a class, by the words of the class's block: it holds the record, and half of it does not. Assumes nothing.
+-- Whether a record of so many fields is of a class, by the words of the class's block: it holds the record, and half of it does not.
 use mathlib.Core.Path.{_≡_, refl, ap, subst}
 use mathlib.Core.Bool.{Bool, true, false}
 use mathlib.Core.Logic.{_⊎_, inl, inr}

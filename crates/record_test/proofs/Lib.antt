@@ -1,3 +1,3 @@
--- The laws of the test. Assumes nothing.
+-- The laws of the test.
 pub mod Testing
 pub mod Fitting

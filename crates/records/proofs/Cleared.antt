@@ -1,4 +1,4 @@
--- Words of fields cleared one by one are a run of zeros, and runs that meet are one. Assumes nothing.
+-- Words of fields cleared one by one are a run of zeros, and runs that meet are one.
 use mathlib.Core.Path.{_≡_, refl, _∙_}
 use mathlib.Core.Bool.{Bool, true, false}
 use Prim.Native.Nat.{ℕ, _+_, _-_, _≤_, _<_}

@@ -1,4 +1,4 @@
--- What a word names, a header's shape, and the word of a field by the tests that decide it; d is the number of the heap's words. Assumes nothing.
+-- What a word names, a header's shape, and the word of a field by the tests that decide it; d is the number of the heap's words.
 use mathlib.Core.Path.{_≡_, refl, _∙_, ap, subst}
 use Prim.Native.Nat.{ℕ, zero, suc, _+_, _-_, _≤_, _<_}
 use native.Mathlib.Numerals.{unary-clauses}

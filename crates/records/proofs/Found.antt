@@ -1,4 +1,4 @@
--- What the answer of a search for a field's word says of the record. Assumes nothing.
+-- What the answer of a search for a field's word says of the record.
 use mathlib.Core.Path.{_≡_, refl, sym, ap, subst}
 use mathlib.Core.Bool.{Bool, true, false, true≢false}
 use Prim.Native.Nat.{ℕ, _+_, _≤_, _<_}

@@ -1,4 +1,4 @@
--- A call on a field of the record in a root: what the root's word names, and what the search for the field's word says of the call. Assumes nothing.
+-- A call on a field of the record in a root: what the root's word names, and what the search for the field's word says of the call.
 use mathlib.Core.Path.{_≡_, refl, sym, _∙_, ap, subst}
 use mathlib.Core.Bool.{Bool, true, false, true≢false}
 use mathlib.Core.List.{List}

@@ -1,4 +1,4 @@
--- The place moves just past the block: the segment stays held while a free block remains, else it becomes full. Assumes nothing.
+-- The place moves just past the block: the segment stays held while a free block remains, else it becomes full.
 use mathlib.Core.Path.{_≡_, refl, _∙_, ap}
 use mathlib.Core.Logic.{inl, inr}
 use mathlib.Core.List.{List}

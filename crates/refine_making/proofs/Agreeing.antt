@@ -1,4 +1,4 @@
--- The memory that a make leaves agrees with the machine's state after the same make. Assumes nothing.
+-- The memory that a make leaves agrees with the machine's state after the same make.
 use mathlib.Core.Path.{_≡_, sym, _∙_, ap, subst}
 use mathlib.Core.Bool.{true, not, _&&_}
 use mathlib.Core.Logic.{_⊎_, inl, inr, _≢_}
@@ -50,10 +50,18 @@ module _ (g : Geometry) (m : Mem) (s : Sizes g m) (c : Ordered g m) (m′ : Mem)
 
   -- what is live afterwards is the new record or was live before
   pub old-or-new : (x : ℕ) → machine.Live after x → (Live m x × (x ≢ h)) ⊎ (x ≡ h)
-  old-or-new x l = go (making.live-back (segmentOf g) (view g m) (to-inv g m s c) k d h (pointerCountOf shape) (replicate (valueCountOf shape) 0) (unused.not-used g m c k d cl r b shape q) (unused.not-collected g m c k d cl r b shape q) l)
+  old-or-new x l =
+      go
+      (making.live-back (segmentOf g) (view g m) (to-inv g m s c) k d h (pointerCountOf shape) (replicate (valueCountOf shape) 0)
+      (unused.not-used g m c k d cl r b shape q) (unused.not-collected g m c k d cl r b shape q) l)
     where
       go : machine.Live (view g m) x ⊎ (x ≡ h) → (Live m x × (x ≢ h)) ⊎ (x ≡ h)
-      go (inl y) = inl (to-live g m s c y, making.live-other (segmentOf g) (view g m) (to-inv g m s c) k d h (pointerCountOf shape) (replicate (valueCountOf shape) 0) (unused.not-used g m c k d cl r b shape q) (unused.not-collected g m c k d cl r b shape q) x y)
+      go (inl y) =
+          inl (
+            to-live g m s c y,
+            making.live-other (segmentOf g) (view g m) (to-inv g m s c) k d h (pointerCountOf shape) (replicate (valueCountOf shape) 0)
+                (unused.not-used g m c k d cl r b shape q) (unused.not-collected g m c k d cl r b shape q) x y,
+          )
       go (inr e) = inr e
 
   -- ---- another record
@@ -79,7 +87,9 @@ module _ (g : Geometry) (m : Mem) (s : Sizes g m) (c : Ordered g m) (m′ : Mem)
 
     pub used-on : isUsed g m′ x ≡ true
     used-on =
-        let e : usedBit g m′ (segmentOf g x) (blockOf g m′ x) ≡ 1 = ap (usedBit g m′ (segmentOf g x)) (standing.block-same g m m′ k d cl r b shape q a x) ∙ standing.used-on g m m′ k d cl r b shape q a (segmentOf g x) (blockOf g m x) (ok .block) in
+        let e : usedBit g m′ (segmentOf g x) (blockOf g m′ x) ≡ 1 =
+        ap (usedBit g m′ (segmentOf g x)) (standing.block-same g m m′ k d cl r b shape q a x)
+        ∙ standing.used-on g m m′ k d cl r b shape q a (segmentOf g x) (blockOf g m x) (ok .block) in
         and-both _ _ (ne-not _ _ (standing.tag-used g m m′ k d cl r b shape q a (segmentOf g x) (ok .used))) (eq-eqb _ _ e)
 
     -- its bit is another
@@ -135,11 +145,14 @@ module _ (g : Geometry) (m : Mem) (s : Sizes g m) (c : Ordered g m) (m′ : Mem)
 
   -- ---- pointers of live records
 
-  pointer-at : (x f : ℕ) → machine.Live after x → f < upd (pointerCount m) h (pointerCountOf shape) x → record? (pointer m′ x f) ≡ upd {A = ℕ → Option ℕ} (λ at f. record? (pointer m at f)) h (λ _. none) x f
+  pointer-at : (x f : ℕ) → machine.Live after x → f < upd (pointerCount m) h (pointerCountOf shape) x
+      → record? (pointer m′ x f) ≡ upd {A = ℕ → Option ℕ} (λ at f. record? (pointer m at f)) h (λ _. none) x f
   pointer-at x f l y = go (old-or-new x l)
     where
       go : (Live m x × (x ≢ h)) ⊎ (x ≡ h) → record? (pointer m′ x f) ≡ upd {A = ℕ → Option ℕ} (λ at f. record? (pointer m at f)) h (λ _. none) x f
-      go (inl z) = ap record? (pointer-on x (z .0) (z .1) f (subst (λ w. f < w) (upd-other (pointerCount m) h (pointerCountOf shape) x (z .1)) y)) ∙ sym (upd-miss₁ (λ at f. record? (pointer m at f)) h (λ _. none) x f (z .1))
+      go (inl z) =
+          ap record? (pointer-on x (z .0) (z .1) f (subst (λ w. f < w) (upd-other (pointerCount m) h (pointerCountOf shape) x (z .1)) y))
+          ∙ sym (upd-miss₁ (λ at f. record? (pointer m at f)) h (λ _. none) x f (z .1))
       go (inr e) =
           ap (λ z. record? (pointer m′ z f)) e
           ∙ ap record? (newborn.pointer-there g m c m′ k d cl r b shape q a f (subst (λ w. f < w) (upd-hit (pointerCount m) h (pointerCountOf shape) x e) y))

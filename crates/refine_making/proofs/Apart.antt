@@ -1,4 +1,4 @@
--- The words of another record lie outside the block that is handed out. Assumes nothing.
+-- The words of another record lie outside the block that is handed out.
 use mathlib.Core.Path.{_≡_, sym, _∙_, ap, subst}
 use mathlib.Core.Logic.{_⊎_, inl, inr}
 use Prim.Native.Nat.{ℕ, _+_, _-_, _≤_, _<_}
@@ -21,7 +21,9 @@ use Rattle.refine_view.proofs.Contents.{pointers-by, pointer-by, fields-by}
 use Rattle.refine_making.proofs.Request.{Request}
 use Rattle.refine_making.proofs.Result.{Result}
 
-module _ (g : Geometry) (m m′ : Mem) (k d cl r b : ℕ) (shape : RecordShape) (q : Request g m k d cl r b shape) (a : Result g m m′ k d cl r b shape) (x : ℕ) (ok : RecordOk g m x) (of : IsClass (class m (segmentOf g x))) (other : x ≡ headerOf g r cl b → ⊥) where
+module _ (g : Geometry) (m m′ : Mem) (k d cl r b : ℕ) (shape : RecordShape) (q : Request g m k d cl r b shape)
+    (a : Result g m m′ k d cl r b shape) (x : ℕ) (ok : RecordOk g m x) (of : IsClass (class m (segmentOf g x)))
+    (other : x ≡ headerOf g r cl b → ⊥) where
   abbrev h : ℕ
   h = headerOf g r cl b
 
@@ -32,7 +34,9 @@ module _ (g : Geometry) (m m′ : Mem) (k d cl r b : ℕ) (shape : RecordShape) 
       within u v =
           let y = class-holds (pointerCount m x + valueCount m x) (class m (segmentOf g x)) (ok .sized) in
           let w = q .fits in
-          other (heads-apart g m x h of (header-is-class g cl (q .isClass) r b (q .below) m (q .ofClass)) (ok .aligned) (header-head g cl (q .isClass) r b (q .below) m (q .ofClass)) i (x + i - h) (omega arith)
+          other
+          (heads-apart g m x h of (header-is-class g cl (q .isClass) r b (q .below) m (q .ofClass)) (ok .aligned)
+          (header-head g cl (q .isClass) r b (q .below) m (q .ofClass)) i (x + i - h) (omega arith)
           (subst (λ z. x + i - h < blockWords z) (sym (header-class g cl (q .isClass) r b (q .below) m (q .ofClass))) (omega arith)) (omega arith))
 
       go : (h ≤ x + i) ⊎ (x + i < h) → (x + i ≤ h + (fieldCountOf shape)) ⊎ (h + fieldCountOf shape < x + i) → heapWord m′ (x + i) ≡ heapWord m (x + i)

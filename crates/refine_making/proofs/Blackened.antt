@@ -1,4 +1,4 @@
--- The record is marked where it is born black; with that, all the words that a make leaves. Assumes nothing.
+-- The record is marked where it is born black; with that, all the words that a make leaves.
 use mathlib.Core.Path.{_≡_, refl, sym, _∙_, ap}
 use mathlib.Core.Bool.{Bool, true, false, true≢false}
 use mathlib.Core.Logic.{_⊎_, inl, inr}
@@ -42,7 +42,13 @@ module _ (g : Geometry) (m : Mem) (k d cl r b : ℕ) (shape : RecordShape) (q : 
   -- ---- the marks, born black
 
   room : markBit h / 32 < length (m₁ .marks)
-  room = let z = v .sizes .marks in let w = marks-are g (g .segments) in let u = two-words cl (q .isClass) in let i = header-inside g cl (q .isClass) r b (q .below) (q .inside) in let y = marks-words g (g .segments) in omega arith
+  room =
+      let z = v .sizes .marks in
+      let w = marks-are g (g .segments) in
+      let u = two-words cl (q .isClass) in
+      let i = header-inside g cl (q .isClass) r b (q .below) (q .inside) in
+      let y = marks-words g (g .segments) in
+      omega arith
 
   marks₁ : (i : ℕ) → bitAt (m₁ .marks) i ≡ bitAt (m .marks) i
   marks₁ i = ap (λ (ws : List ℕ). bitAt ws i) (v .marks)
@@ -82,8 +88,11 @@ module _ (g : Geometry) (m : Mem) (k d cl r b : ℕ) (shape : RecordShape) (q : 
   -- ---- all the words that a make leaves
 
   -- with the marks that are left
-  ended : (ma : List ℕ) → Sizes g (beside m₂ (m₂ .control) (m₂ .mutators) ma (m₂ .trace) (m₂ .heap)) → ((i : ℕ) → (i ≡ markBit h → ⊥) → bitAt ma i ≡ bitAt (m .marks) i) → (black (phase m) (acks m k) ≡ true → bitAt ma (markBit h) ≡ 1)
-      → (black (phase m) (acks m k) ≡ false → bitAt ma (markBit h) ≡ bitAt (m .marks) (markBit h)) → Result g m (setRoot (beside m₂ (m₂ .control) (m₂ .mutators) ma (m₂ .trace) (m₂ .heap)) k d (suc h)) k d cl r b shape
+  ended : (ma : List ℕ) → Sizes g (beside m₂ (m₂ .control) (m₂ .mutators) ma (m₂ .trace) (m₂ .heap))
+      → ((i : ℕ) → (i ≡ markBit h → ⊥) → bitAt ma i ≡ bitAt (m .marks) i)
+      → (black (phase m) (acks m k) ≡ true → bitAt ma (markBit h) ≡ 1)
+      → (black (phase m) (acks m k) ≡ false → bitAt ma (markBit h) ≡ bitAt (m .marks) (markBit h))
+      → Result g m (setRoot (beside m₂ (m₂ .control) (m₂ .mutators) ma (m₂ .trace) (m₂ .heap)) k d (suc h)) k d cl r b shape
   unfolding setHeap setRun setMutator
   ended ma z o x y = record {
     sizes = sizes-mutator g _ z _ _;

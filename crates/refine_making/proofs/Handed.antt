@@ -1,5 +1,5 @@
 -- A make out of a held segment: a block is found there, it was not in use, and the memory afterwards is in order and agrees with the
--- machine's. Assumes nothing.
+-- machine's.
 use mathlib.Core.Path.{_≡_}
 use mathlib.Core.Bool.{true}
 use Prim.Native.Nat.{ℕ, suc, _<_}
@@ -41,10 +41,12 @@ pub record HandsOut (g : Geometry) (m m′ : Mem) (r : ℕ) (st : State) : Type 
   pub steady : Steady g m m′
 
 module _ (g : Geometry) (m : Mem) (s : Sizes g m) (c : Ordered g m) where
-  hands-out : (k d cl r b : ℕ) (shape : RecordShape) → Request g m k d cl r b shape → HandsOut g m (handedOut g m k d cl r b shape) r (make (view g m) k d (headerOf g r cl b) (pointerCountOf shape) (replicate (valueCountOf shape) 0))
+  hands-out : (k d cl r b : ℕ) (shape : RecordShape) → Request g m k d cl r b shape
+      → HandsOut g m (handedOut g m k d cl r b shape) r (make (view g m) k d (headerOf g r cl b) (pointerCountOf shape) (replicate (valueCountOf shape) 0))
   hands-out k d cl r b shape q =
       let a = result g m s k d cl r b shape q in
-      let t : Steady g m (handedOut g m k d cl r b shape) = (λ x l e. (standing.tag-back g m (handedOut g m k d cl r b shape) k d cl r b shape q a x e .0, standing.class-same g m (handedOut g m k d cl r b shape) k d cl r b shape q a x)) in
+      let t : Steady g m (handedOut g m k d cl r b shape) =
+      (λ x l e. (standing.tag-back g m (handedOut g m k d cl r b shape) k d cl r b shape q a x e .0, standing.class-same g m (handedOut g m k d cl r b shape) k d cl r b shape q a x)) in
       record {
         structure = structure g m s c (handedOut g m k d cl r b shape) k d cl r b shape q a;
         occupied = occupied-ok g m c (handedOut g m k d cl r b shape) k d cl r b shape q a;

@@ -1,4 +1,4 @@
--- The record that a make has made: its fields, its block, its mark. Assumes nothing.
+-- The record that a make has made: its fields, its block, its mark.
 use mathlib.Core.Path.{_≡_, refl, _∙_, ap}
 use mathlib.Core.Bool.{Bool, true, false, _&&_}
 use Prim.Native.Nat.{ℕ, _+_, _-_, _%_, _<_}
@@ -52,7 +52,10 @@ module _ (g : Geometry) (m : Mem) (c : Ordered g m) (m′ : Mem) (k d cl r b : �
   pointer-there f l = a .fields f (omega arith)
 
   value-there : (f : ℕ) → f < valueCountOf shape → value m′ h f ≡ 0
-  value-there f l = ap (λ z. heapWord m′ (h + 1 + z + f)) pointers-there ∙ (let e : h + 1 + pointerCountOf shape + f ≡ h + 1 + (pointerCountOf shape + f) = omega arith in ap (heapWord m′) e) ∙ a .fields (pointerCountOf shape + f) (omega arith)
+  value-there f l =
+      ap (λ z. heapWord m′ (h + 1 + z + f)) pointers-there
+      ∙ (let e : h + 1 + pointerCountOf shape + f ≡ h + 1 + (pointerCountOf shape + f) = omega arith in ap (heapWord m′) e)
+      ∙ a .fields (pointerCountOf shape + f) (omega arith)
 
   pub fields-there : valuesOf m′ h ≡ replicate (valueCountOf shape) 0
   fields-there = ap (λ z. tab z (value m′ h)) values-there ∙ tab-zeros (valueCountOf shape) (value m′ h) value-there
@@ -85,7 +88,10 @@ module _ (g : Geometry) (m : Mem) (c : Ordered g m) (m′ : Mem) (k d cl r b : �
       go true e = eq-eqb (marked g m′ h) 1 (⊎-elim (λ z. absurd (no-entry z)) (λ f. off-stack g m′ h f ∙ a .born e) (stacked? g m′ h))
         where
           no-entry : IsEntry m′ h → ⊥
-          no-entry z = let y = c .trace .bits h (entry-was m m′ (standing.count-same g m m′ k d cl r b shape q a) (standing.trace-same g m m′ k d cl r b shape q a) h z) in let w = unused.not-marked g m c k d cl r b shape q t in omega arith
+          no-entry z =
+              let y = c .trace .bits h (entry-was m m′ (standing.count-same g m m′ k d cl r b shape q a) (standing.trace-same g m m′ k d cl r b shape q a) h z) in
+              let w = unused.not-marked g m c k d cl r b shape q t in
+              omega arith
       go false e =
           let z : marked g m′ h ≡ 0 = unentered g m′ h (a .unborn e ∙ unused.not-marked g m c k d cl r b shape q t) in
           ne-eqb (marked g m′ h) 1 (λ y. omega arith)

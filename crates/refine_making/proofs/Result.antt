@@ -1,4 +1,4 @@
--- The words of the memory that a make leaves, beside those that it began with. Assumes nothing.
+-- The words of the memory that a make leaves, beside those that it began with.
 use mathlib.Core.Path.{_≡_}
 use mathlib.Core.Bool.{true, false}
 use mathlib.Core.Logic.{_⊎_}

@@ -1,4 +1,4 @@
--- Every segment is in order after a make: the one it took its block from, held or now full, and the others. Assumes nothing.
+-- Every segment is in order after a make: the one it took its block from, held or now full, and the others.
 use mathlib.Core.Path.{_≡_, sym, _∙_, ap, subst}
 use mathlib.Core.Logic.{_⊎_, inl, inr, ⊎-elim}
 use mathlib.Core.List.{List}
@@ -37,7 +37,9 @@ module _ (g : Geometry) (m : Mem) (c : Ordered g m) (m′ : Mem) (k d cl r b : �
             f (omega arith)
 
     other-ok : SegmentOk g m′ x
-    other-ok = segment-same g m m′ x ok (a .others x f) (standing.bitmap-same g m m′ k d cl r b shape q a x) (λ e. (λ y. ok .held e .1 (sym (standing.state-same g m m′ k d cl r b shape q a (owner m x)) ∙ y), held-on e))
+    other-ok =
+        segment-same g m m′ x ok (a .others x f) (standing.bitmap-same g m m′ k d cl r b shape q a x)
+        (λ e. (λ y. ok .held e .1 (sym (standing.state-same g m m′ k d cl r b shape q a (owner m x)) ∙ y), held-on e))
 
   -- ---- the segment of the block
 
@@ -53,7 +55,13 @@ module _ (g : Geometry) (m : Mem) (c : Ordered g m) (m′ : Mem) (k d cl r b : �
         free = λ e. absurd (omega arith);
         unowned = λ h. absurd (h t);
         classes = λ h. class-there;
-        remains = λ u v. (x .next, subst (λ z. z ≤ x .next) (sym (o .place)) (x .after), subst (λ z. x .next < blocksIn g z) (sym (o .class)) (x .below), ap (λ (ws : List ℕ). bitAt ws (x .next)) (standing.bitmap-same g m m′ k d cl r b shape q a r) ∙ x .unused);
+        remains =
+            λ u v. (
+              x .next,
+              subst (λ z. z ≤ x .next) (sym (o .place)) (x .after),
+              subst (λ z. x .next < blocksIn g z) (sym (o .class)) (x .below),
+              ap (λ (ws : List ℕ). bitAt ws (x .next)) (standing.bitmap-same g m m′ k d cl r b shape q a r) ∙ x .unused,
+            );
         full = λ u. absurd (omega arith);
         condemned = λ u. absurd (omega arith);
         held = λ e. (

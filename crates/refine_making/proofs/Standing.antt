@@ -1,4 +1,4 @@
--- What a make leaves as it was: phase and trace stack, mutators, segments' tags and classes, and blocks in use. Assumes nothing.
+-- What a make leaves as it was: phase and trace stack, mutators, segments' tags and classes, and blocks in use.
 use mathlib.Core.Path.{_≡_, refl, sym, _∙_, ap}
 use mathlib.Core.Bool.{Bool, true, false, _&&_}
 use mathlib.Core.Logic.{_⊎_, inl, inr, ⊎-elim}
@@ -63,7 +63,11 @@ module _ (g : Geometry) (m m′ : Mem) (k d cl r b : ℕ) (shape : RecordShape) 
   root-same j i l f = a .words j i (omega arith) (λ x y. omega arith) f
 
   pub holding-same : (j c : ℕ) → IsClass c → (j ≡ k → c ≡ cl → ⊥) → holding m′ j c ≡ holding m j c
-  holding-same j c i f = let u = i .0 in let x = q .isClass .0 in let w = q .within in holding-by m m′ j c (a .words j (heldFrom + (c - firstClass)) (table-below c i) (λ x y. f x (omega arith)) (λ x y. omega arith))
+  holding-same j c i f =
+      let u = i .0 in
+      let x = q .isClass .0 in
+      let w = q .within in
+      holding-by m m′ j c (a .words j (heldFrom + (c - firstClass)) (table-below c i) (λ x y. f x (omega arith)) (λ x y. omega arith))
 
   -- ---- segments
 

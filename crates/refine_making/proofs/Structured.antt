@@ -1,4 +1,4 @@
--- The words that a make leaves are in order: mutators, stacks, records, trace stack and marks. Assumes nothing.
+-- The words that a make leaves are in order: mutators, stacks, records, trace stack and marks.
 use mathlib.Core.Path.{_≡_, refl, sym, _∙_, ap, subst}
 use mathlib.Core.Logic.{_⊎_, inl, inr, _≢_}
 use Prim.Native.Nat.{ℕ, suc, _*_, _≤_, _<_}
@@ -73,7 +73,12 @@ module _ (g : Geometry) (m : Mem) (s : Sizes g m) (c : Ordered g m) (m′ : Mem)
   -- ---- records
 
   old-record : (x : ℕ) → Live m x → x ≢ h → RecordOk g m′ x
-  old-record x l f = let o = c .records x l in record-by g m m′ x (standing.class-same g m m′ k d cl r b shape q a (segmentOf g x)) o (standing.tag-used g m m′ k d cl r b shape q a (segmentOf g x) (o .used)) (standing.used-on g m m′ k d cl r b shape q a (segmentOf g x) (blockOf g m x) (o .block)) (header-on g m s c m′ k d cl r b shape q a x l f)
+  old-record x l f =
+      let o = c .records x l in
+      record-by g m m′ x (standing.class-same g m m′ k d cl r b shape q a (segmentOf g x)) o
+      (standing.tag-used g m m′ k d cl r b shape q a (segmentOf g x) (o .used))
+      (standing.used-on g m m′ k d cl r b shape q a (segmentOf g x) (blockOf g m x) (o .block))
+      (header-on g m s c m′ k d cl r b shape q a x l f)
 
   new-record : RecordOk g m′ h
   new-record = record {
@@ -85,7 +90,9 @@ module _ (g : Geometry) (m : Mem) (s : Sizes g m) (c : Ordered g m) (m′ : Mem)
   }
 
   records-ok : (x : ℕ) → Live m′ x → RecordOk g m′ x
-  records-ok x l = go (old-or-new g m s c m′ k d cl r b shape q a x (live-back (segmentOf g) (after g m s c m′ k d cl r b shape q a) (view g m′) (agree g m s c m′ k d cl r b shape q a) (live-on g m′ l)))
+  records-ok x l =
+      go
+      (old-or-new g m s c m′ k d cl r b shape q a x (live-back (segmentOf g) (after g m s c m′ k d cl r b shape q a) (view g m′) (agree g m s c m′ k d cl r b shape q a) (live-on g m′ l)))
     where
       go : (Live m x × (x ≢ h)) ⊎ (x ≡ h) → RecordOk g m′ x
       go (inl y) = old-record x (y .0) (y .1)
@@ -126,7 +133,10 @@ module _ (g : Geometry) (m : Mem) (s : Sizes g m) (c : Ordered g m) (m′ : Mem)
   -- ---- marks
 
   use-on : (x : ℕ) → HeadInUse g m x → HeadInUse g m′ x
-  use-on x u = use-by g m m′ x (standing.class-same g m m′ k d cl r b shape q a (segmentOf g x)) u (standing.tag-used g m m′ k d cl r b shape q a (segmentOf g x) (u .used)) (standing.used-on g m m′ k d cl r b shape q a (segmentOf g x) (blockOf g m x) (u .block))
+  use-on x u =
+      use-by g m m′ x (standing.class-same g m m′ k d cl r b shape q a (segmentOf g x)) u
+      (standing.tag-used g m m′ k d cl r b shape q a (segmentOf g x) (u .used))
+      (standing.used-on g m m′ k d cl r b shape q a (segmentOf g x) (blockOf g m x) (u .block))
 
   use-new : HeadInUse g m′ h
   use-new = record { used = new-record .used; aligned = new-record .aligned; block = new-record .block }
@@ -143,7 +153,9 @@ module _ (g : Geometry) (m : Mem) (s : Sizes g m) (c : Ordered g m) (m′ : Mem)
 
   -- nothing is born black before the second handshake
   blank : phase m ≡ sync1 → MarksIn sync1 g m → MarksIn sync1 g m′
-  blank e o i l u = entry-was m′ m (sym (standing.count-same g m m′ k d cl r b shape q a)) (λ j. sym (standing.trace-same g m m′ k d cl r b shape q a j)) (bitWord i) (o i l (go (same-or-not i (markBit h))))
+  blank e o i l u =
+      entry-was m′ m (sym (standing.count-same g m m′ k d cl r b shape q a))
+      (λ j. sym (standing.trace-same g m m′ k d cl r b shape q a j)) (bitWord i) (o i l (go (same-or-not i (markBit h))))
     where
       go : (i ≡ markBit h) ⊎ (i ≡ markBit h → ⊥) → bitAt (m .marks) i ≡ 1
       go (inl z) = ap (bitAt (m .marks)) z ∙ sym (a .unborn (ap (λ w. black w (acks m k)) e)) ∙ ap (bitAt (m′ .marks)) (sym z) ∙ u
@@ -157,5 +169,7 @@ module _ (g : Geometry) (m : Mem) (s : Sizes g m) (c : Ordered g m) (m′ : Mem)
     mutators = mutators-ok;
     records = records-ok;
     trace = trace-ok;
-    marks = subst (λ ph. MarksIn ph g m′) (sym (standing.phase-same g m m′ k d cl r b shape q a)) (marks-by g m m′ (λ x t. standing.tag-back g m m′ k d cl r b shape q a x t .0) marks-of (phase m) blank (structure-of g m c .marks));
+    marks =
+        subst (λ ph. MarksIn ph g m′) (sym (standing.phase-same g m m′ k d cl r b shape q a))
+        (marks-by g m m′ (λ x t. standing.tag-back g m m′ k d cl r b shape q a x t .0) marks-of (phase m) blank (structure-of g m c .marks));
   }

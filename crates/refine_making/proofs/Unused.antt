@@ -1,4 +1,4 @@
--- The block that is handed out was not in use: not in the machine, not marked while tracing, not condemned. Assumes nothing.
+-- The block that is handed out was not in use: not in the machine, not marked while tracing, not condemned.
 use mathlib.Core.Path.{_≡_, _∙_, ap, subst}
 use mathlib.Core.Bool.{false, not, _&&_}
 use mathlib.Core.Logic.{_⊎_, inr, ⊎-elim}
@@ -41,7 +41,8 @@ module _ (g : Geometry) (m : Mem) (c : Ordered g m) (k d cl r b : ℕ) (shape : 
 
   pub not-used : isUsed g m h ≡ false
   not-used =
-      let e : usedBit g m (segmentOf g h) (blockOf g m h) ≡ usedBit g m r b = ap (λ z. usedBit g m z (blockOf g m h)) segment-is ∙ ap (usedBit g m r) (header-block g cl (q .isClass) r b (q .below) m (q .ofClass)) in
+      let e : usedBit g m (segmentOf g h) (blockOf g m h) ≡ usedBit g m r b =
+      ap (λ z. usedBit g m z (blockOf g m h)) segment-is ∙ ap (usedBit g m r) (header-block g cl (q .isClass) r b (q .below) m (q .ofClass)) in
       let z = unused-bit in
       ap (λ x. not (eqb (tag m (segmentOf g h)) Tag.free) && x) (ne-eqb (usedBit g m (segmentOf g h) (blockOf g m h)) 1 (λ y. omega arith)) ∙ and-false (not (eqb (tag m (segmentOf g h)) Tag.free))
 
@@ -55,7 +56,10 @@ module _ (g : Geometry) (m : Mem) (c : Ordered g m) (k d cl r b : ℕ) (shape : 
   head-is = head-word g m h (header-is-class g cl (q .isClass) r b (q .below) m (q .ofClass)) (header-head g cl (q .isClass) r b (q .below) m (q .ofClass))
 
   bit-in : markBit h < g .segments * mostBlocks g
-  bit-in = let z = header-inside g cl (q .isClass) r b (q .below) (q .inside) in let w = two-words cl (q .isClass) in bit-below g m h (header-is-class g cl (q .isClass) r b (q .below) m (q .ofClass)) (omega arith)
+  bit-in =
+      let z = header-inside g cl (q .isClass) r b (q .below) (q .inside) in
+      let w = two-words cl (q .isClass) in
+      bit-below g m h (header-is-class g cl (q .isClass) r b (q .below) m (q .ofClass)) (omega arith)
 
   -- only blocks in use have marks
   pub not-marked : Tracing (phase m) → entered g m h ≡ 0
@@ -69,7 +73,8 @@ module _ (g : Geometry) (m : Mem) (c : Ordered g m) (k d cl r b : ℕ) (shape : 
               let w = subst (HeadInUse g m) head-is (f (markBit h) bit-in tt (one-of-not-zero _ (at-lt (m .marks) (markBit h)) z)) in
               let u = w .block in
               let v = unused-bit in
-              let e : usedBit g m (segmentOf g h) (blockOf g m h) ≡ usedBit g m r b = ap (λ z. usedBit g m z (blockOf g m h)) segment-is ∙ ap (usedBit g m r) (header-block g cl (q .isClass) r b (q .below) m (q .ofClass)) in
+              let e : usedBit g m (segmentOf g h) (blockOf g m h) ≡ usedBit g m r b =
+              ap (λ z. usedBit g m z (blockOf g m h)) segment-is ∙ ap (usedBit g m r) (header-block g cl (q .isClass) r b (q .below) m (q .ofClass)) in
               omega arith
 
       go : (ph : Phase) → MarksIn ph g m → Tracing ph → entered g m h ≡ 0

@@ -1,4 +1,4 @@
--- The record is written into its block and named by the root: the words of the heap and of the mutators. Assumes nothing.
+-- The record is written into its block and named by the root: the words of the heap and of the mutators.
 use mathlib.Core.Path.{_≡_, _∙_, ap}
 use mathlib.Core.Logic.{inl, inr}
 use mathlib.Core.List.{List}
@@ -43,7 +43,12 @@ module _ (g : Geometry) (m : Mem) (k d cl r b : ℕ) (shape : RecordShape) (q : 
   at-header = spliced-out (replicate (fieldCountOf shape) 0) _ (h + 1) h (inl (omega arith)) ∙ getD-set-same (m₁ .heap) h (headerWord shape) 0 (let z = inside in omega arith)
 
   pub at-field : (i : ℕ) → i < fieldCountOf shape → getD written-heap (h + 1 + i) 0 ≡ 0
-  at-field i l = let z = inside in let y = length-set (m₁ .heap) h (headerWord shape) in let w = zeros in spliced-in (replicate (fieldCountOf shape) 0) (set (m₁ .heap) h (headerWord shape)) (h + 1) i (omega arith) (omega arith) ∙ getD-replicate (fieldCountOf shape) i 0 0 l
+  at-field i l =
+      let z = inside in
+      let y = length-set (m₁ .heap) h (headerWord shape) in
+      let w = zeros in
+      spliced-in (replicate (fieldCountOf shape) 0) (set (m₁ .heap) h (headerWord shape)) (h + 1) i (omega arith) (omega arith)
+      ∙ getD-replicate (fieldCountOf shape) i 0 0 l
 
   old-word : (i : ℕ) → getD (m₁ .heap) i 0 ≡ heapWord m i
   old-word i = ap (λ (ws : List ℕ). getD ws i 0) (v .heap)

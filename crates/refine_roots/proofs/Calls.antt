@@ -1,4 +1,4 @@
--- load, copy, clear, get, same and shape keep what a call must keep. Assumes nothing.
+-- load, copy, clear, get, same and shape keep what a call must keep.
 use mathlib.Core.Path.{_≡_, refl, sym, ap}
 use Prim.Native.Nat.{ℕ, suc, _-_}
 use native.Mathlib.Omega.{arith}
@@ -63,7 +63,9 @@ module _ (g : Geometry) (m : Mem) (s : Sizes g m) (c : Ordered g m) where
       let r = root-ok i _ (p .3) in
       let w = wanted-in g m k i (value? f) (p .1) (r .0) (r .1) in
       let x = ltb-true _ _ (require-ok (ltb f (valueCount m (w .at))) 8 0 (omega arith) (w .asked) .0) in
-      let h = on-record g m (record? (fields.root m k i)) (w .at) (w .is) (λ at. (a-num (value m at f), m)) (λ at. (a-num (getD (valuesOf m at) f 0), view g m)) (ap a-num (sym (getD-tab (valueCount m (w .at)) (value m (w .at)) f x))) (moves-self g m c) in
+      let h = on-record g m (record? (fields.root m k i)) (w .at) (w .is) (λ at. (a-num (value m at f), m))
+      (λ at. (a-num (getD (valuesOf m at) f 0), view g m)) (ap a-num (sym (getD-tab (valueCount m (w .at)) (value m (w .at)) f x)))
+      (moves-self g m c) in
       matches-by g m _ _ tt (h .0) (h .1)
 
   pub same-kept : (k i j : ℕ) → refusal (observe m) (c-same k i j) ≡ 0 → ActKept g m (c-same k i j)
@@ -76,5 +78,8 @@ module _ (g : Geometry) (m : Mem) (s : Sizes g m) (c : Ordered g m) where
       let p = by-ok (observe m) k _ e in
       let r = root-ok i _ (p .3) in
       let w = wanted-in g m k i (λ _. 0) (p .1) (r .0) (r .1) in
-      let h = on-record g m (record? (fields.root m k i)) (w .at) (w .is) (λ at. (a-shape (shapeOf m at), m)) (λ at. (a-shape (shapeAt (view g m) at), view g m)) (ap (λ n. a-shape (ofCounts (pointerCount m (w .at)) n)) (sym (length-tab (valueCount m (w .at)) (value m (w .at))))) (moves-self g m c) in
+      let h = on-record g m (record? (fields.root m k i)) (w .at) (w .is) (λ at. (a-shape (shapeOf m at), m))
+      (λ at. (a-shape (shapeAt (view g m) at), view g m))
+      (ap (λ n. a-shape (ofCounts (pointerCount m (w .at)) n)) (sym (length-tab (valueCount m (w .at)) (value m (w .at)))))
+      (moves-self g m c) in
       matches-by g m _ _ tt (h .0) (h .1)

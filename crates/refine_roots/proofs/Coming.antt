@@ -1,4 +1,4 @@
--- A mutator's entry written whole when it comes: attach and spawn. Assumes nothing.
+-- A mutator's entry written whole when it comes: attach and spawn.
 use mathlib.Core.Path.{_≡_, refl, sym, _∙_, ap, subst}
 use mathlib.Core.Logic.{_⊎_, inl, inr, ⊎-elim}
 use mathlib.Core.Bool.{Bool, true, false, not, true≢false}
@@ -165,7 +165,8 @@ module _ (out : ℕ → Bool) (late : out 11 ≡ true) (g : Geometry) (m : Mem) 
   attach-kept k e =
       let p = require-ok (ltb k mutatorCount) 2 _ (omega arith) e in
       let q = require-ok (not (isAttached m k)) 3 _ (omega arith) (p .1) in
-      unless-kept out g m (attached m k 0) (c-attach k) 11 late (inHandshake (phase m)) (λ x. matches-by g m (c-attach k) _ x refl (coming-moves g m s c k 0 (ltb-true _ _ (p .0)) (not-there k (q .0)) (λ b y. absurd (omega arith)) x))
+      unless-kept out g m (attached m k 0) (c-attach k) 11 late (inHandshake (phase m))
+      (λ x. matches-by g m (c-attach k) _ x refl (coming-moves g m s c k 0 (ltb-true _ _ (p .0)) (not-there k (q .0)) (λ b y. absurd (omega arith)) x))
 
   pub spawn-kept : (k p i : ℕ) → refusal (observe m) (c-spawn k p i) ≡ 0 → CallKept out g m (c-spawn k p i)
   unfolding act
@@ -176,4 +177,6 @@ module _ (out : ℕ → Bool) (late : out 11 ≡ true) (g : Geometry) (m : Mem) 
       let f = require-ok (isAttached m p) 4 _ (omega arith) (d .1) in
       let n = require-ok (isInside m p) 5 _ (omega arith) (f .1) in
       let q = root-ok i _ (n .1) in
-      unless-kept out g m (attached m k (fields.root m p i)) (c-spawn k p i) 11 late (inHandshake (phase m)) (λ x. matches-by g m (c-spawn k p i) _ x refl (coming-moves g m s c k (fields.root m p i) (ltb-true _ _ (a .0)) (not-there k (d .0)) (λ at y. is-root m p i at (ltb-true _ _ (b .0)) (q .0) (f .0) y) x))
+      unless-kept out g m (attached m k (fields.root m p i)) (c-spawn k p i) 11 late (inHandshake (phase m))
+      (λ x. matches-by g m (c-spawn k p i) _ x refl
+      (coming-moves g m s c k (fields.root m p i) (ltb-true _ _ (a .0)) (not-there k (d .0)) (λ at y. is-root m p i at (ltb-true _ _ (b .0)) (q .0) (f .0) y) x))

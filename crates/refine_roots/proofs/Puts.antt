@@ -1,4 +1,4 @@
--- A data field of a record set: put. Assumes nothing.
+-- A data field of a record set: put.
 use mathlib.Core.Path.{_≡_, refl, sym, _∙_, ap}
 use Prim.Native.Nat.{ℕ, suc, _+_, _-_, _≤_, _<_}
 use native.Mathlib.Omega.{arith}
@@ -89,7 +89,9 @@ module _ (g : Geometry) (m : Mem) (s : Sizes g m) (c : Ordered g m) (at : ℕ) (
   value-there = ap (λ z. heapWord after (at + 1 + z + f)) (pointers-by m after at (header at r)) ∙ there
 
   values-at : (x : ℕ) → RecordOk g m x → valuesOf after x ≡ upd (valuesOf m) at (set (valuesOf m at) f v) x
-  values-at x q = upd-by (valuesOf m) at (set (valuesOf m at) f v) x (valuesOf after x) (λ e. ap (valuesOf after) e ∙ here) (λ d. fields-by m after x (header x q) (λ i l. value-word x i q l (λ y z. d y)))
+  values-at x q =
+      upd-by (valuesOf m) at (set (valuesOf m at) f v) x (valuesOf after x) (λ e. ap (valuesOf after) e ∙ here)
+      (λ d. fields-by m after x (header x q) (λ i l. value-word x i q l (λ y z. d y)))
     where
       here : valuesOf after at ≡ set (valuesOf m at) f v
       here =
@@ -119,7 +121,8 @@ module _ (g : Geometry) (m : Mem) (s : Sizes g m) (c : Ordered g m) (at : ℕ) (
 
   pub value-moves : Moves g m (setValue m at f v) (machine.setValues (view g m) at (set (valuesOf m at) f v))
   unfolding setHeap
-  value-moves = record { structure = heap-structure g m place v (structure-of g m c) (λ x p. header x (c .records x p)) live; occupied = λ u. u; behind = λ u. u; agree = agree; steady = λ x q e. (e, refl) }
+  value-moves =
+      record { structure = heap-structure g m place v (structure-of g m c) (λ x p. header x (c .records x p)) live; occupied = λ u. u; behind = λ u. u; agree = agree; steady = λ x q e. (e, refl) }
 
 pub put-kept : (g : Geometry) (m : Mem) → Sizes g m → Ordered g m → (k i f v : ℕ) → refusal (observe m) (c-put k i f v) ≡ 0 → ActKept g m (c-put k i f v)
 unfolding act

@@ -1,4 +1,4 @@
--- A root set to nil or to what is reached: load, copy and clear. Assumes nothing.
+-- A root set to nil or to what is reached: load, copy and clear.
 use mathlib.Core.Path.{_≡_, _∙_, ap}
 use mathlib.Core.Bool.{true, not}
 use Prim.Native.Nat.{ℕ, suc, _<_}
@@ -33,7 +33,9 @@ module _ (g : Geometry) (m : Mem) (s : Sizes g m) (c : Ordered g m) (k d v : ℕ
   there j i e f = ap (λ z. root now z i) e ∙ ap (root now k) f ∙ mutator-there g m s k d v l (omega arith)
 
   root-at : (j i : ℕ) → i < rootCount → record? (root now j i) ≡ upd2 (λ j i. record? (root m j i)) k d (record? v) j i
-  root-at j i q = upd2-by (λ j i. record? (root m j i)) k d (record? v) j i (record? (root now j i)) (λ e f. ap record? (there j i e f)) (λ f. ap record? (root-set g m s k d v l (omega arith) j i q f))
+  root-at j i q =
+      upd2-by (λ j i. record? (root m j i)) k d (record? v) j i (record? (root now j i)) (λ e f. ap record? (there j i e f))
+      (λ f. ap record? (root-set g m s k d v l (omega arith) j i q f))
 
   state-same : (j : ℕ) → state now j ≡ state m j
   state-same j = state-set g m s k d v l (omega arith) j (λ x y. omega arith)

@@ -1,4 +1,4 @@
--- The call enter: a mutator's side set. Assumes nothing.
+-- The call enter: a mutator's side set.
 use mathlib.Core.Path.{_≡_, refl}
 use Prim.Native.Nat.{ℕ}
 use native.Mathlib.Omega.{arith}

@@ -1,4 +1,4 @@
--- The answers of the definitions: a result of the call's kind, or a refusal that the call may give and that is not 1. Assumes nothing.
+-- The answers of the definitions: a result of the call's kind, or a refusal that the call may give and that is not 1.
 use mathlib.Core.Path.{_≡_, refl, sym, _∙_, subst}
 use mathlib.Core.Bool.{Bool, true, false, _&&_}
 use mathlib.Core.Option.{Option, none, some, Option·none-ne-some, Option·some-injective}
@@ -16,7 +16,9 @@ use Rattle.layout.proofs.Sizes.{whole}
 use Rattle.bitmap_search.specs.declared.Found.{Found}
 use Rattle.bitmap_search.specs.declared.Found.the-variants.{Block, Nothing, Torn}
 use Rattle.theory.specs.Phases.{Phase, idle, sync1, sync2, mark, sweep, inHandshake, owes}
-use Rattle.theory.specs.Calls.{Call, c-attach, c-detach, c-check, c-leave, c-enter, c-spawn, c-make, c-load, c-store, c-copy, c-clear, c-put, c-get, c-same, c-shape, a-ok, a-moved, a-traced, a-done, a-idle, a-num, a-flag, a-shape, a-no, refusal, unless, onRecord, sameRef}
+use Rattle.theory.specs.Calls.{Call, c-attach, c-detach, c-check, c-leave, c-enter, c-spawn, c-make, c-load, c-store, c-copy, c-clear, c-put, c-get}
+use Rattle.theory.specs.Calls.{c-same, c-shape, a-ok, a-moved, a-traced, a-done, a-idle, a-num, a-flag, a-shape, a-no, refusal, unless, onRecord}
+use Rattle.theory.specs.Calls.{sameRef}
 use Rattle.model.specs.Answers.{answerOf, stepAnswerOf, refusalIn, IsOk, ResultOf, StepResult, isWaiting, isMoved, isTraced, isSwept, isDone, isIdle, among, mayGive, startMayGive}
 use Rattle.model.specs.Fields.{phase, inside, state, acks, place, root, class, traceCount}
 use Rattle.model.specs.Segments.{freeStack, partStack, pop, free, inUse}

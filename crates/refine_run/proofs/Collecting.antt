@@ -1,4 +1,4 @@
--- Start and step keep the lengths of the regions, over memory of any content. Assumes nothing.
+-- Start and step keep the lengths of the regions, over memory of any content.
 use mathlib.Core.Option.{Option, none, some}
 use Prim.Native.Nat.{ℕ, zero, suc, _-_, _*_}
 use lib.Dec.{eqb}

@@ -1,5 +1,5 @@
 -- One element of a list of calls, by its promise alone: of wrong sizes it is refused 1 and leaves its memory as it was; lent the list's memory,
--- it is an event over that memory. Assumes nothing.
+-- it is an event over that memory.
 use mathlib.Core.Path.{_≡_, refl, sym, _∙_, ap}
 use mathlib.Core.Logic.{_⊎_, inl, inr}
 use mathlib.Core.Bool.{Bool, true, false, not, true≢false}

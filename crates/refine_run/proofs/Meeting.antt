@@ -1,5 +1,5 @@
 -- The definitions' own answers and memories keep the promises of the calls, over words of the right length, of step and the mutators' calls where
--- they are consistent. Assumes nothing.
+-- they are consistent.
 use mathlib.Core.Path.{_≡_, refl, sym, _∙_, ap, subst}
 use mathlib.Core.Bool.{true, false, true≢false}
 use mathlib.Core.Option.{some, Option·none-ne-some}
@@ -34,7 +34,8 @@ module _ (g : Geometry) (words : List ℕ) (z : Sized g (length words)) where
   not-wrong e = true≢false (sym e ∙ right)
 
   -- a call whose answers are fine and whose memory has its lengths keeps its promise
-  keeps : (Result : Geometry → theory.Answer → Type 0) (ns : List ℕ) (does : Geometry → Mem → theory.Answer × Mem) → Answers (Result g) ns (does g (memOf g words) .0) → Sizes g (does g (memOf g words) .1)
+  keeps : (Result : Geometry → theory.Answer → Type 0) (ns : List ℕ) (does : Geometry → Mem → theory.Answer × Mem)
+      → Answers (Result g) ns (does g (memOf g words) .0) → Sizes g (does g (memOf g words) .1)
       → Keeps answerOf Result ns does g words (declared (does g (memOf g words) .0)) (flat (does g (memOf g words) .1))
   keeps Result ns does a y = record {
     sizes = λ e. absurd (not-wrong e);

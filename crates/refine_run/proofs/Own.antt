@@ -1,4 +1,4 @@
--- The model's own run is a list of calls, each with the memory that the one before it left. Assumes nothing.
+-- The model's own run is a list of calls, each with the memory that the one before it left.
 use mathlib.Core.Path.{_≡_, refl, sym, _∙_, ap, subst}
 use mathlib.Core.Bool.{Bool, true, false, true≢false}
 use mathlib.Core.Option.{Option·none-ne-some}

@@ -1,4 +1,4 @@
--- Every mutator's call keeps the lengths of the regions, over memory of any content. Assumes nothing.
+-- Every mutator's call keeps the lengths of the regions, over memory of any content.
 use mathlib.Core.Bool.{Bool, true, false}
 use mathlib.Core.Option.{Option, none, some}
 use mathlib.Core.List.{_∷_, _++_}
@@ -17,7 +17,8 @@ use Rattle.bitmap_search.specs.declared.Found.{Found}
 use Rattle.bitmap_search.specs.declared.Found.the-variants.{Block, Nothing, Torn}
 use Rattle.bitmap_write.specs.Ready.{fresh}
 use Rattle.theory.specs.Phases.{newcomer, duty, black, inHandshake}
-use Rattle.theory.specs.Calls.{Call, c-attach, c-detach, c-check, c-leave, c-enter, c-spawn, c-make, c-load, c-store, c-copy, c-clear, c-put, c-get, c-same, c-shape, Answer, unless, refuse, refusal, onRecord}
+use Rattle.theory.specs.Calls.{Call, c-attach, c-detach, c-check, c-leave, c-enter, c-spawn, c-make, c-load, c-store, c-copy, c-clear, c-put, c-get}
+use Rattle.theory.specs.Calls.{c-same, c-shape, Answer, unless, refuse, refusal, onRecord}
 use Rattle.model.specs.declared.SegmentState.the-variants.{Part, Held, Full}
 use Rattle.model.specs.Fields.{phase, acks, inside, outside, holding, place, root, stateAt, heldFrom}
 use Rattle.model.specs.Segments.{partStack, freeStack, stacked, count, pop, bitmap, above, free}
@@ -94,7 +95,9 @@ module _ (g : Geometry) where
       let y : Sizes g popped = sizes-stack g m z (freeStack * (1 + g .segments)) (count g m freeStack - 1) in
       let owned : Mem = takes g popped k c s 0 in
       let taken : Mem = freshened g owned s c in
-      sizes-block m taken z (sizes-bitmap g owned (sizes-takes popped y k c s 0) (s * bitmapWords g) (fresh (above g c) (blocksIn g c) (bitmap g owned s))) (free g taken s c (place taken s)) k d c s shape
+      sizes-block m taken z
+      (sizes-bitmap g owned (sizes-takes popped y k c s 0) (s * bitmapWords g) (fresh (above g c) (blocksIn g c) (bitmap g owned s)))
+      (free g taken s c (place taken s)) k d c s shape
   sizes-source m z k d c shape noRoom = z
 
   sizes-made : (m : Mem) → Sizes g m → (k d c : ℕ) (shape : RecordShape) → Sizes g (made g m k d c shape .1)

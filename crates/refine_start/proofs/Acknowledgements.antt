@@ -1,4 +1,4 @@
--- What beginning the acknowledgements anew changes: that word of every mutator's entry, which becomes 0, and no other. Assumes nothing.
+-- What beginning the acknowledgements anew changes: that word of every mutator's entry, which becomes 0, and no other.
 use mathlib.Core.Path.{_≡_, refl, _∙_, ap}
 use mathlib.Core.Logic.{_⊎_, inl, inr}
 use Prim.Native.Nat.{ℕ, zero, suc, _+_, _*_, _≤_, _<_}

@@ -1,4 +1,4 @@
--- The words of the memory after a start, beside those before it. Assumes nothing.
+-- The words of the memory after a start, beside those before it.
 use mathlib.Core.Path.{_≡_, _∙_, ap}
 use Prim.Native.Nat.{ℕ, _+_, _*_, _<_}
 use native.Mathlib.Omega.{arith}
@@ -53,7 +53,9 @@ module _ (g : Geometry) (m : Mem) (z : Sizes g m) where
   unfolding started setControl
   begun = record {
     phase = let y = reset-sizes .control in let z = length-set (m₂ .control) 2 0 in getD-set-same (set (m₂ .control) 2 0) 0 1 0 (omega arith);
-    traced = getD-set-other (set (m₂ .control) 2 0) 0 1 1 0 (λ e. omega arith) ∙ getD-set-other (m₂ .control) 2 1 0 0 (λ e. omega arith) ∙ ap (λ l. getD l 1 0) (reset-others .control ∙ condemned-others .control);
+    traced =
+        getD-set-other (set (m₂ .control) 2 0) 0 1 1 0 (λ e. omega arith) ∙ getD-set-other (m₂ .control) 2 1 0 0 (λ e. omega arith)
+        ∙ ap (λ l. getD l 1 0) (reset-others .control ∙ condemned-others .control);
     cursor = let y = reset-sizes .control in getD-set-other (set (m₂ .control) 2 0) 0 2 1 0 (λ e. omega arith) ∙ getD-set-same (m₂ .control) 2 0 0 (omega arith);
     acks = reset-acks g m₁ condemned-sizes;
     mutators = λ k o l f. reset-kept g m₁ condemned-sizes k o l f ∙ ap (λ x. getD x (k * mutatorWords + o) 0) (condemned-others .mutators);

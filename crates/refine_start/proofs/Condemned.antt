@@ -1,4 +1,4 @@
--- What condemning changes: the tag of every segment that a start collects, and no other word of the memory. Assumes nothing.
+-- What condemning changes: the tag of every segment that a start collects, and no other word of the memory.
 use mathlib.Core.Path.{_≡_, refl, sym, _∙_, ap, subst}
 use mathlib.Core.Logic.{_⊎_, inl, inr}
 use mathlib.Core.Bool.{Bool, true, false}

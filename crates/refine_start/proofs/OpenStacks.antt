@@ -1,4 +1,4 @@
--- The stacks as an opening leaves them: every segment on the free stack, segment 0 on top, and nothing on a part stack. Assumes nothing.
+-- The stacks as an opening leaves them: every segment on the free stack, segment 0 on top, and nothing on a part stack.
 use mathlib.Core.Path.{_≡_, refl, sym, _∙_, ap, subst}
 use mathlib.Core.Bool.{Bool, true, false, true≢false}
 use Prim.Native.Nat.{ℕ, zero, suc, _+_, _-_, _*_, _<_}
@@ -54,14 +54,20 @@ module _ (g : Geometry) (m : Mem) (e : m .stacks ≡ openStacks g) where
     number = free-count ∙ sym (only-ones (λ s. oneIf (test s)) (g .segments) (λ i l. ap oneIf (h i l)));
     members = λ i l. let k : i < g .segments = subst (λ z. i < z) free-count l in let q = free-entry i k in let x : entry g m freeStack i < g .segments = omega arith in (x, h _ x);
     once = λ i j l k q. let y : j < g .segments = subst (λ z. j < z) free-count k in let a = free-entry i (omega arith) in let b = free-entry j y in omega arith;
-    all = λ s l q. let x : g .segments - 1 - s < g .segments = omega arith in (g .segments - 1 - s, subst (λ z. g .segments - 1 - s < z) (sym free-count) x, free-entry (g .segments - 1 - s) x ∙ omega arith);
+    all =
+        λ s l q.
+        let x : g .segments - 1 - s < g .segments = omega arith in
+        (g .segments - 1 - s, subst (λ z. g .segments - 1 - s < z) (sym free-count) x, free-entry (g .segments - 1 - s) x ∙ omega arith);
   }
 
   part-count : (t : ℕ) → count g m (1 + t) ≡ 0
   part-count t =
       let l = length-down (g .segments) in
-      let z : (1 + t) * (1 + g .segments) ≡ suc (length (downTo0 (g .segments)) + t * (1 + g .segments)) = (let q = suc-mul t (1 + g .segments) in let p : (1 + t) * (1 + g .segments) ≡ suc t * (1 + g .segments) = ap (λ x. x * (1 + g .segments)) (omega arith) in omega arith) in
-      ap (stackWord m) z ∙ word (suc (length (downTo0 (g .segments)) + t * (1 + g .segments))) ∙ getD-append-add (downTo0 (g .segments)) (replicate (len g Region.stacks - (1 + g .segments)) 0) (t * (1 + g .segments)) 0 ∙ zeros-at (len g Region.stacks - (1 + g .segments)) (t * (1 + g .segments))
+      let z : (1 + t) * (1 + g .segments) ≡ suc (length (downTo0 (g .segments)) + t * (1 + g .segments)) =
+      (let q = suc-mul t (1 + g .segments) in let p : (1 + t) * (1 + g .segments) ≡ suc t * (1 + g .segments) = ap (λ x. x * (1 + g .segments)) (omega arith) in omega arith) in
+      ap (stackWord m) z ∙ word (suc (length (downTo0 (g .segments)) + t * (1 + g .segments)))
+      ∙ getD-append-add (downTo0 (g .segments)) (replicate (len g Region.stacks - (1 + g .segments)) 0) (t * (1 + g .segments)) 0
+      ∙ zeros-at (len g Region.stacks - (1 + g .segments)) (t * (1 + g .segments))
 
   -- no segment passes it
   pub part-open : (t : ℕ) (test : ℕ → Bool) → ((s : ℕ) → s < g .segments → test s ≡ false) → StackOk g m (1 + t) test

@@ -1,4 +1,4 @@
--- The memory that an opening leaves is consistent, whatever stood in it, and as the unbounded heap begins. Assumes nothing.
+-- The memory that an opening leaves is consistent, whatever stood in it, and as the unbounded heap begins.
 use mathlib.Core.Path.{_≡_, refl, sym, _∙_, ap, subst}
 use mathlib.Core.Logic.{_⊎_, inl, inr}
 use mathlib.Core.Bool.{true, false, not, true≢false}

@@ -1,4 +1,4 @@
--- A start keeps the words in order, agrees with the abstract machine's start, and condemns the segments that it collects. Assumes nothing.
+-- A start keeps the words in order, agrees with the abstract machine's start, and condemns the segments that it collects.
 use mathlib.Core.Path.{_≡_, refl, sym, _∙_, ap, subst}
 use mathlib.Core.Logic.{_⊎_, inl, inr}
 use mathlib.Core.Bool.{Bool, true, false, not, _&&_}
@@ -178,7 +178,9 @@ module _ (g : Geometry) (m m′ : Mem) (z : Sizes g m) (ok : Ordered g m) (quiet
   use-same s k = used-same g m m′ s k (b .segments s .place) (bitmap-by g m m′ (b .bitmaps) s)
 
   record-ok : (at : ℕ) → RecordOk g m at → RecordOk g m′ at
-  record-ok at r = record-by g m m′ at (b .segments (segmentOf g at) .class) r (λ e. r .used (tag-back (segmentOf g at) 0 (omega arith) e)) (use-same (segmentOf g at) (blockOf g m at) ∙ r .block) (word-same at)
+  record-ok at r =
+      record-by g m m′ at (b .segments (segmentOf g at) .class) r (λ e. r .used (tag-back (segmentOf g at) 0 (omega arith) e))
+      (use-same (segmentOf g at) (blockOf g m at) ∙ r .block) (word-same at)
 
   -- ---- the trace stack
 
@@ -205,7 +207,8 @@ module _ (g : Geometry) (m m′ : Mem) (z : Sizes g m) (ok : Ordered g m) (quiet
 
   used-test : (at : ℕ) → isUsed g m′ at ≡ isUsed g m at
   used-test at =
-      let u : usedBit g m′ (segmentOf g at) (blockOf g m′ at) ≡ usedBit g m (segmentOf g at) (blockOf g m at) = use-same (segmentOf g at) (blockOf g m′ at) ∙ ap (usedBit g m (segmentOf g at)) (block-by g m m′ at (b .segments (segmentOf g at) .class)) in
+      let u : usedBit g m′ (segmentOf g at) (blockOf g m′ at) ≡ usedBit g m (segmentOf g at) (blockOf g m at) =
+      use-same (segmentOf g at) (blockOf g m′ at) ∙ ap (usedBit g m (segmentOf g at)) (block-by g m m′ at (b .segments (segmentOf g at) .class)) in
       ap (λ x. not x && eqb (usedBit g m′ (segmentOf g at) (blockOf g m′ at)) 1) (tag-test (segmentOf g at) 0 (omega arith))
       ∙ ap (λ x. not (eqb (tag m (segmentOf g at)) Tag.free) && eqb x 1) u
 

@@ -1,4 +1,4 @@
--- The memory after the sweep of a segment agrees with the abstract machine's sweep of it. Assumes nothing.
+-- The memory after the sweep of a segment agrees with the abstract machine's sweep of it.
 use mathlib.Core.Path.{_≡_, sym, _∙_, ap, subst}
 use mathlib.Core.Logic.{_⊎_, inl, inr}
 use mathlib.Core.Bool.{true, false, not, _&&_, true≢false}
@@ -58,7 +58,9 @@ module _ (g : Geometry) (m : Mem) (s : Sizes g m) (c : Ordered g m) (ph : phase 
   fated-agrees : (x : ℕ) → after .condemned (segmentOf g x) ≡ true → (isHead g m′ x && isMarked g m′ x) ≡ (isHead g m x && isMarked g m x)
   fated-agrees x e = go (upd-cases (λ z. eqb (tag m z) Tag.condemned) r false (segmentOf g x))
     where
-      go : ((segmentOf g x ≡ r) × (after .condemned (segmentOf g x) ≡ false)) ⊎ ((segmentOf g x ≡ r → ⊥) × (after .condemned (segmentOf g x) ≡ eqb (tag m (segmentOf g x)) Tag.condemned)) → (isHead g m′ x && isMarked g m′ x) ≡ (isHead g m x && isMarked g m x)
+      go : ((segmentOf g x ≡ r) × (after .condemned (segmentOf g x) ≡ false))
+          ⊎ ((segmentOf g x ≡ r → ⊥) × (after .condemned (segmentOf g x) ≡ eqb (tag m (segmentOf g x)) Tag.condemned))
+          → (isHead g m′ x && isMarked g m′ x) ≡ (isHead g m x && isMarked g m x)
       go (inl h) = absurd (true≢false (sym e ∙ h .1))
       go (inr h) =
           ap (λ z. eqb (x % segmentWords g % blockWords z) 0 && isMarked g m′ x) (o .left .other (segmentOf g x) (h .0) .class)
@@ -84,4 +86,10 @@ module _ (g : Geometry) (m : Mem) (s : Sizes g m) (c : Ordered g m) (ph : phase 
       }
 
   pub moves-after : Moves g m m′ after
-  moves-after = record { structure = structure-after g m s c ph m′ r l t o; occupied = occupied-after g m s c ph m′ r l t o; behind = behind-by g m m′ (steady-after g m s c ph m′ r l t o) (control-same g m s c ph m′ r l t o 2); agree = agree-after; steady = steady-after g m s c ph m′ r l t o }
+  moves-after = record {
+    structure = structure-after g m s c ph m′ r l t o;
+    occupied = occupied-after g m s c ph m′ r l t o;
+    behind = behind-by g m m′ (steady-after g m s c ph m′ r l t o) (control-same g m s c ph m′ r l t o 2);
+    agree = agree-after;
+    steady = steady-after g m s c ph m′ r l t o;
+  }

@@ -1,4 +1,4 @@
--- The three ends of a sweep, by the number of marks: a segment with none is free, one with all is full, else it is part. Assumes nothing.
+-- The three ends of a sweep, by the number of marks: a segment with none is free, one with all is full, else it is part.
 use mathlib.Core.Path.{_≡_, refl, sym, _∙_, ap, subst}
 use Prim.Native.Nat.{ℕ, _≤_, _<_}
 use native.Mathlib.Omega.{arith}
@@ -57,12 +57,16 @@ module _ (g : Geometry) (m : Mem) (s : Sizes g m) (r : ℕ) (l : r < g .segments
       }
 
   -- a segment that stays in use, with its class
-  kept-end : (x : SegmentState) → Settled g m m′ r x → classIn x ≡ class m r → ownerIn x ≡ 0 → 1 ≤ tagOf x → (tagOf x ≡ 2 → ⊥) → tagOf x ≤ 3 → (tagOf x ≤ 2 → (b : ℕ) × (placeIn g x ≤ b) × (b < blocksIn g (class m r)) × (bitAt (bitmap g m′ r) b ≡ 0)) → (3 ≤ tagOf x → placeIn g x ≡ blocksIn g (class m r)) → (tagOf x ≤ 2 → (b : ℕ) × (b < blocksIn g (class m r)) × (entered g m (headerOf g r (class m r) b) ≡ 1))
+  kept-end : (x : SegmentState) → Settled g m m′ r x → classIn x ≡ class m r → ownerIn x ≡ 0 → 1 ≤ tagOf x → (tagOf x ≡ 2 → ⊥) → tagOf x ≤ 3
+      → (tagOf x ≤ 2 → (b : ℕ) × (placeIn g x ≤ b) × (b < blocksIn g (class m r)) × (bitAt (bitmap g m′ r) b ≡ 0))
+      → (3 ≤ tagOf x → placeIn g x ≡ blocksIn g (class m r))
+      → (tagOf x ≤ 2 → (b : ℕ) × (b < blocksIn g (class m r)) × (entered g m (headerOf g r (class m r) b) ≡ 1))
       → ((b : ℕ) → b < blocksIn g (class m r) → pick (ltb b (placeIn g x)) 1 (bitAt (bitmap g m′ r) b) ≡ entered g m (headerOf g r (class m r) b)) → Stacks g m′ → Outcome g m m′ r
   kept-end x q c o low two top remains whole marked used p =
       let z : tag m′ r ≡ tagOf x = q .there .tag in
       let w : class m′ r ≡ class m r = q .there .class ∙ c in
-      let reads : (b : ℕ) → b < blocksIn g (class m r) → usedBit g m′ r b ≡ entered g m (headerOf g r (class m r) b) = λ b h. ap (λ y. pick (ltb b y) 1 (bitAt (bitmap g m′ r) b)) (q .there .place) ∙ used b h in
+      let reads : (b : ℕ) → b < blocksIn g (class m r) → usedBit g m′ r b ≡ entered g m (headerOf g r (class m r) b) =
+      λ b h. ap (λ y. pick (ltb b y) 1 (bitAt (bitmap g m′ r) b)) (q .there .place) ∙ used b h in
       record {
         left = q .left;
         segment = record {
@@ -87,11 +91,14 @@ module _ (g : Geometry) (m : Mem) (s : Sizes g m) (r : ℕ) (l : r < g .segments
 
   pub full-end : Settled g m m′ r (segment.Full (class m r)) → keptBy g m r ≡ blocksIn g (class m r) → Stacks g m′ → Outcome g m m′ r
   full-end q e p = kept-end (segment.Full (class m r)) q refl refl (omega arith) (λ a. omega arith) (omega arith) (λ a. absurd (omega arith)) (λ a. refl) (λ a. absurd (omega arith))
-      (λ b h. ap (λ y. pick y 1 (bitAt (bitmap g m′ r) b)) (lt-ltb b (blocksIn g (class m r)) h) ∙ sym (all-one (bitAt (marksOf g m r)) (at-lt (marksOf g m r)) (blocksIn g (class m r)) e b h) ∙ to-mark b h) p
+      (λ b h. ap (λ y. pick y 1 (bitAt (bitmap g m′ r) b)) (lt-ltb b (blocksIn g (class m r)) h)
+      ∙ sym (all-one (bitAt (marksOf g m r)) (at-lt (marksOf g m r)) (blocksIn g (class m r)) e b h) ∙ to-mark b h) p
 
   pub part-end : Settled g m m′ r (segment.Part (class m r) 0) → (keptBy g m r ≡ 0 → ⊥) → (keptBy g m r ≡ blocksIn g (class m r) → ⊥) → Stacks g m′ → Outcome g m m′ r
   part-end q n e p =
       let y = one-missing (bitAt (marksOf g m r)) (at-lt (marksOf g m r)) (blocksIn g (class m r)) e in
       let x = one-there (bitAt (marksOf g m r)) (at-lt (marksOf g m r)) (blocksIn g (class m r)) n in
-      kept-end (segment.Part (class m r) 0) q refl refl (omega arith) (λ a. omega arith) (omega arith) (λ a. (y .0, omega arith, y .1, q .bits (y .0) (y .1) ∙ sym (to-mark (y .0) (y .1)) ∙ y .2)) (λ a. absurd (omega arith)) (λ a. (x .0, x .1, sym (to-mark (x .0) (x .1)) ∙ x .2))
+      kept-end (segment.Part (class m r) 0) q refl refl (omega arith) (λ a. omega arith) (omega arith)
+      (λ a. (y .0, omega arith, y .1, q .bits (y .0) (y .1) ∙ sym (to-mark (y .0) (y .1)) ∙ y .2)) (λ a. absurd (omega arith))
+      (λ a. (x .0, x .1, sym (to-mark (x .0) (x .1)) ∙ x .2))
       (λ b h. ap (λ x. pick x 1 (bitAt (bitmap g m′ r) b)) (le-ltb b 0 (omega arith)) ∙ q .bits b h) p

@@ -1,4 +1,4 @@
--- Memories that differ in segments' records, stacks and bitmaps alone: roots, entries and pointers, so what is live, are the same. Assumes nothing.
+-- Memories that differ in segments' records, stacks and bitmaps alone: roots, entries and pointers, so what is live, are the same.
 use mathlib.Core.Path.{_≡_, _∙_, ap}
 use mathlib.Core.Logic.{_⊎_, inl, inr}
 use mathlib.Core.List.{List}

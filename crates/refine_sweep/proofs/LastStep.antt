@@ -1,4 +1,4 @@
--- The step in sweep that finds no segment left: the phase becomes idle, and nothing else changes. Assumes nothing.
+-- The step in sweep that finds no segment left: the phase becomes idle, and nothing else changes.
 use mathlib.Core.Path.{_≡_}
 use Prim.Native.Nat.{ℕ, _<_}
 use Rattle.layout.specs.declared.Geometry.{Geometry}

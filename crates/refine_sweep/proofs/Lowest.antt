@@ -1,4 +1,4 @@
--- The segment that a step in sweep takes is what the abstract machine asks of it. Assumes nothing.
+-- The segment that a step in sweep takes is what the abstract machine asks of it.
 use native.Mathlib.Omega.{arith}
 use borrow.Author.Tests.{eq-eqb, ne-eqb}
 use Rattle.layout.specs.declared.Geometry.{Geometry}

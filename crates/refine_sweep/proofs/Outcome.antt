@@ -1,5 +1,5 @@
 -- What the sweep of one segment leaves, whatever became of the segment: the one interface between the words that a sweep writes and what follows
--- from them. Assumes nothing.
+-- from them.
 use mathlib.Core.Path.{_≡_}
 use Prim.Native.Nat.{ℕ, _<_}
 use Rattle.layout.specs.Geometry.{blocksIn}

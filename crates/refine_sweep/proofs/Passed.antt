@@ -1,4 +1,4 @@
--- The sweep's cursor passes the segment that was swept, which was the lowest condemned one. Assumes nothing.
+-- The sweep's cursor passes the segment that was swept, which was the lowest condemned one.
 use mathlib.Core.Path.{_≡_, refl, sym, _∙_, ap, subst}
 use mathlib.Core.Logic.{⊎-elim}
 use mathlib.Core.Bool.{_&&_}
@@ -82,7 +82,8 @@ module _ (g : Geometry) (m m′ : Mem) (st : State) (v : Moves g m m′ st) (n :
   unfolding setControl
   cursor-moves b = record { structure = next-structure; occupied = v .occupied; behind = λ _. b; agree = next-agree; steady = v .steady }
 
-module _ (g : Geometry) (m : Mem) (s : Sizes g m) (c : Ordered g m) (ph : phase m ≡ sweep) (r : ℕ) (l : r < g .segments) (t : tag m r ≡ Tag.condemned) (low : (x : ℕ) → x < r → tag m x ≡ Tag.condemned → ⊥) (m′ : Mem) (o : Outcome g m m′ r) where
+module _ (g : Geometry) (m : Mem) (s : Sizes g m) (c : Ordered g m) (ph : phase m ≡ sweep) (r : ℕ) (l : r < g .segments)
+    (t : tag m r ≡ Tag.condemned) (low : (x : ℕ) → x < r → tag m x ≡ Tag.condemned → ⊥) (m′ : Mem) (o : Outcome g m m′ r) where
   cursor-there : cursor (setCursor m′ (suc r)) ≡ suc r
   unfolding setControl
   cursor-there = let y = s .control in let z : length (m′ .control) ≡ length (m .control) = ap (λ (w : List ℕ). length w) (o .left .control) in getD-set-same (m′ .control) 2 (suc r) 0 (omega arith)

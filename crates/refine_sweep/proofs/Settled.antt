@@ -1,4 +1,4 @@
--- The words of a swept segment: its bitmap rebuilt and its state set, then perhaps put on a stack. Assumes nothing.
+-- The words of a swept segment: its bitmap rebuilt and its state set, then perhaps put on a stack.
 use mathlib.Core.Path.{_≡_, refl, sym, _∙_, ap, subst}
 use mathlib.Core.List.{List}
 use Prim.Native.Nat.{ℕ, _<_}

@@ -1,4 +1,4 @@
--- After the sweep of a segment the words are in order. Assumes nothing.
+-- After the sweep of a segment the words are in order.
 use mathlib.Core.Path.{_≡_, sym, _∙_, ap, subst}
 use mathlib.Core.Logic.{_⊎_, inl, inr, ⊎-elim}
 use mathlib.Core.List.{List}
@@ -26,7 +26,9 @@ use Rattle.model.specs.Tag as Tag
 
 module _ (g : Geometry) (m : Mem) (s : Sizes g m) (c : Ordered g m) (ph : phase m ≡ sweep) (m′ : Mem) (r : ℕ) (l : r < g .segments) (t : tag m r ≡ Tag.condemned) (o : Outcome g m m′ r) where
   pub record-after : (x : ℕ) → Live m x → RecordOk g m′ x
-  record-after x p = record-by g m m′ x (class-same g m s c ph m′ r l t o x p) (c .records x p) (tag-after g m s c ph m′ r l t o x p) (block-after g m s c ph m′ r l t o x p) (heap-same m m′ (o .left .heap) x)
+  record-after x p =
+      record-by g m m′ x (class-same g m s c ph m′ r l t o x p) (c .records x p) (tag-after g m s c ph m′ r l t o x p)
+      (block-after g m s c ph m′ r l t o x p) (heap-same m m′ (o .left .heap) x)
 
   segment-after : (x : ℕ) → x < g .segments → (x ≡ r) ⊎ (x ≡ r → ⊥) → SegmentOk g m′ x
   segment-after x h (inl e) = subst (SegmentOk g m′) (sym e) (o .segment)
@@ -49,7 +51,12 @@ module _ (g : Geometry) (m : Mem) (s : Sizes g m) (c : Ordered g m) (ph : phase 
         states = subst (λ z. z ≤ 2) (sym (st _)) (q .states);
         acknowledged = subst (λ z. z ≤ 2) (sym (st _)) (q .acknowledged);
         gone = λ e i a. st _ ∙ q .gone (sym (st _) ∙ e) i a;
-        holds = λ x y a e. let z = q .holds x y a (sym (st _) ∙ e) in let d : y ≡ r → ⊥ = (λ f. let u : tag m y ≡ Tag.condemned = ap (tag m) f ∙ t in let v : tag m y ≡ Tag.held = z .1 in omega arith) in let w = o .left .other y d in (z .0, w .tag ∙ z .1, w .class ∙ z .2, w .owner ∙ z .3);
+        holds =
+            λ x y a e.
+            let z = q .holds x y a (sym (st _) ∙ e) in
+            let d : y ≡ r → ⊥ = (λ f. let u : tag m y ≡ Tag.condemned = ap (tag m) f ∙ t in let v : tag m y ≡ Tag.held = z .1 in omega arith) in
+            let w = o .left .other y d in
+            (z .0, w .tag ∙ z .1, w .class ∙ z .2, w .owner ∙ z .3);
       }
 
   pub steady-after : Steady g m m′

@@ -1,4 +1,4 @@
--- The live records of a segment that is swept: they are marked, so the segment is not freed and their blocks stay in use. Assumes nothing.
+-- The live records of a segment that is swept: they are marked, so the segment is not freed and their blocks stay in use.
 use mathlib.Core.Path.{_≡_, sym, _∙_, ap, subst}
 use mathlib.Core.Logic.{_⊎_, inl, inr}
 use mathlib.Core.List.{List}
@@ -54,7 +54,9 @@ module _ (g : Geometry) (m : Mem) (s : Sizes g m) (c : Ordered g m) (ph : phase 
   -- by the header word of its block
   live-bit : (x : ℕ) → Live m x → segmentOf g x ≡ r → entered g m (headerOf g r (class m r) (blockOf g m x)) ≡ 1
   live-bit x p e =
-      let is : x ≡ headerOf g r (class m r) (blockOf g m x) = is-header g m x (subst (λ z. IsClass (class m z)) (sym e) class-swept) (c .records x p .aligned) ∙ ap (λ z. headerOf g z (class m z) (blockOf g m x)) e in
+      let is : x ≡ headerOf g r (class m r) (blockOf g m x) =
+      is-header g m x (subst (λ z. IsClass (class m z)) (sym e) class-swept) (c .records x p .aligned)
+      ∙ ap (λ z. headerOf g z (class m z) (blockOf g m x)) e in
       subst (λ z. entered g m z ≡ 1) is (marked-entered g m x (live-marked x p e))
 
   -- so its segment is not freed, and its block stays in use

@@ -1,4 +1,4 @@
--- The sweep of one segment: what it leaves, by the number of its marks. Assumes nothing.
+-- The sweep of one segment: what it leaves, by the number of its marks.
 use mathlib.Core.Path.{_≡_, refl}
 use mathlib.Core.Bool.{Bool, true, false}
 use Prim.Native.Nat.{ℕ, _<_}

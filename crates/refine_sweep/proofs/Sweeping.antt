@@ -1,5 +1,5 @@
 -- The collector's step in sweep: it takes the lowest condemned segment, its words agree with the abstract machine's step, and what is not
--- marked becomes free. Assumes nothing.
+-- marked becomes free.
 use mathlib.Core.Path.{_≡_, refl, _∙_}
 use mathlib.Core.Logic.{_⊎_, inl, inr}
 use mathlib.Core.Option.{Option, none, some}
@@ -40,7 +40,8 @@ module _ (g : Geometry) (m : Mem) (s : Sizes g m) (c : Ordered g m) where
       go (some r) e = let h = lowest-condemned r e in let o = settled-outcome g m s c r (h .0) (h .1) in
           swept-moves g m s c ph r (h .0) (h .1) (lower-other m (g .segments) r e) (settledBy g m r) o
 
-  pub swept-free : phase m ≡ sweep → (r b : ℕ) → lowest m (g .segments) ≡ some r → b < blocksIn g (class m r) → entered g m (headerOf g r (class m r) b) ≡ 0 → (usedBit g (swept g m r) r b ≡ 0) ⊎ (tag (swept g m r) r ≡ Tag.free)
+  pub swept-free : phase m ≡ sweep → (r b : ℕ) → lowest m (g .segments) ≡ some r → b < blocksIn g (class m r)
+      → entered g m (headerOf g r (class m r) b) ≡ 0 → (usedBit g (swept g m r) r b ≡ 0) ⊎ (tag (swept g m r) r ≡ Tag.free)
   unfolding swept setControl
   swept-free ph r b e l w = go (same-or-not (tag (settledBy g m r) r) 0)
     where

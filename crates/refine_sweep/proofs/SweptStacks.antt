@@ -1,4 +1,4 @@
--- The stacks after the sweep of a segment, which was on none: it is put on the free stack, on its class's part stack, or on none. Assumes nothing.
+-- The stacks after the sweep of a segment, which was on none: it is put on the free stack, on its class's part stack, or on none.
 use mathlib.Core.Path.{_≡_, refl}
 use mathlib.Core.Bool.{Bool}
 use Prim.Native.Nat.{ℕ, _<_}
@@ -55,8 +55,12 @@ module _ (g : Geometry) (m : Mem) (s : Sizes g m) (c : Ordered g m) (r : ℕ) (l
 
   pub free-stacks : Stacks g freeMem
   free-stacks = (
-    push-ok g unstacked (settled-sizes g m s r l k segment.Free) freeStack (omega arith) (isFree m) before (isFree freeMem) r l (not-free m r (λ e. omega arith)) (eq-eqb _ _ (free-state .there .tag)) (λ i h n. free-other m freeMem r (free-state .left .other) i n),
-    λ d h. push-left g unstacked (settled-sizes g m s r l k segment.Free) freeStack (omega arith) (isFree m) before (isFree freeMem) r l (not-free m r (λ e. omega arith)) (eq-eqb _ _ (free-state .there .tag)) (λ i h n. free-other m freeMem r (free-state .left .other) i n)
+    push-ok g unstacked (settled-sizes g m s r l k segment.Free) freeStack (omega arith) (isFree m) before (isFree freeMem) r l
+        (not-free m r (λ e. omega arith)) (eq-eqb _ _ (free-state .there .tag))
+        (λ i h n. free-other m freeMem r (free-state .left .other) i n),
+    λ d h. push-left g unstacked (settled-sizes g m s r l k segment.Free) freeStack (omega arith) (isFree m) before (isFree freeMem) r l
+        (not-free m r (λ e. omega arith)) (eq-eqb _ _ (free-state .there .tag))
+        (λ i h n. free-other m freeMem r (free-state .left .other) i n)
         (partStack d) (λ e. omega arith) (isPart m d) (isPart freeMem d) (kept-stack segment.Free (partStack d) (isPart m d) (isPart m d) (c .summed .partSegments d h) (λ i. refl))
         (λ i y. part-left m freeMem r (free-state .left .other) d (λ e f. omega arith) (λ e f. let z = free-state .there .tag in omega arith) i),
   )

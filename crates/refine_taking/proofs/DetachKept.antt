@@ -1,4 +1,4 @@
--- The call detach: refused in a handshake, else the mutator is detached. Assumes nothing.
+-- The call detach: refused in a handshake, else the mutator is detached.
 use mathlib.Core.Path.{_≡_, refl}
 use mathlib.Core.Bool.{Bool, true}
 use Prim.Native.Nat.{ℕ}
@@ -17,4 +17,6 @@ use Rattle.refine_taking.proofs.Detached.{detached-moves}
 module _ (out : ℕ → Bool) (late : out 11 ≡ true) (g : Geometry) (m : Mem) (s : Sizes g m) (c : Ordered g m) where
   pub detach-kept : (k : ℕ) → refusal (observe m) (c-detach k) ≡ 0 → CallKept out g m (c-detach k)
   unfolding act
-  detach-kept k e = unless-kept out g m (detached g m k) (c-detach k) 11 late (inHandshake (phase m)) (λ x. matches-by g m (c-detach k) _ tt refl (detached-moves g m s c k (by-ok (observe m) k 0 e .0)))
+  detach-kept k e =
+      unless-kept out g m (detached g m k) (c-detach k) 11 late (inHandshake (phase m))
+      (λ x. matches-by g m (c-detach k) _ tt refl (detached-moves g m s c k (by-ok (observe m) k 0 e .0)))

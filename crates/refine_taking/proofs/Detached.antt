@@ -1,4 +1,4 @@
--- A mutator detached: its entry is 0 and what it held is part. The memory is in order, and agrees with the machine's detach. Assumes nothing.
+-- A mutator detached: its entry is 0 and what it held is part. The memory is in order, and agrees with the machine's detach.
 use mathlib.Core.Path.{_≡_, refl, sym, _∙_, ap, subst}
 use mathlib.Core.Logic.{_⊎_, inl, inr}
 use mathlib.Core.Bool.{true, false, not, true≢false}
@@ -96,7 +96,11 @@ module _ (g : Geometry) (m : Mem) (s : Sizes g m) (c : Ordered g m) (k : ℕ) (f
     free = λ e. let y = x .tag in absurd (omega arith);
     unowned = λ f. x .owner;
     classes = λ f. subst IsClass (sym (x .class)) (o .classes used);
-    remains = λ a b. let w = z .0 in let y = o .remains (omega arith) (omega arith) in (y .0, subst (λ w. w ≤ y .0) (sym (x .place)) (y .1), subst (λ w. y .0 < blocksIn g w) (sym (x .class)) (y .2), y .3);
+    remains =
+        λ a b.
+        let w = z .0 in
+        let y = o .remains (omega arith) (omega arith) in
+        (y .0, subst (λ w. w ≤ y .0) (sym (x .place)) (y .1), subst (λ w. y .0 < blocksIn g w) (sym (x .class)) (y .2), y .3);
     full = λ e. let y = x .tag in absurd (omega arith);
     condemned = λ e. let y = x .tag in absurd (omega arith);
     held = λ e. let y = x .tag in absurd (omega arith);
@@ -251,7 +255,13 @@ module _ (g : Geometry) (m : Mem) (s : Sizes g m) (c : Ordered g m) (k : ℕ) (f
   }
 
   moves-over : Moves g m m₁ (detach (view g m) k)
-  moves-over = record { structure = structure; occupied = occupied-ok; behind = behind-by g m m₁ (steady g m s c emptied (parted .segments) (parted .stacks) (m .bitmaps) stands) refl; agree = agree; steady = steady g m s c emptied (parted .segments) (parted .stacks) (m .bitmaps) stands }
+  moves-over = record {
+    structure = structure;
+    occupied = occupied-ok;
+    behind = behind-by g m m₁ (steady g m s c emptied (parted .segments) (parted .stacks) (m .bitmaps) stands) refl;
+    agree = agree;
+    steady = steady g m s c emptied (parted .segments) (parted .stacks) (m .bitmaps) stands;
+  }
 
   same : setRun parted Region.mutators (k * mutatorWords) zeros ≡ m₁
   unfolding setRun

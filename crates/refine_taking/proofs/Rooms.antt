@@ -1,4 +1,4 @@
--- A make finds no room exactly where its mutator holds no segment of the class, none of it is part and none is free. Assumes nothing.
+-- A make finds no room exactly where its mutator holds no segment of the class, none of it is part and none is free.
 use mathlib.Core.Path.{_≡_, refl, sym, _∙_, ap}
 use mathlib.Core.Bool.{Bool, true, false}
 use Prim.Native.Nat.{ℕ, zero, suc, _-_, _<_}
@@ -70,11 +70,16 @@ module _ (g : Geometry) (m : Mem) (s : Sizes g m) (c : Ordered g m) (k cl : ℕ)
         third true h q = eqb-true _ _ h
         third false h q = let z : isNone (unused (top g m freeStack)) ≡ 1 = never _ q in absurd (omega arith)
 
-        second : (b : Bool) → eqb (count g m (partStack cl)) 0 ≡ b → pick b (pick (eqb (count g m freeStack) 0) noRoom (unused (top g m freeStack))) (part (top g m (partStack cl))) ≡ noRoom → (count g m (partStack cl) ≡ 0) × (count g m freeStack ≡ 0)
+        second : (b : Bool) → eqb (count g m (partStack cl)) 0 ≡ b
+            → pick b (pick (eqb (count g m freeStack) 0) noRoom (unused (top g m freeStack))) (part (top g m (partStack cl))) ≡ noRoom
+            → (count g m (partStack cl) ≡ 0) × (count g m freeStack ≡ 0)
         second true h q = (eqb-true _ _ h, third (eqb (count g m freeStack) 0) refl q)
         second false h q = let z : isNone (part (top g m (partStack cl))) ≡ 1 = never _ q in absurd (omega arith)
 
-        first : (b : Bool) → eqb (holding m k cl) 0 ≡ b → pick b (pick (eqb (count g m (partStack cl)) 0) (pick (eqb (count g m freeStack) 0) noRoom (unused (top g m freeStack))) (part (top g m (partStack cl)))) (held (holding m k cl - 1)) ≡ noRoom
+        first : (b : Bool) → eqb (holding m k cl) 0 ≡ b
+            → pick b
+            (pick (eqb (count g m (partStack cl)) 0) (pick (eqb (count g m freeStack) 0) noRoom (unused (top g m freeStack))) (part (top g m (partStack cl))))
+            (held (holding m k cl - 1)) ≡ noRoom
             → (holding m k cl ≡ 0) × (count g m (partStack cl) ≡ 0) × (count g m freeStack ≡ 0)
         first true h q = let z = second (eqb (count g m (partStack cl)) 0) refl q in (eqb-true _ _ h, z .0, z .1)
         first false h q = let z : isNone (held (holding m k cl - 1)) ≡ 1 = never _ q in absurd (omega arith)

@@ -1,5 +1,5 @@
 -- A memory that differs from a consistent one in mutators' entries, segments' records, stacks and bitmaps only, and whose segments that were
--- not free stay as they were: what is live stays in order, and the machine sees the same records. Assumes nothing.
+-- not free stay as they were: what is live stays in order, and the machine sees the same records.
 use mathlib.Core.Path.{_≡_, refl, sym, _∙_, ap}
 use mathlib.Core.Logic.{inr}
 use mathlib.Core.Bool.{true, not, _&&_}
@@ -30,7 +30,8 @@ use Rattle.model.specs.Tag as Tag
 
 -- a memory with other mutators' entries, segments' records, stacks and bitmaps
 abbrev pub over : Mem → List ℕ → List ℕ → List ℕ → List ℕ → Mem
-over m mutators segments stacks bitmaps = record { control = m .control; mutators = mutators; segments = segments; stacks = stacks; bitmaps = bitmaps; marks = m .marks; trace = m .trace; heap = m .heap }
+over m mutators segments stacks bitmaps =
+    record { control = m .control; mutators = mutators; segments = segments; stacks = stacks; bitmaps = bitmaps; marks = m .marks; trace = m .trace; heap = m .heap }
 
 -- a segment is not free, and has the class, the place and the bitmap that it had
 pub record Stood (g : Geometry) (m m₁ : Mem) (s : ℕ) : Type 0 where
@@ -75,7 +76,8 @@ module _ (g : Geometry) (m : Mem) (s : Sizes g m) (c : Ordered g m) (mu se st bi
   used-live at l =
       let u = c .records at l .used in
       let a : not (eqb (tag m₁ (segmentOf g at)) Tag.free) ≡ not (eqb (tag m (segmentOf g at)) Tag.free) = ne-not _ _ (h .stood (segmentOf g at) u .used) ∙ sym (ne-not _ _ u) in
-      let b : usedBit g m₁ (segmentOf g at) (blockOf g m₁ at) ≡ usedBit g m (segmentOf g at) (blockOf g m at) = ap (usedBit g m₁ (segmentOf g at)) (block-same at u) ∙ use-same (segmentOf g at) (blockOf g m at) u in
+      let b : usedBit g m₁ (segmentOf g at) (blockOf g m₁ at) ≡ usedBit g m (segmentOf g at) (blockOf g m at) =
+      ap (usedBit g m₁ (segmentOf g at)) (block-same at u) ∙ use-same (segmentOf g at) (blockOf g m at) u in
       ap (λ z. z && eqb (usedBit g m₁ (segmentOf g at) (blockOf g m₁ at)) 1) a ∙ ap (λ z. not (eqb (tag m (segmentOf g at)) Tag.free) && eqb z 1) b
 
   pub steady : Steady g m m₁

@@ -1,4 +1,4 @@
--- A free segment taken by a mutator that holds none of its class, with a bitmap of free blocks. Assumes nothing.
+-- A free segment taken by a mutator that holds none of its class, with a bitmap of free blocks.
 use mathlib.Core.Path.{_≡_, refl, sym, subst}
 use mathlib.Core.Bool.{true}
 use mathlib.Core.List.{List}
@@ -27,7 +27,8 @@ use Rattle.refine_taking.proofs.Taken.{Taken}
 use Rattle.refine_taking.proofs.Taking.{Took, taken-by}
 use Rattle.model.specs.Tag as Tag
 
-module _ (g : Geometry) (m : Mem) (s : Sizes g m) (c : Ordered g m) (k cl : ℕ) (few : k < mutatorCount) (here : isAttached m k ≡ true) (ic : IsClass cl) (none : holding m k cl ≡ 0) (some : 1 ≤ count g m freeStack) where
+module _ (g : Geometry) (m : Mem) (s : Sizes g m) (c : Ordered g m) (k cl : ℕ) (few : k < mutatorCount)
+    (here : isAttached m k ≡ true) (ic : IsClass cl) (none : holding m k cl ≡ 0) (some : 1 ≤ count g m freeStack) where
   abbrev r : ℕ
   r = top g m freeStack
 
@@ -91,7 +92,9 @@ module _ (g : Geometry) (m : Mem) (s : Sizes g m) (c : Ordered g m) (k cl : ℕ)
       (λ q l. part-left m m₁ r other d (λ e z. let y = top-tag in omega arith) (λ e z. let y = there .tag in omega arith) q)
 
   taken-over : Taken g m m₁ k cl r
-  taken-over = taken-by g m s c (taken .mutators) (taken .segments) (popped g m s n v k cl r 0 .stacks) (spliced (m .bitmaps) (r * bitmapWords g) tree) k cl r 0 few here ic none took free-stack part-stacks
+  taken-over =
+      taken-by g m s c (taken .mutators) (taken .segments) (popped g m s n v k cl r 0 .stacks)
+      (spliced (m .bitmaps) (r * bitmapWords g) tree) k cl r 0 few here ic none took free-stack part-stacks
 
   pub taken-free : Taken g m (freshened g (takes g (pop g m freeStack) k cl r 0) r cl) k cl r
   taken-free = subst (λ z. Taken g m z k cl r) (sym same) taken-over

@@ -1,4 +1,4 @@
--- A part segment taken by a mutator that holds none of its class. Assumes nothing.
+-- A part segment taken by a mutator that holds none of its class.
 use mathlib.Core.Path.{_≡_, refl, sym, _∙_, subst}
 use mathlib.Core.Logic.{_⊎_, inl, inr}
 use mathlib.Core.Bool.{true}
@@ -26,7 +26,8 @@ use Rattle.refine_taking.proofs.Taken.{Taken}
 use Rattle.refine_taking.proofs.Taking.{Took, taken-by}
 use Rattle.model.specs.Tag as Tag
 
-module _ (g : Geometry) (m : Mem) (s : Sizes g m) (c : Ordered g m) (k cl : ℕ) (few : k < mutatorCount) (here : isAttached m k ≡ true) (ic : IsClass cl) (none : holding m k cl ≡ 0) (some : 1 ≤ count g m (partStack cl)) where
+module _ (g : Geometry) (m : Mem) (s : Sizes g m) (c : Ordered g m) (k cl : ℕ) (few : k < mutatorCount)
+    (here : isAttached m k ≡ true) (ic : IsClass cl) (none : holding m k cl ≡ 0) (some : 1 ≤ count g m (partStack cl)) where
   abbrev r : ℕ
   r = top g m (partStack cl)
 

@@ -1,4 +1,4 @@
--- What a memory with a segment taken is to the memory before: in order, and to the machine the same. Assumes nothing.
+-- What a memory with a segment taken is to the memory before: in order, and to the machine the same.
 use mathlib.Core.Path.{_≡_}
 use mathlib.Core.Bool.{true}
 use Prim.Native.Nat.{ℕ, suc, _<_}

@@ -1,5 +1,5 @@
 -- A segment that was free or part comes to be held, and nothing else changes: the memory is in order but for the stacks, which are asked for,
--- and the machine sees no difference. Assumes nothing.
+-- and the machine sees no difference.
 use mathlib.Core.Path.{_≡_, refl, sym, _∙_, ap, subst, fun-ext}
 use mathlib.Core.Logic.{_⊎_, inl, inr}
 use mathlib.Core.Bool.{Bool, true, false, not}
@@ -89,7 +89,12 @@ module _ (g : Geometry) (m : Mem) (s : Sizes g m) (c : Ordered g m) (mu se st bi
     remains = λ a b. let y = t .remains in (y .0, subst (λ z. z ≤ y .0) (sym (x .place)) (y .1), subst (λ z. y .0 < blocksIn g z) (sym (x .class)) (y .2), y .3);
     full = λ e. let y = x .tag in absurd (omega arith);
     condemned = λ e. let y = x .tag in absurd (omega arith);
-    held = λ e. (subst (λ z. z < mutatorCount) (sym (x .owner)) few, λ f. not-eq _ _ here (sym (state-same k) ∙ ap (state m₁) (sym (x .owner)) ∙ f), ap (λ z. holding m₁ z (class m₁ r)) (x .owner) ∙ ap (holding m₁ k) (x .class) ∙ t .holds);
+    held =
+        λ e. (
+          subst (λ z. z < mutatorCount) (sym (x .owner)) few,
+          λ f. not-eq _ _ here (sym (state-same k) ∙ ap (state m₁) (sym (x .owner)) ∙ f),
+          ap (λ z. holding m₁ z (class m₁ r)) (x .owner) ∙ ap (holding m₁ k) (x .class) ∙ t .holds,
+        );
   }
     where
       x : Recorded m₁ r 2 cl p k
@@ -185,8 +190,12 @@ module _ (g : Geometry) (m : Mem) (s : Sizes g m) (c : Ordered g m) (mu se st bi
       none-past false true x y = refl
       none-past false false x y = refl
 
-      go : (b : Bool) → ltb i rootCount ≡ b → shapeIf (isAttached m₁ k′) b (Option·map (calls.shapeAt (view g m)) (record? (root m₁ k′ i))) ≡ shapeIf (isAttached m k′) b (Option·map (calls.shapeAt (view g m)) (record? (root m k′ i)))
-      go true e = ap (λ z. shapeIf z true (Option·map (calls.shapeAt (view g m)) (record? (root m₁ k′ i)))) (attached-same k′) ∙ ap (λ z. shapeIf (isAttached m k′) true (Option·map (calls.shapeAt (view g m)) (record? z))) (root-same k′ i (ltb-true _ _ e))
+      go : (b : Bool) → ltb i rootCount ≡ b
+          → shapeIf (isAttached m₁ k′) b (Option·map (calls.shapeAt (view g m)) (record? (root m₁ k′ i))) ≡ shapeIf (isAttached m k′) b
+          (Option·map (calls.shapeAt (view g m)) (record? (root m k′ i)))
+      go true e =
+          ap (λ z. shapeIf z true (Option·map (calls.shapeAt (view g m)) (record? (root m₁ k′ i)))) (attached-same k′)
+          ∙ ap (λ z. shapeIf (isAttached m k′) true (Option·map (calls.shapeAt (view g m)) (record? z))) (root-same k′ i (ltb-true _ _ e))
       go false e = none-past (isAttached m₁ k′) (isAttached m k′) _ _
 
   face-same : calls.observe (view g m₁) ≡ calls.observe (view g m)

@@ -1,4 +1,4 @@
--- An attached mutator acknowledges a handshake, on the memory and on the machine. Assumes nothing.
+-- An attached mutator acknowledges a handshake, on the memory and on the machine.
 use mathlib.Core.Path.{_≡_, refl, sym, _∙_, ap, subst}
 use mathlib.Core.Logic.{inl, inr, ⊎-elim}
 use mathlib.Core.Bool.{not}
@@ -95,7 +95,10 @@ module _ (g : Geometry) (m : Mem) (s : Sizes g m) (c : Ordered g m) (k : ℕ) (f
 
   -- the trace stack pushed to l, then the acknowledgements set
   acks-moves : (m′ : Mem) (l : List ℕ) → Pushed g m m′ l → ((x : ℕ) → List·Memᴰ x l → machine.Live (view g m) x) → Moves g m (setAcks m′ k v) (machine.setAcks (view g m) k v l)
-  acks-moves m′ l p h = subst (λ z. Moves g m z (machine.setAcks (view g m) k v l)) (sym (ap (λ z. setAcks z k v) (p .is) ∙ mutator-over m (p .control) (p .marks) (p .trace) _ v)) (acks-over (p .control) (p .marks) (p .trace) (p .entered) l (p .stack) h)
+  acks-moves m′ l p h =
+      subst (λ z. Moves g m z (machine.setAcks (view g m) k v l))
+      (sym (ap (λ z. setAcks z k v) (p .is) ∙ mutator-over m (p .control) (p .marks) (p .trace) _ v))
+      (acks-over (p .control) (p .marks) (p .trace) (p .entered) l (p .stack) h)
 
 module _ (g : Geometry) (m : Mem) (s : Sizes g m) (c : Ordered g m) (k : ℕ) (few : k < mutatorCount) (there : state m k ≡ absent → ⊥) where
   root-live : (i x : ℕ) → i < rootCount → record? (fields.root m k i) ≡ some x → machine.Live (view g m) x
@@ -105,7 +108,9 @@ module _ (g : Geometry) (m : Mem) (s : Sizes g m) (c : Ordered g m) (k : ℕ) (f
   roots-in = roots-pushed g m (c .segments) m _ (pushed-self g m s c) k rootCount (λ i x h e. to-record g m s c x (root-live i x h e))
 
   second : Moves g m (setAcks (pushRoots g m k rootCount) k 2) (machine.setAcks (view g m) k 2 (pushes (view g m .marked) (tab rootCount (view g m .root k)) (view g m .stack)))
-  second = acks-moves g m s c k few there 2 (omega arith) (pushRoots g m k rootCount) _ roots-in (λ x h. ⊎-elim (λ (z : Grey (view g m) x). root (inr z)) (λ z. root (inl (k, z))) (acknowledge-back (view g m) k (ne-not _ _ there) x h))
+  second =
+      acks-moves g m s c k few there 2 (omega arith) (pushRoots g m k rootCount) _ roots-in
+      (λ x h. ⊎-elim (λ (z : Grey (view g m) x). root (inr z)) (λ z. root (inl (k, z))) (acknowledge-back (view g m) k (ne-not _ _ there) x h))
 
   first : Moves g m (setAcks m k 1) (machine.setAcks (view g m) k 1 (view g m .stack))
   first = acks-moves g m s c k few there 1 (omega arith) m _ (pushed-self g m s c) (λ x (h : Grey (view g m) x). root (inr h))

@@ -1,4 +1,4 @@
--- The calls check, leave and store are kept. Assumes nothing.
+-- The calls check, leave and store are kept.
 use mathlib.Core.Path.{_≡_, refl, _∙_}
 use mathlib.Core.Bool.{true}
 use Prim.Native.Nat.{ℕ}

@@ -1,4 +1,4 @@
--- The words of a trace stack in order and its marks, over a memory that they may be put into; and one record more on top. Assumes nothing.
+-- The words of a trace stack in order and its marks, over a memory that they may be put into; and one record more on top.
 use mathlib.Core.Path.{_≡_, refl, sym, _∙_, ap, ap₂, subst}
 use mathlib.Core.Logic.{_⊎_, inl, inr, ⊎-elim}
 use mathlib.Core.Bool.{Bool, true, false, _&&_}
@@ -60,7 +60,9 @@ module _ (g : Geometry) (m : Mem) (c q t : List ℕ) (e : Entered g m c q t) whe
   }
 
   -- put into the memory, where the mutators and the live records are in order
-  pub structure-entered : (mu he : List ℕ) → Structure g m → Held g m c mu q t he → ((k : ℕ) → k < mutatorCount → MutatorOk g (beside m c mu q t he) k) → ((at : ℕ) → Live (beside m c mu q t he) at → RecordOk g m at × (getD he at 0 ≡ heapWord m at)) → Structure g (beside m c mu q t he)
+  pub structure-entered : (mu he : List ℕ) → Structure g m → Held g m c mu q t he → ((k : ℕ) → k < mutatorCount → MutatorOk g (beside m c mu q t he) k)
+      → ((at : ℕ) → Live (beside m c mu q t he) at → RecordOk g m at × (getD he at 0 ≡ heapWord m at))
+      → Structure g (beside m c mu q t he)
   structure-entered mu he o h u r =
       structure-beside g m c mu q t he o (subst (λ z. z ≤ 4) (sym (e .phase)) (o .phases)) h u r (entries-over mu he)
       (subst (λ z. MarksIn (phaseOf z) g (beside m c mu q t he)) (sym (e .phase)) (marks-beside g (over m c q t) c mu he refl (phase m) (e .marks)))
@@ -155,7 +157,9 @@ module _ (g : Geometry) (m : Mem) (c q t : List ℕ) (e : Entered g m c q t) whe
           go (inr o) = use-beside g now c′ (m .mutators) q′ t′ (m .heap) (bitWord k) (h k l u o)
 
       marks-more : MarksIn (phase m) g now → MarksIn (phase m) g then
-      marks-more = marks-by g now then (λ x z. z) used-more (phase m) (λ z h k l b. ⊎-elim (λ y. subst (IsEntry then) (sym (ap bitWord y ∙ at-word)) new-entry) (λ o. old-entry (bitWord k) (h k l o)) (bit-was k b))
+      marks-more =
+          marks-by g now then (λ x z. z) used-more (phase m)
+          (λ z h k l b. ⊎-elim (λ y. subst (IsEntry then) (sym (ap bitWord y ∙ at-word)) new-entry) (λ o. old-entry (bitWord k) (h k l o)) (bit-was k b))
 
       -- no mark is set: the record on the stack is not marked, and it was not
       same-mark : (x : ℕ) → IsClass (class m (segmentOf g x)) → isHead g m x ≡ true → marked g then x ≡ marked g now x
@@ -184,7 +188,9 @@ module _ (g : Geometry) (m : Mem) (c q t : List ℕ) (e : Entered g m c q t) whe
         cursor = getD-set-other c 1 2 (count + 1) 0 (λ z. omega arith) ∙ e .cursor;
         named = λ i l. ⊎-elim (λ h. let n = e .named i (h .0) in let w = h .1 in omega arith) (λ h. let w = h .1 in omega arith) (word i l);
         records = λ i l. ⊎-elim (λ h. subst (λ z. RecordOk g m (z - 1)) (sym (h .1)) (e .records i (h .0))) (λ h. subst (λ z. RecordOk g m z) (let w = h .1 in omega arith) r) (word i l);
-        bits = λ i l. ⊎-elim (λ h. subst (λ z. bitAt q′ (markBit (z - 1)) ≡ 1) (sym (h .1)) (bit-kept _ (e .bits i (h .0)))) (λ h. subst (λ z. bitAt q′ (markBit z) ≡ 1) (let w = h .1 in omega arith) bit-there) (word i l);
+        bits =
+            λ i l. ⊎-elim (λ h. subst (λ z. bitAt q′ (markBit (z - 1)) ≡ 1) (sym (h .1)) (bit-kept _ (e .bits i (h .0))))
+            (λ h. subst (λ z. bitAt q′ (markBit z) ≡ 1) (let w = h .1 in omega arith) bit-there) (word i l);
         number = let z = count-after in let y = more in omega arith;
         marks = marks-more (e .marks);
         same = same-more;

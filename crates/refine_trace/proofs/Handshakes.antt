@@ -1,4 +1,4 @@
--- A step in a handshake, on the memory and on the machine. Assumes nothing.
+-- A step in a handshake, on the memory and on the machine.
 use mathlib.Core.Path.{_≡_, refl, sym, _∙_, ap, subst}
 use mathlib.Core.Logic.{_⊎_, inl, inr}
 use mathlib.Core.Bool.{Bool, true, not, _&&_}
@@ -55,7 +55,9 @@ module _ (g : Geometry) (m : Mem) where
       let z = sizes-acknowledged g m′ (w .sizes) k in
       record {
         sizes = z;
-        ordered = ordered-of g (acknowledged g m′ k) z (v .structure) (agree-inv (segmentOf g) (check (view g m′) k) (view g (acknowledged g m′ k)) (v .agree) (check-inv (segmentOf g) (view g m′) (to-inv g m′ (w .sizes) (w .ordered)) k there));
+        ordered =
+            ordered-of g (acknowledged g m′ k) z (v .structure)
+            (agree-inv (segmentOf g) (check (view g m′) k) (view g (acknowledged g m′ k)) (v .agree) (check-inv (segmentOf g) (view g m′) (to-inv g m′ (w .sizes) (w .ordered)) k there));
         agree = agree-trans (segmentOf g) (check st k) (check (view g m′) k) (check-agree (segmentOf g) st (view g m′) (w .agree) k h) (view g (acknowledged g m′ k)) (v .agree);
         occupied = λ u. v .occupied (w .occupied u);
         behind = λ u. v .behind (w .behind u);
@@ -63,7 +65,8 @@ module _ (g : Geometry) (m : Mem) where
       }
 
   -- by the state of a mutator's entry
-  by-state : (m′ : Mem) (st : State) → Answered g m m′ st → (k : ℕ) → k < mutatorCount → (x : ℕ) → x ≤ 2 → st .attached k ≡ not (eqb x 0) → Answered g m (pick (eqb x 2) (acknowledged g m′ k) m′) (outside (not (eqb x 0)) (eqb x 1) st (check st k))
+  by-state : (m′ : Mem) (st : State) → Answered g m m′ st → (k : ℕ) → k < mutatorCount → (x : ℕ) → x ≤ 2 → st .attached k ≡ not (eqb x 0)
+      → Answered g m (pick (eqb x 2) (acknowledged g m′ k) m′) (outside (not (eqb x 0)) (eqb x 1) st (check st k))
   by-state m′ st w k l zero h a = w
   by-state m′ st w k l (suc zero) h a = w
   by-state m′ st w k l (suc (suc zero)) h a = one-answers m′ st w k l a
@@ -79,13 +82,22 @@ module _ (g : Geometry) (m : Mem) where
 
   module _ (s : Sizes g m) (c : Ordered g m) where
     all-answered : (n : ℕ) → n ≤ mutatorCount → Answered g m (outsideAnswered g m n) (answerOutside n (view g m))
-    all-answered zero h = subst (λ z. Answered g m z (view g m)) (sym answered-none) (record { sizes = s; ordered = c; occupied = λ u. u; behind = λ u. u; agree = agree-self g m; steady = λ x l e. (e, refl) })
+    all-answered zero h =
+        subst (λ z. Answered g m z (view g m)) (sym answered-none)
+        (record { sizes = s; ordered = c; occupied = λ u. u; behind = λ u. u; agree = agree-self g m; steady = λ x l e. (e, refl) })
     all-answered (suc n) h =
         let w = all-answered n (omega arith) in
         let u = outside-later n (view g m) in
-        subst (λ z. Answered g m z (outside (answerOutside n (view g m) .attached n) (answerOutside n (view g m) .inside n) (answerOutside n (view g m)) (check (answerOutside n (view g m)) n))) (sym (answered-next n))
-        (subst (λ z. Answered g m (pick (eqb (state m n) 2) (acknowledged g (outsideAnswered g m n) n) (outsideAnswered g m n)) (outside z (answerOutside n (view g m) .inside n) (answerOutside n (view g m)) (check (answerOutside n (view g m)) n))) (sym (u .attached n))
-        (subst (λ z. Answered g m (pick (eqb (state m n) 2) (acknowledged g (outsideAnswered g m n) n) (outsideAnswered g m n)) (outside (isAttached m n) z (answerOutside n (view g m)) (check (answerOutside n (view g m)) n))) (sym (u .inside n))
+        subst
+        (λ z. Answered g m z (outside (answerOutside n (view g m) .attached n) (answerOutside n (view g m) .inside n) (answerOutside n (view g m)) (check (answerOutside n (view g m)) n)))
+        (sym (answered-next n))
+        (subst
+        (λ z. Answered g m (pick (eqb (state m n) 2) (acknowledged g (outsideAnswered g m n) n) (outsideAnswered g m n))
+        (outside z (answerOutside n (view g m) .inside n) (answerOutside n (view g m)) (check (answerOutside n (view g m)) n)))
+        (sym (u .attached n))
+        (subst
+        (λ z. Answered g m (pick (eqb (state m n) 2) (acknowledged g (outsideAnswered g m n) n) (outsideAnswered g m n))
+        (outside (isAttached m n) z (answerOutside n (view g m)) (check (answerOutside n (view g m)) n))) (sym (u .inside n))
         (by-state (outsideAnswered g m n) (answerOutside n (view g m)) w n h (state m n) (c .mutators n h .states) (u .attached n))))
 
 -- ---- how many still owe an answer
@@ -134,8 +146,14 @@ module _ (g : Geometry) (m : Mem) (s : Sizes g m) (c : Ordered g m) where
   blank : (m′ : Mem) → Ordered g m′ → MarksIn sync1 g m′ → MarksIn sync2 g m′
   blank m′ o h = λ k l u e. let r = o .records (bitWord k) (reach.root (inr (h k l e))) in record { used = r .used; aligned = r .aligned; block = r .block }
 
-  pub first-by : (n : ℕ) → n ≤ mutatorCount → phase m ≡ sync1 → Moves g m (moves (waiting (outsideAnswered g m n) n) (outsideAnswered g m n) sync2 .1) (move (machine.waiting n (answerOutside n (view g m))) (answerOutside n (view g m)) sync2)
-  first-by n h e = stepped g m (outsideAnswered g m n) (answerOutside n (view g m)) (all-answered g m s c n h) sync2 (λ t. tracing-kept n sync1 e tt) (blank (outsideAnswered g m n) (all-answered g m s c n h .ordered) (marks-kept n h sync1 e)) n
+  pub first-by : (n : ℕ) → n ≤ mutatorCount → phase m ≡ sync1
+      → Moves g m (moves (waiting (outsideAnswered g m n) n) (outsideAnswered g m n) sync2 .1)
+      (move (machine.waiting n (answerOutside n (view g m))) (answerOutside n (view g m)) sync2)
+  first-by n h e =
+      stepped g m (outsideAnswered g m n) (answerOutside n (view g m)) (all-answered g m s c n h) sync2 (λ t. tracing-kept n sync1 e tt)
+      (blank (outsideAnswered g m n) (all-answered g m s c n h .ordered) (marks-kept n h sync1 e)) n
 
-  pub second-by : (n : ℕ) → n ≤ mutatorCount → phase m ≡ sync2 → Moves g m (moves (waiting (outsideAnswered g m n) n) (outsideAnswered g m n) mark .1) (move (machine.waiting n (answerOutside n (view g m))) (answerOutside n (view g m)) mark)
+  pub second-by : (n : ℕ) → n ≤ mutatorCount → phase m ≡ sync2
+      → Moves g m (moves (waiting (outsideAnswered g m n) n) (outsideAnswered g m n) mark .1)
+      (move (machine.waiting n (answerOutside n (view g m))) (answerOutside n (view g m)) mark)
   second-by n h e = stepped g m (outsideAnswered g m n) (answerOutside n (view g m)) (all-answered g m s c n h) mark (λ t. tracing-kept n sync2 e tt) (marks-kept n h sync2 e) n

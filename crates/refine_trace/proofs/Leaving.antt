@@ -1,4 +1,4 @@
--- An attached mutator goes outside, on the memory and on the machine. Assumes nothing.
+-- An attached mutator goes outside, on the memory and on the machine.
 use mathlib.Core.Path.{_≡_, refl}
 use mathlib.Core.Bool.{false}
 use Prim.Native.Nat.{ℕ, zero, suc, _<_}
@@ -26,5 +26,9 @@ check-attached sync2 (suc (suc a)) st k i = refl
 check-attached mark a st k i = refl
 check-attached sweep a st k i = refl
 
-pub left-moves : (g : Geometry) (m m′ : Mem) (st : State) → Moves g m m′ st → Sizes g m′ → (k : ℕ) → k < mutatorCount → (state m′ k ≡ absent → ⊥) → Moves g m (setMutatorState m′ k outside) (setInside st k false)
-left-moves g m m′ st v s k few there = moves-then g m m′ (setMutatorState m′ k outside) st (setInside st k false) (setInside (view g m′) k false) v (inside-agree (segmentOf g) st (view g m′) (v .agree) k false) (side-moves g m′ s (v .structure) k outside few there (omega arith) (omega arith))
+pub left-moves : (g : Geometry) (m m′ : Mem) (st : State) → Moves g m m′ st → Sizes g m′ → (k : ℕ) → k < mutatorCount → (state m′ k ≡ absent → ⊥)
+    → Moves g m (setMutatorState m′ k outside) (setInside st k false)
+left-moves g m m′ st v s k few there =
+    moves-then g m m′ (setMutatorState m′ k outside) st (setInside st k false) (setInside (view g m′) k false) v
+    (inside-agree (segmentOf g) st (view g m′) (v .agree) k false)
+    (side-moves g m′ s (v .structure) k outside few there (omega arith) (omega arith))

@@ -1,4 +1,4 @@
--- A memory with other words for the trace stack and other marks, which are what pushes change. Assumes nothing.
+-- A memory with other words for the trace stack and other marks, which are what pushes change.
 use mathlib.Core.Path.{_≡_, refl}
 use mathlib.Core.Bool.{true}
 use native.Mathlib.Omega.{arith}
@@ -29,7 +29,9 @@ over m c q t = beside m c (m .mutators) q t (m .heap)
 pub over-self : (m : Mem) → m ≡ over m (m .control) (m .marks) (m .trace)
 over-self m = refl
 
-pub push-over : (g : Geometry) (m : Mem) (c q t : List ℕ) (at : ℕ) → push g (over m c q t) (some at) ≡ pick (eqb (bitAt q (markBit at)) 1) (over m c q t) (over m (set c 1 (getD c 1 0 + 1)) (setBit q (markBit at)) (set t (getD c 1 0) (suc at)))
+pub push-over : (g : Geometry) (m : Mem) (c q t : List ℕ) (at : ℕ)
+    → push g (over m c q t) (some at) ≡ pick (eqb (bitAt q (markBit at)) 1) (over m c q t)
+    (over m (set c 1 (getD c 1 0 + 1)) (setBit q (markBit at)) (set t (getD c 1 0) (suc at)))
 unfolding push setTrace setControl setEntered
 push-over g m c q t at = refl
 

@@ -1,4 +1,4 @@
--- A pointer of a record set: the other words of records stay. Assumes nothing.
+-- A pointer of a record set: the other words of records stay.
 use mathlib.Core.Path.{_≡_, ap}
 use Prim.Native.Nat.{ℕ, _+_, _<_}
 use native.Mathlib.Omega.{arith}
@@ -34,7 +34,13 @@ module _ (g : Geometry) (m : Mem) (s : Sizes g m) (f : Segments g m) (at p v : �
     pointers-kept = pointers-by m after x header-kept
 
     pub values-kept : valuesOf after x ≡ valuesOf m x
-    values-kept = fields-by m after x header-kept (λ i l. word-other (x + (1 + pointerCount m x + i)) (λ e. let z = fields-apart g m x at o r (1 + pointerCount m x + i) (1 + p) (omega arith) (omega arith) (omega arith) in let y : pointerCount m x ≡ pointerCount m at = ap (pointerCount m) z in omega arith))
+    values-kept =
+        fields-by m after x header-kept
+        (λ i l. word-other (x + (1 + pointerCount m x + i))
+        (λ e.
+        let z = fields-apart g m x at o r (1 + pointerCount m x + i) (1 + p) (omega arith) (omega arith) (omega arith) in
+        let y : pointerCount m x ≡ pointerCount m at = ap (pointerCount m) z in
+        omega arith))
 
     pub pointer-kept : (i : ℕ) → i < pointerCount m x → record? (pointer after x i) ≡ upd2 (λ a b. record? (pointer m a b)) at p (record? v) x i
     pointer-kept i l = upd2-by (λ a b. record? (pointer m a b)) at p (record? v) x i (record? (pointer after x i))

@@ -1,4 +1,4 @@
--- The last entered record taken off the trace stack: it is marked, no other is, and the rest is in order. Assumes nothing.
+-- The last entered record taken off the trace stack: it is marked, no other is, and the rest is in order.
 use mathlib.Core.Path.{_≡_, refl, sym, _∙_, ap, subst}
 use mathlib.Core.Logic.{_⊎_, inl, inr, ⊎-elim}
 use mathlib.Core.Bool.{true, false, _&&_}

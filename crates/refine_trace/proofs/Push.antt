@@ -1,4 +1,4 @@
--- Pushes on the trace stack, on the memory and on the machine. Assumes nothing.
+-- Pushes on the trace stack, on the memory and on the machine.
 use mathlib.Core.Path.{_≡_, refl, sym, _∙_, ap, subst}
 use mathlib.Core.Bool.{Bool, true, false, _&&_}
 use mathlib.Core.Logic.{_⊎_, inl, inr}

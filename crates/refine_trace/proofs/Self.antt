@@ -1,4 +1,4 @@
--- A consistent memory's own trace stack is in order. Assumes nothing.
+-- A consistent memory's own trace stack is in order.
 use mathlib.Core.Path.{refl}
 use mathlib.Core.Logic.{inr}
 use Prim.Native.Nat.{ℕ, _-_, _<_}

@@ -1,4 +1,4 @@
--- The collector's steps in the handshakes and in mark move as the machine's. Assumes nothing.
+-- The collector's steps in the handshakes and in mark move as the machine's.
 use mathlib.Core.Path.{_≡_, refl}
 use mathlib.Core.Option.{Option}
 use Prim.Native.Nat.{ℕ}

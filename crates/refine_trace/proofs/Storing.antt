@@ -1,4 +1,4 @@
--- A store, with its write barrier, on the memory and on the machine. Assumes nothing.
+-- A store, with its write barrier, on the memory and on the machine.
 use mathlib.Core.Path.{_≡_, refl, sym, _∙_, ap, subst}
 use mathlib.Core.Logic.{inl}
 use mathlib.Core.Option.{Option, some}
@@ -94,7 +94,9 @@ module _ (g : Geometry) (m : Mem) (s : Sizes g m) (c : Ordered g m) where
       next-structure = structure-entered g m control q t e (m .mutators) (base .heap) (structure-of g m c)
           (held-self g m control q t (base .heap))
           (λ j l. mutator-beside g m control q t (base .heap) j (c .mutators j l))
-          (λ x p. let r = to-record g m s c x (was-live (agreeing.live-back (segmentOf g) next-state (view g next-memory) store-agree (live-on g next-memory p))) in (r, header-kept g m s (c .segments) at f w at-record few x r))
+          (λ x p.
+          let r = to-record g m s c x (was-live (agreeing.live-back (segmentOf g) next-state (view g next-memory) store-agree (live-on g next-memory p))) in
+          (r, header-kept g m s (c .segments) at f w at-record few x r))
 
       store-over : Moves g m next-memory next-state
       unfolding setHeap
@@ -103,4 +105,6 @@ module _ (g : Geometry) (m : Mem) (s : Sizes g m) (c : Ordered g m) where
     pub store-moves : Moves g m (setPointer (tracing.barrier g (duty (phase m) (acks m k)) m new old-value) at f w) next-state
     store-moves =
         let p = barrier-pushed (duty (phase m) (acks m k)) in
-        subst (λ z. Moves g m z next-state) (sym (ap (λ z. setPointer z at f w) (p .is) ∙ heap-over m (p .control) (p .marks) (p .trace) _ w)) (store-over (p .control) (p .marks) (p .trace) (p .entered) (p .stack))
+        subst (λ z. Moves g m z next-state)
+        (sym (ap (λ z. setPointer z at f w) (p .is) ∙ heap-over m (p .control) (p .marks) (p .trace) _ w))
+        (store-over (p .control) (p .marks) (p .trace) (p .entered) (p .stack))

@@ -1,4 +1,4 @@
--- A step in the phase mark, on the memory and on the machine. Assumes nothing.
+-- A step in the phase mark, on the memory and on the machine.
 use mathlib.Core.Path.{_≡_, refl, sym, _∙_, ap, subst}
 use mathlib.Core.Logic.{inr}
 use mathlib.Core.Bool.{true}
@@ -90,10 +90,15 @@ module _ (g : Geometry) (m : Mem) (s : Sizes g m) (c : Ordered g m) (marking : p
 
     pointers-in : Pushed g base (traced g m at) (pushes (view g base .marked) (tab (pointerCount m at) (λ i. record? (pointer m at i))) (stackOf m n))
     unfolding setControl
-    pointers-in = pointers-pushed g base (segments-after g m s c n some-left) (popped g m at) (stackOf m n) popped-pushed at (pointerCount m at) (λ i x l e. record-after g m s c n some-left x (to-record g m s c x (pointer-live i x l e)))
+    pointers-in =
+        pointers-pushed g base (segments-after g m s c n some-left) (popped g m at) (stackOf m n) popped-pushed at (pointerCount m at)
+        (λ i x l e. record-after g m s c n some-left x (to-record g m s c x (pointer-live i x l e)))
 
     all-pushed : Pushed g base (traced g m at) (next-state .stack)
-    all-pushed = subst (Pushed g base (traced g m at)) (pushes-alike (view g base .marked) (upd (view g m .marked) at true) (tab (pointerCount m at) (λ i. record? (pointer m at i))) (stackOf m n) (λ x h. marked-view g m s c n some-left x)) pointers-in
+    all-pushed =
+        subst (Pushed g base (traced g m at))
+        (pushes-alike (view g base .marked) (upd (view g m .marked) at true) (tab (pointerCount m at) (λ i. record? (pointer m at i))) (stackOf m n) (λ x h. marked-view g m s c n some-left x))
+        pointers-in
 
     module _ (control q t : List ℕ) (e : Entered g base control q t) (is : stackOf (over base control q t) (getD control 1 0) ≡ next-state .stack) where
       abbrev next-memory : Mem
@@ -128,7 +133,13 @@ module _ (g : Geometry) (m : Mem) (s : Sizes g m) (c : Ordered g m) (marking : p
           (subst (λ z. MarksIn (phaseOf z) g next-memory) (sym (e .phase)) (e .marks))
 
       trace-over : Moves g m next-memory next-state
-      trace-over = record { structure = next-structure; occupied = λ u. u; behind = λ u x h b. u x h (subst (λ z. x < z) (e .cursor ∙ cursor-after g m s c n some-left) b); agree = trace-agree; steady = λ x h z. (z, refl) }
+      trace-over = record {
+        structure = next-structure;
+        occupied = λ u. u;
+        behind = λ u x h b. u x h (subst (λ z. x < z) (e .cursor ∙ cursor-after g m s c n some-left) b);
+        agree = trace-agree;
+        steady = λ x h z. (z, refl);
+      }
 
     one-traced : Moves g m (traces g (suc n) m .1) (traceStep (stackOf m (suc n)) (view g m))
     one-traced = let p = all-pushed in subst (λ z. Moves g m z next-state) (sym (p .is)) (trace-over (p .control) (p .marks) (p .trace) (p .entered) (p .stack))

@@ -1,4 +1,4 @@
--- Order carried over from one memory to another by the words that stay: records, blocks in use, the trace stack, marks. Assumes nothing.
+-- Order carried over from one memory to another by the words that stay: records, blocks in use, the trace stack, marks.
 use mathlib.Core.Path.{_≡_, refl, sym, _∙_, ap, subst}
 use mathlib.Core.List.{List}
 use Prim.Native.Nat.{ℕ, _*_, _/_, _%_, _≤_, _<_}
@@ -46,7 +46,9 @@ entries-by g m m′ o n t q = record {
 }
 
 -- by the phase: no segment came among the condemned, no mark before marking began, and marks are of blocks in use
-pub marks-by : (g : Geometry) (m m′ : Mem) → ((s : ℕ) → tag m′ s ≡ Tag.condemned → tag m s ≡ Tag.condemned) → ((test : ℕ → Type 0) → MarksOf g m test → MarksOf g m′ test) → (p : Phase) → (p ≡ sync1 → MarksIn sync1 g m → MarksIn sync1 g m′) → MarksIn p g m → MarksIn p g m′
+pub marks-by : (g : Geometry) (m m′ : Mem) → ((s : ℕ) → tag m′ s ≡ Tag.condemned → tag m s ≡ Tag.condemned)
+    → ((test : ℕ → Type 0) → MarksOf g m test → MarksOf g m′ test) → (p : Phase)
+    → (p ≡ sync1 → MarksIn sync1 g m → MarksIn sync1 g m′) → MarksIn p g m → MarksIn p g m′
 marks-by g m m′ back of idle blank h = λ s l e. h s l (back s e)
 marks-by g m m′ back of sync1 blank h = blank refl h
 marks-by g m m′ back of sync2 blank h = of (λ s. Unit {0}) h

@@ -1,4 +1,4 @@
--- A record's shape and fields by the words that they are. Assumes nothing.
+-- A record's shape and fields by the words that they are.
 use mathlib.Core.Path.{_≡_, sym, _∙_, ap}
 use Prim.Native.Nat.{ℕ, _+_, _<_}
 use native.Mathlib.Omega.{arith}

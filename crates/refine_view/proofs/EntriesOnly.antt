@@ -1,4 +1,4 @@
--- A call that changes mutators' entries only: the words stay in order, and it moves as the machine does. Assumes nothing.
+-- A call that changes mutators' entries only: the words stay in order, and it moves as the machine does.
 use mathlib.Core.Path.{_≡_, refl}
 use mathlib.Core.Bool.{Bool, true}
 use mathlib.Core.Option.{Option}
@@ -27,7 +27,20 @@ module _ (g : Geometry) (m : Mem) (l : List ℕ) (A I : ℕ → Bool) (K : ℕ �
   now = beside m (m .control) l (m .marks) (m .trace) (m .heap)
 
   abbrev after : machine.State
-  after = record { pointerCount = view g m .pointerCount; values = view g m .values; pointer = view g m .pointer; used = view g m .used; condemned = view g m .condemned; marked = view g m .marked; stack = view g m .stack; attached = A; inside = I; acks = K; root = R; phase = view g m .phase }
+  after = record {
+    pointerCount = view g m .pointerCount;
+    values = view g m .values;
+    pointer = view g m .pointer;
+    used = view g m .used;
+    condemned = view g m .condemned;
+    marked = view g m .marked;
+    stack = view g m .stack;
+    attached = A;
+    inside = I;
+    acks = K;
+    root = R;
+    phase = view g m .phase;
+  }
 
   pub record Shows : Type 0 where
     pub mutators : (k : ℕ) → k < mutatorCount → MutatorOk g now k

@@ -1,4 +1,4 @@
--- The same operation after a move is a move. Assumes nothing.
+-- The same operation after a move is a move.
 use mathlib.Core.Path.{_∙_}
 use Rattle.layout.specs.Geometry.{segmentOf}
 use Rattle.layout.specs.declared.Geometry.{Geometry}

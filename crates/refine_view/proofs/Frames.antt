@@ -1,4 +1,4 @@
--- A memory that keeps the segments' records, stacks and bitmaps of another, with other words elsewhere: what stays in order. Assumes nothing.
+-- A memory that keeps the segments' records, stacks and bitmaps of another, with other words elsewhere: what stays in order.
 use mathlib.Core.Path.{_≡_, refl, sym, _∙_, ap}
 use mathlib.Core.Bool.{Bool}
 use mathlib.Core.List.{List}
@@ -58,7 +58,9 @@ module _ (g : Geometry) (m : Mem) (co mu ma tr he : List ℕ) where
   pub use-beside : (at : ℕ) → HeadInUse g m at → HeadInUse g now at
   use-beside at u = record { used = u .used; aligned = u .aligned; block = u .block }
 
-  pub structure-beside : Structure g m → getD co 0 0 ≤ 4 → Held → ((k : ℕ) → k < mutatorCount → MutatorOk g now k) → ((at : ℕ) → Live now at → RecordOk g m at × (heapWord now at ≡ heapWord m at)) → EntriesOk g now → MarksIn (phaseOf (getD co 0 0)) g now → Structure g now
+  pub structure-beside : Structure g m → getD co 0 0 ≤ 4 → Held → ((k : ℕ) → k < mutatorCount → MutatorOk g now k)
+      → ((at : ℕ) → Live now at → RecordOk g m at × (heapWord now at ≡ heapWord m at)) → EntriesOk g now
+      → MarksIn (phaseOf (getD co 0 0)) g now → Structure g now
   structure-beside o p h u r q k = record {
     phases = p;
     segments = λ s l. segment-beside h s (o .segments s l);

@@ -1,4 +1,4 @@
--- Consistency is the order of the words together with the machine's invariant. Assumes nothing.
+-- Consistency is the order of the words together with the machine's invariant.
 use mathlib.Core.Path.{_≡_, refl, sym, _∙_, ap, subst}
 use mathlib.Core.Logic.{_⊎_, inl, inr, ⊎-elim}
 use mathlib.Core.Bool.{Bool, true, false, _&&_, true≢false}
@@ -128,8 +128,13 @@ module _ (g : Geometry) (m : Mem) (s : Sizes g m) (c : Ordered g m) where
 
   to-covered : Tricolour g m → (t : Unit {0}) → Core (view g m)
   to-covered t u = record {
-    rootsCovered = λ k b a h. let r : IsRoot m b = record { mutator = k; index = h .0; few = few-mutators g m s k (h .1); within = h .2; attached = not-eq _ _ (h .1); names = named _ _ (h .3) } in covered-on g m s (c .trace .named) (c .records) b (root (inl r)) (t .roots b r a);
-    pointersCovered = λ x y p e q. covered-on g m s (c .trace .named) (c .records) y (next (to-live p) (edge-back g m x y q)) (t .edges x y (to-live p) (marked-1 g m x (and-right (isHead g m x) _ e)) (edge-back g m x y q));
+    rootsCovered =
+        λ k b a h.
+        let r : IsRoot m b = record { mutator = k; index = h .0; few = few-mutators g m s k (h .1); within = h .2; attached = not-eq _ _ (h .1); names = named _ _ (h .3) } in
+        covered-on g m s (c .trace .named) (c .records) b (root (inl r)) (t .roots b r a);
+    pointersCovered =
+        λ x y p e q. covered-on g m s (c .trace .named) (c .records) y (next (to-live p) (edge-back g m x y q))
+        (t .edges x y (to-live p) (marked-1 g m x (and-right (isHead g m x) _ e)) (edge-back g m x y q));
   }
 
   -- in the first handshake what has a bit is on the stack
@@ -150,7 +155,9 @@ module _ (g : Geometry) (m : Mem) (s : Sizes g m) (c : Ordered g m) where
   to-core idle e h t = absurd t
   to-core sync1 e h t = record {
     rootsCovered = λ k b a q. absurd (let z = subst (λ p. AcksIn p (acks m k)) e (acks-in k (q .1)) in omega arith);
-    pointersCovered = λ x y p k q. absurd (let z : marked g m x ≡ 0 = blank-bit x (to-live p) in let u : marked g m x ≡ 1 = marked-1 g m x (and-right (isHead g m x) (isMarked g m x) k) in omega arith);
+    pointersCovered =
+        λ x y p k q. absurd
+        (let z : marked g m x ≡ 0 = blank-bit x (to-live p) in let u : marked g m x ≡ 1 = marked-1 g m x (and-right (isHead g m x) (isMarked g m x) k) in omega arith);
   }
     where
       blank-bit : (x : ℕ) → Live m x → marked g m x ≡ 0
@@ -255,5 +262,15 @@ module _ (g : Geometry) (m : Mem) (s : Sizes g m) (o : Structure g m) (inv : Inv
   pub consistent-of : EachOccupied g m → Behind g m → Consistent g m
   consistent-of u b = let c = ordered-of in record {
     summed = c .summed;
-    sound = record { phases = c .phases; segments = c .segments; occupied = u; behind = b; mutators = c .mutators; acknowledgements = c .acknowledgements; records = c .records; trace = c .trace; cycle = c .cycle };
+    sound = record {
+      phases = c .phases;
+      segments = c .segments;
+      occupied = u;
+      behind = b;
+      mutators = c .mutators;
+      acknowledgements = c .acknowledgements;
+      records = c .records;
+      trace = c .trace;
+      cycle = c .cycle;
+    };
   }

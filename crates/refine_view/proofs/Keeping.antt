@@ -1,4 +1,4 @@
--- A call whose words match the machine's keeps consistency: consistent memory, seen as a machine, simulates itself. Assumes nothing.
+-- A call whose words match the machine's keeps consistency: consistent memory, seen as a machine, simulates itself.
 use mathlib.Core.Path.{_≡_, refl, sym, _∙_, ap, subst, fun-ext}
 use mathlib.Core.Logic.{inl}
 use mathlib.Core.Bool.{Bool, true, false}
@@ -73,7 +73,8 @@ pub behind-by : (g : Geometry) (m m′ : Mem) → Steady g m m′ → cursor m�
 behind-by g m m′ t e u x l b q = u x l (subst (λ z. x < z) e b) (t x l q .0)
 
 -- a call that begins on the memory as it is, and is handed no block
-pub matches-by : (g : Geometry) (m : Mem) (c : Call) (r : Answer × Mem) → calls.Permitted (segmentOf g) 0 (view g m) c → r .0 ≡ calls.act 0 (view g m) c .0 → Moves g m (r .1) (calls.act 0 (view g m) c .1) → Matches g m c r
+pub matches-by : (g : Geometry) (m : Mem) (c : Call) (r : Answer × Mem) → calls.Permitted (segmentOf g) 0 (view g m) c
+    → r .0 ≡ calls.act 0 (view g m) c .0 → Moves g m (r .1) (calls.act 0 (view g m) c .1) → Matches g m c r
 matches-by g m c r p e v = record { ready = m; prepared = agree-self g m; shows = refl; block = 0; permitted = p; answer = e; moves = v }
 
 -- refused n where a test holds, and nothing changes
@@ -84,7 +85,8 @@ unless-kept out g m m′ c n e false h = agrees (h refl)
 -- ---- a call on the record in a root
 
 -- the record in a root that is wanted
-wanted : (o : Option ℕ) (f : ℕ → RecordShape) (rest : RecordShape → ℕ) (a b : Bool) → a ≡ true → b ≡ true → ifRecord (shapeIf a b (Option·map f o)) rest ≡ 0 → (at : ℕ) × (o ≡ some at) × (rest (f at) ≡ 0)
+wanted : (o : Option ℕ) (f : ℕ → RecordShape) (rest : RecordShape → ℕ) (a b : Bool) → a ≡ true → b ≡ true
+    → ifRecord (shapeIf a b (Option·map f o)) rest ≡ 0 → (at : ℕ) × (o ≡ some at) × (rest (f at) ≡ 0)
 unfolding ifRecord
 wanted none f rest a b p q e = absurd (let z : 7 ≡ 0 = (rw (p, q) at e) in omega arith)
 wanted (some at) f rest a b p q e = (at, refl, rw (p, q) at e)

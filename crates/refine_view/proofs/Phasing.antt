@@ -1,4 +1,4 @@
--- The next phase, on the memory and on the machine. Assumes nothing.
+-- The next phase, on the memory and on the machine.
 use mathlib.Core.Path.{_≡_, refl, sym, _∙_, ap, subst}
 use mathlib.Core.List.{List}
 use Prim.Native.Nat.{ℕ, _≤_, _<_}

@@ -1,4 +1,4 @@
--- What is live, reached and covered is the same for the memory and for the machine that it is seen as. Assumes nothing.
+-- What is live, reached and covered is the same for the memory and for the machine that it is seen as.
 use mathlib.Core.Path.{_≡_, refl, sym, _∙_, ap, subst}
 use mathlib.Core.Logic.{_⊎_, inl, inr}
 use mathlib.Core.Bool.{true, _&&_}
@@ -140,7 +140,9 @@ module _ (g : Geometry) (m : Mem) where
 -- ---- what is live after a change of words was live before
 
 pub root-was : (m m′ : Mem) → ((k : ℕ) → state m k ≡ absent → state m′ k ≡ absent) → ((k i : ℕ) → i < rootCount → fields.root m′ k i ≡ fields.root m k i) → (x : ℕ) → IsRoot m′ x → IsRoot m x
-root-was m m′ h e x r = record { mutator = r .mutator; index = r .index; few = r .few; within = r .within; attached = λ z. r .attached (h (r .mutator) z); names = sym (e (r .mutator) (r .index) (r .within)) ∙ r .names }
+root-was m m′ h e x r =
+    record
+    { mutator = r .mutator; index = r .index; few = r .few; within = r .within; attached = λ z. r .attached (h (r .mutator) z); names = sym (e (r .mutator) (r .index) (r .within)) ∙ r .names }
 
 pub entry-was : (m m′ : Mem) → traceCount m′ ≡ traceCount m → ((i : ℕ) → traceWord m′ i ≡ traceWord m i) → (x : ℕ) → IsEntry m′ x → IsEntry m x
 entry-was m m′ c e x r = record { index = r .index; within = subst (λ z. r .index < z) c (r .within); names = sym (e (r .index)) ∙ r .names }

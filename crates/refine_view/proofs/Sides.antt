@@ -1,4 +1,4 @@
--- A mutator's side set: enter, and the second half of leave. Assumes nothing.
+-- A mutator's side set: enter, and the second half of leave.
 use mathlib.Core.Path.{_≡_, sym, _∙_, ap}
 use mathlib.Core.Logic.{⊎-elim}
 use mathlib.Core.Bool.{not}
@@ -32,7 +32,9 @@ module _ (g : Geometry) (m : Mem) (s : Sizes g m) (o : Structure g m) (k v : ℕ
   elsewhere j f = state-set g m s k stateAt v l (omega arith) j (λ x y. f x)
 
   attached-at : (j : ℕ) → isAttached now j ≡ isAttached m j
-  attached-at j = ⊎-elim (λ e. ne-not (state now j) absent (λ z. let y = here j e in omega arith) ∙ sym (ap (isAttached m) e ∙ ne-not _ _ there)) (λ f. ap (λ x. not (eqb x absent)) (elsewhere j f)) (same-or-not j k)
+  attached-at j =
+      ⊎-elim (λ e. ne-not (state now j) absent (λ z. let y = here j e in omega arith) ∙ sym (ap (isAttached m) e ∙ ne-not _ _ there))
+      (λ f. ap (λ x. not (eqb x absent)) (elsewhere j f)) (same-or-not j k)
 
   pub side-moves : Moves g m (setMutatorState m k v) (machine.setInside (view g m) k (eqb v inside))
   unfolding setMutator

@@ -1,4 +1,4 @@
--- Two roots' words are equal exactly when they name the same record, or are both nil. Assumes nothing.
+-- Two roots' words are equal exactly when they name the same record, or are both nil.
 use mathlib.Core.Path.{_≡_, refl, sym, _∙_, ap}
 use mathlib.Core.Bool.{Bool}
 use mathlib.Core.Logic.{_⊎_, inl, inr}

@@ -1,4 +1,4 @@
--- The last arm of a `match` on the n numbers from a on: the number matched, if it is none below a, lies past them. Assumes nothing.
+-- The last arm of a `match` on the n numbers from a on: the number matched, if it is none below a, lies past them.
 use Prim.Native.Nat.{ℕ, zero, suc, _+_, _≤_}
 use mathlib.Core.Path.{_≡_}
 use native.Mathlib.Omega.{arith}

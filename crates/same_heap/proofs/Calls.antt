@@ -1,4 +1,4 @@
--- Every mutator's call over two memories of the same heap, the second in idle: refused 11 in a handshake, or answered as in idle. Assumes nothing.
+-- Every mutator's call over two memories of the same heap, the second in idle: refused 11 in a handshake, or answered as in idle.
 use mathlib.Core.Path.{_≡_, refl, sym, _∙_, ap, subst}
 use mathlib.Core.Bool.{Bool, true, false, true≢false}
 use mathlib.Core.Logic.{_⊎_, inl, inr, ⊎-elim}
@@ -17,7 +17,8 @@ use Rattle.layout.specs.declared.Geometry.{Geometry}
 use Rattle.layout.specs.Geometry.{mutatorCount, mutatorWords}
 use Rattle.layout.specs.Mem.{Mem, Sizes, setMutator, setHeap}
 use Rattle.theory.specs.Phases.{Duty, nothing, both, old, idle, inHandshake, duty, owes}
-use Rattle.theory.specs.Calls.{Call, c-attach, c-detach, c-check, c-leave, c-enter, c-spawn, c-make, c-load, c-store, c-copy, c-clear, c-put, c-get, c-same, c-shape, Answer, a-ok, a-num, a-flag, a-shape, a-no, refusal, refuse, onRecord, unless, sameRef}
+use Rattle.theory.specs.Calls.{Call, c-attach, c-detach, c-check, c-leave, c-enter, c-spawn, c-make, c-load, c-store, c-copy, c-clear, c-put, c-get}
+use Rattle.theory.specs.Calls.{c-same, c-shape, Answer, a-ok, a-num, a-flag, a-shape, a-no, refusal, refuse, onRecord, unless, sameRef}
 use Rattle.theory.proofs.Refusals.{require-ok, by-ok, root-ok}
 use Rattle.model.specs.Fields.{phase, inside, outside, stateAt, acks, root}
 use Rattle.model.specs.Records.{record?, headerShape, pointerCount, pointer, value}
@@ -61,7 +62,9 @@ module _ (m idleMem : Mem) (e : SameHeap m idleMem) where
   unfolding setHeap
   alike-heap m₁ a i v i′ v′ p q = record {
     answer = refl;
-    memory = subst (λ x. SameHeap (setHeap m₁ i v) (setHeap idleMem x v′)) (sym p) (subst (λ w. SameHeap (setHeap m₁ i v) (setHeap idleMem i w)) (sym q) (same-heap m₁ idleMem (same-then m₁ m idleMem (same-back m m₁ a) e) i v));
+    memory =
+        subst (λ x. SameHeap (setHeap m₁ i v) (setHeap idleMem x v′)) (sym p)
+        (subst (λ w. SameHeap (setHeap m₁ i v) (setHeap idleMem i w)) (sym q) (same-heap m₁ idleMem (same-then m₁ m idleMem (same-back m m₁ a) e) i v));
   }
 
   -- nothing changes
@@ -73,7 +76,8 @@ module _ (m idleMem : Mem) (e : SameHeap m idleMem) where
   alike-record none K K′ f = alike-answer (a-no 7) (a-no 7) refl
   alike-record (some at) K K′ f = f at
 
-  alike-rooted : (k i : ℕ) → root idleMem k i ≡ root m k i → (K K′ : ℕ → Answer × Mem) → ((at : ℕ) → Alike (K at) (K′ at)) → Alike (onRecord (record? (root m k i)) m K) (onRecord (record? (root idleMem k i)) idleMem K′)
+  alike-rooted : (k i : ℕ) → root idleMem k i ≡ root m k i → (K K′ : ℕ → Answer × Mem) → ((at : ℕ) → Alike (K at) (K′ at))
+      → Alike (onRecord (record? (root m k i)) m K) (onRecord (record? (root idleMem k i)) idleMem K′)
   alike-rooted k i q K K′ f = subst (λ w. Alike (onRecord (record? (root m k i)) m K) (onRecord (record? w) idleMem K′)) (sym q) (alike-record (record? (root m k i)) K K′ f)
 
   -- refused 11 in a handshake
@@ -101,10 +105,13 @@ module _ (g : Geometry) (m idleMem : Mem) (s : Sizes g m) (e : SameHeap m idleMe
 
   -- attach, spawn and detach
   in-phase : (m₁ m₁′ : Mem) → SameHeap m₁ m₁′
-      → ((inHandshake (phase m) ≡ true) × (unless (inHandshake (phase m)) 11 m m₁ ≡ (a-no 11, m))) ⊎ Alike (unless (inHandshake (phase m)) 11 m m₁) (unless (inHandshake (phase idleMem)) 11 idleMem m₁′)
+      → ((inHandshake (phase m) ≡ true) × (unless (inHandshake (phase m)) 11 m m₁ ≡ (a-no 11, m)))
+      ⊎ Alike (unless (inHandshake (phase m)) 11 m m₁) (unless (inHandshake (phase idleMem)) 11 idleMem m₁′)
   in-phase m₁ m₁′ x = go (inHandshake (phase m)) refl
     where
-      go : (b : Bool) → inHandshake (phase m) ≡ b → ((inHandshake (phase m) ≡ true) × (unless (inHandshake (phase m)) 11 m m₁ ≡ (a-no 11, m))) ⊎ Alike (unless (inHandshake (phase m)) 11 m m₁) (unless (inHandshake (phase idleMem)) 11 idleMem m₁′)
+      go : (b : Bool) → inHandshake (phase m) ≡ b
+          → ((inHandshake (phase m) ≡ true) × (unless (inHandshake (phase m)) 11 m m₁ ≡ (a-no 11, m)))
+          ⊎ Alike (unless (inHandshake (phase m)) 11 m m₁) (unless (inHandshake (phase idleMem)) 11 idleMem m₁′)
       go true q = inl (q, ap (λ b. unless b 11 m m₁) q)
       go false q = inr (alike-unless m idleMem e (inHandshake (phase m)) (inHandshake (phase idleMem)) q in-idle m₁ m₁′ x)
 
@@ -145,7 +152,8 @@ module _ (g : Geometry) (m idleMem : Mem) (s : Sizes g m) (e : SameHeap m idleMe
   alike-leave k n v = record { answer = refl; memory = same-mutator _ _ (same-acknowledged k) n v }
 
   -- make
-  alike-class : (k d p n : ℕ) (o : SizeClass) → classOfRecord (ofCounts p n) ≡ o → Alike (ofClass m o (λ c. made g m k d c (ofCounts p n))) (ofClass idleMem o (λ c. made g idleMem k d c (ofCounts p n)))
+  alike-class : (k d p n : ℕ) (o : SizeClass) → classOfRecord (ofCounts p n) ≡ o
+      → Alike (ofClass m o (λ c. made g m k d c (ofCounts p n))) (ofClass idleMem o (λ c. made g idleMem k d c (ofCounts p n)))
   alike-class k d p n (Class c) q = alike-made g k d c (ofCounts p n) m idleMem e (class-found (p + n) c q)
   alike-class k d p n TooBig q = alike-answer m idleMem e (a-no 9) (a-no 9) refl
 
@@ -155,7 +163,11 @@ module _ (g : Geometry) (m idleMem : Mem) (s : Sizes g m) (e : SameHeap m idleMe
       (a-ok, setHeap (barrier g (duty (phase idleMem) (acks idleMem k)) idleMem (record? (root idleMem k j)) (record? (pointer idleMem at f))) (at + 1 + f) (root idleMem k j))
   alike-store k j f at q =
       let b = leaves-barrier g (duty (phase m) (acks m k)) m (root m k j) (pointer m at f) in
-      subst (λ x. Alike (a-ok, setHeap (barrier g (duty (phase m) (acks m k)) m (record? (root m k j)) (record? (pointer m at f))) (at + 1 + f) (root m k j)) (a-ok, setHeap (barrier g (duty x (acks idleMem k)) idleMem (record? (root idleMem k j)) (record? (pointer idleMem at f))) (at + 1 + f) (root idleMem k j))) (sym i)
+      subst
+      (λ x. Alike
+      (a-ok, setHeap (barrier g (duty (phase m) (acks m k)) m (record? (root m k j)) (record? (pointer m at f))) (at + 1 + f) (root m k j))
+      (a-ok, setHeap (barrier g (duty x (acks idleMem k)) idleMem (record? (root idleMem k j)) (record? (pointer idleMem at f))) (at + 1 + f) (root idleMem k j)))
+      (sym i)
       (alike-heap m idleMem e _ b (at + 1 + f) (root m k j) (at + 1 + f) (root idleMem k j) refl q)
 
   acted : (c : Call) → refusal (observe m) c ≡ 0 → Acted g m idleMem c
@@ -169,7 +181,9 @@ module _ (g : Geometry) (m idleMem : Mem) (s : Sizes g m) (e : SameHeap m idleMe
   acted (c-make k d p n) x = alike (alike-class k d p n (classOfRecord (ofCounts p n)) refl)
   acted (c-load k d j f) x =
       let r = root-ok j _ (root-ok d _ (by-ok (observe m) k _ x .3) .1) .0 in
-      alike (alike-rooted m idleMem e k j (same-root m idleMem e k j r) _ _ (λ at. alike-mutator m idleMem e (k * mutatorWords + d) (pointer m at f) (pointer idleMem at f) (word-same m idleMem e (at + 1 + f))))
+      alike
+      (alike-rooted m idleMem e k j (same-root m idleMem e k j r) _ _
+      (λ at. alike-mutator m idleMem e (k * mutatorWords + d) (pointer m at f) (pointer idleMem at f) (word-same m idleMem e (at + 1 + f))))
   acted (c-store k j f t) x =
       let a = root-ok j _ (by-ok (observe m) k _ x .3) in
       let b = root-ok t _ (a .1) in

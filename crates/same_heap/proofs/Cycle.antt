@@ -1,4 +1,4 @@
--- A start that condemns no segment, and a step that sweeps none, leave the same heap. Assumes nothing.
+-- A start that condemns no segment, and a step that sweeps none, leave the same heap.
 use mathlib.Core.Path.{_≡_, refl, sym, _∙_, ap, subst}
 use mathlib.Core.Bool.{Bool, true, false}
 use mathlib.Core.Option.{none}

@@ -1,5 +1,5 @@
 -- What two memories of the same heap show of their mutators, and so which of the numbers 2 to 9 refuses a call; an entry written whole in both, and
--- the segments that a mutator holds released in both. Assumes nothing.
+-- the segments that a mutator holds released in both.
 use mathlib.Core.Path.{_≡_, refl, sym, _∙_, ap, subst}
 use mathlib.Core.Logic.{_⊎_, inl, inr, ⊎-elim}
 use mathlib.Core.Bool.{Bool, true, false, not}
@@ -63,7 +63,9 @@ module _ (m m′ : Mem) (e : SameHeap m m′) where
 
 module _ (m m′ : Mem) (e : SameHeap m m′) (z : length (m .mutators) ≡ mutatorCount * mutatorWords) (k : ℕ) (few : k < mutatorCount) where
   module _ (vs vs′ : List ℕ) (n : length vs ≡ mutatorWords) (n′ : length vs′ ≡ mutatorWords) (h : (o : ℕ) → (o ≡ acksAt → ⊥) → getD vs′ o 0 ≡ getD vs o 0) where
-    entry-word : (j o : ℕ) → o < mutatorWords → (o ≡ acksAt → ⊥) → getD (spliced (m′ .mutators) (k * mutatorWords) vs′) (j * mutatorWords + o) 0 ≡ getD (spliced (m .mutators) (k * mutatorWords) vs) (j * mutatorWords + o) 0
+    entry-word : (j o : ℕ) → o < mutatorWords → (o ≡ acksAt → ⊥)
+        → getD (spliced (m′ .mutators) (k * mutatorWords) vs′) (j * mutatorWords + o) 0 ≡ getD (spliced (m .mutators) (k * mutatorWords) vs)
+        (j * mutatorWords + o) 0
     entry-word j o l f = go (same-or-not j k)
       where
         there : (ws x : List ℕ) → length ws ≡ mutatorWords → length x ≡ mutatorCount * mutatorWords → getD (spliced x (k * mutatorWords) ws) (k * mutatorWords + o) 0 ≡ getD ws o 0
@@ -76,7 +78,10 @@ module _ (m m′ : Mem) (e : SameHeap m m′) (z : length (m .mutators) ≡ muta
         away q ws x a = spliced-out ws x (k * mutatorWords) (j * mutatorWords + o) (aside q ws a)
 
         go : (j ≡ k) ⊎ (j ≡ k → ⊥) → getD (spliced (m′ .mutators) (k * mutatorWords) vs′) (j * mutatorWords + o) 0 ≡ getD (spliced (m .mutators) (k * mutatorWords) vs) (j * mutatorWords + o) 0
-        go (inl q) = subst (λ j. getD (spliced (m′ .mutators) (k * mutatorWords) vs′) (j * mutatorWords + o) 0 ≡ getD (spliced (m .mutators) (k * mutatorWords) vs) (j * mutatorWords + o) 0) (sym q) (there vs′ (m′ .mutators) n′ (e .long ∙ z) ∙ h o f ∙ sym (there vs (m .mutators) n z))
+        go (inl q) =
+            subst
+            (λ j. getD (spliced (m′ .mutators) (k * mutatorWords) vs′) (j * mutatorWords + o) 0 ≡ getD (spliced (m .mutators) (k * mutatorWords) vs) (j * mutatorWords + o) 0)
+            (sym q) (there vs′ (m′ .mutators) n′ (e .long ∙ z) ∙ h o f ∙ sym (there vs (m .mutators) n z))
         go (inr q) = away q vs′ (m′ .mutators) n′ ∙ e .entries j o l f ∙ sym (away q vs (m .mutators) n)
 
     pub same-entry : SameHeap (setRun m Region.mutators (k * mutatorWords) vs) (setRun m′ Region.mutators (k * mutatorWords) vs′)

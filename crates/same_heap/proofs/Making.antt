@@ -1,4 +1,4 @@
--- A make over two memories of the same heap: the same segment and block, the same record, the same answer. Assumes nothing.
+-- A make over two memories of the same heap: the same segment and block, the same record, the same answer.
 use mathlib.Core.Path.{_≡_, refl, sym, _∙_, ap, subst}
 use mathlib.Core.Bool.{Bool, true, false}
 use mathlib.Core.List.{List}
@@ -88,7 +88,10 @@ module _ (g : Geometry) (k d c : ℕ) (shape : RecordShape) where
 
     same-fresh : (taken taken′ : Mem) → SameHeap taken taken′ → (s : ℕ) → SameHeap (freshened g taken s c) (freshened g taken′ s c)
     same-fresh taken taken′ a s =
-        subst (λ (l : List ℕ). SameHeap (freshened g taken s c) (setRun taken′ Region.bitmaps (s * bitmapWords g) (fresh (above g c) (blocksIn g c) (take (bitmapWords g) (drop (s * bitmapWords g) l))))) (sym (a .bitmaps))
+        subst
+        (λ (l : List ℕ). SameHeap (freshened g taken s c)
+        (setRun taken′ Region.bitmaps (s * bitmapWords g) (fresh (above g c) (blocksIn g c) (take (bitmapWords g) (drop (s * bitmapWords g) l)))))
+        (sym (a .bitmaps))
         (same-bitmap taken taken′ a (s * bitmapWords g) (fresh (above g c) (blocksIn g c) (bitmap g taken s)))
 
     alike-source : (o : Source) → Alike (fromSource g m k d c shape o) (fromSource g m′ k d c shape o)
@@ -102,7 +105,10 @@ module _ (g : Geometry) (k d c : ℕ) (shape : RecordShape) where
 
     same-source : IsClass c → sourceOf g m′ k c ≡ sourceOf g m k c
     same-source i =
-        ap (λ w. pick (eqb w 0) (pick (eqb (count g m′ (partStack c)) 0) (pick (eqb (count g m′ freeStack) 0) noRoom (unused (top g m′ freeStack))) (part (top g m′ (partStack c)))) (held (w - 1))) (same-holding m m′ e k c i)
+        ap
+        (λ w. pick (eqb w 0)
+        (pick (eqb (count g m′ (partStack c)) 0) (pick (eqb (count g m′ freeStack) 0) noRoom (unused (top g m′ freeStack))) (part (top g m′ (partStack c))))
+        (held (w - 1))) (same-holding m m′ e k c i)
         ∙ ap (λ (l : List ℕ). sourceOf g (withRegion m Region.stacks l) k c) (e .stacks)
 
     pub alike-made : IsClass c → Alike (made g m k d c shape) (made g m′ k d c shape)

@@ -1,4 +1,4 @@
--- A mutator's call leaves the phase as it is, and so do the parts of a step, but for the one that sets it. Assumes nothing.
+-- A mutator's call leaves the phase as it is, and so do the parts of a step, but for the one that sets it.
 use mathlib.Core.Path.{_≡_, refl, _∙_, ap}
 use mathlib.Core.Bool.{Bool, true, false}
 use mathlib.Core.Option.{Option, none, some}
@@ -19,7 +19,8 @@ use Rattle.layout.specs.Mem.{Mem, Sizes, controlWord, setControl, setMutator, s
 use Rattle.bitmap_search.specs.declared.Found.{Found}
 use Rattle.bitmap_search.specs.declared.Found.the-variants.{Block, Nothing, Torn}
 use Rattle.theory.specs.Phases.{Phase, idle, sync1, sync2, mark, sweep, Duty, nothing, both, old, black, duty, inHandshake}
-use Rattle.theory.specs.Calls.{Call, c-attach, c-detach, c-check, c-leave, c-enter, c-spawn, c-make, c-load, c-store, c-copy, c-clear, c-put, c-get, c-same, c-shape, Answer, refusal, refuse, onRecord, unless}
+use Rattle.theory.specs.Calls.{Call, c-attach, c-detach, c-check, c-leave, c-enter, c-spawn, c-make, c-load, c-store, c-copy, c-clear, c-put, c-get}
+use Rattle.theory.specs.Calls.{c-same, c-shape, Answer, refusal, refuse, onRecord, unless}
 use Rattle.model.specs.Rules.{phaseOf, phaseNumber}
 use Rattle.model.specs.Fields.{phase, setPhase, traceCount, outside, state, acks, place, root}
 use Rattle.model.specs.Segments.{setSegmentState, freeStack, partStack, pop, free}
@@ -140,7 +141,9 @@ still-popped g m at = getD-set-other (m .control) 1 0 (traceCount m - 1) 0 (λ e
 
 pub phase-traced : (g : Geometry) (m : Mem) (at : ℕ) → phase (traced g m at) ≡ phase m
 unfolding pushPointers
-phase-traced g m at = ap phaseOf (fold-untouched g (pushPointers g (popped g m at) at) (pointer (popped g m at) at) (pointers-next g (popped g m at) at) (pointerCount m at) .phase ∙ still-popped g m at)
+phase-traced g m at =
+    ap phaseOf
+    (fold-untouched g (pushPointers g (popped g m at) at) (pointer (popped g m at) at) (pointers-next g (popped g m at) at) (pointerCount m at) .phase ∙ still-popped g m at)
 
 numbered : (p : Phase) → phaseOf (phaseNumber p) ≡ p
 numbered idle = refl

@@ -1,5 +1,4 @@
 -- Memories of the same heap: an equivalence; an operation done to both keeps it, and one that changes only what may differ does so when done to one.
--- Assumes nothing.
 use mathlib.Core.Path.{_≡_, refl, sym, _∙_, ap, subst}
 use mathlib.Core.Bool.{Bool, true, false}
 use mathlib.Core.List.{List, [], _∷_}

@@ -1,5 +1,5 @@
 -- What the search finds by the bits alone: covered is by an entry, by what an entry names, and on through records whose bit is 0; and the pointers of
--- a record with a bit are covered where those of a marked one are. Assumes nothing.
+-- a record with a bit are covered where those of a marked one are.
 use mathlib.Core.Path.{_≡_, refl, sym, _∙_, ap}
 use mathlib.Core.Logic.{_⊎_, inl, inr}
 use mathlib.Core.Bool.{Bool, true, false, true≢false}

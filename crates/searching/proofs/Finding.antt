@@ -1,4 +1,4 @@
--- What the search has found, in the model's terms. Assumes nothing.
+-- What the search has found, in the model's terms.
 use mathlib.Core.Path.{_≡_, refl, sym, subst}
 use mathlib.Core.Logic.{inl}
 use mathlib.Core.List.{List}

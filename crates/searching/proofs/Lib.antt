@@ -1,4 +1,4 @@
--- The laws of the search over the heap. Assumes nothing.
+-- The laws of the search over the heap.
 pub mod Covering
 pub mod Steps
 pub mod Rooting

@@ -1,5 +1,5 @@
 -- The root sets of the searches: roots of attached mutators, one mutator more at a time, and entries of the trace stack; and the lengths of what is
--- read. Assumes nothing.
+-- read.
 use mathlib.Core.Path.{_≡_, refl, sym, ap, _∙_, subst}
 use mathlib.Core.Logic.{_⊎_, inl, inr, ⊎-elim}
 use mathlib.Core.List.{List}

@@ -1,4 +1,4 @@
--- The steps of the search over plain lists: what one word, one more word of a run, a turn and the whole search do. Assumes nothing.
+-- The steps of the search over plain lists: what one word, one more word of a run, a turn and the whole search do.
 use mathlib.Core.Path.{_≡_, refl, sym, ap, _∙_, subst}
 use mathlib.Core.Logic.{_⊎_, inl, inr, ⊎-elim}
 use mathlib.Core.List.{List}

@@ -1,5 +1,5 @@
 -- A segment's state as the words of its record, read and written; the round trip, what is written is read back; and a held segment's record of
--- which only the place changes. Assumes nothing.
+-- which only the place changes.
 use mathlib.Core.Path.{_≡_, refl, sym, _∙_, ap}
 use Prim.Native.Nat.{ℕ, zero, suc, _<_}
 use native.Mathlib.Omega.{arith}

@@ -1,4 +1,4 @@
--- A stack that is in order has no torn top, and room for a segment that is not on it. Assumes nothing.
+-- A stack that is in order has no torn top, and room for a segment that is not on it.
 use mathlib.Core.Path.{_≡_, refl}
 use mathlib.Core.Bool.{Bool, false}
 use mathlib.Core.Logic.{_⊎_, inl, inr}

@@ -1,5 +1,5 @@
 -- What the words of a stack say of its top, and what becomes of them where a segment is put on or taken off: at is where stack t begins, n the
--- word there. Assumes nothing.
+-- word there.
 use mathlib.Core.Path.{_≡_, refl, sym, _∙_, ap, subst}
 use mathlib.Core.Bool.{true, false, true≢false}
 use mathlib.Core.Logic.{_⊎_, inl, inr}
@@ -25,7 +25,11 @@ stack-inside g t l = let q = within (1 + g .segments) t stackCount (g .segments)
 
 module _ (g : Geometry) (m : Mem) (t : ℕ) where
   is-segment : (s : ℕ) → s ≡ top g m t → s < g .segments → 1 ≤ count g m t → count g m t ≤ g .segments → Tops g m t (Segment s)
-  is-segment s e l a b = record { segment = λ r q. let z : s ≡ r = cc in (sym z ∙ e, omega arith, a, b); empty = λ q. absurd (let z : _≡_ {A = ℕ} 0 1 = cc in omega arith); torn = λ q. absurd (let z : _≡_ {A = ℕ} 0 1 = cc in omega arith) }
+  is-segment s e l a b = record {
+    segment = λ r q. let z : s ≡ r = cc in (sym z ∙ e, omega arith, a, b);
+    empty = λ q. absurd (let z : _≡_ {A = ℕ} 0 1 = cc in omega arith);
+    torn = λ q. absurd (let z : _≡_ {A = ℕ} 0 1 = cc in omega arith);
+  }
 
   is-empty : count g m t ≡ 0 → Tops g m t Empty
   is-empty e = record { segment = λ r q. absurd (let z : _≡_ {A = ℕ} 0 1 = cc in omega arith); empty = λ _. e; torn = λ q. absurd (let z : _≡_ {A = ℕ} 0 1 = cc in omega arith) }

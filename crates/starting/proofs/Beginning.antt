@@ -1,4 +1,4 @@
--- What a start does, segment by segment and mutator by mutator, and what the whole comes to. Assumes nothing.
+-- What a start does, segment by segment and mutator by mutator, and what the whole comes to.
 use mathlib.Core.Path.{_≡_, refl, sym, _∙_, ap}
 use mathlib.Core.Bool.{Bool, true, false}
 use Prim.Native.Nat.{ℕ, zero, suc, _≤_}

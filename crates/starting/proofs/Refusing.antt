@@ -1,4 +1,4 @@
--- How a start keeps its promise: 1, 11, or done. Assumes nothing.
+-- How a start keeps its promise: 1, 11, or done.
 use mathlib.Core.Path.{_≡_, refl, sym, _∙_, ap}
 use mathlib.Core.Bool.{true, false}
 use mathlib.Core.List.{List}

@@ -1,5 +1,5 @@
 -- The acknowledgements of the mutators outside, one after the other: from one to the next, one that is hindered, and that none is in consistent
--- memory. Assumes nothing.
+-- memory.
 use mathlib.Core.Path.{_≡_, refl, sym, _∙_, ap, subst}
 use mathlib.Core.Bool.{Bool, true, false, true≢false}
 use mathlib.Core.Logic.{_⊎_, inl, inr}

@@ -1,4 +1,4 @@
--- How many mutators inside still owe, counted one by one. Assumes nothing.
+-- How many mutators inside still owe, counted one by one.
 use mathlib.Core.Path.{_≡_, refl, sym, _∙_, ap}
 use mathlib.Core.Bool.{Bool, true, false, _&&_}
 use Prim.Native.Nat.{ℕ, zero, suc, _+_, _≤_}

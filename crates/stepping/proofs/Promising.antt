@@ -1,4 +1,4 @@
--- How step keeps its promise, by the phase's number n: refused 1, idle, as one of its parts, or torn. Assumes nothing.
+-- How step keeps its promise, by the phase's number n: refused 1, idle, as one of its parts, or torn.
 use mathlib.Core.Path.{_≡_, refl, sym, _∙_, ap}
 use mathlib.Core.Bool.{true, false}
 use mathlib.Core.List.{List}

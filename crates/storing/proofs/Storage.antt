@@ -1,4 +1,4 @@
--- store: its barrier's duty, its refusals, and that nothing hinders it in consistent memory. Assumes nothing.
+-- store: its barrier's duty, its refusals, and that nothing hinders it in consistent memory.
 use mathlib.Core.Path.{_≡_, refl, sym, _∙_, ap, subst}
 use mathlib.Core.Bool.{Bool, true, false}
 use mathlib.Core.Logic.{_⊎_, inl, inr}

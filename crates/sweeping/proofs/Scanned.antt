@@ -1,4 +1,4 @@
--- The scan for the lowest condemned segment, from the cursor up: what it keeps, one segment more, and what it finds. Assumes nothing.
+-- The scan for the lowest condemned segment, from the cursor up: what it keeps, one segment more, and what it finds.
 use mathlib.Core.Path.{_≡_, refl, sym, _∙_, ap}
 use mathlib.Core.Logic.{⊎-elim}
 use mathlib.Core.Bool.{Bool, true, false, true≢false}

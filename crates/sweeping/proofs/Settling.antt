@@ -1,4 +1,4 @@
--- A swept segment gets its state and goes on its stack. Assumes nothing.
+-- A swept segment gets its state and goes on its stack.
 use mathlib.Core.Path.{_≡_, sym, _∙_, ap, subst}
 use mathlib.Core.Bool.{Bool, true, false, true≢false}
 use mathlib.Core.List.{List}

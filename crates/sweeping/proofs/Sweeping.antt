@@ -1,4 +1,4 @@
--- The sweep of a segment, and a step in sweep: in consistent memory nothing hinders it. Assumes nothing.
+-- The sweep of a segment, and a step in sweep: in consistent memory nothing hinders it.
 use mathlib.Core.Path.{_≡_, refl, sym, _∙_, ap, ap₂, subst}
 use mathlib.Core.Bool.{Bool, true, false, true≢false}
 use mathlib.Core.Logic.{_⊎_, inl, inr}

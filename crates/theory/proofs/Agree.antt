@@ -1,4 +1,4 @@
--- A state that agrees with another on what is live keeps what the other keeps: the bridge to a model in words. Assumes nothing.
+-- A state that agrees with another on what is live keeps what the other keeps: the bridge to a model in words.
 use mathlib.Core.Path.{_≡_, sym, _∙_, subst}
 use mathlib.Core.Logic.{_⊎_, inl, inr}
 use mathlib.Core.Bool.{true, false}
@@ -81,13 +81,18 @@ module _ (segmentOf : ℕ → ℕ) (st st′ : State) (a : Agree segmentOf st st
     all = λ e i o. omega (arith, a .acks i, inv .all (sym (a .phase) ∙ e) i (sym (a .attached i) ∙ o));
     core = λ t. let t′ = subst Tracing (a .phase) t in let c = inv .core t′ in record {
       rootsCovered = λ i b q h. safe-on t′ b (root (inl (i, holds-back i b h))) (c .rootsCovered i b (omega (arith, a .acks i)) (holds-back i b h));
-      pointersCovered = λ x y p m e. safe-on t′ y (next (live-back p) (edge-back x y (live-back p) e)) (c .pointersCovered x y (live-back p) (sym (a .marked t′ x (live-back p)) ∙ m) (edge-back x y (live-back p) e));
+      pointersCovered =
+          λ x y p m e. safe-on t′ y (next (live-back p) (edge-back x y (live-back p) e))
+          (c .pointersCovered x y (live-back p) (sym (a .marked t′ x (live-back p)) ∙ m) (edge-back x y (live-back p) e));
     };
     kept = λ e b p d. let d′ = sym (a .condemned (segmentOf b)) ∙ d in a .condemnedMarks b d′ ∙ inv .kept (sym (a .phase) ∙ e) b (reached-back p) d′;
   }
 
   pub agree-comp : (P : ℕ → Type 0) → Complete segmentOf P st → Complete segmentOf P st′
-  agree-comp P c = record { live = λ b p k. c .live b (live-back p) (sym (a .condemned (segmentOf b)) ∙ k); black = λ b m k. let k′ = sym (a .condemned (segmentOf b)) ∙ k in c .black b (sym (a .condemnedMarks b k′) ∙ m) k′ }
+  agree-comp P c = record {
+    live = λ b p k. c .live b (live-back p) (sym (a .condemned (segmentOf b)) ∙ k);
+    black = λ b m k. let k′ = sym (a .condemned (segmentOf b)) ∙ k in c .black b (sym (a .condemnedMarks b k′) ∙ m) k′;
+  }
 
   pub agree-sim : (put : ℕ → Option ℕ) (un : Unbounded) → Simulates put st un → Simulates put st′ un
   agree-sim put un s = record {

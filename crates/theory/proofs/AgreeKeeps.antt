@@ -1,4 +1,4 @@
--- States that agree still do after the same acknowledgement, and after the same side. Assumes nothing.
+-- States that agree still do after the same acknowledgement, and after the same side.
 use mathlib.Core.Path.{_≡_, refl, sym, _∙_, ap, subst}
 use mathlib.Core.Logic.{inl}
 use mathlib.Core.Bool.{Bool, true}
@@ -57,7 +57,8 @@ module _ (segmentOf : ℕ → ℕ) (st st′ : State) (a : Agree segmentOf st st
     entered-same t =
         ap (λ z. pushes (st′ .marked) z (st′ .stack)) (tab-same rootCount (st′ .root i) (st .root i) (λ k l. a .root i k there l))
         ∙ ap (pushes (st′ .marked) (tab rootCount (st .root i))) (a .stack)
-        ∙ pushes-alike (st′ .marked) (st .marked) (tab rootCount (st .root i)) (st .stack) (λ b h. let z = tab-inv rootCount (st .root i) h in a .marked t b (root (inl (i, (z .0, there, z .1, z .2)))))
+        ∙ pushes-alike (st′ .marked) (st .marked) (tab rootCount (st .root i)) (st .stack)
+        (λ b h. let z = tab-inv rootCount (st .root i) h in a .marked t b (root (inl (i, (z .0, there, z .1, z .2)))))
 
     first : Agree segmentOf (setAcks st i 1 (st .stack)) (setAcks st′ i 1 (st′ .stack))
     first = acks-agree i 1 (st .stack) (st′ .stack) (a .stack) (λ b p. p)
@@ -76,4 +77,6 @@ module _ (segmentOf : ℕ → ℕ) (st st′ : State) (a : Agree segmentOf st st
     by-phase sweep n e = a
 
     pub check-agree : Agree segmentOf (check st i) (check st′ i)
-    check-agree = subst (λ z. Agree segmentOf (check st i) (acknowledge z (st′ .acks i) st′ i)) (sym (a .phase)) (subst (λ z. Agree segmentOf (check st i) (acknowledge (st .phase) z st′ i)) (sym (a .acks i)) (by-phase (st .phase) (st .acks i) refl))
+    check-agree =
+        subst (λ z. Agree segmentOf (check st i) (acknowledge z (st′ .acks i) st′ i)) (sym (a .phase))
+        (subst (λ z. Agree segmentOf (check st i) (acknowledge (st .phase) z st′ i)) (sym (a .acks i)) (by-phase (st .phase) (st .acks i) refl))

@@ -1,4 +1,4 @@
--- A mutator call that acts answers as the unbounded heap does, and all is kept. Assumes nothing.
+-- A mutator call that acts answers as the unbounded heap does, and all is kept.
 use mathlib.Core.Path.{_≡_, refl, ap, sym, _∙_, subst, fun-ext}
 use mathlib.Core.Logic.{_⊎_, inl, ⊎-elim, _≢_}
 use mathlib.Core.Bool.{Bool, true, false, not}
@@ -20,7 +20,8 @@ use Rattle.theory.proofs.Refusals.{require-ok, by-ok, root-ok, shape-ok
 use Rattle.theory.proofs.Simulation.{Simulates, Same, root-sim, store-sim, make-sim, attach-sim, detach-sim, side-sim, values-sim, gc-sim}
 use Rattle.theory.proofs.StoreKeeps.{store-inv}
 use Rattle.theory.proofs.Updates.{upd-cases}
-use Rattle.theory.specs.Calls.{Call, c-attach, c-detach, c-check, c-leave, c-enter, c-spawn, c-make, c-load, c-store, c-copy, c-clear, c-put, c-get, c-same, c-shape, Answer, a-ok, a-num, a-flag, shapeIf, pointer?, refusal, sameRef, onRecord}
+use Rattle.theory.specs.Calls.{Call, c-attach, c-detach, c-check, c-leave, c-enter, c-spawn, c-make, c-load, c-store, c-copy, c-clear, c-put}
+use Rattle.theory.specs.Calls.{c-get, c-same, c-shape, Answer, a-ok, a-num, a-flag, shapeIf, pointer?, refusal, sameRef, onRecord}
 use Rattle.theory.specs.Phases.{Phase, idle, sync1, sync2, mark, sweep, inHandshake}
 use Rattle.theory.specs.Reach.{root, next}
 use Rattle.theory.specs.Unbounded.{Unbounded, puts, uAttach, uSetInside, uSetValues, ushapeAt, uobserve, uact}
@@ -99,10 +100,21 @@ same-same put inj (some b) (some b′) (some r) (some r′) c d =
 module _ (segmentOf : ℕ → ℕ) (P : ℕ → Type 0) (put : ℕ → Option ℕ) (st : State) (un : Unbounded) (o : Coupled segmentOf P put st un) where
   acknowledge-ok : (p : Phase) (n i : ℕ) → st .attached i ≡ true → Inv segmentOf (acknowledge p n st i) → Coupled segmentOf P put (acknowledge p n st i) un
   acknowledge-ok idle n i h v = o
-  acknowledge-ok sync1 zero i h v = record { inv = v; sim = gc-sim put st un (o .sim) _ _ _ _ _ _ (λ b q. q); few = o .few; comp = same-comp segmentOf P st (o .inv) (o .comp) _ (λ b q. q) (λ b. refl) (λ g. refl) }
+  acknowledge-ok sync1 zero i h v =
+      record { inv = v; sim = gc-sim put st un (o .sim) _ _ _ _ _ _ (λ b q. q); few = o .few; comp = same-comp segmentOf P st (o .inv) (o .comp) _ (λ b q. q) (λ b. refl) (λ g. refl) }
   acknowledge-ok sync1 (suc n) i h v = o
-  acknowledge-ok sync2 zero i h v = record { inv = v; sim = gc-sim put st un (o .sim) _ _ _ _ _ _ (λ b q. acknowledge-live st i h q); few = o .few; comp = same-comp segmentOf P st (o .inv) (o .comp) _ (λ b q. acknowledge-live st i h q) (λ b. refl) (λ g. refl) }
-  acknowledge-ok sync2 (suc zero) i h v = record { inv = v; sim = gc-sim put st un (o .sim) _ _ _ _ _ _ (λ b q. acknowledge-live st i h q); few = o .few; comp = same-comp segmentOf P st (o .inv) (o .comp) _ (λ b q. acknowledge-live st i h q) (λ b. refl) (λ g. refl) }
+  acknowledge-ok sync2 zero i h v = record {
+    inv = v;
+    sim = gc-sim put st un (o .sim) _ _ _ _ _ _ (λ b q. acknowledge-live st i h q);
+    few = o .few;
+    comp = same-comp segmentOf P st (o .inv) (o .comp) _ (λ b q. acknowledge-live st i h q) (λ b. refl) (λ g. refl);
+  }
+  acknowledge-ok sync2 (suc zero) i h v = record {
+    inv = v;
+    sim = gc-sim put st un (o .sim) _ _ _ _ _ _ (λ b q. acknowledge-live st i h q);
+    few = o .few;
+    comp = same-comp segmentOf P st (o .inv) (o .comp) _ (λ b q. acknowledge-live st i h q) (λ b. refl) (λ g. refl);
+  }
   acknowledge-ok sync2 (suc (suc n)) i h v = o
   acknowledge-ok mark n i h v = o
   acknowledge-ok sweep n i h v = o
@@ -117,7 +129,9 @@ module _ (segmentOf : ℕ → ℕ) (block : ℕ) (P : ℕ → Type 0) (put : ℕ
   stay : (x y : Answer) → x ≡ y → Alike segmentOf P put (x, st) (y, un)
   stay x y e = record { same = e; ok = o }
 
-  onRecord-ok : (v w : Option ℕ) → Same put v w → (K : ℕ → Answer × State) (L : ℕ → Answer × Unbounded) → ((a r : ℕ) → v ≡ some a → w ≡ some r → put a ≡ some r → Alike segmentOf P put (K a) (L r)) → Alike segmentOf P put (onRecord v st K) (onRecord w un L)
+  onRecord-ok : (v w : Option ℕ) → Same put v w → (K : ℕ → Answer × State) (L : ℕ → Answer × Unbounded)
+      → ((a r : ℕ) → v ≡ some a → w ≡ some r → put a ≡ some r → Alike segmentOf P put (K a) (L r))
+      → Alike segmentOf P put (onRecord v st K) (onRecord w un L)
   onRecord-ok none none c K L f = stay _ _ refl
   onRecord-ok none (some r) c K L f = let z : _≡_ {A = ℕ} 0 1 = cc in absurd (omega arith)
   onRecord-ok (some a) none c K L f = let z : _≡_ {A = ℕ} 0 1 = cc in absurd (omega arith)
@@ -133,9 +147,20 @@ module _ (segmentOf : ℕ → ℕ) (block : ℕ) (P : ℕ → Type 0) (put : ℕ
       let c = root-ok s _ (b .1) in
       onRecord-ok (st .root i s) (un .root i s) (same-at i s (a .1) (c .0)) _ _ (λ x r p q u.
       let h : Holds st i x = (s, a .1, c .0, p) in
-      let l : f < st .pointerCount x = ltb-true f (st .pointerCount x) (require-ok _ 8 0 (omega arith) (shape-ok (st .attached i) (ltb s rootCount) (st .root i s) (shapeAt st) (pointer? f) x (a .1) (lt-ltb _ _ (c .0)) p (c .1)) .0) in
-      let v : Same put (st .pointer x f) (un .pointer r f) = subst (λ z. Same put (st .pointer x f) (un .pointer z f)) (same-id x r (root (inl (i, h))) u) (o .sim .rec x (root (inl (i, h))) .pointer f l) in
-      (record { same = refl; ok = record { inv = load-inv segmentOf st (o .inv) i d x f h l; sim = root-sim segmentOf put st un (o .inv) (o .sim) i d (st .pointer x f) (un .pointer r f) v (λ b k. next (root (i, h)) (f, l, k)); few = o .few; comp = root-comp segmentOf P st (o .inv) (o .comp) i d (st .pointer x f) (λ b k. next (root (i, h)) (f, l, k)) } }))
+      let l : f < st .pointerCount x =
+      ltb-true f (st .pointerCount x)
+      (require-ok _ 8 0 (omega arith) (shape-ok (st .attached i) (ltb s rootCount) (st .root i s) (shapeAt st) (pointer? f) x (a .1) (lt-ltb _ _ (c .0)) p (c .1)) .0) in
+      let v : Same put (st .pointer x f) (un .pointer r f) =
+      subst (λ z. Same put (st .pointer x f) (un .pointer z f)) (same-id x r (root (inl (i, h))) u) (o .sim .rec x (root (inl (i, h))) .pointer f l) in
+      (record {
+        same = refl;
+        ok = record {
+          inv = load-inv segmentOf st (o .inv) i d x f h l;
+          sim = root-sim segmentOf put st un (o .inv) (o .sim) i d (st .pointer x f) (un .pointer r f) v (λ b k. next (root (i, h)) (f, l, k));
+          few = o .few;
+          comp = root-comp segmentOf P st (o .inv) (o .comp) i d (st .pointer x f) (λ b k. next (root (i, h)) (f, l, k));
+        };
+      }))
 
   act-store : (i s f t : ℕ) → refusal (observe st) (c-store i s f t) ≡ 0 → Alike segmentOf P put (act block st (c-store i s f t)) (uact un (c-store i s f t))
   act-store i s f t e =
@@ -144,9 +169,19 @@ module _ (segmentOf : ℕ → ℕ) (block : ℕ) (P : ℕ → Type 0) (put : ℕ
       let c = root-ok t _ (b .1) in
       onRecord-ok (st .root i s) (un .root i s) (same-at i s (a .1) (b .0)) _ _ (λ x r p q u.
       let h : Holds st i x = (s, a .1, b .0, p) in
-      let l : f < st .pointerCount x = ltb-true f (st .pointerCount x) (require-ok _ 8 0 (omega arith) (shape-ok (st .attached i) (ltb s rootCount) (st .root i s) (shapeAt st) (pointer? f) x (a .1) (lt-ltb _ _ (b .0)) p (c .1)) .0) in
+      let l : f < st .pointerCount x =
+      ltb-true f (st .pointerCount x)
+      (require-ok _ 8 0 (omega arith) (shape-ok (st .attached i) (ltb s rootCount) (st .root i s) (shapeAt st) (pointer? f) x (a .1) (lt-ltb _ _ (b .0)) p (c .1)) .0) in
       let n : (y : ℕ) → st .root i t ≡ some y → Holds st i y = (λ y k. (t, a .1, c .0, k)) in
-      (record { same = refl; ok = record { inv = store-inv segmentOf st (o .inv) i x f (st .root i t) h l n; sim = store-sim segmentOf put st un (o .inv) (o .sim) i x f r (st .root i t) (un .root i t) h l n u (same-at i t (a .1) (c .0)); few = o .few; comp = store-comp segmentOf P st (o .inv) (o .comp) i x f (st .root i t) h l n } }))
+      (record {
+        same = refl;
+        ok = record {
+          inv = store-inv segmentOf st (o .inv) i x f (st .root i t) h l n;
+          sim = store-sim segmentOf put st un (o .inv) (o .sim) i x f r (st .root i t) (un .root i t) h l n u (same-at i t (a .1) (c .0));
+          few = o .few;
+          comp = store-comp segmentOf P st (o .inv) (o .comp) i x f (st .root i t) h l n;
+        };
+      }))
 
   act-put : (i s k v : ℕ) → refusal (observe st) (c-put i s k v) ≡ 0 → Alike segmentOf P put (act block st (c-put i s k v)) (uact un (c-put i s k v))
   act-put i s k v e =
@@ -155,7 +190,17 @@ module _ (segmentOf : ℕ → ℕ) (block : ℕ) (P : ℕ → Type 0) (put : ℕ
       onRecord-ok (st .root i s) (un .root i s) (same-at i s (a .1) (b .0)) _ _ (λ x r p q u.
       let h : Live st x = root (inl (i, (s, a .1, b .0, p))) in
       let n : st .values x ≡ un .values r = o .sim .rec x h .values ∙ ap (un .values) (same-id x r h u) in
-      (record { same = refl; ok = record { inv = values-inv segmentOf st (o .inv) x (set (st .values x) k v); sim = subst (λ z. Simulates put (setValues st x (set (st .values x) k v)) (uSetValues un r (set z k v))) n (values-sim segmentOf put st un (o .inv) (o .sim) x r (set (st .values x) k v) u); few = o .few; comp = values-comp segmentOf P st (o .inv) (o .comp) x (set (st .values x) k v) } }))
+      (record {
+        same = refl;
+        ok = record {
+          inv = values-inv segmentOf st (o .inv) x (set (st .values x) k v);
+          sim =
+              subst (λ z. Simulates put (setValues st x (set (st .values x) k v)) (uSetValues un r (set z k v))) n
+              (values-sim segmentOf put st un (o .inv) (o .sim) x r (set (st .values x) k v) u);
+          few = o .few;
+          comp = values-comp segmentOf P st (o .inv) (o .comp) x (set (st .values x) k v);
+        };
+      }))
 
   act-get : (i s k : ℕ) → refusal (observe st) (c-get i s k) ≡ 0 → Alike segmentOf P put (act block st (c-get i s k)) (uact un (c-get i s k))
   act-get i s k e =
@@ -187,10 +232,28 @@ module _ (segmentOf : ℕ → ℕ) (block : ℕ) (P : ℕ → Type 0) (put : ℕ
       let a = by-ok (observe st) i _ e in
       let b = root-ok d _ (a .3) in
       let c = root-ok s _ (b .1) in
-      (record { same = refl; ok = record { inv = copy-inv segmentOf st (o .inv) i d s (a .1) (c .0); sim = root-sim segmentOf put st un (o .inv) (o .sim) i d (st .root i s) (un .root i s) (same-at i s (a .1) (c .0)) (λ b k. root (i, (s, a .1, c .0, k))); few = o .few; comp = root-comp segmentOf P st (o .inv) (o .comp) i d (st .root i s) (λ b k. root (i, (s, a .1, c .0, k))) } })
+      (record {
+        same = refl;
+        ok = record {
+          inv = copy-inv segmentOf st (o .inv) i d s (a .1) (c .0);
+          sim =
+              root-sim segmentOf put st un (o .inv) (o .sim) i d (st .root i s) (un .root i s) (same-at i s (a .1) (c .0)) (λ b k. root (i, (s, a .1, c .0, k)));
+          few = o .few;
+          comp = root-comp segmentOf P st (o .inv) (o .comp) i d (st .root i s) (λ b k. root (i, (s, a .1, c .0, k)));
+        };
+      })
 
   act-clear : (i d : ℕ) → Alike segmentOf P put (act block st (c-clear i d)) (uact un (c-clear i d))
-  act-clear i d = (record { same = refl; ok = record { inv = clear-inv segmentOf st (o .inv) i d; sim = root-sim segmentOf put st un (o .inv) (o .sim) i d none none refl (λ b k. none-some k); few = o .few; comp = root-comp segmentOf P st (o .inv) (o .comp) i d none (λ b k. none-some k) } })
+  act-clear i d =
+      (record {
+        same = refl;
+        ok = record {
+          inv = clear-inv segmentOf st (o .inv) i d;
+          sim = root-sim segmentOf put st un (o .inv) (o .sim) i d none none refl (λ b k. none-some k);
+          few = o .few;
+          comp = root-comp segmentOf P st (o .inv) (o .comp) i d none (λ b k. none-some k);
+        };
+      })
 
   act-make : (i d p n : ℕ) → Permitted segmentOf block st (c-make i d p n) → Alike segmentOf P (upd put block (some (un .count))) (act block st (c-make i d p n)) (uact un (c-make i d p n))
   act-make i d p n a = record {
@@ -209,12 +272,18 @@ module _ (segmentOf : ℕ → ℕ) (block : ℕ) (P : ℕ → Type 0) (put : ℕ
   few-attach : (i j : ℕ) → i < mutatorCount → upd (st .attached) i true j ≡ true → j < mutatorCount
   few-attach i j l h = ⊎-elim (λ q. subst (λ z. z < mutatorCount) (sym (q .0)) l) (λ q. o .few j (sym (q .1) ∙ h)) (upd-cases (st .attached) i true j)
 
-  act-attach : (i : ℕ) (v w : Option ℕ) → inHandshake (st .phase) ≡ false → i < mutatorCount → Same put v w → ((b : ℕ) → v ≡ some b → Root st b) → Alike segmentOf P put (a-ok, attach st i v) (a-ok, uAttach un i w)
+  act-attach : (i : ℕ) (v w : Option ℕ) → inHandshake (st .phase) ≡ false → i < mutatorCount → Same put v w → ((b : ℕ) → v ≡ some b → Root st b)
+      → Alike segmentOf P put (a-ok, attach st i v) (a-ok, uAttach un i w)
   act-attach i v w e l c h =
       let n = not-rolling (st .phase) e in
       record {
         same = refl;
-        ok = record { inv = attach-inv segmentOf st (o .inv) i v h (n .0) (n .1); sim = attach-sim segmentOf put st un (o .inv) (o .sim) i v w h (n .0) (n .1) c; few = λ j k. few-attach i j l k; comp = attach-comp segmentOf P st (o .inv) (o .comp) i v h (n .0) (n .1) };
+        ok = record {
+          inv = attach-inv segmentOf st (o .inv) i v h (n .0) (n .1);
+          sim = attach-sim segmentOf put st un (o .inv) (o .sim) i v w h (n .0) (n .1) c;
+          few = λ j k. few-attach i j l k;
+          comp = attach-comp segmentOf P st (o .inv) (o .comp) i v h (n .0) (n .1);
+        };
       }
 
   few-detach : (i j : ℕ) → upd (st .attached) i false j ≡ true → j < mutatorCount
@@ -223,11 +292,18 @@ module _ (segmentOf : ℕ → ℕ) (block : ℕ) (P : ℕ → Type 0) (put : ℕ
   act-detach : (i : ℕ) → Alike segmentOf P put (act block st (c-detach i)) (uact un (c-detach i))
   act-detach i = record {
     same = refl;
-    ok = record { inv = detach-inv segmentOf st (o .inv) i; sim = detach-sim segmentOf put st un (o .inv) (o .sim) i; few = λ j k. few-detach i j k; comp = detach-comp segmentOf P st (o .inv) (o .comp) i };
+    ok = record {
+      inv = detach-inv segmentOf st (o .inv) i;
+      sim = detach-sim segmentOf put st un (o .inv) (o .sim) i;
+      few = λ j k. few-detach i j k;
+      comp = detach-comp segmentOf P st (o .inv) (o .comp) i;
+    };
   }
 
-pub side-ok : (segmentOf : ℕ → ℕ) (P : ℕ → Type 0) (put : ℕ → Option ℕ) (st : State) (un : Unbounded) → Coupled segmentOf P put st un → (i : ℕ) (v : Bool) → Coupled segmentOf P put (setInside st i v) (uSetInside un i v)
-side-ok segmentOf P put st un o i v = record { inv = side-inv segmentOf st (o .inv) i v; sim = side-sim segmentOf put st un (o .inv) (o .sim) i v; few = o .few; comp = side-comp segmentOf P st (o .inv) (o .comp) i v }
+pub side-ok : (segmentOf : ℕ → ℕ) (P : ℕ → Type 0) (put : ℕ → Option ℕ) (st : State) (un : Unbounded) → Coupled segmentOf P put st un
+    → (i : ℕ) (v : Bool) → Coupled segmentOf P put (setInside st i v) (uSetInside un i v)
+side-ok segmentOf P put st un o i v =
+    record { inv = side-inv segmentOf st (o .inv) i v; sim = side-sim segmentOf put st un (o .inv) (o .sim) i v; few = o .few; comp = side-comp segmentOf P st (o .inv) (o .comp) i v }
 
 module _ (segmentOf : ℕ → ℕ) (block : ℕ) (P : ℕ → Type 0) (put : ℕ → Option ℕ) (st : State) (un : Unbounded) (o : Coupled segmentOf P put st un) where
   -- the theorem of the mutator calls

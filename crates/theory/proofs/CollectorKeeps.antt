@@ -1,4 +1,4 @@
--- The collector's calls keep all, on the abstract machine: start, and step in each phase. Assumes nothing.
+-- The collector's calls keep all, on the abstract machine: start, and step in each phase.
 use mathlib.Core.Path.{_≡_, refl, sym, _∙_, subst}
 use mathlib.Core.Logic.{_⊎_, inl, inr, ⊎-elim}
 use mathlib.Core.Bool.{Bool, true, false, _&&_}
@@ -35,7 +35,13 @@ later-refl : (st : State) → Later st st
 later-refl st = record { attached = λ i. refl; inside = λ i. refl; phase = refl; condemned = refl; up = λ i. omega arith }
 
 later-trans : (a b c : State) → Later a b → Later b c → Later a c
-later-trans a b c p q = record { attached = λ i. q .attached i ∙ p .attached i; inside = λ i. q .inside i ∙ p .inside i; phase = q .phase ∙ p .phase; condemned = q .condemned ∙ p .condemned; up = λ i. omega (arith, p .up i, q .up i) }
+later-trans a b c p q = record {
+  attached = λ i. q .attached i ∙ p .attached i;
+  inside = λ i. q .inside i ∙ p .inside i;
+  phase = q .phase ∙ p .phase;
+  condemned = q .condemned ∙ p .condemned;
+  up = λ i. omega (arith, p .up i, q .up i);
+}
 
 owes-up : (p : Phase) (a b : ℕ) → a ≤ b → owes p a ≡ false → owes p b ≡ false
 owes-up idle a b h e = refl
@@ -49,7 +55,15 @@ owes-up mark a b h e = refl
 owes-up sweep a b h e = refl
 
 set-later : (st : State) (i n : ℕ) (l : List ℕ) → st .acks i ≤ n → Later st (setAcks st i n l)
-set-later st i n l h = record { attached = λ j. refl; inside = λ j. refl; phase = refl; condemned = refl; up = λ j. ⊎-elim (λ q. subst (λ z. st .acks j ≤ z) (sym (q .1)) (subst (λ z. st .acks z ≤ n) (sym (q .0)) h)) (λ q. omega (arith, q .1)) (upd-cases (st .acks) i n j) }
+set-later st i n l h = record {
+  attached = λ j. refl;
+  inside = λ j. refl;
+  phase = refl;
+  condemned = refl;
+  up =
+      λ j. ⊎-elim (λ q. subst (λ z. st .acks j ≤ z) (sym (q .1)) (subst (λ z. st .acks z ≤ n) (sym (q .0)) h)) (λ q. omega (arith, q .1))
+      (upd-cases (st .acks) i n j);
+}
 
 acknowledge-later : (st : State) (i : ℕ) (p : Phase) (n : ℕ) → st .phase ≡ p → st .acks i ≡ n → Later st (acknowledge p n st i) × (owes p (acknowledge p n st i .acks i) ≡ false)
 acknowledge-later st i idle n e a = (later-refl st, refl)
@@ -96,7 +110,10 @@ outside-did (suc n) st j h o i = go (ℕ-discrete j n) (λ (q : j < n). outside-
     at a b p q = rw (p, q) (acknowledge-later st₁ n (st₁ .phase) (st₁ .acks n) refl refl .1)
 
     go : Dec (j ≡ n) → (j < n → owes (st .phase) (answerOutside n st .acks j) ≡ false) → owes (st .phase) (answerOutside (suc n) st .acks j) ≡ false
-    go (yes e) r = subst (λ z. owes (st .phase) (answerOutside (suc n) st .acks z) ≡ false) (sym e) (subst (λ p. owes p (answerOutside (suc n) st .acks n) ≡ false) (outside-later n st .phase) (at (st₁ .attached n) (st₁ .inside n) (outside-later n st .attached n ∙ subst (λ z. st .attached z ≡ true) e o) (outside-later n st .inside n ∙ subst (λ z. st .inside z ≡ false) e i)))
+    go (yes e) r =
+        subst (λ z. owes (st .phase) (answerOutside (suc n) st .acks z) ≡ false) (sym e)
+        (subst (λ p. owes p (answerOutside (suc n) st .acks n) ≡ false) (outside-later n st .phase)
+        (at (st₁ .attached n) (st₁ .inside n) (outside-later n st .attached n ∙ subst (λ z. st .attached z ≡ true) e o) (outside-later n st .inside n ∙ subst (λ z. st .inside z ≡ false) e i)))
     go (no k) r = owes-up (st .phase) (answerOutside n st .acks j) (answerOutside (suc n) st .acks j) (outside-step n st .up j) (r (omega arith))
 
 waiting-none : (n : ℕ) (st : State) → waiting n st ≡ 0 → (j : ℕ) → j < n → st .attached j ≡ true → st .inside j ≡ true → owes (st .phase) (st .acks j) ≡ false
@@ -110,11 +127,14 @@ waiting-none (suc n) st e j h o i = go (ℕ-discrete j n) (λ (q : j < n). waiti
     bit0 false b c e p q = clash p refl
 
     go : Dec (j ≡ n) → (j < n → owes (st .phase) (st .acks j) ≡ false) → owes (st .phase) (st .acks j) ≡ false
-    go (yes k) r = subst (λ z. owes (st .phase) (st .acks z) ≡ false) (sym k) (bit0 (st .attached n) (st .inside n) (owes (st .phase) (st .acks n)) (omega arith) (subst (λ z. st .attached z ≡ true) k o) (subst (λ z. st .inside z ≡ true) k i))
+    go (yes k) r =
+        subst (λ z. owes (st .phase) (st .acks z) ≡ false) (sym k)
+        (bit0 (st .attached n) (st .inside n) (owes (st .phase) (st .acks n)) (omega arith) (subst (λ z. st .attached z ≡ true) k o) (subst (λ z. st .inside z ≡ true) k i))
     go (no k) r = r (omega arith)
 
 -- none waits: all have acknowledged
-all-answered : (st : State) → waiting mutatorCount (answerOutside mutatorCount st) ≡ 0 → (j : ℕ) → j < mutatorCount → answerOutside mutatorCount st .attached j ≡ true → owes (st .phase) (answerOutside mutatorCount st .acks j) ≡ false
+all-answered : (st : State) → waiting mutatorCount (answerOutside mutatorCount st) ≡ 0 → (j : ℕ) → j < mutatorCount
+    → answerOutside mutatorCount st .attached j ≡ true → owes (st .phase) (answerOutside mutatorCount st .acks j) ≡ false
 all-answered st e j h o = go (bool-cases (answerOutside mutatorCount st .inside j))
   where
     go : (answerOutside mutatorCount st .inside j ≡ true) ⊎ (answerOutside mutatorCount st .inside j ≡ false) → owes (st .phase) (answerOutside mutatorCount st .acks j) ≡ false
@@ -150,32 +170,54 @@ module _ (segmentOf : ℕ → ℕ) (lowest : State → Option ℕ) where
       go true true e o = o
       go false b e o = o
 
-  phase-ok : (P : ℕ → Type 0) (put : ℕ → Option ℕ) (st : State) (un : Unbounded) (p : Phase) → Coupled segmentOf P put st un → Inv segmentOf (setPhase st p) → Coupled segmentOf P put (setPhase st p) un
+  phase-ok : (P : ℕ → Type 0) (put : ℕ → Option ℕ) (st : State) (un : Unbounded) (p : Phase) → Coupled segmentOf P put st un
+      → Inv segmentOf (setPhase st p) → Coupled segmentOf P put (setPhase st p) un
   phase-ok P put st un p o v = record { inv = v; sim = gc-sim put st un (o .sim) _ _ _ _ _ _ (λ b q. q); few = o .few; comp = phase-comp segmentOf P st (o .inv) (o .comp) p }
 
-  pub step-ok : (P : ℕ → Type 0) (put : ℕ → Option ℕ) (st : State) (un : Unbounded) → Pick lowest st → Coupled segmentOf P put st un → (p : Phase) → st .phase ≡ p → Coupled segmentOf P put (stepBy segmentOf lowest p st) un
+  pub step-ok : (P : ℕ → Type 0) (put : ℕ → Option ℕ) (st : State) (un : Unbounded) → Pick lowest st → Coupled segmentOf P put st un → (p : Phase)
+      → st .phase ≡ p → Coupled segmentOf P put (stepBy segmentOf lowest p st) un
   step-ok P put st un lo o idle e = o
   step-ok P put st un lo o sync1 e = go (waiting mutatorCount (answerOutside mutatorCount st)) refl (outside-ok 32 P put st un o)
     where
-      go : (n : ℕ) → waiting mutatorCount (answerOutside mutatorCount st) ≡ n → Coupled segmentOf P put (answerOutside mutatorCount st) un → Coupled segmentOf P put (move n (answerOutside mutatorCount st) sync2) un
+      go : (n : ℕ) → waiting mutatorCount (answerOutside mutatorCount st) ≡ n → Coupled segmentOf P put (answerOutside mutatorCount st) un
+          → Coupled segmentOf P put (move n (answerOutside mutatorCount st) sync2) un
       go (suc n) w o₁ = o₁
-      go zero w o₁ = phase-ok P put (answerOutside mutatorCount st) un sync2 o₁ (Cycle.to-sync2 segmentOf (answerOutside mutatorCount st) (o₁ .inv) (outside-later 32 st .phase ∙ e) (λ i h. owes1 _ (subst (λ p. owes p (answerOutside mutatorCount st .acks i) ≡ false) e (all-answered st w i (o₁ .few i h) h))))
+      go zero w o₁ =
+          phase-ok P put (answerOutside mutatorCount st) un sync2 o₁
+          (Cycle.to-sync2 segmentOf (answerOutside mutatorCount st) (o₁ .inv) (outside-later 32 st .phase ∙ e)
+          (λ i h. owes1 _ (subst (λ p. owes p (answerOutside mutatorCount st .acks i) ≡ false) e (all-answered st w i (o₁ .few i h) h))))
   step-ok P put st un lo o sync2 e = go (waiting mutatorCount (answerOutside mutatorCount st)) refl (outside-ok 32 P put st un o)
     where
-      go : (n : ℕ) → waiting mutatorCount (answerOutside mutatorCount st) ≡ n → Coupled segmentOf P put (answerOutside mutatorCount st) un → Coupled segmentOf P put (move n (answerOutside mutatorCount st) mark) un
+      go : (n : ℕ) → waiting mutatorCount (answerOutside mutatorCount st) ≡ n → Coupled segmentOf P put (answerOutside mutatorCount st) un
+          → Coupled segmentOf P put (move n (answerOutside mutatorCount st) mark) un
       go (suc n) w o₁ = o₁
-      go zero w o₁ = phase-ok P put (answerOutside mutatorCount st) un mark o₁ (Cycle.to-mark segmentOf (answerOutside mutatorCount st) (o₁ .inv) (outside-later 32 st .phase ∙ e) (λ i h. owes2 _ (subst (λ p. owes p (answerOutside mutatorCount st .acks i) ≡ false) e (all-answered st w i (o₁ .few i h) h))))
+      go zero w o₁ =
+          phase-ok P put (answerOutside mutatorCount st) un mark o₁
+          (Cycle.to-mark segmentOf (answerOutside mutatorCount st) (o₁ .inv) (outside-later 32 st .phase ∙ e)
+          (λ i h. owes2 _ (subst (λ p. owes p (answerOutside mutatorCount st .acks i) ≡ false) e (all-answered st w i (o₁ .few i h) h))))
   step-ok P put st un lo o mark e = go (st .stack) refl
     where
       go : (l : List ℕ) → st .stack ≡ l → Coupled segmentOf P put (traceStep l st) un
       go [] k = phase-ok P put st un sweep o (Cycle.to-sweep segmentOf st (o .inv) e k)
-      go (b ∷ l) k = record { inv = Cycle.trace-inv segmentOf st (o .inv) b l e k; sim = gc-sim put st un (o .sim) _ _ _ _ _ _ (λ x q. Cycle.live-back segmentOf st (o .inv) b l e k q); few = o .few; comp = trace-comp segmentOf P st (o .inv) (o .comp) b l e k }
+      go (b ∷ l) k = record {
+        inv = Cycle.trace-inv segmentOf st (o .inv) b l e k;
+        sim = gc-sim put st un (o .sim) _ _ _ _ _ _ (λ x q. Cycle.live-back segmentOf st (o .inv) b l e k q);
+        few = o .few;
+        comp = trace-comp segmentOf P st (o .inv) (o .comp) b l e k;
+      }
   step-ok P put st un lo o sweep e = go (lowest st) refl
     where
       go : (v : Option ℕ) → lowest st ≡ v → Coupled segmentOf P put (sweepStep segmentOf v st) un
       go none k = phase-ok P put st un idle o (Cycle.to-idle segmentOf st (o .inv) e)
-      go (some g) k = record { inv = Cycle.sweep-inv segmentOf st (o .inv) g e (lo .condemned g k); sim = gc-sim put st un (o .sim) _ _ _ _ _ _ (λ x q. q); few = o .few; comp = sweep-comp segmentOf P st (o .inv) (o .comp) g }
+      go (some g) k = record {
+        inv = Cycle.sweep-inv segmentOf st (o .inv) g e (lo .condemned g k);
+        sim = gc-sim put st un (o .sim) _ _ _ _ _ _ (λ x q. q);
+        few = o .few;
+        comp = sweep-comp segmentOf P st (o .inv) (o .comp) g;
+      }
 
 -- what was live when the cycle began is all that may be marked
-pub start-ok : (segmentOf : ℕ → ℕ) (full : ℕ → Bool) (P : ℕ → Type 0) (put : ℕ → Option ℕ) (st : State) (un : Unbounded) → Coupled segmentOf P put st un → Coupled segmentOf (Live st) put (start st full) un
-start-ok segmentOf full P put st un o = record { inv = Cycle.start-inv segmentOf st (o .inv) full; sim = gc-sim put st un (o .sim) _ _ _ _ _ _ (λ b q. q); few = o .few; comp = start-comp segmentOf st full }
+pub start-ok : (segmentOf : ℕ → ℕ) (full : ℕ → Bool) (P : ℕ → Type 0) (put : ℕ → Option ℕ) (st : State) (un : Unbounded)
+    → Coupled segmentOf P put st un → Coupled segmentOf (Live st) put (start st full) un
+start-ok segmentOf full P put st un o =
+    record { inv = Cycle.start-inv segmentOf st (o .inv) full; sim = gc-sim put st un (o .sim) _ _ _ _ _ _ (λ b q. q); few = o .few; comp = start-comp segmentOf st full }

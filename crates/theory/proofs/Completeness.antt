@@ -1,4 +1,4 @@
--- Completeness: what was not live when the cycle began is never marked in a condemned segment. Assumes nothing.
+-- Completeness: what was not live when the cycle began is never marked in a condemned segment.
 use mathlib.Core.Path.{_≡_, refl, ap, sym, _∙_, subst}
 use mathlib.Core.Logic.{_⊎_, inl, inr, ⊎-elim, _≢_}
 use mathlib.Core.Bool.{Bool, true, false}
@@ -23,8 +23,11 @@ pub record Complete (segmentOf : ℕ → ℕ) (P : ℕ → Type 0) (st : State) 
   pub black : (b : ℕ) → st .marked b ≡ true → st .condemned (segmentOf b) ≡ true → P b
 
 -- where nothing becomes live or comes among the condemned, and only what was live is marked
-pub back-comp : (segmentOf : ℕ → ℕ) (P : ℕ → Type 0) (st st′ : State) → Complete segmentOf P st → ((b : ℕ) → Live st′ b → Live st b) → ((b : ℕ) → st′ .marked b ≡ true → (st .marked b ≡ true) ⊎ Live st b) → ((g : ℕ) → st′ .condemned g ≡ true → st .condemned g ≡ true) → Complete segmentOf P st′
-back-comp segmentOf P st st′ c l m d = record { live = λ b p k. c .live b (l b p) (d (segmentOf b) k); black = λ b h k. ⊎-elim (λ q. c .black b q (d (segmentOf b) k)) (λ q. c .live b q (d (segmentOf b) k)) (m b h) }
+pub back-comp : (segmentOf : ℕ → ℕ) (P : ℕ → Type 0) (st st′ : State) → Complete segmentOf P st → ((b : ℕ) → Live st′ b → Live st b)
+    → ((b : ℕ) → st′ .marked b ≡ true → (st .marked b ≡ true) ⊎ Live st b)
+    → ((g : ℕ) → st′ .condemned g ≡ true → st .condemned g ≡ true) → Complete segmentOf P st′
+back-comp segmentOf P st st′ c l m d =
+    record { live = λ b p k. c .live b (l b p) (d (segmentOf b) k); black = λ b h k. ⊎-elim (λ q. c .black b q (d (segmentOf b) k)) (λ q. c .live b q (d (segmentOf b) k)) (m b h) }
 
 pub start-comp : (segmentOf : ℕ → ℕ) (st : State) (full : ℕ → Bool) → Complete segmentOf (Live st) (start st full)
 start-comp segmentOf st full = record { live = λ b p k. p; black = λ b m k. clash m refl }
@@ -76,7 +79,8 @@ module _ (segmentOf : ℕ → ℕ) (P : ℕ → Type 0) (st : State) (inv : Inv 
 
   pub trace-comp : (b : ℕ) (l : List ℕ) → st .phase ≡ mark → st .stack ≡ b ∷ l → Complete segmentOf P (trace st b l)
   trace-comp b l hp e = back-comp segmentOf P st _ c (λ x p. Cycle.live-back segmentOf st inv b l hp e p)
-      (λ x m. ⊎-elim (λ q. inr (subst (Live st) (sym (q .0)) (root (inr (subst (List·Memᴰ b) (sym e) (List·Memᴰ·head refl)))))) (λ q. inl (sym (q .1) ∙ m)) (upd-cases (st .marked) b true x)) (λ g k. k)
+      (λ x m. ⊎-elim (λ q. inr (subst (Live st) (sym (q .0)) (root (inr (subst (List·Memᴰ b) (sym e) (List·Memᴰ·head refl)))))) (λ q. inl (sym (q .1) ∙ m)) (upd-cases (st .marked) b true x))
+      (λ g k. k)
 
   pub attach-comp : (i : ℕ) (v : Option ℕ) → ((b : ℕ) → v ≡ some b → Root st b) → st .phase ≢ sync1 → st .phase ≢ sync2 → Complete segmentOf P (attach st i v)
   attach-comp i v hv n1 n2 = same-comp _ (λ x p. Cycle.attach-live segmentOf st inv i v hv n1 n2 p) (λ b. refl) (λ g. refl)

@@ -1,4 +1,4 @@
--- Which segments are condemned on the abstract machine: a mutator's call changes none, and a step outside sweep none. Assumes nothing.
+-- Which segments are condemned on the abstract machine: a mutator's call changes none, and a step outside sweep none.
 use mathlib.Core.Path.{_≡_, refl, _∙_}
 use mathlib.Core.Bool.{Bool, true, false}
 use mathlib.Core.Option.{Option, none, some}

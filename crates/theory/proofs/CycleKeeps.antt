@@ -1,4 +1,4 @@
--- The collector's calls, acknowledgements, and mutators that come and go keep the invariant. Assumes nothing.
+-- The collector's calls, acknowledgements, and mutators that come and go keep the invariant.
 use mathlib.Core.Path.{_≡_, refl, ap, sym, _∙_, subst}
 use mathlib.Core.Logic.{_⊎_, inl, inr, ⊎-elim, _≢_}
 use mathlib.Core.Bool.{Bool, true, false}
@@ -9,7 +9,8 @@ use native.Mathlib.Omega.{arith}
 use native.Mathlib.Decide.{ℕ-discrete}
 use Rattle.theory.proofs.Graph.{reach-ind, reach-map, reach-empty, clash, safe-map}
 use Rattle.theory.proofs.Invariant.{Acked, Tracing, Quiet, Core, Inv, reached-live, in-safe, none-some}
-use Rattle.theory.specs.Machine.{setValues, State, Holds, Root, Points, Grey, Live, Reached, Covered, attach, detach, setInside, setAcks, acknowledge, check, start, setPhase, trace, sweepSegment}
+use Rattle.theory.specs.Machine.{setValues, State, Holds, Root, Points, Grey, Live, Reached, Covered, attach, detach, setInside, setAcks}
+use Rattle.theory.specs.Machine.{acknowledge, check, start, setPhase, trace, sweepSegment}
 use Rattle.theory.proofs.Updates.{upd-cases, upd-same, upd-other, tab-mem, tab-inv, pushes-keep, pushes-inv, pushes-did, pushes-stack, StackOk, Nodup, In}
 use Rattle.theory.specs.TraceStack.{tab, pushes}
 use Rattle.theory.specs.Phases.{Phase, idle, sync1, sync2, mark, sweep, newcomer}
@@ -76,11 +77,17 @@ pub acknowledge-back : (st : State) (i : ℕ) → st .attached i ≡ true → (x
 acknowledge-back st i attached x h = ⊎-elim inl (λ q. let w = tab-inv rootCount (st .root i) q in inr (w .0, attached, w .1, w .2)) (pushes-inv (st .marked) (tab rootCount (st .root i)) (st .stack) h)
 
 pub acknowledge-live : (st : State) (i : ℕ) → st .attached i ≡ true → {b : ℕ} → Live (setAcks st i 2 (pushes (st .marked) (tab rootCount (st .root i)) (st .stack))) b → Live st b
-acknowledge-live st i attached p = reach-map (λ x h. ⊎-elim (λ (r : Root st x). root (inl r)) (λ g. ⊎-elim (λ g′. root (inr g′)) (λ q. root (inl (i, q))) (acknowledge-back st i attached x g)) h) (λ x y q e. inl e) p
+acknowledge-live st i attached p =
+    reach-map
+    (λ x h. ⊎-elim (λ (r : Root st x). root (inl r)) (λ g. ⊎-elim (λ g′. root (inr g′)) (λ q. root (inl (i, q))) (acknowledge-back st i attached x g)) h)
+    (λ x y q e. inl e) p
 
 module _ (segmentOf : ℕ → ℕ) (st : State) (inv : Inv segmentOf st) (i : ℕ) (attached : st .attached i ≡ true) where
   second-acknowledge : st .phase ≡ sync2 → st .acks i ≤ 2 → Inv segmentOf (setAcks st i 2 (pushes (st .marked) (tab rootCount (st .root i)) (st .stack)))
-  second-acknowledge e u = acks-inv segmentOf st inv i 2 l u (pushes-stack (st .marked) (tab rootCount (st .root i)) (st .stack) (inv .stack)) (λ x h. pushes-keep (st .marked) (tab rootCount (st .root i)) (st .stack) h) (acknowledge-back st i attached) (λ q. absurd (subst Quiet e q)) (λ e′. absurd (omega (arith, ap phaseNo (sym e ∙ e′)))) did
+  second-acknowledge e u =
+      acks-inv segmentOf st inv i 2 l u (pushes-stack (st .marked) (tab rootCount (st .root i)) (st .stack) (inv .stack))
+      (λ x h. pushes-keep (st .marked) (tab rootCount (st .root i)) (st .stack) h) (acknowledge-back st i attached)
+      (λ q. absurd (subst Quiet e q)) (λ e′. absurd (omega (arith, ap phaseNo (sym e ∙ e′)))) did
     where
       l : List ℕ
       l = pushes (st .marked) (tab rootCount (st .root i)) (st .stack)
@@ -209,7 +216,9 @@ module _ (segmentOf : ℕ → ℕ) (st : State) (inv : Inv segmentOf st) (b : �
   child-in y e = pushes-did (after .marked) (tab (st .pointerCount b) (st .pointer b)) l y (Memᴰ·cast (sym (e .2)) (tab-mem (st .pointerCount b) (st .pointer b) (e .0) (e .1)))
 
   pub grey-back : (x : ℕ) → Grey after x → Live st x
-  grey-back x g = ⊎-elim (λ h. root (inr (grey-rest x h))) (λ h. next (root (inr grey-top)) (tab-inv (st .pointerCount b) (st .pointer b) h)) (pushes-inv (after .marked) (tab (st .pointerCount b) (st .pointer b)) l g)
+  grey-back x g =
+      ⊎-elim (λ h. root (inr (grey-rest x h))) (λ h. next (root (inr grey-top)) (tab-inv (st .pointerCount b) (st .pointer b) h))
+      (pushes-inv (after .marked) (tab (st .pointerCount b) (st .pointer b)) l g)
 
   pub live-back : {x : ℕ} → Live after x → Live st x
   live-back p = reach-map (λ x h. ⊎-elim (λ (r : Root st x). root (inl r)) (grey-back x) h) (λ x y q e. inl e) p
@@ -306,7 +315,11 @@ module _ (segmentOf : ℕ → ℕ) (st : State) (inv : Inv segmentOf st) (i : �
     first = detach-low;
     second = λ e j o. subst (λ a. 1 ≤ a) (sym (detach-acks j o)) (inv .second e j (detach-on j o));
     all = λ e j o. subst (λ a. 2 ≤ a) (sym (detach-acks j o)) (inv .all e j (detach-on j o));
-    core = λ t. record { rootsCovered = λ j b q h. inv .core t .rootsCovered j b (subst Acked (detach-acks j (h .1)) q) (detach-holds j b h); pointersCovered = λ x y p. inv .core t .pointersCovered x y (detach-live p) };
+    core =
+        λ t. record {
+          rootsCovered = λ j b q h. inv .core t .rootsCovered j b (subst Acked (detach-acks j (h .1)) q) (detach-holds j b h);
+          pointersCovered = λ x y p. inv .core t .pointersCovered x y (detach-live p);
+        };
     kept = λ e b p. inv .kept e b (detach-reached p);
   }
 
@@ -336,7 +349,8 @@ module _ (segmentOf : ℕ → ℕ) (st : State) (inv : Inv segmentOf st) (i : �
     attach-all e j o = go (upd-cases (st .attached) i true j) (upd-cases (st .acks) i (newcomer (st .phase)) j)
       where
         go : ((j ≡ i) × (upd (st .attached) i true j ≡ true)) ⊎ ((j ≢ i) × (upd (st .attached) i true j ≡ st .attached j))
-            → ((j ≡ i) × (upd (st .acks) i (newcomer (st .phase)) j ≡ newcomer (st .phase))) ⊎ ((j ≢ i) × (upd (st .acks) i (newcomer (st .phase)) j ≡ st .acks j)) → 2 ≤ upd (st .acks) i (newcomer (st .phase)) j
+            → ((j ≡ i) × (upd (st .acks) i (newcomer (st .phase)) j ≡ newcomer (st .phase))) ⊎ ((j ≢ i) × (upd (st .acks) i (newcomer (st .phase)) j ≡ st .acks j))
+            → 2 ≤ upd (st .acks) i (newcomer (st .phase)) j
         go q (inl w) = rw (w .1, e) (omega arith)
         go (inl q) (inr w) = absurd (w .0 (q .0))
         go (inr q) (inr w) = omega (arith, w .1, inv .all e j (sym (q .1) ∙ o))
@@ -365,7 +379,27 @@ module _ (segmentOf : ℕ → ℕ) (st : State) (inv : Inv segmentOf st) (i : �
     }
 
   pub side-inv : (v : Bool) → Inv segmentOf (setInside st i v)
-  side-inv v = record { valid = inv .valid; stack = inv .stack; quiet = inv .quiet; blank = inv .blank; first = inv .first; second = inv .second; all = inv .all; core = λ t. record { rootsCovered = inv .core t .rootsCovered; pointersCovered = inv .core t .pointersCovered }; kept = inv .kept }
+  side-inv v = record {
+    valid = inv .valid;
+    stack = inv .stack;
+    quiet = inv .quiet;
+    blank = inv .blank;
+    first = inv .first;
+    second = inv .second;
+    all = inv .all;
+    core = λ t. record { rootsCovered = inv .core t .rootsCovered; pointersCovered = inv .core t .pointersCovered };
+    kept = inv .kept;
+  }
 
   pub values-inv : (z : List ℕ) → Inv segmentOf (setValues st i z)
-  values-inv z = record { valid = inv .valid; stack = inv .stack; quiet = inv .quiet; blank = inv .blank; first = inv .first; second = inv .second; all = inv .all; core = λ t. record { rootsCovered = inv .core t .rootsCovered; pointersCovered = inv .core t .pointersCovered }; kept = inv .kept }
+  values-inv z = record {
+    valid = inv .valid;
+    stack = inv .stack;
+    quiet = inv .quiet;
+    blank = inv .blank;
+    first = inv .first;
+    second = inv .second;
+    all = inv .all;
+    core = λ t. record { rootsCovered = inv .core t .rootsCovered; pointersCovered = inv .core t .pointersCovered };
+    kept = inv .kept;
+  }

@@ -1,4 +1,4 @@
--- Laws of reachability, and the tricolour argument over predicates: no state, no machine. Assumes nothing.
+-- Laws of reachability, and the tricolour argument over predicates: no state, no machine.
 use Rattle.theory.specs.Reach.{WhiteEdge, Protected, Cover, root, Reach, next}
 use mathlib.Core.Path.{_≡_, refl, sym, _∙_}
 use mathlib.Core.Logic.{_⊎_, inl, inr, ⊎-elim}

@@ -1,4 +1,4 @@
--- The invariant of the machine, and that the calls that set a root keep it. Assumes nothing.
+-- The invariant of the machine, and that the calls that set a root keep it.
 use mathlib.Core.Path.{_≡_, sym, _∙_, subst}
 use mathlib.Core.Logic.{_⊎_, inl, inr, ⊎-elim}
 use mathlib.Core.Bool.{true}
@@ -63,7 +63,9 @@ module _ (segmentOf : ℕ → ℕ) (st : State) (inv : Inv segmentOf st) (i k : 
 module _ (segmentOf : ℕ → ℕ) (st : State) (inv : Inv segmentOf st) (i : ℕ) where
   -- root d takes the pointer f of the block a that a root holds
   pub load-inv : (d a f : ℕ) → Holds st i a → f < st .pointerCount a → Inv segmentOf (setRoot st i d (st .pointer a f))
-  load-inv d a f h l = root-inv segmentOf st inv i d (st .pointer a f) (λ b e. next (root (i, h)) (f, l, e)) (λ b e t q. safe-edge (λ m. inv .core t .pointersCovered a b (root (inl (i, h))) m (f, l, e)) (inv .core t .rootsCovered i a q h) (f, l, e))
+  load-inv d a f h l =
+      root-inv segmentOf st inv i d (st .pointer a f) (λ b e. next (root (i, h)) (f, l, e))
+      (λ b e t q. safe-edge (λ m. inv .core t .pointersCovered a b (root (inl (i, h))) m (f, l, e)) (inv .core t .rootsCovered i a q h) (f, l, e))
 
   pub copy-inv : (d k : ℕ) → st .attached i ≡ true → k < rootCount → Inv segmentOf (setRoot st i d (st .root i k))
   copy-inv d k o l = root-inv segmentOf st inv i d (st .root i k) (λ b e. root (i, (k, o, l, e))) (λ b e t q. inv .core t .rootsCovered i b q (k, o, l, e))

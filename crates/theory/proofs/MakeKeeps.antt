@@ -1,4 +1,4 @@
--- A make keeps the invariant. Assumes nothing.
+-- A make keeps the invariant.
 use mathlib.Core.Path.{_≡_, refl, ap, sym, _∙_, subst}
 use mathlib.Core.Logic.{_⊎_, inl, inr, ⊎-elim, _≢_}
 use mathlib.Core.Bool.{true, false}
@@ -75,8 +75,13 @@ module _ (segmentOf : ℕ → ℕ) (st : State) (inv : Inv segmentOf st) (i d b 
 
   make-core : Tracing (st .phase) → Core after
   make-core t = record {
-    rootsCovered = λ j y q h. ⊎-elim (λ h′. sm y (root (inl (j, h′))) (inv .core t .rootsCovered j y q h′)) (λ w. subst (Covered after) (sym (w .1)) (new-safe (st .phase) refl t (subst (λ z. 2 ≤ st .acks z) (w .0) q))) (make-holds j y h);
-    pointersCovered = λ x y p m e. ⊎-elim (λ p′. sm y (next p′ (edge-back x y e .1)) (inv .core t .pointersCovered x y p′ (sym (mark-other x (live-other x p′)) ∙ m) (edge-back x y e .1))) (λ w. absurd (edge-back x y e .0 w)) (live-back p);
+    rootsCovered =
+        λ j y q h. ⊎-elim (λ h′. sm y (root (inl (j, h′))) (inv .core t .rootsCovered j y q h′))
+        (λ w. subst (Covered after) (sym (w .1)) (new-safe (st .phase) refl t (subst (λ z. 2 ≤ st .acks z) (w .0) q))) (make-holds j y h);
+    pointersCovered =
+        λ x y p m e. ⊎-elim
+        (λ p′. sm y (next p′ (edge-back x y e .1)) (inv .core t .pointersCovered x y p′ (sym (mark-other x (live-other x p′)) ∙ m) (edge-back x y e .1)))
+        (λ w. absurd (edge-back x y e .0 w)) (live-back p);
   }
 
   make-valid : (x : ℕ) → Live after x → after .used x ≡ true

@@ -1,4 +1,4 @@
--- Refusals in the order of their numbers: what holds where none applies, and what becomes of one where more tests follow. Assumes nothing.
+-- Refusals in the order of their numbers: what holds where none applies, and what becomes of one where more tests follow.
 use mathlib.Core.Path.{_≡_, refl, _∙_}
 use mathlib.Core.Bool.{Bool, true, false}
 use mathlib.Core.Option.{Option, some, Option·map}

@@ -1,4 +1,4 @@
--- How the machine's state stands for the unbounded heap's, and that each operation keeps it so. Assumes nothing.
+-- How the machine's state stands for the unbounded heap's, and that each operation keeps it so.
 use mathlib.Core.Path.{_≡_, refl, ap, sym, _∙_, subst}
 use mathlib.Core.Logic.{_⊎_, inl, inr, _≢_}
 use mathlib.Core.Bool.{Bool, true, false}
@@ -67,7 +67,10 @@ pub upd2-rel : {A B : Type 0} (P : A → B → Type 0) (f : ℕ → ℕ → A) (
 upd2-rel {A} {B} P f g i k v w x y p q = go (ℕ-discrete x i)
   where
     go : Dec (x ≡ i) → P (upd2 f i k v x y) (upd2 g i k w x y)
-    go (yes e) = rw e (subst (λ (h : ℕ → A). P (h y) (upd2 g i k w i y)) (sym (upd-same f i (upd (f i) k v))) (subst (λ (h : ℕ → B). P (upd (f i) k v y) (h y)) (sym (upd-same g i (upd (g i) k w))) (upd-rel P (f i) (g i) k v w y p (λ _. subst (λ z. P (f z y) (g z y)) e q))))
+    go (yes e) =
+        rw e
+        (subst (λ (h : ℕ → A). P (h y) (upd2 g i k w i y)) (sym (upd-same f i (upd (f i) k v)))
+        (subst (λ (h : ℕ → B). P (upd (f i) k v y) (h y)) (sym (upd-same g i (upd (g i) k w))) (upd-rel P (f i) (g i) k v w y p (λ _. subst (λ z. P (f z y) (g z y)) e q))))
     go (no n) = subst (λ (h : ℕ → A). P (h y) (upd2 g i k w x y)) (sym (upd-other f i (upd (f i) k v) x n)) (subst (λ (h : ℕ → B). P (f x y) (h y)) (sym (upd-other g i (upd (g i) k w) x n)) q)
 
 -- ---- reached is reached
@@ -109,7 +112,20 @@ module _ (put : ℕ → Option ℕ) (st : State) (un : Unbounded) (s : Simulates
 
 -- whatever leaves roots and pointers alone, and makes nothing live
 abbrev pub gc : State → (ℕ → Bool) → (ℕ → Bool) → (ℕ → Bool) → List ℕ → (ℕ → ℕ) → Phase → State
-gc st u d m l a p = record { pointerCount = st .pointerCount; values = st .values; pointer = st .pointer; used = u; condemned = d; marked = m; stack = l; attached = st .attached; inside = st .inside; acks = a; root = st .root; phase = p }
+gc st u d m l a p = record {
+  pointerCount = st .pointerCount;
+  values = st .values;
+  pointer = st .pointer;
+  used = u;
+  condemned = d;
+  marked = m;
+  stack = l;
+  attached = st .attached;
+  inside = st .inside;
+  acks = a;
+  root = st .root;
+  phase = p;
+}
 
 pub gc-sim : (put : ℕ → Option ℕ) (st : State) (un : Unbounded) (s : Simulates put st un) (u d m : ℕ → Bool) (l : List ℕ) (a : ℕ → ℕ) (p : Phase)
     → ((b : ℕ) → Live (gc st u d m l a p) b → Live st b) → Simulates put (gc st u d m l a p) un
@@ -136,7 +152,8 @@ module _ (segmentOf : ℕ → ℕ) (put : ℕ → Option ℕ) (st : State) (un :
       back : (b : ℕ) → Live (setRoot st i k v) b → Live st b
       back b h = root-live segmentOf st inv i k v r h
 
-  pub store-sim : (i a f r : ℕ) (new w : Option ℕ) → Holds st i a → f < st .pointerCount a → ((b : ℕ) → new ≡ some b → Holds st i b) → put a ≡ some r → Same put new w → Simulates put (store st i a f new) (uStore un r f w)
+  pub store-sim : (i a f r : ℕ) (new w : Option ℕ) → Holds st i a → f < st .pointerCount a → ((b : ℕ) → new ≡ some b → Holds st i b)
+      → put a ≡ some r → Same put new w → Simulates put (store st i a f new) (uStore un r f w)
   store-sim i a f r new w ha hf hn e c = record {
     attached = s .attached;
     inside = s .inside;
@@ -150,20 +167,25 @@ module _ (segmentOf : ℕ → ℕ) (put : ℕ → Option ℕ) (st : State) (un :
       lnk′ b q g l (yes k) =
           let d : q .id ≡ r = Option·some-injective (q .id) r (sym (q .is) ∙ ap put k ∙ e) in
           rw (upd-hit₁ (st .pointer) a (upd (st .pointer a) f new) b g k, upd-hit₁ (un .pointer) r (upd (un .pointer r) f w) (q .id) g d)
-          (upd-rel (Same put) (st .pointer a) (un .pointer r) f new w g c (λ _. subst (λ z. Same put (st .pointer z g) (un .pointer r g)) k (subst (λ z. Same put (st .pointer b g) (un .pointer z g)) d (q .pointer g l))))
+          (upd-rel (Same put) (st .pointer a) (un .pointer r) f new w g c
+          (λ _. subst (λ z. Same put (st .pointer z g) (un .pointer r g)) k (subst (λ z. Same put (st .pointer b g) (un .pointer z g)) d (q .pointer g l))))
       lnk′ b q g l (no k) =
           rw (upd-miss₁ (st .pointer) a (upd (st .pointer a) f new) b g k, upd-miss₁ (un .pointer) r (upd (un .pointer r) f w) (q .id) g (λ d. k (s .inj b a r (q .is ∙ ap some d) e)))
           (q .pointer g l)
 
       rec′ : (b : ℕ) → Live (store st i a f new) b → SameRecord put (store st i a f new) (uStore un r f w) b
-      rec′ b h = let q = s .rec b (Store.live-back segmentOf st inv i a f new ha hf hn h) in record { id = q .id; is = q .is; pointerCount = q .pointerCount; values = q .values; pointer = λ g l. lnk′ b q g l (ℕ-discrete b a) }
+      rec′ b h =
+          let q = s .rec b (Store.live-back segmentOf st inv i a f new ha hf hn h) in
+          record { id = q .id; is = q .is; pointerCount = q .pointerCount; values = q .values; pointer = λ g l. lnk′ b q g l (ℕ-discrete b a) }
 
   -- the new record's number is the list's length
   pub make-sim : (i d b n : ℕ) (z : List ℕ) → st .used b ≡ false → st .condemned (segmentOf b) ≡ false → Simulates (upd put b (some (un .count))) (make st i d b n z) (uMake un i d n z)
   make-sim i d b n z hu hd = record {
     attached = s .attached;
     inside = s .inside;
-    root = λ j k o l. upd2-rel (Same put′) (st .root) (un .root) i d (some b) (some (un .count)) j k (ap some (upd-same put b (some (un .count)))) (lift (st .root j k) (un .root j k) (λ c e. root (inl (j, (k, o, l, e)))) (s .root j k o l));
+    root =
+        λ j k o l. upd2-rel (Same put′) (st .root) (un .root) i d (some b) (some (un .count)) j k (ap some (upd-same put b (some (un .count))))
+        (lift (st .root j k) (un .root j k) (λ c e. root (inl (j, (k, o, l, e)))) (s .root j k o l));
     rec = λ x h. rec′ x (Make.live-back segmentOf st inv i d b n z hu hd h);
     inj = inj′;
     old = λ x r e. old′ x r (upd-cases put b (some (un .count)) x) e;
@@ -206,14 +228,18 @@ module _ (segmentOf : ℕ → ℕ) (put : ℕ → Option ℕ) (st : State) (un :
             pointerCount = upd-other (st .pointerCount) b n x nb ∙ q .pointerCount ∙ sym (upd-other (un .pointerCount) (un .count) n (q .id) nr);
             values = upd-other (st .values) b z x nb ∙ q .values ∙ sym (upd-other (un .values) (un .count) z (q .id) nr);
             pointer = λ g l. let l′ : g < st .pointerCount x = subst (λ z. g < z) (upd-other (st .pointerCount) b n x nb) l in
-                rw (upd-miss₁ (st .pointer) b (λ _. none) x g nb, upd-miss₁ (un .pointer) (un .count) (λ _. none) (q .id) g nr) (lift (st .pointer x g) (un .pointer (q .id) g) (λ c e. next h (g, l′, e)) (q .pointer g l′));
+                rw (upd-miss₁ (st .pointer) b (λ _. none) x g nb, upd-miss₁ (un .pointer) (un .count) (λ _. none) (q .id) g nr)
+                (lift (st .pointer x g) (un .pointer (q .id) g) (λ c e. next h (g, l′, e)) (q .pointer g l′));
           }
 
   pub attach-sim : (i : ℕ) (v w : Option ℕ) → ((b : ℕ) → v ≡ some b → Root st b) → st .phase ≢ sync1 → st .phase ≢ sync2 → Same put v w → Simulates put (attach st i v) (uAttach un i w)
   attach-sim i v w hv n1 n2 c = record {
     attached = λ j. upd-rel _≡_ (st .attached) (un .attached) i true true j refl (λ _. s .attached j);
     inside = λ j. upd-rel _≡_ (st .inside) (un .inside) i true true j refl (λ _. s .inside j);
-    root = λ j k o l. upd-rel (λ (f g : ℕ → Option ℕ). Same put (f k) (g k)) (st .root) (un .root) i (upd (λ _. none) 0 v) (upd (λ _. none) 0 w) j (upd-rel (Same put) (λ _. none) (λ _. none) 0 v w k c (λ _. refl)) (λ m. s .root j k (sym (upd-other (st .attached) i true j m) ∙ o) l);
+    root =
+        λ j k o l. upd-rel (λ (f g : ℕ → Option ℕ). Same put (f k) (g k)) (st .root) (un .root) i (upd (λ _. none) 0 v) (upd (λ _. none) 0 w) j
+        (upd-rel (Same put) (λ _. none) (λ _. none) 0 v w k c (λ _. refl))
+        (λ m. s .root j k (sym (upd-other (st .attached) i true j m) ∙ o) l);
     rec = λ b h. let c = s .rec b (attach-live segmentOf st inv i v hv n1 n2 h) in record { id = c .id; is = c .is; pointerCount = c .pointerCount; values = c .values; pointer = c .pointer };
     inj = s .inj;
     old = s .old;
@@ -223,7 +249,9 @@ module _ (segmentOf : ℕ → ℕ) (put : ℕ → Option ℕ) (st : State) (un :
   detach-sim i = record {
     attached = λ j. upd-rel _≡_ (st .attached) (un .attached) i false false j refl (λ _. s .attached j);
     inside = λ j. upd-rel _≡_ (st .inside) (un .inside) i false false j refl (λ _. s .inside j);
-    root = λ j k o l. upd-rel (λ (f g : ℕ → Option ℕ). Same put (f k) (g k)) (st .root) (un .root) i (λ _. none) (λ _. none) j refl (λ m. s .root j k (sym (upd-other (st .attached) i false j m) ∙ o) l);
+    root =
+        λ j k o l. upd-rel (λ (f g : ℕ → Option ℕ). Same put (f k) (g k)) (st .root) (un .root) i (λ _. none) (λ _. none) j refl
+        (λ m. s .root j k (sym (upd-other (st .attached) i false j m) ∙ o) l);
     rec = λ b h. let c = s .rec b (detach-live segmentOf st inv i h) in record { id = c .id; is = c .is; pointerCount = c .pointerCount; values = c .values; pointer = c .pointer };
     inj = s .inj;
     old = s .old;

@@ -1,4 +1,4 @@
--- A store keeps the invariant. Assumes nothing.
+-- A store keeps the invariant.
 use mathlib.Core.Path.{_≡_, refl, ap, sym, _∙_}
 use mathlib.Core.Logic.{_⊎_, inl, inr, ⊎-elim}
 use mathlib.Core.Option.{Option, some}

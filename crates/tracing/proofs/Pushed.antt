@@ -1,4 +1,4 @@
--- A push on the trace stack by its tests, of a word and of the barrier's words. Assumes nothing.
+-- A push on the trace stack by its tests, of a word and of the barrier's words.
 use mathlib.Core.Path.{_≡_, refl, sym, _∙_, ap, subst}
 use mathlib.Core.Bool.{Bool, true, false, true≢false}
 use mathlib.Core.Option.{some}

@@ -1,5 +1,4 @@
 -- The loop over a mutator's roots: what it keeps, one push more, one that is hindered; and that none is in memory that is ready for it.
--- Assumes nothing.
 use mathlib.Core.Path.{_≡_, sym, _∙_, ap, subst}
 use mathlib.Core.Bool.{Bool, true, false, true≢false}
 use Prim.Native.Nat.{ℕ, _+_, _*_, _≤_, _<_}

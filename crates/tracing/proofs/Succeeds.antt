@@ -1,5 +1,4 @@
 -- Nothing hinders a push of a record in order where the entries are counted, nor any push of a fold of them; so in consistent memory.
--- Assumes nothing.
 use mathlib.Core.Path.{_≡_, refl, sym, _∙_, ap}
 use mathlib.Core.Bool.{true≢false}
 use mathlib.Core.Logic.{_⊎_, inl, inr}

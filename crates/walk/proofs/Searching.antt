@@ -1,4 +1,4 @@
--- The search as a function meets its law. Assumes nothing.
+-- The search as a function meets its law.
 use mathlib.Core.Path.{_≡_, refl, sym, ap, _∙_, subst}
 use mathlib.Core.Logic.{_⊎_, inl, inr, ⊎-elim}
 use mathlib.Core.Bool.{Bool, true, false}
@@ -15,7 +15,8 @@ use Rattle.words.proofs.Word.{zero-of-not-one}
 use Rattle.theory.specs.Reach.{root}
 use Rattle.walk.specs.Walk.{State, Nodes, Placed, Seen, Valid, Run, Fails, Graph, popped, Reached, Underway, left}
 use Rattle.walk.specs.Search.{put, atMostOne, Names, empty, nodesOf, pushed, enter, follow, followAll, turnAt, turn, search, busy, turns, graphOf, started, searched, Law}
-use Rattle.walk.proofs.Walking.{put-here, put-other, run-still, run-more, Pushed, run-push, valid-empty, valid-popped, run-first, underway-from, underway-turn, left-turn, turn-fails, underway-exact, ones-le, room-le}
+use Rattle.walk.proofs.Walking.{put-here, put-other, run-still, run-more, Pushed, run-push, valid-empty, valid-popped, run-first}
+use Rattle.walk.proofs.Walking.{underway-from, underway-turn, left-turn, turn-fails, underway-exact, ones-le, room-le}
 
 -- what a run came to
 abbrev Came : Nodes → (ℕ → Type 0) → State → Option State → Type 0
@@ -112,7 +113,10 @@ module _ (size : ℕ) (ok : ℕ → Bool) (place : ℕ → ℕ) (placed : Placed
     turned = turns size ok place degree edge size (started size ok place degree edge rootCount rootAt)
 
     whole : Way 0 turned (searched size ok place degree edge rootCount rootAt)
-    whole = subst (λ (z : ℕ). Way 0 z (searched size ok place degree edge rootCount rootAt)) (omega arith) (way-search size 0 (started size ok place degree edge rootCount rootAt) (way-start (started size ok place degree edge rootCount rootAt) (all-came rootAt rootCount empty (valid-empty (λ k. omega arith) (λ k l. refl) refl))))
+    whole =
+        subst (λ (z : ℕ). Way 0 z (searched size ok place degree edge rootCount rootAt)) (omega arith)
+        (way-search size 0 (started size ok place degree edge rootCount rootAt)
+        (way-start (started size ok place degree edge rootCount rootAt) (all-came rootAt rootCount empty (valid-empty (λ k. omega arith) (λ k l. refl) refl))))
 
     ends : (s : State) → Way 0 turned (some s) → s .top ≡ 0
     ends s w = ⊎-elim (λ z. z) (λ z. omega arith) (w .1)
@@ -128,7 +132,9 @@ module _ (size : ℕ) (ok : ℕ → Bool) (place : ℕ → ℕ) (placed : Placed
 
     on-turn : (o : Option State) → On o → On (turn size ok place degree edge o)
     on-turn none g = tt
-    on-turn (some s) g = on (left G s) _ (turn size ok place degree edge (some s)) (way-turn (left G s) (size - left G s) (some s) (g, inr (omega arith), omega (arith, g .valid .room, ones-le (g .valid))))
+    on-turn (some s) g =
+        on (left G s) _ (turn size ok place degree edge (some s))
+        (way-turn (left G s) (size - left G s) (some s) (g, inr (omega arith), omega (arith, g .valid .room, ones-le (g .valid))))
 
     on-search : (m : ℕ) (o : Option State) → On o → On (search size ok place degree edge m o)
     on-search zero o g = g
@@ -144,7 +150,9 @@ module _ (size : ℕ) (ok : ℕ → Bool) (place : ℕ → ℕ) (placed : Placed
     pub search-law : Law size ok place degree edge rootCount rootAt
     search-law = record {
       exact = λ s e. let w = subst (Way 0 turned) e whole in underway-exact (w .0) (ends s w);
-      room = λ m. roomy (search size ok place degree edge m (started size ok place degree edge rootCount rootAt)) (on-search m (started size ok place degree edge rootCount rootAt) (on size 0 (started size ok place degree edge rootCount rootAt) start-way));
+      room =
+          λ m. roomy (search size ok place degree edge m (started size ok place degree edge rootCount rootAt))
+          (on-search m (started size ok place degree edge rootCount rootAt) (on size 0 (started size ok place degree edge rootCount rootAt) start-way));
       fails = λ e. subst (Way 0 turned) e whole;
       once = λ s e. let w = subst (Way 0 turned) e whole in let z = ends s w in let l = ones-le (w .0 .valid) in omega (arith, w .2);
     }

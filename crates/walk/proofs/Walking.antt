@@ -1,4 +1,4 @@
--- The laws of a search under way: a push, two runs one after the other, a turn, and the end. Assumes nothing.
+-- The laws of a search under way: a push, two runs one after the other, a turn, and the end.
 use mathlib.Core.Path.{_≡_, refl, sym, ap, _∙_, subst}
 use mathlib.Core.Logic.{_⊎_, inl, inr, ⊎-elim}
 use Prim.Native.Nat.{ℕ, suc, _-_, _≤_, _<_}
@@ -68,7 +68,8 @@ module _ {T : Nodes} (placed : Placed T) {s : State} (f : Valid T s) (x : ℕ) (
   pub push-room : s .top < T .size
   push-room =
       let p = T .place x in
-      let small : (k : ℕ) → put (s .seen) p 1 k < 2 = λ k. ⊎-elim (λ e. omega (arith, ap (put (s .seen) p 1) e, put-here (s .seen) p 1)) (λ e. rw (put-other (s .seen) p 1 k e) (f .bits k)) (same-or-not k p) in
+      let small : (k : ℕ) → put (s .seen) p 1 k < 2 =
+      λ k. ⊎-elim (λ e. omega (arith, ap (put (s .seen) p 1) e, put-here (s .seen) p 1)) (λ e. rw (put-other (s .seen) p 1 k e) (f .bits k)) (same-or-not k p) in
       let c = among-change (s .seen) (put (s .seen) p 1) (T .size) p (placed .small x ok) (λ i l d. put-other (s .seen) p 1 i d) in
       let h = put-here (s .seen) p 1 in
       let l = among-le (put (s .seen) p 1) small (T .size) in
@@ -93,7 +94,9 @@ module _ {T : Nodes} (placed : Placed T) {s : State} (f : Valid T s) (x : ℕ) (
     push-valid = record {
       bits = p .bits;
       nodes = λ k l e. ⊎-elim (λ q. record { node = x; ok = ok; here = sym q }) (λ q. f .nodes k l (sym (p .others k l q) ∙ e)) (same-or-not k (T .place x));
-      stack = λ i l. ⊎-elim (λ q. subst (λ (y : ℕ). Seen T s′ y) (sym (ap (s′ .entry) q ∙ p .last)) (ok, p .bit)) (λ q. old i (lt-of (subst (λ (t : ℕ). i < t) (p .more) l) q)) (same-or-not i (s .top));
+      stack =
+          λ i l. ⊎-elim (λ q. subst (λ (y : ℕ). Seen T s′ y) (sym (ap (s′ .entry) q ∙ p .last)) (ok, p .bit))
+          (λ q. old i (lt-of (subst (λ (t : ℕ). i < t) (p .more) l) q)) (same-or-not i (s .top));
       room = omega (arith, f .room, p .more, count);
     }
       where
@@ -106,7 +109,9 @@ module _ {T : Nodes} (placed : Placed T) {s : State} (f : Valid T s) (x : ℕ) (
       valid = push-valid;
       keeps = λ y q. (q .0, keep (T .place y) (placed .small y (q .0)) (q .1));
       stays = stay;
-      fresh = λ y q. ⊎-elim (λ e. let z = placed .apart y x (q .0) ok e in inr (subst Named (sym z) n, subst (λ (w : ℕ). OnStack s′ w) (sym z) on)) (λ e. inl (q .0, sym (p .others (T .place y) (placed .small y (q .0)) e) ∙ q .1)) (same-or-not (T .place y) (T .place x));
+      fresh =
+          λ y q. ⊎-elim (λ e. let z = placed .apart y x (q .0) ok e in inr (subst Named (sym z) n, subst (λ (w : ℕ). OnStack s′ w) (sym z) on))
+          (λ e. inl (q .0, sym (p .others (T .place y) (placed .small y (q .0)) e) ∙ q .1)) (same-or-not (T .place y) (T .place x));
       all = λ y q. subst (λ (w : ℕ). Seen T s′ w) (sym (only y q)) (ok, p .bit);
       once = omega (arith, p .more, count);
     }

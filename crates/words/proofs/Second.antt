@@ -1,4 +1,4 @@
--- A second clear bit of a word: whether one stands after a bit, and after the lowest from a bit on. Assumes nothing.
+-- A second clear bit of a word: whether one stands after a bit, and after the lowest from a bit on.
 use mathlib.Core.Path.{_≡_, refl, sym, ap, _∙_}
 use mathlib.Core.Bool.{true, false, not}
 use mathlib.Core.Logic.{_⊎_, inl, inr}

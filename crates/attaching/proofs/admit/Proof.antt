@@ -1,4 +1,4 @@
--- `attaching::admit` meets its contract. Assumes nothing.
+-- `attaching::admit` meets its contract.
 use borrow.Author.Needs.{needs}
 use Rattle.attaching.proofs.Coming.{not-admitted, admitted}
 use Rattle.attaching.proofs.admit.Tie as tie

@@ -1,4 +1,4 @@
--- `attaching::release` meets its contract. The loop's invariant: what the mutator held of the first `i` classes has gone to part. Assumes nothing.
+-- `attaching::release` meets its contract. The loop's invariant: what the mutator held of the first `i` classes has gone to part.
 use mathlib.Core.Path.{_≡_, refl, _∙_}
 use Prim.Native.Nat.{_-_}
 use native.Mathlib.Omega.{arith}

@@ -1,4 +1,4 @@
--- `attaching::release_one` meets its contract. Assumes nothing.
+-- `attaching::release_one` meets its contract.
 use borrow.Author.Needs.{needs}
 use Rattle.attaching.proofs.Going.{holds-none, names-none, releases}
 use Rattle.attaching.proofs.release_one.Tie as tie

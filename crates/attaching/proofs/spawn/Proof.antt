@@ -1,4 +1,4 @@
--- `attaching::spawn` meets its contract. Assumes nothing.
+-- `attaching::spawn` meets its contract.
 use mathlib.Core.Path.{sym, _∙_}
 use native.Mathlib.Omega.{arith}
 use borrow.Author.Needs.{needs}

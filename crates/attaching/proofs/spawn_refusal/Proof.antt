@@ -1,4 +1,4 @@
--- `attaching::spawn_refusal` meets its contract. Assumes nothing.
+-- `attaching::spawn_refusal` meets its contract.
 use borrow.Author.Needs.{needs}
 use Rattle.attaching.proofs.Coming.{spawn-2, parent-2, spawn-3, parent-rest}
 use Rattle.attaching.proofs.spawn_refusal.Tie as tie

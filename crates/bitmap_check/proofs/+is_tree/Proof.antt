@@ -1,4 +1,4 @@
--- `bitmap_check::is_tree` meets its contract. Assumes nothing.
+-- `bitmap_check::is_tree` meets its contract.
 use Prim.Native.Nat.{ℕ, _<_}
 use native.Mathlib.Nat.{pos-of-ne-zero}
 use native.Mathlib.Omega.{arith}
@@ -40,8 +40,11 @@ is-tree-returns t c =
 
 is-tree-returns-2 : (t : ℕ) → is-tree-lts.Need-returns-2 (claims t) (is-tree-at t) is-tree.Post
 is-tree-returns-2 t c =
-    let a = c .before .before .before .before .before in
-    holds (tree-one (a .args .above) (a .args .n) (a .args .s .now) (c .before .if2 .taken) (c .before .before .before .level-ok .ensures .sound (not-false _ (c .before .before .if1 .left))) (c .if3 .taken))
+    let level-ok-told = c .before .before .before in
+    let entry = level-ok-told .before .before in
+    holds
+    (tree-one (entry .args .above) (entry .args .n) (entry .args .s .now) (c .before .if2 .taken)
+    (level-ok-told .level-ok .ensures .sound (not-false _ (c .before .before .if1 .left))) (c .if3 .taken))
 
 is-tree-returns-3 : (t : ℕ) → is-tree-lts.Need-returns-3 (claims t) (is-tree-at t) is-tree.Post
 is-tree-returns-3 t c =
@@ -58,8 +61,12 @@ is-tree-sums-ok-requires t c κs =
 
 is-tree-returns-4 : (t : ℕ) → is-tree-lts.Need-returns-4 (claims t) (is-tree-at t) is-tree.Post
 is-tree-returns-4 t c =
-    let a = c .before .before .before .before .before .before .before in
-    fails (not-summed (a .args .above) (a .args .n) (c .before .before .words-for .result) (a .args .s .now) (c .before .before .before .if2 .left) (c .before .before .words-for .ensures) (refuted (c .before .sums-ok .ensures) (not-true _ (c .if4 .taken))))
+    let past-above-is-0 = c .before .before .before in
+    let entry = past-above-is-0 .before .before .before .before in
+    fails
+    (not-summed (entry .args .above) (entry .args .n) (c .before .before .words-for .result) (entry .args .s .now)
+    (past-above-is-0 .if2 .left) (c .before .before .words-for .ensures)
+    (refuted (c .before .sums-ok .ensures) (not-true _ (c .if4 .taken))))
 
 is-tree-cast-m : (t : ℕ) → is-tree-lts.Need-cast-m (claims t) (is-tree-at t) is-tree.Post
 is-tree-cast-m t c = search needs
@@ -85,14 +92,23 @@ is-tree-sub-is-tree-2 t c = pos-of-ne-zero (c .before .before .before .before .i
 
 is-tree-is-tree-requires : (t : ℕ) → is-tree-lts.Need-is-tree-requires (claims t) (is-tree-at t) is-tree.Post
 is-tree-is-tree-requires t c κs =
-    let a = c .before .before .before .before .before .before .before .before in
-    let p = pos-of-ne-zero (c .before .before .before .before .if2 .left) in
-    (omega (arith, a .pre .0), room-behind (a .args .above) (a .args .n) (c .before .before .before .words-for .result) (a .args .s .now) p (c .before .before .before .words-for .ensures) (a .pre .1))
+    let words-for-told = c .before .before .before in
+    let past-above-is-0 = words-for-told .before in
+    let entry = past-above-is-0 .before .before .before .before in
+    let p = pos-of-ne-zero (past-above-is-0 .if2 .left) in
+    (omega (arith, entry .pre .0), room-behind (entry .args .above) (entry .args .n) (words-for-told .words-for .result) (entry .args .s .now) p (words-for-told .words-for .ensures) (entry .pre .1))
 
 is-tree-returns-5 : (t : ℕ) → is-tree-lts.Need-returns-5 (claims t) (is-tree-at t) is-tree.Post
 is-tree-returns-5 t c =
-    let a = c .before .before .before .before .before .before .before .before .before in
-    by-rest (a .args .above) (a .args .n) (c .before .before .before .before .words-for .result) (a .args .s .now) (c .before .before .before .before .before .if2 .left) (c .before .before .before .before .words-for .ensures) (c .before .before .before .before .before .before .before .level-ok .ensures .sound (not-false _ (c .before .before .before .before .before .before .if1 .left))) (c .before .before .before .sums-ok .ensures .sound (not-false _ (c .before .before .if4 .left))) (c .is-tree .ensures)
+    let sums-ok-told = c .before .before .before in
+    let words-for-told = sums-ok-told .before in
+    let past-above-is-0 = words-for-told .before in
+    let past-level-ok = past-above-is-0 .before in
+    let entry = past-level-ok .before .before .before in
+    by-rest (entry .args .above) (entry .args .n) (words-for-told .words-for .result) (entry .args .s .now)
+    (past-above-is-0 .if2 .left) (words-for-told .words-for .ensures)
+    (past-level-ok .before .level-ok .ensures .sound (not-false _ (past-level-ok .if1 .left)))
+    (sums-ok-told .sums-ok .ensures .sound (not-false _ (c .before .before .if4 .left))) (c .is-tree .ensures)
 
 pub +is-tree-spec : {M : Type 1} → statement M
 +is-tree-spec = close μ-is-tree λ t. is-tree-lts.spec (claims t)

@@ -1,4 +1,4 @@
--- `bitmap_check::agree` meets its contract. Assumes nothing.
+-- `bitmap_check::agree` meets its contract.
 use mathlib.Core.Path.{sym, _∙_}
 use borrow.Author.Needs.{needs}
 use Rattle.rules.proofs.Deciding.{holds, fails}
@@ -29,25 +29,29 @@ bit-of-requires c κs = search needs
 
 returns : tie.Need-returns
 returns c =
-    let a = c .before .before .before .before .before .before .args in
+    let entry = c .before .before .before .before .before .before in
+    let a = entry .args in
     let e = agree-bit (a .s .now) (a .m) (a .j) (c .before .before .bit-of .result) (c .before .before .bit-of .ensures) in
     holds (record { full = λ q. e ∙ c .if2 .taken; only = λ q. c .before .if1 .taken })
 
 returns-2 : tie.Need-returns-2
 returns-2 c =
-    let a = c .before .before .before .before .before .before .args in
+    let entry = c .before .before .before .before .before .before in
+    let a = entry .args in
     let e = agree-bit (a .s .now) (a .m) (a .j) (c .before .before .bit-of .result) (c .before .before .bit-of .ensures) in
     fails (λ g. c .if2 .left (sym e ∙ g .full (c .before .if1 .taken)))
 
 returns-3 : tie.Need-returns-3
 returns-3 c =
-    let a = c .before .before .before .before .before .before .args in
+    let entry = c .before .before .before .before .before .before in
+    let a = entry .args in
     let e = agree-bit (a .s .now) (a .m) (a .j) (c .before .before .bit-of .result) (c .before .before .bit-of .ensures) in
     fails (λ g. c .before .if1 .left (g .only (e ∙ c .if3 .taken)))
 
 returns-4 : tie.Need-returns-4
 returns-4 c =
-    let a = c .before .before .before .before .before .before .args in
+    let entry = c .before .before .before .before .before .before in
+    let a = entry .args in
     let e = agree-bit (a .s .now) (a .m) (a .j) (c .before .before .bit-of .result) (c .before .before .bit-of .ensures) in
     holds (record { full = λ q. absurd (c .before .if1 .left q); only = λ q. absurd (c .if3 .left (sym e ∙ q)) })
 

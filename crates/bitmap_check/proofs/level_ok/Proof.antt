@@ -1,4 +1,4 @@
--- `bitmap_check::level_ok` meets its contract. Assumes nothing.
+-- `bitmap_check::level_ok` meets its contract.
 use native.Mathlib.Omega.{arith}
 use borrow.Author.Needs.{needs}
 use Rattle.rules.proofs.Deciding.{holds, fails}

@@ -1,4 +1,4 @@
--- `bitmap_check::sums_ok` meets its contract. The loop's invariant: each word passed agrees with its bit. Assumes nothing.
+-- `bitmap_check::sums_ok` meets its contract. The loop's invariant: each word passed agrees with its bit.
 use Prim.Native.Nat.{ℕ, _-_, _≤_, _<_}
 use native.Mathlib.Omega.{arith}
 use borrow.Author.Count.{below-more, below-none}
@@ -25,8 +25,10 @@ agree-requires c κs =
 
 returns : tie.Need-returns Inv-loop μ-loop
 returns c =
-    let a = c .before .before .before .before .before .args in
-    fails (λ q. refuted (c .before .agree .ensures) (not-true _ (c .if1 .taken)) (one-agrees (a .s .now) (a .m) (c .before .before .before .loop .j) (c .before .before .loop-test .taken) q))
+    let looping = c .before .before .before in
+    let entry = looping .before .before in
+    let a = entry .args in
+    fails (λ q. refuted (c .before .agree .ensures) (not-true _ (c .if1 .taken)) (one-agrees (a .s .now) (a .m) (looping .loop .j) (c .before .before .loop-test .taken) q))
 
 add-j : tie.Need-add-j Inv-loop μ-loop
 add-j c = omega (arith, c .before .before .loop-test .taken)

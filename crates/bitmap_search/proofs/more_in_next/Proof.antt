@@ -1,4 +1,4 @@
--- `bitmap_search::more_in_next` meets its contract. Assumes nothing.
+-- `bitmap_search::more_in_next` meets its contract.
 use mathlib.Core.Path.{ap}
 use Prim.Native.Nat.{ℕ, _+_, _*_, _/_}
 use native.Mathlib.Omega.{arith}
@@ -39,10 +39,16 @@ add-t22 c = search needs
 
 returns : tie.Need-returns
 returns c =
-    let x = c .before .before .before .before .before .before .before .before .args in
-    let e = c .before .before .before .clear-from .ensures in
-    let l = c .before .before .if3 .taken in
-    (omega arith, in-next-word (x .s .now) (x .n) (x .place) (omega arith) _ (ap (λ (t : ℕ). x .place / 32 * 32 + t) e) (omega arith) (omega arith) (omega (arith, c .before .before .before .before .before .before .before .shared-slice-known .given (x .place / 32 + 1))) (c .if4 .taken))
+    let clear-from-told = c .before .before .before in
+    let slice-known = clear-from-told .before .before .before .before in
+    let entry = slice-known .before in
+    let x = entry .args in
+    let e = clear-from-told .clear-from .ensures in
+    let l = c .before .before .if3 .taken in (
+      omega arith,
+      in-next-word (x .s .now) (x .n) (x .place) (omega arith) _ (ap (λ (t : ℕ). x .place / 32 * 32 + t) e) (omega arith) (omega arith)
+          (omega (arith, slice-known .shared-slice-known .given (x .place / 32 + 1))) (c .if4 .taken),
+    )
 
 returns-2 : tie.Need-returns-2
 returns-2 c = search needs

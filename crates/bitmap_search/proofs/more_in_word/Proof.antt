@@ -1,4 +1,4 @@
--- `bitmap_search::more_in_word` meets its contract. The word is asked where `asked` is. Assumes nothing.
+-- `bitmap_search::more_in_word` meets its contract. The word is asked where `asked` is.
 use mathlib.Core.Path.{sym, ap, _∙_}
 use Prim.Native.Nat.{ℕ, _+_, _*_, _/_, _%_}
 use native.Mathlib.Omega.{arith}

@@ -1,4 +1,4 @@
--- `bitmap_search::next_free` meets its contract. Assumes nothing.
+-- `bitmap_search::next_free` meets its contract.
 use mathlib.Core.Path.{_≡_, refl, sym, ap, _∙_}
 use native.Mathlib.Omega.{arith}
 use borrow.Author.Tests.{lt-ltb, le-ltb}
@@ -39,8 +39,11 @@ at-requires c κs = search needs
 
 index-requires : tie.Need-index-requires
 index-requires c κs =
-    let a = c .before .before .before .before .before .before .before .args in
-    let h = handed-bound (a .above) (a .s .now) (a .n) (c .before .before .before .before .before .to .result) (c .before .before .found .given .0 .0) 0 (sym (c .before .before .found .given .1) ∙ c .before .before .before .before .forward .ensures) in
+    let forward-told = c .before .before .before .before in
+    let to-told = forward-told .before in
+    let entry = to-told .before .before in
+    let a = entry .args in
+    let h = handed-bound (a .above) (a .s .now) (a .n) (to-told .to .result) (c .before .before .found .given .0 .0) 0 (sym (c .before .before .found .given .1) ∙ forward-told .forward .ensures) in
     let e = ap indexOf (c .at .ensures) in
     omega (arith, h)
 
@@ -52,13 +55,17 @@ enum-told-2 c = search needs
 
 returns : tie.Need-returns
 returns c =
+    let found-bound = c .before .before .before .before in
+    let forward-told = found-bound .before .before in
     let e = c .before .index .ensures ∙ ap indexOf (c .before .before .at .ensures) in
-    promise (c .before .before .before .before .before .before) (moved.At (c .before .before .before .before .found .given .0 .0)) (Block (c .before .index .result)) (c .before .before .before .before .found .given .1) (rw (← e, lt-ltb _ _ (c .if1 .taken)))
+    promise forward-told (moved.At (found-bound .found .given .0 .0)) (Block (c .before .index .result)) (found-bound .found .given .1) (rw (← e, lt-ltb _ _ (c .if1 .taken)))
 
 returns-2 : tie.Need-returns-2
 returns-2 c =
+    let found-bound = c .before .before .before .before in
+    let forward-told = found-bound .before .before in
     let e = c .before .index .ensures ∙ ap indexOf (c .before .before .at .ensures) in
-    promise (c .before .before .before .before .before .before) (moved.At (c .before .before .before .before .found .given .0 .0)) Torn (c .before .before .before .before .found .given .1) (rw (← e, le-ltb _ _ (c .if1 .left)))
+    promise forward-told (moved.At (found-bound .found .given .0 .0)) Torn (found-bound .found .given .1) (rw (← e, le-ltb _ _ (c .if1 .left)))
 
 returns-3 : tie.Need-returns-3
 returns-3 c = promise (c .before .before) moved.Nothing Nothing (c .enum-told .given .1) refl

@@ -1,4 +1,4 @@
--- `bitmap_search::next_two` meets its contract. Assumes nothing.
+-- `bitmap_search::next_two` meets its contract.
 use mathlib.Core.Path.{ap, _∙_}
 use native.Mathlib.Omega.{arith}
 use borrow.Author.Needs.{needs}

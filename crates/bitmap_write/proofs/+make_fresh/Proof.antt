@@ -67,10 +67,13 @@ make-fresh-part-last-level-end t c = search needs
 make-fresh-last-level-requires : (t : ℕ) → make-fresh-lts.Need-last-level-requires (claims t) (make-fresh-at t) make-fresh.Post
 make-fresh-last-level-requires t c κs =
     let counted = c .before .before in
-    let levelled = counted .before .before .before .before in
+    let when-above = counted .before in
+    let levelled = when-above .before .before .before in
     let entry = levelled .before .before .before in
     let a = entry .args in
-    let behind = room-behind (a .above) (a .n) (counted .words-for .result) (levelled .free-level .last .0) (pos-of-ne-zero (counted .before .if1 .taken)) (counted .words-for .ensures) (omega (arith, entry .pre .1, levelled .free-level .kept .0)) in
+    let behind = room-behind (a .above) (a .n) (counted .words-for .result) (levelled .free-level .last .0)
+    (pos-of-ne-zero (when-above .if1 .taken)) (counted .words-for .ensures)
+    (omega (arith, entry .pre .1, levelled .free-level .kept .0)) in
     omega (arith, behind, words-in (a .above - 1) (counted .words-for .result))
 
 make-fresh-mul-make-fresh : (t : ℕ) → make-fresh-lts.Need-mul-make-fresh (claims t) (make-fresh-at t) make-fresh.Post
@@ -97,10 +100,14 @@ make-fresh-sub-make-fresh-2 t c = pos-of-ne-zero (c .before .before .before .if1
 make-fresh-make-fresh-requires : (t : ℕ) → make-fresh-lts.Need-make-fresh-requires (claims t) (make-fresh-at t) make-fresh.Post
 make-fresh-make-fresh-requires t c κs =
     let counted = c .before .before in
-    let levelled = counted .before .before .before .before in
+    let when-above = counted .before in
+    let levelled = when-above .before .before .before in
     let entry = levelled .before .before .before in
-    let some = pos-of-ne-zero (counted .before .if1 .taken) in
-    (omega (arith, entry .pre .0, some), room-behind (entry .args .above) (entry .args .n) (counted .words-for .result) (levelled .free-level .last .0) some (counted .words-for .ensures) (omega (arith, entry .pre .1, levelled .free-level .kept .0)))
+    let some = pos-of-ne-zero (when-above .if1 .taken) in (
+      omega (arith, entry .pre .0, some),
+      room-behind (entry .args .above) (entry .args .n) (counted .words-for .result) (levelled .free-level .last .0) some
+          (counted .words-for .ensures) (omega (arith, entry .pre .1, levelled .free-level .kept .0)),
+    )
 
 make-fresh-same-length : (t : ℕ) → make-fresh-lts.Need-same-length (claims t) (make-fresh-at t) make-fresh.Post
 make-fresh-same-length t c =
@@ -108,18 +115,21 @@ make-fresh-same-length t c =
     let counted = risen .before .before .before in
     let levelled = counted .before .before .before .before in
     let entry = levelled .before .before .before in
-    let inside : counted .words-for .result ≤ length (levelled .free-level .last .0) = omega (arith, counted .words-for .ensures, entry .pre .1, words-in (entry .args .above) (entry .args .n), levelled .free-level .kept .0) in
+    let inside : counted .words-for .result ≤ length (levelled .free-level .last .0) =
+    omega (arith, counted .words-for .ensures, entry .pre .1, words-in (entry .args .above) (entry .args .n), levelled .free-level .kept .0) in
     put-length (counted .words-for .result) (levelled .free-level .last .0) (risen .last-level .last .0) inside (risen .last-level .kept .0) ∙ levelled .free-level .kept .0
 
 make-fresh-returns : (t : ℕ) → make-fresh-lts.Need-returns (claims t) (make-fresh-at t) make-fresh.Post
 make-fresh-returns t c =
     let risen = c .before .before in
-    let counted = risen .before .before .before in
+    let when-above-is-1 = risen .before .before in
+    let counted = when-above-is-1 .before in
     let levelled = counted .before .before .before .before in
     let entry = levelled .before .before .before in
     let a = entry .args in
     let level = levelled .free-level .ensures ∙ ap (λ (m : ℕ). padded (a .n) (cleared m (a .s .now))) (sym (counted .words-for .ensures)) in
-    fresh-last (a .above) (a .n) (counted .words-for .result) (a .s .now) (levelled .free-level .last .0) (risen .last-level .last .0) (risen .before .before .if2 .taken) (counted .words-for .ensures) (entry .pre .1) level (risen .last-level .ensures)
+    fresh-last (a .above) (a .n) (counted .words-for .result) (a .s .now) (levelled .free-level .last .0) (risen .last-level .last .0)
+    (when-above-is-1 .if2 .taken) (counted .words-for .ensures) (entry .pre .1) level (risen .last-level .ensures)
 
 make-fresh-same-length-2 : (t : ℕ) → make-fresh-lts.Need-same-length-2 (claims t) (make-fresh-at t) make-fresh.Post
 make-fresh-same-length-2 t c =
@@ -127,18 +137,21 @@ make-fresh-same-length-2 t c =
     let counted = risen .before .before .before in
     let levelled = counted .before .before .before .before in
     let entry = levelled .before .before .before in
-    let inside : counted .words-for .result ≤ length (levelled .free-level .last .0) = omega (arith, counted .words-for .ensures, entry .pre .1, words-in (entry .args .above) (entry .args .n), levelled .free-level .kept .0) in
+    let inside : counted .words-for .result ≤ length (levelled .free-level .last .0) =
+    omega (arith, counted .words-for .ensures, entry .pre .1, words-in (entry .args .above) (entry .args .n), levelled .free-level .kept .0) in
     put-length (counted .words-for .result) (levelled .free-level .last .0) (risen .make-fresh .last .0) inside (risen .make-fresh .kept .0) ∙ levelled .free-level .kept .0
 
 make-fresh-returns-2 : (t : ℕ) → make-fresh-lts.Need-returns-2 (claims t) (make-fresh-at t) make-fresh.Post
 make-fresh-returns-2 t c =
     let risen = c .before .before in
     let counted = risen .before .before .before in
-    let levelled = counted .before .before .before .before in
+    let when-above = counted .before in
+    let levelled = when-above .before .before .before in
     let entry = levelled .before .before .before in
     let a = entry .args in
     let level = levelled .free-level .ensures ∙ ap (λ (m : ℕ). padded (a .n) (cleared m (a .s .now))) (sym (counted .words-for .ensures)) in
-    fresh-put (a .above) (a .n) (counted .words-for .result) (a .s .now) (levelled .free-level .last .0) (risen .make-fresh .last .0) (pos-of-ne-zero (counted .before .if1 .taken)) (counted .words-for .ensures) (entry .pre .1) level (risen .make-fresh .ensures)
+    fresh-put (a .above) (a .n) (counted .words-for .result) (a .s .now) (levelled .free-level .last .0) (risen .make-fresh .last .0)
+    (pos-of-ne-zero (when-above .if1 .taken)) (counted .words-for .ensures) (entry .pre .1) level (risen .make-fresh .ensures)
 
 make-fresh-same-length-3 : (t : ℕ) → make-fresh-lts.Need-same-length-3 (claims t) (make-fresh-at t) make-fresh.Post
 make-fresh-same-length-3 t c = c .before .before .before .free-level .kept .0

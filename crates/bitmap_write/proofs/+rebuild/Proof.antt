@@ -1,4 +1,4 @@
--- `bitmap_write::rebuild` meets its contract. Assumes nothing.
+-- `bitmap_write::rebuild` meets its contract.
 use mathlib.Core.Path.{sym, _∙_}
 use Prim.Native.Nat.{ℕ, _<_}
 use native.Mathlib.Omega.{arith}
@@ -56,23 +56,42 @@ rebuild-part-rebuild-end : (t : ℕ) → rebuild-lts.Need-part-rebuild-end (clai
 rebuild-part-rebuild-end t c = search needs
 
 rebuild-sub-rebuild-2 : (t : ℕ) → rebuild-lts.Need-sub-rebuild-2 (claims t) (rebuild-at t) rebuild.Post
-rebuild-sub-rebuild-2 t c = c .before .before .before .before .before .before .if1 .taken
+rebuild-sub-rebuild-2 t c =
+    let when-0-below-above = c .before .before .before .before .before .before in
+    when-0-below-above .if1 .taken
 
 rebuild-rebuild-requires : (t : ℕ) → rebuild-lts.Need-rebuild-requires (claims t) (rebuild-at t) rebuild.Post
 rebuild-rebuild-requires t c κs =
-    let a = c .before .before .before .before .before .before .before .before in
-    let x = c .before .before .before .sum-up .last .0 in
-    (omega (arith, a .pre .0, c .before .before .before .before .before .before .if1 .taken), room-behind (a .args .above) (a .args .n) (c .before .before .before .before .before .words-for .result) x (c .before .before .before .before .before .before .if1 .taken) (c .before .before .before .before .before .words-for .ensures) (omega (arith, a .pre .1, c .before .before .before .sum-up .kept .0)))
+    let sum-up-told = c .before .before .before in
+    let words-for-told = sum-up-told .before .before in
+    let when-0-below-above = words-for-told .before in
+    let entry = when-0-below-above .before .before in
+    let x = sum-up-told .sum-up .last .0 in (
+      omega (arith, entry .pre .0, when-0-below-above .if1 .taken),
+      room-behind (entry .args .above) (entry .args .n) (words-for-told .words-for .result) x (when-0-below-above .if1 .taken)
+          (words-for-told .words-for .ensures) (omega (arith, entry .pre .1, sum-up-told .sum-up .kept .0)),
+    )
 
 rebuild-same-length : (t : ℕ) → rebuild-lts.Need-same-length (claims t) (rebuild-at t) rebuild.Post
 rebuild-same-length t c =
-    let a = c .before .before .before .before .before .before .before .before .before .before .before in
-    put-length (c .before .before .before .before .before .before .before .before .words-for .result) (c .before .before .before .before .before .before .sum-up .last .0) (c .before .before .rebuild .last .0) (omega (arith, c .before .before .before .before .before .before .before .before .words-for .ensures, a .pre .1, words-in (a .args .above) (a .args .n), c .before .before .before .before .before .before .sum-up .kept .0)) (c .before .before .rebuild .kept .0) ∙ c .before .before .before .before .before .before .sum-up .kept .0
+    let sum-up-told = c .before .before .before .before .before .before in
+    let words-for-told = sum-up-told .before .before in
+    let entry = words-for-told .before .before .before in
+    put-length (words-for-told .words-for .result) (sum-up-told .sum-up .last .0) (c .before .before .rebuild .last .0)
+    (omega (arith, words-for-told .words-for .ensures, entry .pre .1, words-in (entry .args .above) (entry .args .n), sum-up-told .sum-up .kept .0))
+    (c .before .before .rebuild .kept .0) ∙ sum-up-told .sum-up .kept .0
 
 rebuild-returns : (t : ℕ) → rebuild-lts.Need-returns (claims t) (rebuild-at t) rebuild.Post
 rebuild-returns t c =
-    let a = c .before .before .before .before .before .before .before .before .before .before .before in
-    rebuild-put (a .args .above) (a .args .n) (c .before .before .before .before .before .before .before .before .words-for .result) (a .args .s .now) (c .before .before .before .before .before .before .sum-up .last .0) (c .before .before .rebuild .last .0) (c .before .before .before .before .before .before .before .before .before .if1 .taken) (c .before .before .before .before .before .before .before .before .words-for .ensures) (omega (arith, a .pre .1, words-above (a .args .above) (a .args .n) (c .before .before .before .before .before .before .before .before .before .if1 .taken))) (c .before .before .before .before .before .before .sum-up .ensures) (c .before .before .rebuild .ensures)
+    let sum-up-told = c .before .before .before .before .before .before in
+    let words-for-told = sum-up-told .before .before in
+    let when-0-below-above = words-for-told .before in
+    let entry = when-0-below-above .before .before in
+    let a = entry .args in
+    rebuild-put (a .above) (a .n) (words-for-told .words-for .result) (a .s .now) (sum-up-told .sum-up .last .0)
+    (c .before .before .rebuild .last .0) (when-0-below-above .if1 .taken) (words-for-told .words-for .ensures)
+    (omega (arith, entry .pre .1, words-above (a .above) (a .n) (when-0-below-above .if1 .taken))) (sum-up-told .sum-up .ensures)
+    (c .before .before .rebuild .ensures)
 
 rebuild-returns-2 : (t : ℕ) → rebuild-lts.Need-returns-2 (claims t) (rebuild-at t) rebuild.Post
 rebuild-returns-2 t c = sym (rebuilt-none (c .before .before .args .above) (c .before .before .args .n) (c .before .before .args .s .now) (omega (arith, c .if1 .left)))

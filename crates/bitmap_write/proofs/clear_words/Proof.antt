@@ -1,4 +1,4 @@
--- `bitmap_write::clear_words` meets its contract. The loop's invariant: the words passed are 0. Assumes nothing.
+-- `bitmap_write::clear_words` meets its contract. The loop's invariant: the words passed are 0.
 use mathlib.Core.Path.{_≡_, refl, ap, _∙_}
 use mathlib.Core.List.{List, _++_}
 use Prim.Native.Nat.{ℕ, _-_, _≤_}

@@ -1,4 +1,4 @@
--- `bitmap_write::complete` meets its contract. Assumes nothing.
+-- `bitmap_write::complete` meets its contract.
 use mathlib.Core.Path.{ap, _∙_}
 use mathlib.Core.List.{List}
 use Prim.Native.Nat.{ℕ}
@@ -22,8 +22,10 @@ same-length c = search needs
 returns : tie.Need-returns
 unfolding completed
 returns c =
-    let a = c .before .before .before .before .before .before .before .before .before .args in
-    c .before .before .rebuild .ensures ∙ ap (λ (l : List ℕ). rebuilt (a .above) (a .n) l) (c .before .before .before .before .before .before .pad .ensures)
+    let pad-told = c .before .before .before .before .before .before in
+    let entry = pad-told .before .before .before in
+    let a = entry .args in
+    c .before .before .rebuild .ensures ∙ ap (λ (l : List ℕ). rebuilt (a .above) (a .n) l) (pad-told .pad .ensures)
 
 pub complete-spec : {M : Type 1} → statement M
 complete-spec = tie.close (tie.spec pad-requires rebuild-requires same-length returns)

@@ -1,4 +1,4 @@
--- `bitmap_write::counted_word` meets its contract. The loop's invariant: the word over the words passed. Assumes nothing.
+-- `bitmap_write::counted_word` meets its contract. The loop's invariant: the word over the words passed.
 use mathlib.Core.Path.{_≡_, sym, ap, _∙_}
 use mathlib.Core.Logic.{⊎-elim}
 use Prim.Native.Nat.{ℕ, _+_, _-_, _≤_, _<_}
@@ -24,29 +24,44 @@ full-bit-requires : tie.Need-full-bit-requires Inv-loop μ-loop
 full-bit-requires c κs = let l = c .before .before .before .pre in (omega arith, l .0)
 
 shl-w : tie.Need-shl-w Inv-loop μ-loop
-shl-w c = let l = c .before .before .before .before .before .pre in omega arith
+shl-w c =
+    let entry = c .before .before .before .before .before in
+    let l = entry .pre in
+    omega arith
 
 sub-w : tie.Need-sub-w Inv-loop μ-loop
 sub-w c =
-    let l = c .before .before .before .before .before .pre in
-    let x = c .before .before .before .loop in
-    let a = c .before .before .before .before .before .args in
+    let looping = c .before .before .before in
+    let entry = looping .before .before in
+    let l = entry .pre in
+    let x = looping .loop in
+    let a = entry .args in
     let i : x .i < 32 = omega arith in
     rw (one-shl (x .i) i) (omega (arith, turn-less (a .s .now) (a .from) (a .m) (x .i) (x .w) (omega arith) (x .inv .1) (sym (c .before .full-bit .ensures) ∙ c .if1 .taken) i))
 
 add-i : tie.Need-add-i Inv-loop μ-loop
-add-i c = let l = c .before .before .before .before .before .pre in omega arith
+add-i c =
+    let entry = c .before .before .before .before .before in
+    let l = entry .pre in
+    omega arith
 
 loop-less : tie.Need-loop-less Inv-loop μ-loop
 loop-less c = omega arith
 
 loop-again : tie.Need-loop-again Inv-loop μ-loop
 loop-again c =
-    let l = c .before .before .before .before .before .pre in
-    let x = c .before .before .before .loop in
-    let a = c .before .before .before .before .before .args in
-    let i : x .i < 32 = omega arith in
-    (omega arith, ⊎-elim (λ t. t .1 ∙ rw (one-shl (x .i) i) (omega (arith, turn-less (a .s .now) (a .from) (a .m) (x .i) (x .w) (omega arith) (x .inv .1) (sym (c .before .full-bit .ensures) ∙ t .0 .taken) i))) (λ t. t .1 ∙ turn-full (a .s .now) (a .from) (a .m) (x .i) (x .w) (omega arith) (x .inv .1) (λ z. t .0 .left (c .before .full-bit .ensures ∙ z))) (c .if1 .came))
+    let looping = c .before .before .before in
+    let entry = looping .before .before in
+    let l = entry .pre in
+    let x = looping .loop in
+    let a = entry .args in
+    let i : x .i < 32 = omega arith in (
+      omega arith,
+      ⊎-elim
+          (λ t. t .1 ∙ rw (one-shl (x .i) i) (omega (arith, turn-less (a .s .now) (a .from) (a .m) (x .i) (x .w) (omega arith) (x .inv .1) (sym (c .before .full-bit .ensures) ∙ t .0 .taken) i)))
+          (λ t. t .1 ∙ turn-full (a .s .now) (a .from) (a .m) (x .i) (x .w) (omega arith) (x .inv .1) (λ z. t .0 .left (c .before .full-bit .ensures ∙ z)))
+          (c .if1 .came),
+    )
 
 returns : tie.Need-returns Inv-loop μ-loop
 returns c =

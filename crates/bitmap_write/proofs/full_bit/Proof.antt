@@ -1,4 +1,4 @@
--- `bitmap_write::full_bit` meets its contract. Assumes nothing.
+-- `bitmap_write::full_bit` meets its contract.
 use mathlib.Core.Path.{sym}
 use borrow.Author.Needs.{needs}
 use borrow.Author.Tests.{ne-eqb}

@@ -1,4 +1,4 @@
--- `bitmap_write::full_word` meets its contract. Assumes nothing.
+-- `bitmap_write::full_word` meets its contract.
 use mathlib.Core.Logic.{inl, inr}
 use native.Mathlib.Omega.{arith}
 use borrow.Author.Needs.{needs}

@@ -14,7 +14,8 @@ use Rattle.bitmap_write.proofs.gather.Tie as tie
 abbrev Asks : ℕ → ℕ → ℕ → ℕ → Type 0
 Asks n from most step = (wordsFor n ≤ from) × (from ≤ most) × (n * step ≤ (most - from) * 32) × (n * step ≤ 2 ^ 20) × (1 ≤ step)
 
-asked : (n from most step k count : ℕ) → step ≡ k → Asks n from most step → n % 32 ≡ 0 → Pressable k count → (wordsFor n ≤ from) × (from ≤ most) × (n * k ≤ (most - from) * 32) × (n * k ≤ 2 ^ 20) × (1 ≤ k) × Ways n k count
+asked : (n from most step k count : ℕ) → step ≡ k → Asks n from most step → n % 32 ≡ 0 → Pressable k count
+    → (wordsFor n ≤ from) × (from ≤ most) × (n * k ≤ (most - from) * 32) × (n * k ≤ 2 ^ 20) × (1 ≤ k) × Ways n k count
 asked n from most step k count e p w q = let a = subst (Asks n from most) e p in (a .0, a .1, a .2, a .3, a .4, inr (w, q))
 
 told : (s t : List ℕ) (from n step k : ℕ) → step ≡ k → t ≡ copied (wordsFor n) (gathered (drop from s) k n) s → t ≡ copied (wordsFor n) (gathered (drop from s) step n) s

@@ -1,4 +1,4 @@
--- `bitmap_write::gather_by` meets its contract. The loop's invariant: the words before word `j` are gathered. Assumes nothing.
+-- `bitmap_write::gather_by` meets its contract. The loop's invariant: the words before word `j` are gathered.
 use mathlib.Core.Path.{_≡_, ap, _∙_}
 use Prim.Native.Nat.{ℕ, _-_, _≤_, _<_}
 use native.Mathlib.Omega.{arith}
@@ -39,10 +39,17 @@ cast-i : tie.Need-cast-i Inv-loop μ-loop
 cast-i c = search needs
 
 mul-s : tie.Need-mul-s Inv-loop μ-loop
-mul-s c = let a = c .before .before .before .before .before .before in omega (arith, a .good .0 .1, a .pre .0, a .pre .1, c .before .before .loop-test .taken, c .before .before .before .before .words-for .ensures)
+mul-s c =
+    let words-for-told = c .before .before .before .before in
+    let entry = words-for-told .before .before in
+    omega (arith, entry .good .0 .1, entry .pre .0, entry .pre .1, c .before .before .loop-test .taken, words-for-told .words-for .ensures)
 
 slice-write-s : tie.Need-slice-write-s Inv-loop μ-loop
-slice-write-s c = let a = c .before .before .before .before .before .before in omega (arith, a .pre .0, a .pre .1, kept (c .before .before .before), c .before .before .loop-test .taken, c .before .before .before .before .words-for .ensures)
+slice-write-s c =
+    let looping = c .before .before .before in
+    let words-for-told = looping .before in
+    let entry = words-for-told .before .before in
+    omega (arith, entry .pre .0, entry .pre .1, kept looping, c .before .before .loop-test .taken, words-for-told .words-for .ensures)
 
 add-j : tie.Need-add-j Inv-loop μ-loop
 add-j c = omega (arith, c .before .before .loop-test .taken, c .before .before .before .before .words-for .ensures)

@@ -1,4 +1,4 @@
--- `bitmap_write::none_set` meets its contract. The loop's invariant: `any` is the or of the words passed. Assumes nothing.
+-- `bitmap_write::none_set` meets its contract. The loop's invariant: `any` is the or of the words passed.
 use Prim.Native.Nat.{_-_}
 use native.Mathlib.Omega.{arith}
 use lib.ListN.{length}

@@ -1,4 +1,4 @@
--- `bitmap_write::pad` meets its contract. Assumes nothing.
+-- `bitmap_write::pad` meets its contract.
 use mathlib.Core.Path.{sym, ap, _∙_}
 use Prim.Native.Nat.{ℕ, _/_}
 use lib.Bits.{bitOr}

@@ -86,14 +86,17 @@ turned : (c : tie.After-press Inv-loop μ-loop) →
     let a = c .before .before .before .before .before .args in
     at .w + (c .press .result * 2 ^ (at .k * a .count)) % 2 ^ 32 ≡ parts (drop (a .from) (a .s .now)) (a .n) (a .step) (a .count) (a .j) (at .k + 1)
 turned c =
-    let at = c .before .before .before .loop in
-    let entry = c .before .before .before .before .before in
+    let looping = c .before .before .before in
+    let entry = looping .before .before in
+    let at = looping .loop in
     let a = entry .args in
     let ws = drop (a .from) (a .s .now) in
     let l = c .before .before .loop-test .taken in
     let h = in-room entry (at .k) l in
     let x = getD ws (a .j * a .step + at .k) 0 in
-    let e : getD (a .s .now) (a .from + a .j * a .step + at .k) 0 ≡ x = ap (λ (i : ℕ). getD (a .s .now) i 0) (let q : a .from + a .j * a .step + at .k ≡ a .from + (a .j * a .step + at .k) = omega arith in q) ∙ sym (getD-drop (a .from) (a .s .now) (a .j * a .step + at .k) 0) in
+    let e : getD (a .s .now) (a .from + a .j * a .step + at .k) 0 ≡ x =
+    ap (λ (i : ℕ). getD (a .s .now) i 0) (let q : a .from + a .j * a .step + at .k ≡ a .from + (a .j * a .step + at .k) = omega arith in q)
+    ∙ sym (getD-drop (a .from) (a .s .now) (a .j * a .step + at .k) 0) in
     let r : c .press .result ≡ pressed (a .step) (a .count) x = c .press .ensures ∙ ap (pressed (a .step) (a .count)) e in
     ap (λ (b : ℕ). at .w + (b * 2 ^ (at .k * a .count)) % 2 ^ 32) r
     ∙ ap (λ (b : ℕ). at .w + b) (press-fits (a .step) (a .count) x (at .k) (h .fits))

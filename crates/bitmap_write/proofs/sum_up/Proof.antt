@@ -1,4 +1,4 @@
--- `bitmap_write::sum_up` meets its contract. Assumes nothing.
+-- `bitmap_write::sum_up` meets its contract.
 use mathlib.Core.Path.{_≡_, ap, _∙_}
 use Prim.Native.Nat.{ℕ, _-_, _≤_, _<_}
 use native.Mathlib.Omega.{arith}
@@ -43,10 +43,17 @@ add-i : tie.Need-add-i Inv-loop μ-loop
 add-i c = omega (arith, c .before .before .before .loop .inv .0)
 
 mul-s : tie.Need-mul-s Inv-loop μ-loop
-mul-s c = omega (arith, c .before .before .before .before .before .before .good .0 .1, c .before .before .before .before .before .before .pre, c .before .before .loop-test .taken, c .before .before .before .before .words-for .ensures)
+mul-s c =
+    let words-for-told = c .before .before .before .before in
+    let entry = words-for-told .before .before in
+    omega (arith, entry .good .0 .1, entry .pre, c .before .before .loop-test .taken, words-for-told .words-for .ensures)
 
 slice-write-s : tie.Need-slice-write-s Inv-loop μ-loop
-slice-write-s c = omega (arith, c .before .before .before .before .before .before .pre, kept (c .before .before .before), c .before .before .loop-test .taken, c .before .before .before .before .words-for .ensures)
+slice-write-s c =
+    let looping = c .before .before .before in
+    let words-for-told = looping .before in
+    let entry = words-for-told .before .before in
+    omega (arith, entry .pre, kept looping, c .before .before .loop-test .taken, words-for-told .words-for .ensures)
 
 add-j : tie.Need-add-j Inv-loop μ-loop
 add-j c = omega (arith, c .before .before .loop-test .taken, c .before .before .before .before .words-for .ensures)
@@ -66,9 +73,10 @@ same-length c = kept (c .before)
 
 returns : tie.Need-returns Inv-loop μ-loop
 returns c =
-    let a = c .before .before .before .before in
-    let e : c .before .loop .j ≡ wordsFor (a .args .m) = omega (arith, c .loop-test .left, c .before .loop .inv .0, c .before .before .words-for .ensures) in
-    c .before .loop .inv .1 ∙ ap (λ (x : ℕ). paste (a .args .s .now) (a .args .m) (packed (fullBit (a .args .s .now) (a .args .m)) (wordsFor (a .args .m)) 0) x) e ∙ sum-done (a .args .s .now) (a .args .m) (a .pre)
+    let entry = c .before .before .before .before in
+    let a = entry .args in
+    let e : c .before .loop .j ≡ wordsFor (a .m) = omega (arith, c .loop-test .left, c .before .loop .inv .0, c .before .before .words-for .ensures) in
+    c .before .loop .inv .1 ∙ ap (λ (x : ℕ). paste (a .s .now) (a .m) (packed (fullBit (a .s .now) (a .m)) (wordsFor (a .m)) 0) x) e ∙ sum-done (a .s .now) (a .m) (entry .pre)
 
 pub sum-up-spec : {M : Type 1} → statement M
 sum-up-spec =

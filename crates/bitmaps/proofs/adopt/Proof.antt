@@ -48,7 +48,9 @@ marks-from-requires-2 : tie.Need-marks-from-requires-2
 marks-from-requires-2 c κs = search needs
 
 mul-adopt : tie.Need-mul-adopt
-mul-adopt c = omega (arith, reach c .0, reach c .1, reach c .2, c .before .before .before .before .before .before .before .good .0 .1)
+mul-adopt c =
+    let entry = c .before .before .before .before .before .before .before in
+    omega (arith, reach c .0, reach c .1, reach c .2, entry .good .0 .1)
 
 sub-adopt : tie.Need-sub-adopt
 sub-adopt c = omega (arith, reach c .0, reach c .1)
@@ -71,13 +73,18 @@ sub-adopt-3 c =
 
 adopt-requires : tie.Need-adopt-requires
 adopt-requires c κs =
-    let tree = c .before .before .before .before in
+    let marks-from-told = c .before .before .before in
+    let tree = marks-from-told .before in
     let stepped = tree .before in
-    let shaped = stepped .before .before in
+    let block-words-told = stepped .before in
+    let shaped = block-words-told .before in
     let entry = shaped .before .before in
     let a = entry .args in
-    let step = stepped .mark-bit .ensures ∙ ap markBit (stepped .before .block-words .ensures) in
-    rw (shaped .shape-in .ensures, step) (span-fits (a .g) (a .mem .now) (entry .pre .0 .0) (a .s) (entry .pre .0 .1) (tree .bitmap-from .result) (c .before .before .before .marks-from .result) (c .before .before .marks-from2 .result) (tree .bitmap-from .ensures) (c .before .before .before .marks-from .ensures) (c .before .before .marks-from2 .ensures) (a .class) (entry .pre .1))
+    let step = stepped .mark-bit .ensures ∙ ap markBit (block-words-told .block-words .ensures) in
+    rw (shaped .shape-in .ensures, step)
+    (span-fits (a .g) (a .mem .now) (entry .pre .0 .0) (a .s) (entry .pre .0 .1) (tree .bitmap-from .result)
+    (marks-from-told .marks-from .result) (c .before .before .marks-from2 .result) (tree .bitmap-from .ensures)
+    (marks-from-told .marks-from .ensures) (c .before .before .marks-from2 .ensures) (a .class) (entry .pre .1))
 
 same-length : tie.Need-same-length
 same-length c = search needs
@@ -86,16 +93,22 @@ returns : tie.Need-returns
 returns c =
     let written = c .before .before in
     let ended = written .before .before .before in
-    let tree = ended .before .before in
+    let marks-from-told = ended .before in
+    let tree = marks-from-told .before in
     let stepped = tree .before in
-    let shaped = stepped .before .before in
+    let block-words-told = stepped .before in
+    let shaped = block-words-told .before in
     let entry = shaped .before .before in
     let a = entry .args in
-    let step = stepped .mark-bit .ensures ∙ ap markBit (stepped .before .block-words .ensures) in
+    let step = stepped .mark-bit .ensures ∙ ap markBit (block-words-told .block-words .ensures) in
     let t = rw (shaped .shape-in .ensures, step) at (written .adopt .ensures .0) in (
-      span-put (a .g) (a .mem .now) (entry .pre .0 .0) (a .s) (entry .pre .0 .1) (tree .bitmap-from .result) (ended .before .marks-from .result) (ended .marks-from2 .result) (tree .bitmap-from .ensures) (ended .before .marks-from .ensures) (ended .marks-from2 .ensures) (a .class) (entry .pre .1) (written .adopt .last .0) t,
+      span-put (a .g) (a .mem .now) (entry .pre .0 .0) (a .s) (entry .pre .0 .1) (tree .bitmap-from .result)
+          (marks-from-told .marks-from .result) (ended .marks-from2 .result) (tree .bitmap-from .ensures)
+          (marks-from-told .marks-from .ensures) (ended .marks-from2 .ensures) (a .class) (entry .pre .1) (written .adopt .last .0) t,
       rw (shaped .shape-in .ensures) at (written .adopt .ensures .1)
-          ∙ span-ones (a .g) (a .mem .now) (entry .pre .0 .0) (a .s) (entry .pre .0 .1) (tree .bitmap-from .result) (ended .before .marks-from .result) (ended .marks-from2 .result) (tree .bitmap-from .ensures) (ended .before .marks-from .ensures) (ended .marks-from2 .ensures) (a .class) (entry .pre .1) (written .adopt .last .0) t,
+          ∙ span-ones (a .g) (a .mem .now) (entry .pre .0 .0) (a .s) (entry .pre .0 .1) (tree .bitmap-from .result)
+          (marks-from-told .marks-from .result) (ended .marks-from2 .result) (tree .bitmap-from .ensures)
+          (marks-from-told .marks-from .ensures) (ended .marks-from2 .ensures) (a .class) (entry .pre .1) (written .adopt .last .0) t,
     )
 
 pub adopt-spec : {M : Type 1} → statement M

@@ -1,4 +1,4 @@
--- `bitmaps::blocks_of` meets its contract. Assumes nothing.
+-- `bitmaps::blocks_of` meets its contract.
 use mathlib.Core.Path.{_≡_, ap, _∙_}
 use Prim.Native.Nat.{_%_}
 use native.Mathlib.Omega.{arith}

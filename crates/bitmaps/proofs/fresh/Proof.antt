@@ -1,4 +1,4 @@
--- `bitmaps::fresh` meets its contract. Assumes nothing.
+-- `bitmaps::fresh` meets its contract.
 use mathlib.Core.Path.{ap, _∙_}
 use Prim.Native.Nat.{_-_}
 use native.Mathlib.Omega.{arith}
@@ -14,10 +14,15 @@ use Rattle.bitmaps.proofs.fresh.Tie as tie
 use Rattle.bitmaps.proofs.fresh.Statement.{statement}
 
 -- the part that is lent
-tree : (c : tie.After-bitmap-from2) → TreePart (c .before .before .before .before .args .g) (c .before .before .before .before .args .mem .now) (c .before .before .before .before .args .s) (c .before .before .before .before .args .class) (c .before .bitmap-from .result) (c .bitmap-from2 .result)
+tree : (c : tie.After-bitmap-from2)
+    → TreePart (c .before .before .before .before .args .g) (c .before .before .before .before .args .mem .now)
+    (c .before .before .before .before .args .s) (c .before .before .before .before .args .class) (c .before .bitmap-from .result)
+    (c .bitmap-from2 .result)
 tree c =
-    let x = c .before .before .before .before in
-    tree-at (x .args .g) (x .args .mem .now) (x .pre .0 .0) (x .args .s) (x .pre .0 .1) (c .before .bitmap-from .result) (c .bitmap-from2 .result) (c .before .bitmap-from .ensures) (c .bitmap-from2 .ensures) (x .args .class) (x .pre .1)
+    let entry = c .before .before .before .before in
+    let a = entry .args in
+    tree-at (a .g) (a .mem .now) (entry .pre .0 .0) (a .s) (entry .pre .0 .1) (c .before .bitmap-from .result)
+    (c .bitmap-from2 .result) (c .before .bitmap-from .ensures) (c .bitmap-from2 .ensures) (a .class) (entry .pre .1)
 
 shape-in-requires : tie.Need-shape-in-requires
 shape-in-requires c κs = search needs
@@ -44,7 +49,10 @@ part-make-fresh-end : tie.Need-part-make-fresh-end
 part-make-fresh-end c = tree c .within
 
 sub-make-fresh-2 : tie.Need-sub-make-fresh-2
-sub-make-fresh-2 c = rw (c .before .before .before .before .shape-in .ensures) (shape-levels-pos (blocksIn (c .before .before .before .before .before .before .args .g) (c .before .before .before .before .before .before .args .class)))
+sub-make-fresh-2 c =
+    let shape-in-told = c .before .before .before .before in
+    let entry = shape-in-told .before .before in
+    rw (shape-in-told .shape-in .ensures) (shape-levels-pos (blocksIn (entry .args .g) (entry .args .class)))
 
 make-fresh-requires : tie.Need-make-fresh-requires
 make-fresh-requires c κs = rw (c .before .before .before .before .shape-in .ensures) (tree (c .before .before) .fits)
@@ -54,8 +62,19 @@ same-length c = search needs
 
 returns : tie.Need-returns
 returns c =
-    let x = c .before .before .before .before .before .before .before .before .before in
-    tree-put (x .args .g) (x .args .mem .now) (x .pre .0 .0) (x .args .s) (x .pre .0 .1) (c .before .before .before .before .before .before .bitmap-from .result) (c .before .before .before .before .before .bitmap-from2 .result) (c .before .before .before .before .before .before .bitmap-from .ensures) (c .before .before .before .before .before .bitmap-from2 .ensures) (fresh (c .before .before .before .before .before .before .before .shape-in .result .levels - 1) (c .before .before .before .before .before .before .before .shape-in .result .blocks)) (c .before .before .make-fresh .last .0) (c .before .before .make-fresh .ensures) (c .before .before .make-fresh .kept .0) ∙ ap (λ (h : SegmentShape). setBitmap (x .args .g) (memOf (x .args .g) (x .args .mem .now)) (x .args .s) (fresh (h .levels - 1) (h .blocks) (bitmap (x .args .g) (memOf (x .args .g) (x .args .mem .now)) (x .args .s)))) (c .before .before .before .before .before .before .before .shape-in .ensures)
+    let bitmap-from-told-again = c .before .before .before .before .before in
+    let bitmap-from-told = bitmap-from-told-again .before in
+    let shape-in-told = bitmap-from-told .before in
+    let entry = shape-in-told .before .before in
+    let a = entry .args in
+    tree-put (a .g) (a .mem .now) (entry .pre .0 .0) (a .s) (entry .pre .0 .1) (bitmap-from-told .bitmap-from .result)
+    (bitmap-from-told-again .bitmap-from2 .result) (bitmap-from-told .bitmap-from .ensures)
+    (bitmap-from-told-again .bitmap-from2 .ensures)
+    (fresh (shape-in-told .shape-in .result .levels - 1) (shape-in-told .shape-in .result .blocks))
+    (c .before .before .make-fresh .last .0) (c .before .before .make-fresh .ensures) (c .before .before .make-fresh .kept .0)
+    ∙ ap
+    (λ (h : SegmentShape). setBitmap (a .g) (memOf (a .g) (a .mem .now)) (a .s) (fresh (h .levels - 1) (h .blocks) (bitmap (a .g) (memOf (a .g) (a .mem .now)) (a .s))))
+    (shape-in-told .shape-in .ensures)
 
 pub fresh-spec : {M : Type 1} → statement M
 fresh-spec =

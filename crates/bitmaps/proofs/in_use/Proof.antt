@@ -1,4 +1,4 @@
--- `bitmaps::in_use` meets its contract. Assumes nothing.
+-- `bitmaps::in_use` meets its contract.
 use Prim.Native.Nat.{_-_}
 use native.Mathlib.Omega.{arith}
 use borrow.Author.Needs.{needs}
@@ -10,10 +10,15 @@ use Rattle.bitmaps.proofs.in_use.Tie as tie
 use Rattle.bitmaps.proofs.in_use.Statement.{statement}
 
 -- the part that is lent
-tree : (c : tie.After-bitmap-from2) → TreePart (c .before .before .before .before .args .g) (c .before .before .before .before .args .mem .now) (c .before .before .before .before .args .s) (c .before .before .before .before .args .class) (c .before .bitmap-from .result) (c .bitmap-from2 .result)
+tree : (c : tie.After-bitmap-from2)
+    → TreePart (c .before .before .before .before .args .g) (c .before .before .before .before .args .mem .now)
+    (c .before .before .before .before .args .s) (c .before .before .before .before .args .class) (c .before .bitmap-from .result)
+    (c .bitmap-from2 .result)
 tree c =
-    let x = c .before .before .before .before in
-    tree-at (x .args .g) (x .args .mem .now) (x .pre .0 .0) (x .args .s) (x .pre .0 .1) (c .before .bitmap-from .result) (c .bitmap-from2 .result) (c .before .bitmap-from .ensures) (c .bitmap-from2 .ensures) (x .args .class) (x .pre .1)
+    let entry = c .before .before .before .before in
+    let a = entry .args in
+    tree-at (a .g) (a .mem .now) (entry .pre .0 .0) (a .s) (entry .pre .0 .1) (c .before .bitmap-from .result)
+    (c .bitmap-from2 .result) (c .before .bitmap-from .ensures) (c .bitmap-from2 .ensures) (a .class) (entry .pre .1)
 
 blocks-in-requires : tie.Need-blocks-in-requires
 blocks-in-requires c κs = search needs
@@ -41,8 +46,10 @@ part-used-among-end c = tree c .within
 
 used-among-requires : tie.Need-used-among-requires
 used-among-requires c κs =
-    let x = c .before .before .before .before .before .args in
-    rw (c .before .before .before .blocks-in .ensures) (omega (arith, tree (c .before) .fits, words-in (above (x .g) (x .class)) (blocksIn (x .g) (x .class))))
+    let blocks-in-told = c .before .before .before in
+    let entry = blocks-in-told .before .before in
+    let x = entry .args in
+    rw (blocks-in-told .blocks-in .ensures) (omega (arith, tree (c .before) .fits, words-in (above (x .g) (x .class)) (blocksIn (x .g) (x .class))))
 
 returns : tie.Need-returns
 returns c = rw (c .before .before .before .before .blocks-in .ensures, tree (c .before .before) .is) at (c .used-among .ensures)

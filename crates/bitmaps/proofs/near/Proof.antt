@@ -1,4 +1,4 @@
--- `bitmaps::near` meets its contract. Assumes nothing.
+-- `bitmaps::near` meets its contract.
 use Prim.Native.Nat.{_-_}
 use native.Mathlib.Omega.{arith}
 use Rattle.words.proofs.Trees.{words-in}

@@ -1,4 +1,4 @@
--- `bitmaps::next_two` meets its contract. Assumes nothing.
+-- `bitmaps::next_two` meets its contract.
 use mathlib.Core.Path.{subst}
 use Prim.Native.Nat.{_-_}
 use native.Mathlib.Omega.{arith}
@@ -48,8 +48,10 @@ part-more-in-next-end c = tree c .within
 
 more-in-next-requires : tie.Need-more-in-next-requires
 more-in-next-requires c κs =
-    let x = c .before .before .before .before .before .args in
-    rw (c .before .before .before .blocks-of .ensures) (omega (arith, tree (c .before) .fits, words-in (above (x .g) (x .class)) (blocksIn (x .g) (x .class))))
+    let blocks-of-told = c .before .before .before in
+    let entry = blocks-of-told .before .before in
+    let x = entry .args in
+    rw (blocks-of-told .blocks-of .ensures) (omega (arith, tree (c .before) .fits, words-in (above (x .g) (x .class)) (blocksIn (x .g) (x .class))))
 
 enum-known-x : tie.Need-enum-known-x
 enum-known-x c = search needs
@@ -62,9 +64,13 @@ search-two-requires c κs = search needs
 
 returns : tie.Need-returns
 returns c =
-    let x = c .before .before .before .before .before .before .before .before .before .args in
+    let more-in-next-told = c .before .before .before in
+    let bitmap-from-told = more-in-next-told .before .before in
+    let blocks-of-told = bitmap-from-told .before .before in
+    let entry = blocks-of-told .before .before in
+    let x = entry .args in
     near-two (above (x .g) (x .class)) (subst (NearPromise (bitmap (x .g) (memOf (x .g) (x .mem .now)) (x .s)) (blocksIn (x .g) (x .class)) (x .place)) (c .before .x .given .1)
-    (rw (c .before .before .before .before .before .before .before .blocks-of .ensures, tree (c .before .before .before .before .before) .is) at (c .before .before .before .more-in-next .ensures)))
+    (rw (blocks-of-told .blocks-of .ensures, tree bitmap-from-told .is) at (more-in-next-told .more-in-next .ensures)))
 
 returns-2 : tie.Need-returns-2
 returns-2 c = search needs

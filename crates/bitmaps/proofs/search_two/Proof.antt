@@ -1,4 +1,4 @@
--- `bitmaps::search_two` meets its contract. Assumes nothing.
+-- `bitmaps::search_two` meets its contract.
 use Prim.Native.Nat.{_-_}
 use native.Mathlib.Omega.{arith}
 use borrow.Author.Needs.{needs}
@@ -9,10 +9,15 @@ use Rattle.bitmaps.proofs.search_two.Tie as tie
 use Rattle.bitmaps.proofs.search_two.Statement.{statement}
 
 -- the part that is lent
-tree : (c : tie.After-bitmap-from2) → TreePart (c .before .before .before .before .args .g) (c .before .before .before .before .args .mem .now) (c .before .before .before .before .args .s) (c .before .before .before .before .args .class) (c .before .bitmap-from .result) (c .bitmap-from2 .result)
+tree : (c : tie.After-bitmap-from2)
+    → TreePart (c .before .before .before .before .args .g) (c .before .before .before .before .args .mem .now)
+    (c .before .before .before .before .args .s) (c .before .before .before .before .args .class) (c .before .bitmap-from .result)
+    (c .bitmap-from2 .result)
 tree c =
-    let x = c .before .before .before .before in
-    tree-at (x .args .g) (x .args .mem .now) (x .pre .0 .0) (x .args .s) (x .pre .0 .1) (c .before .bitmap-from .result) (c .bitmap-from2 .result) (c .before .bitmap-from .ensures) (c .bitmap-from2 .ensures) (x .args .class) (x .pre .1)
+    let entry = c .before .before .before .before in
+    let a = entry .args in
+    tree-at (a .g) (a .mem .now) (entry .pre .0 .0) (a .s) (entry .pre .0 .1) (c .before .bitmap-from .result)
+    (c .bitmap-from2 .result) (c .before .bitmap-from .ensures) (c .bitmap-from2 .ensures) (a .class) (entry .pre .1)
 
 shape-in-requires : tie.Need-shape-in-requires
 shape-in-requires c κs = search needs
@@ -39,13 +44,19 @@ part-next-two-end : tie.Need-part-next-two-end
 part-next-two-end c = tree c .within
 
 sub-next-two-2 : tie.Need-sub-next-two-2
-sub-next-two-2 c = rw (c .before .before .before .before .shape-in .ensures) (shape-levels-pos (blocksIn (c .before .before .before .before .before .before .args .g) (c .before .before .before .before .before .before .args .class)))
+sub-next-two-2 c =
+    let shape-in-told = c .before .before .before .before in
+    let entry = shape-in-told .before .before in
+    rw (shape-in-told .shape-in .ensures) (shape-levels-pos (blocksIn (entry .args .g) (entry .args .class)))
 
 next-two-requires : tie.Need-next-two-requires
 next-two-requires c κs = rw (c .before .before .before .before .shape-in .ensures) (tree (c .before .before) .fits)
 
 returns : tie.Need-returns
-returns c = rw (c .before .before .before .before .before .shape-in .ensures, tree (c .before .before .before) .is) at (c .next-two .ensures)
+returns c =
+    let bitmap-from-told = c .before .before .before in
+    let shape-in-told = bitmap-from-told .before .before in
+    rw (shape-in-told .shape-in .ensures, tree bitmap-from-told .is) at (c .next-two .ensures)
 
 pub search-two-spec : {M : Type 1} → statement M
 search-two-spec =

@@ -1,4 +1,4 @@
--- `bitmaps::used_among` meets its contract. Assumes nothing.
+-- `bitmaps::used_among` meets its contract.
 use mathlib.Core.Path.{_≡_, sym}
 use Prim.Native.Nat.{_+_, _-_, _≤_}
 use native.Mathlib.Omega.{arith}
@@ -11,10 +11,14 @@ use Rattle.bitmaps.proofs.used_among.Tie as tie
 use Rattle.bitmaps.proofs.used_among.Statement.{statement}
 
 module _ (c : tie.After-ones-among2) where
-  count : (c .ones-among2 .result ≤ c .before .ones-among .result) × (c .before .before .before .before .args .place + (c .before .ones-among .result - c .ones-among2 .result) ≡ onesAmong (usedBits (bitAt (c .before .before .before .before .args .s .now)) (c .before .before .before .before .args .place)) (c .before .before .before .before .args .n))
+  count : (c .ones-among2 .result ≤ c .before .ones-among .result)
+      × (c .before .before .before .before .args .place + (c .before .ones-among .result - c .ones-among2 .result) ≡ onesAmong
+      (usedBits (bitAt (c .before .before .before .before .args .s .now)) (c .before .before .before .before .args .place))
+      (c .before .before .before .before .args .n))
   count =
       let x = c .before .before .before .before .args in
-      counted (bitAt (x .s .now)) (x .place) (x .n) (c .before .ones-among .result) (c .ones-among2 .result) (omega (arith, c .before .before .if1 .left)) (c .before .ones-among .ensures) (c .ones-among2 .ensures)
+      counted (bitAt (x .s .now)) (x .place) (x .n) (c .before .ones-among .result) (c .ones-among2 .result)
+      (omega (arith, c .before .before .if1 .left)) (c .before .ones-among .ensures) (c .ones-among2 .ensures)
 
 returns : tie.Need-returns
 returns c =

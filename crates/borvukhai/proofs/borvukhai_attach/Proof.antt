@@ -1,4 +1,4 @@
--- `borvukhai::borvukhai_attach` meets its contract. Assumes nothing.
+-- `borvukhai::borvukhai_attach` meets its contract.
 use borrow.Author.Needs.{needs}
 use Rattle.theory.specs.Calls.{c-attach}
 use Rattle.packing.proofs.Unpacked.{exports}
@@ -18,7 +18,10 @@ same-length : tie.Need-same-length
 same-length c = search needs
 
 returns : tie.Need-returns
-returns c = exports (c-attach _) _ _ _ _ _ (c .before .before .before .before .before .geometry .ensures) (c .before .before .before .attach .ensures) _ (c .packed .ensures) (λ k. k)
+returns c =
+    let attached = c .before .before .before in
+    let geometry-told = attached .before .before in
+    exports (c-attach _) _ _ _ _ _ (geometry-told .geometry .ensures) (attached .attach .ensures) _ (c .packed .ensures) (λ k. k)
 
 pub borvukhai-attach-spec : {M : Type 1} → statement M
 borvukhai-attach-spec =

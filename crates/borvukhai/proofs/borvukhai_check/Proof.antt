@@ -1,4 +1,4 @@
--- `borvukhai::borvukhai_check` meets its contract. Assumes nothing.
+-- `borvukhai::borvukhai_check` meets its contract.
 use borrow.Author.Needs.{needs}
 use Rattle.borvukhai.proofs.borvukhai_check.Statement.{statement}
 use Rattle.theory.specs.Calls.{c-check}
@@ -18,7 +18,10 @@ same-length : tie.Need-same-length
 same-length c = search needs
 
 returns : tie.Need-returns
-returns c = exports (c-check _) _ _ _ _ _ (c .before .before .before .before .before .geometry .ensures) (c .before .before .before .check .ensures) _ (c .packed .ensures) (λ k. k)
+returns c =
+    let checked = c .before .before .before in
+    let geometry-told = checked .before .before in
+    exports (c-check _) _ _ _ _ _ (geometry-told .geometry .ensures) (checked .check .ensures) _ (c .packed .ensures) (λ k. k)
 
 pub borvukhai-check-spec : {M : Type 1} → statement M
 borvukhai-check-spec =

@@ -1,4 +1,4 @@
--- `borvukhai::borvukhai_clear` meets its contract. Assumes nothing.
+-- `borvukhai::borvukhai_clear` meets its contract.
 use borrow.Author.Needs.{needs}
 use Rattle.borvukhai.proofs.borvukhai_clear.Statement.{statement}
 use Rattle.theory.specs.Calls.{c-clear}
@@ -18,7 +18,10 @@ same-length : tie.Need-same-length
 same-length c = search needs
 
 returns : tie.Need-returns
-returns c = exports (c-clear _ _) _ _ _ _ _ (c .before .before .before .before .before .geometry .ensures) (c .before .before .before .clear .ensures) _ (c .packed .ensures) (λ k. k)
+returns c =
+    let cleared = c .before .before .before in
+    let geometry-told = cleared .before .before in
+    exports (c-clear _ _) _ _ _ _ _ (geometry-told .geometry .ensures) (cleared .clear .ensures) _ (c .packed .ensures) (λ k. k)
 
 pub borvukhai-clear-spec : {M : Type 1} → statement M
 borvukhai-clear-spec =

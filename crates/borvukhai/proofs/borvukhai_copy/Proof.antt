@@ -1,4 +1,4 @@
--- `borvukhai::borvukhai_copy` meets its contract. Assumes nothing.
+-- `borvukhai::borvukhai_copy` meets its contract.
 use borrow.Author.Needs.{needs}
 use Rattle.borvukhai.proofs.borvukhai_copy.Statement.{statement}
 use Rattle.theory.specs.Calls.{c-copy}
@@ -18,7 +18,10 @@ same-length : tie.Need-same-length
 same-length c = search needs
 
 returns : tie.Need-returns
-returns c = exports (c-copy _ _ _) _ _ _ _ _ (c .before .before .before .before .before .geometry .ensures) (c .before .before .before .copy .ensures) _ (c .packed .ensures) (λ k. k)
+returns c =
+    let copied = c .before .before .before in
+    let geometry-told = copied .before .before in
+    exports (c-copy _ _ _) _ _ _ _ _ (geometry-told .geometry .ensures) (copied .copy .ensures) _ (c .packed .ensures) (λ k. k)
 
 pub borvukhai-copy-spec : {M : Type 1} → statement M
 borvukhai-copy-spec =

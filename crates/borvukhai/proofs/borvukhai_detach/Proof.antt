@@ -1,4 +1,4 @@
--- `borvukhai::borvukhai_detach` meets its contract. Assumes nothing.
+-- `borvukhai::borvukhai_detach` meets its contract.
 use borrow.Author.Needs.{needs}
 use Rattle.theory.specs.Calls.{c-detach}
 use Rattle.packing.proofs.Unpacked.{exports}
@@ -18,7 +18,10 @@ same-length : tie.Need-same-length
 same-length c = search needs
 
 returns : tie.Need-returns
-returns c = exports (c-detach _) _ _ _ _ _ (c .before .before .before .before .before .geometry .ensures) (c .before .before .before .detach .ensures) _ (c .packed .ensures) (λ k. k)
+returns c =
+    let detached = c .before .before .before in
+    let geometry-told = detached .before .before in
+    exports (c-detach _) _ _ _ _ _ (geometry-told .geometry .ensures) (detached .detach .ensures) _ (c .packed .ensures) (λ k. k)
 
 pub borvukhai-detach-spec : {M : Type 1} → statement M
 borvukhai-detach-spec =

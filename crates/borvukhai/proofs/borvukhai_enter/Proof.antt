@@ -1,4 +1,4 @@
--- `borvukhai::borvukhai_enter` meets its contract. Assumes nothing.
+-- `borvukhai::borvukhai_enter` meets its contract.
 use borrow.Author.Needs.{needs}
 use Rattle.borvukhai.proofs.borvukhai_enter.Statement.{statement}
 use Rattle.theory.specs.Calls.{c-enter}
@@ -18,7 +18,10 @@ same-length : tie.Need-same-length
 same-length c = search needs
 
 returns : tie.Need-returns
-returns c = exports (c-enter _) _ _ _ _ _ (c .before .before .before .before .before .geometry .ensures) (c .before .before .before .enter .ensures) _ (c .packed .ensures) (λ k. k)
+returns c =
+    let entered = c .before .before .before in
+    let geometry-told = entered .before .before in
+    exports (c-enter _) _ _ _ _ _ (geometry-told .geometry .ensures) (entered .enter .ensures) _ (c .packed .ensures) (λ k. k)
 
 pub borvukhai-enter-spec : {M : Type 1} → statement M
 borvukhai-enter-spec =

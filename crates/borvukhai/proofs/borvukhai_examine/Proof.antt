@@ -1,4 +1,4 @@
--- `borvukhai::borvukhai_examine` meets its contract. Assumes nothing.
+-- `borvukhai::borvukhai_examine` meets its contract.
 use Rattle.packing.proofs.UnpackedLooks.{exports-examine}
 use borrow.Author.Needs.{needs}
 use Rattle.borvukhai.proofs.borvukhai_examine.Statement.{statement}
@@ -17,7 +17,10 @@ same-length : tie.Need-same-length
 same-length c = search needs
 
 returns : tie.Need-returns
-returns c = exports-examine _ _ _ _ _ _ (c .before .before .before .before .before .geometry .ensures) (c .before .before .before .examine .ensures) _ (c .packed-examined .ensures)
+returns c =
+    let examined = c .before .before .before in
+    let geometry-told = examined .before .before in
+    exports-examine _ _ _ _ _ _ (geometry-told .geometry .ensures) (examined .examine .ensures) _ (c .packed-examined .ensures)
 
 pub borvukhai-examine-spec : {M : Type 1} → statement M
 borvukhai-examine-spec =

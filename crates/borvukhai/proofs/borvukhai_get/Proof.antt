@@ -1,4 +1,4 @@
--- `borvukhai::borvukhai_get` meets its contract. Assumes nothing.
+-- `borvukhai::borvukhai_get` meets its contract.
 use borrow.Author.Needs.{needs}
 use Rattle.borvukhai.proofs.borvukhai_get.Statement.{statement}
 use Rattle.theory.specs.Calls.{c-get}

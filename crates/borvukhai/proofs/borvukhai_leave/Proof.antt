@@ -1,4 +1,4 @@
--- `borvukhai::borvukhai_leave` meets its contract. Assumes nothing.
+-- `borvukhai::borvukhai_leave` meets its contract.
 use borrow.Author.Needs.{needs}
 use Rattle.borvukhai.proofs.borvukhai_leave.Statement.{statement}
 use Rattle.theory.specs.Calls.{c-leave}
@@ -18,7 +18,10 @@ same-length : tie.Need-same-length
 same-length c = search needs
 
 returns : tie.Need-returns
-returns c = exports (c-leave _) _ _ _ _ _ (c .before .before .before .before .before .geometry .ensures) (c .before .before .before .leave .ensures) _ (c .packed .ensures) (λ k. k)
+returns c =
+    let left = c .before .before .before in
+    let geometry-told = left .before .before in
+    exports (c-leave _) _ _ _ _ _ (geometry-told .geometry .ensures) (left .leave .ensures) _ (c .packed .ensures) (λ k. k)
 
 pub borvukhai-leave-spec : {M : Type 1} → statement M
 borvukhai-leave-spec =

@@ -1,4 +1,4 @@
--- `borvukhai::borvukhai_load` meets its contract. Assumes nothing.
+-- `borvukhai::borvukhai_load` meets its contract.
 use borrow.Author.Needs.{needs}
 use Rattle.borvukhai.proofs.borvukhai_load.Statement.{statement}
 use Rattle.theory.specs.Calls.{c-load}
@@ -18,7 +18,10 @@ same-length : tie.Need-same-length
 same-length c = search needs
 
 returns : tie.Need-returns
-returns c = exports (c-load _ _ _ _) _ _ _ _ _ (c .before .before .before .before .before .geometry .ensures) (c .before .before .before .load .ensures) _ (c .packed .ensures) (λ k. k)
+returns c =
+    let loaded = c .before .before .before in
+    let geometry-told = loaded .before .before in
+    exports (c-load _ _ _ _) _ _ _ _ _ (geometry-told .geometry .ensures) (loaded .load .ensures) _ (c .packed .ensures) (λ k. k)
 
 pub borvukhai-load-spec : {M : Type 1} → statement M
 borvukhai-load-spec =

@@ -1,4 +1,4 @@
--- `borvukhai::borvukhai_make` meets its contract. Assumes nothing.
+-- `borvukhai::borvukhai_make` meets its contract.
 use borrow.Author.Needs.{needs}
 use Rattle.theory.specs.Calls.{c-make}
 use Rattle.packing.proofs.Unpacked.{exports}
@@ -18,7 +18,10 @@ same-length : tie.Need-same-length
 same-length c = search needs
 
 returns : tie.Need-returns
-returns c = exports (c-make _ _ _ _) _ _ _ _ _ (c .before .before .before .before .before .geometry .ensures) (c .before .before .before .make .ensures) _ (c .packed .ensures) (λ k. k)
+returns c =
+    let made = c .before .before .before in
+    let geometry-told = made .before .before in
+    exports (c-make _ _ _ _) _ _ _ _ _ (geometry-told .geometry .ensures) (made .make .ensures) _ (c .packed .ensures) (λ k. k)
 
 pub borvukhai-make-spec : {M : Type 1} → statement M
 borvukhai-make-spec =

@@ -1,4 +1,4 @@
--- `borvukhai::borvukhai_open` meets its contract. Assumes nothing.
+-- `borvukhai::borvukhai_open` meets its contract.
 use borrow.Author.Needs.{needs}
 use Rattle.borvukhai.proofs.borvukhai_open.Statement.{statement}
 use Rattle.packing.proofs.Unpacked.{exports-open}
@@ -17,7 +17,10 @@ same-length : tie.Need-same-length
 same-length c = search needs
 
 returns : tie.Need-returns
-returns c = exports-open _ _ _ _ _ (c .before .before .before .before .before .geometry .ensures) (c .before .before .before .open .ensures) _ (c .packed .ensures)
+returns c =
+    let opened = c .before .before .before in
+    let geometry-told = opened .before .before in
+    exports-open _ _ _ _ _ (geometry-told .geometry .ensures) (opened .open .ensures) _ (c .packed .ensures)
 
 pub borvukhai-open-spec : {M : Type 1} → statement M
 borvukhai-open-spec =

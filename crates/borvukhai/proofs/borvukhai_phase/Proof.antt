@@ -1,4 +1,4 @@
--- `borvukhai::borvukhai_phase` meets its contract. Assumes nothing.
+-- `borvukhai::borvukhai_phase` meets its contract.
 use Rattle.packing.proofs.UnpackedLooks.{exports-phase}
 use borrow.Author.Needs.{needs}
 use Rattle.borvukhai.proofs.borvukhai_phase.Statement.{statement}

@@ -1,4 +1,4 @@
--- `borvukhai::borvukhai_put` meets its contract. Assumes nothing.
+-- `borvukhai::borvukhai_put` meets its contract.
 use borrow.Author.Needs.{needs}
 use Rattle.borvukhai.proofs.borvukhai_put.Statement.{statement}
 use Rattle.theory.specs.Calls.{c-put}
@@ -18,7 +18,10 @@ same-length : tie.Need-same-length
 same-length c = search needs
 
 returns : tie.Need-returns
-returns c = exports (c-put _ _ _ _) _ _ _ _ _ (c .before .before .before .before .before .geometry .ensures) (c .before .before .before .put .ensures) _ (c .packed .ensures) (λ k. k)
+returns c =
+    let put = c .before .before .before in
+    let geometry-told = put .before .before in
+    exports (c-put _ _ _ _) _ _ _ _ _ (geometry-told .geometry .ensures) (put .put .ensures) _ (c .packed .ensures) (λ k. k)
 
 pub borvukhai-put-spec : {M : Type 1} → statement M
 borvukhai-put-spec =

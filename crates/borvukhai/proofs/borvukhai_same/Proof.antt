@@ -1,4 +1,4 @@
--- `borvukhai::borvukhai_same` meets its contract. Assumes nothing.
+-- `borvukhai::borvukhai_same` meets its contract.
 use borrow.Author.Needs.{needs}
 use Rattle.borvukhai.proofs.borvukhai_same.Statement.{statement}
 use Rattle.theory.specs.Calls.{c-same}

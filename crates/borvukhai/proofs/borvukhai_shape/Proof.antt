@@ -1,4 +1,4 @@
--- `borvukhai::borvukhai_shape` meets its contract. Assumes nothing.
+-- `borvukhai::borvukhai_shape` meets its contract.
 use borrow.Author.Needs.{needs}
 use Rattle.theory.specs.Calls.{c-shape}
 use Rattle.packing.proofs.Unpacked.{exports-shape}

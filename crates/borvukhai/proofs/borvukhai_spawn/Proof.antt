@@ -1,4 +1,4 @@
--- `borvukhai::borvukhai_spawn` meets its contract. Assumes nothing.
+-- `borvukhai::borvukhai_spawn` meets its contract.
 use borrow.Author.Needs.{needs}
 use Rattle.theory.specs.Calls.{c-spawn}
 use Rattle.packing.proofs.Unpacked.{exports}
@@ -18,7 +18,10 @@ same-length : tie.Need-same-length
 same-length c = search needs
 
 returns : tie.Need-returns
-returns c = exports (c-spawn _ _ _) _ _ _ _ _ (c .before .before .before .before .before .geometry .ensures) (c .before .before .before .spawn .ensures) _ (c .packed .ensures) (λ k. k)
+returns c =
+    let spawned = c .before .before .before in
+    let geometry-told = spawned .before .before in
+    exports (c-spawn _ _ _) _ _ _ _ _ (geometry-told .geometry .ensures) (spawned .spawn .ensures) _ (c .packed .ensures) (λ k. k)
 
 pub borvukhai-spawn-spec : {M : Type 1} → statement M
 borvukhai-spawn-spec =

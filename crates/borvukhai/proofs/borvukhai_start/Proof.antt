@@ -1,4 +1,4 @@
--- `borvukhai::borvukhai_start` meets its contract. Assumes nothing.
+-- `borvukhai::borvukhai_start` meets its contract.
 use borrow.Author.Needs.{needs}
 use Rattle.packing.proofs.Unpacked.{exports-start}
 use Rattle.borvukhai.proofs.borvukhai_start.Statement.{statement}
@@ -17,7 +17,10 @@ same-length : tie.Need-same-length
 same-length c = search needs
 
 returns : tie.Need-returns
-returns c = exports-start _ _ _ _ _ (c .before .before .before .before .before .geometry .ensures) (c .before .before .before .start .ensures) _ (c .packed .ensures)
+returns c =
+    let started = c .before .before .before in
+    let geometry-told = started .before .before in
+    exports-start _ _ _ _ _ (geometry-told .geometry .ensures) (started .start .ensures) _ (c .packed .ensures)
 
 pub borvukhai-start-spec : {M : Type 1} → statement M
 borvukhai-start-spec =

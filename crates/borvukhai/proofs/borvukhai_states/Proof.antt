@@ -1,4 +1,4 @@
--- `borvukhai::borvukhai_states` meets its contract. Assumes nothing.
+-- `borvukhai::borvukhai_states` meets its contract.
 use Rattle.packing.proofs.UnpackedLooks.{exports-states}
 use borrow.Author.Needs.{needs}
 use Rattle.borvukhai.proofs.borvukhai_states.Statement.{statement}
@@ -17,7 +17,10 @@ same-length : tie.Need-same-length
 same-length c = search needs
 
 returns : tie.Need-returns
-returns c = exports-states _ _ _ _ _ _ (c .before .before .before .before .before .geometry .ensures) (c .before .before .before .states .ensures) _ (c .packed .ensures)
+returns c =
+    let states-told = c .before .before .before in
+    let geometry-told = states-told .before .before in
+    exports-states _ _ _ _ _ _ (geometry-told .geometry .ensures) (states-told .states .ensures) _ (c .packed .ensures)
 
 pub borvukhai-states-spec : {M : Type 1} → statement M
 borvukhai-states-spec =

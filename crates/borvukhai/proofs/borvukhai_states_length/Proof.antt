@@ -1,4 +1,4 @@
--- `borvukhai::borvukhai_states_length` meets its contract. Assumes nothing.
+-- `borvukhai::borvukhai_states_length` meets its contract.
 use mathlib.Core.Path.{sym, _∙_}
 use Rattle.packing.specs.Packed.{statesWords}
 use Rattle.packing.proofs.Lengths.{few, length-is, no-length}
@@ -19,7 +19,10 @@ states-words-requires : tie.Need-states-words-requires
 states-words-requires c κs = rw (c .geometry .ensures) (few (c .before .before .before .args .segments) (sym (c .before .before .no-count .ensures) ∙ c .before .if1 .left))
 
 returns-2 : tie.Need-returns-2
-returns-2 c = length-is statesWords (c .before .before .before .before .args .segments) _ _ (sym (c .before .before .before .no-count .ensures) ∙ c .before .before .if1 .left) (c .before .geometry .ensures) (c .states-words .ensures)
+returns-2 c =
+    let no-count-told = c .before .before .before in
+    let entry = no-count-told .before in
+    length-is statesWords (entry .args .segments) _ _ (sym (no-count-told .no-count .ensures) ∙ c .before .before .if1 .left) (c .before .geometry .ensures) (c .states-words .ensures)
 
 pub borvukhai-states-length-spec : {M : Type 1} → statement M
 borvukhai-states-length-spec =

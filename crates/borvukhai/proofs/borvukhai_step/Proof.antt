@@ -1,4 +1,4 @@
--- `borvukhai::borvukhai_step` meets its contract. Assumes nothing.
+-- `borvukhai::borvukhai_step` meets its contract.
 use borrow.Author.Needs.{needs}
 use Rattle.packing.proofs.UnpackedStep.{exports-step}
 use Rattle.borvukhai.proofs.borvukhai_step.Statement.{statement}
@@ -17,7 +17,10 @@ same-length : tie.Need-same-length
 same-length c = search needs
 
 returns : tie.Need-returns
-returns c = exports-step _ _ _ _ _ (c .before .before .before .before .before .geometry .ensures) (c .before .before .before .step .ensures) _ (c .packed-step .ensures)
+returns c =
+    let step-told = c .before .before .before in
+    let geometry-told = step-told .before .before in
+    exports-step _ _ _ _ _ (geometry-told .geometry .ensures) (step-told .step .ensures) _ (c .packed-step .ensures)
 
 pub borvukhai-step-spec : {M : Type 1} → statement M
 borvukhai-step-spec =

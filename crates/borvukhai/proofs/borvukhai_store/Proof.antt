@@ -1,4 +1,4 @@
--- `borvukhai::borvukhai_store` meets its contract. Assumes nothing.
+-- `borvukhai::borvukhai_store` meets its contract.
 use borrow.Author.Needs.{needs}
 use Rattle.borvukhai.proofs.borvukhai_store.Statement.{statement}
 use Rattle.theory.specs.Calls.{c-store}
@@ -18,7 +18,10 @@ same-length : tie.Need-same-length
 same-length c = search needs
 
 returns : tie.Need-returns
-returns c = exports (c-store _ _ _ _) _ _ _ _ _ (c .before .before .before .before .before .geometry .ensures) (c .before .before .before .store .ensures) _ (c .packed .ensures) (λ k. k)
+returns c =
+    let stored = c .before .before .before in
+    let geometry-told = stored .before .before in
+    exports (c-store _ _ _ _) _ _ _ _ _ (geometry-told .geometry .ensures) (stored .store .ensures) _ (c .packed .ensures) (λ k. k)
 
 pub borvukhai-store-spec : {M : Type 1} → statement M
 borvukhai-store-spec =

@@ -1,4 +1,4 @@
--- `bracket_cases::hear` is safe: the part of the buffer that it lends is within it, by the test. Assumes nothing.
+-- `bracket_cases::hear` is safe: the part of the buffer that it lends is within it, by the test.
 use mathlib.Core.Path.{sym}
 use lib.Seq.{length-take-le}
 use borrow.Author.Needs.{needs}

@@ -1,5 +1,4 @@
 -- `bracket_cases::main` is safe and ends: it counts its turns down.
--- Assumes nothing.
 use borrow.Author.Needs.{needs}
 use Rattle.bracket_cases.proofs.main.Statement.{statement}
 use Rattle.bracket_cases.proofs.main.Tie as tie

@@ -1,5 +1,4 @@
 -- `bracket_cases::read_piece` is safe and ends: each turn takes at least a byte of the piece.
--- Assumes nothing.
 use borrow.Author.Needs.{needs}
 use Prim.Native.Nat.{_-_}
 use native.Mathlib.Omega.{arith}
@@ -24,8 +23,10 @@ hear-requires c κs = search needs
 
 loop-less : tie.Need-loop-less Inv-loop μ-loop
 loop-less c =
+    let line-found = c .before .before .before in
+    let turning = line-found .before .before in
     omega
-    (arith, c .before .before .before .next-line .ensures .moves (c .before .before .before .before .before .loop-test .taken))
+    (arith, line-found .next-line .ensures .moves (turning .loop-test .taken))
 
 loop-again : tie.Need-loop-again Inv-loop μ-loop
 loop-again c = search needs

@@ -1,4 +1,4 @@
--- `bracket_forms::form_at` meets its contract: each arm is an entry of the list `forms`, and the last also what stands past its end. Assumes nothing.
+-- `bracket_forms::form_at` meets its contract: each arm is an entry of the list `forms`, and the last also what stands past its end.
 use mathlib.Core.Path.{sym}
 use native.Mathlib.Omega.{arith}
 use Rattle.bracket_forms.specs.Kinds.{forms, formAt}

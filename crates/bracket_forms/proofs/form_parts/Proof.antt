@@ -1,4 +1,4 @@
--- `bracket_forms::form_parts` meets its contract: each arm computes. Assumes nothing.
+-- `bracket_forms::form_parts` meets its contract: each arm computes.
 use borrow.Author.Needs.{needs}
 use Rattle.bracket_forms.proofs.form_parts.Tie as tie
 use Rattle.bracket_forms.proofs.form_parts.Statement.{statement}

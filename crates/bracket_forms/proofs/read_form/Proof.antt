@@ -1,5 +1,4 @@
 -- `bracket_forms::read_form` meets its contract. The loop's invariant: the texts of the kinds tried so far do not match.
--- Assumes nothing.
 use borrow.Author.Needs.{needs}
 use borrow.Author.Count.{below-more}
 use Prim.Native.Nat.{ℕ, _-_, _≤_, _<_}
@@ -29,9 +28,12 @@ enum-known-reading c = search needs
 
 returns : tie.Need-returns Inv-loop μ-loop
 returns c =
-    text-found (c .before .before .before .before .before .before .before .args .line .now)
-    (c .before .before .before .before .before .loop .kind) _ (omega arith)
-    (sym (c .before .reading .given .1) ∙ c .before .before .before .read-kind .ensures)
+    let kind-read = c .before .before .before in
+    let looping = kind-read .before .before in
+    let entry = looping .before .before in
+    text-found (entry .args .line .now)
+    (looping .loop .kind) _ (omega arith)
+    (sym (c .before .reading .given .1) ∙ kind-read .read-kind .ensures)
 
 enum-told : tie.Need-enum-told Inv-loop μ-loop
 enum-told c = search needs

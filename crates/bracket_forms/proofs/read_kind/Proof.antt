@@ -1,4 +1,4 @@
--- `bracket_forms::read_kind` meets its contract: the text that it compares with is that of the kind's form. Assumes nothing.
+-- `bracket_forms::read_kind` meets its contract: the text that it compares with is that of the kind's form.
 use borrow.Author.Needs.{needs}
 use Rattle.bracket_forms.proofs.Reader.{kind-template, kind-text, kind-other}
 use Rattle.bracket_forms.proofs.read_kind.Tie as tie
@@ -42,16 +42,23 @@ reading-of-requires c κs = search needs
 
 returns : tie.Need-returns
 returns c =
-    let m = c .before .before .before .match-text in
-    kind-text _ _ (m .last .1 .1 .0) (c .before .before .before .before .before .before .before .before .before .before .args .kind) (m .result) _ _
-    (kind-template _ _ _ (c .before .before .before .before .before .before .before .before .form-at .ensures) (c .before .before .before .before .before .before .before .form-parts .ensures)) (m .ensures) (c .before .before .if1 .taken)
+    let text-matched = c .before .before .before in
+    let form-parts-told = text-matched .before .before .before .before in
+    let form-at-told = form-parts-told .before in
+    let entry = form-at-told .before .before in
+    let m = text-matched .match-text in
+    kind-text _ _ (m .last .1 .1 .0) (entry .args .kind) (m .result) _ _
+    (kind-template _ _ _ (form-at-told .form-at .ensures) (form-parts-told .form-parts .ensures)) (m .ensures) (c .before .before .if1 .taken)
     (c .before .form-at2 .ensures) (c .reading-of .ensures)
 
 returns-2 : tie.Need-returns-2
 returns-2 c =
+    let form-parts-told = c .before .before .before .before .before in
+    let form-at-told = form-parts-told .before in
+    let entry = form-at-told .before .before in
     let m = c .before .match-text in
-    kind-other _ _ (m .last .1 .1 .0) (c .before .before .before .before .before .before .before .before .args .kind) (m .result)
-    (kind-template _ _ _ (c .before .before .before .before .before .before .form-at .ensures) (c .before .before .before .before .before .form-parts .ensures)) (m .ensures) (c .if1 .left)
+    kind-other _ _ (m .last .1 .1 .0) (entry .args .kind) (m .result)
+    (kind-template _ _ _ (form-at-told .form-at .ensures) (form-parts-told .form-parts .ensures)) (m .ensures) (c .if1 .left)
 
 pub read-kind-spec : {M : Type 1} → statement M
 read-kind-spec =

@@ -1,4 +1,4 @@
--- `bracket_forms::reading_of` meets its contract: the form's own third number is compared. Assumes nothing.
+-- `bracket_forms::reading_of` meets its contract: the form's own third number is compared.
 use borrow.Author.Needs.{needs}
 use Rattle.bracket_forms.proofs.Reader.{third-same, third-differs}
 use Rattle.bracket_forms.proofs.reading_of.Tie as tie

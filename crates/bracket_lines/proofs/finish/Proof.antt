@@ -1,5 +1,4 @@
 -- `bracket_lines::finish` meets its contract: at each return the tests that led there say which case holds.
--- Assumes nothing.
 use borrow.Author.Tests.{le-leb, lt-leb, eq-eqb, ne-eqb}
 use Rattle.bracket_lines.specs.Split.{finished}
 use Rattle.bracket_lines.proofs.finish.Statement.{statement}

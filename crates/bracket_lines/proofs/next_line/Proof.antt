@@ -1,5 +1,5 @@
 -- `bracket_lines::next_line` meets its contract. The loop's invariant: the bytes so far have told nothing, and led to the
--- present count and buffer. Assumes nothing.
+-- present count and buffer.
 use borrow.Author.Needs.{needs}
 use Prim.Native.Nat.{ℕ, _-_}
 use mathlib.Core.Path.{_≡_, refl}
@@ -43,8 +43,10 @@ loop-less c = search needs
 
 loop-again : tie.Need-loop-again Inv-loop μ-loop
 loop-again c =
-    let a = c .before .before .before .before .before .before .before .before .args in
-    let k = c .before .before .before .before .before .before .loop in
+    let looping = c .before .before .before .before .before .before in
+    let entry = looping .before .before in
+    let a = entry .args in
+    let k = looping .loop in
     let s = c .before .before .take-byte in
     scanning-more (a .chunk .now) (a .from) (a .count) (a .line .now) (k .at) (k .n) (k .line) (k .inv) (omega arith) (s .result)
     (s .last .1 .1 .0) (s .ensures .0) (s .ensures .1) (c .enum-told .given .1)
@@ -54,8 +56,10 @@ enum-told-2 c = search needs
 
 returns : tie.Need-returns Inv-loop μ-loop
 returns c =
-    let a = c .before .before .before .before .before .before .before .before .args in
-    let k = c .before .before .before .before .before .before .loop in
+    let looping = c .before .before .before .before .before .before in
+    let entry = looping .before .before in
+    let a = entry .args in
+    let k = looping .loop in
     let s = c .before .before .take-byte in
     scanning-told (a .chunk .now) (a .from) (a .count) (a .line .now) (k .at) (k .n) (k .line) (k .inv) (omega arith) (s .result)
     (s .last .1 .1 .0) (s .ensures .0) (s .ensures .1) (s .result .found) refl (never (c .enum-told2 .given .1))
@@ -65,8 +69,10 @@ enum-told-3 c = search needs
 
 returns-2 : tie.Need-returns-2 Inv-loop μ-loop
 returns-2 c =
-    let a = c .before .before .before .before .before .before .before .before .args in
-    let k = c .before .before .before .before .before .before .loop in
+    let looping = c .before .before .before .before .before .before in
+    let entry = looping .before .before in
+    let a = entry .args in
+    let k = looping .loop in
     let s = c .before .before .take-byte in
     scanning-told (a .chunk .now) (a .from) (a .count) (a .line .now) (k .at) (k .n) (k .line) (k .inv) (omega arith) (s .result)
     (s .last .1 .1 .0) (s .ensures .0) (s .ensures .1) (s .result .found) refl (never-long (c .enum-told3 .given .1))

@@ -1,5 +1,4 @@
 -- `bracket_lines::take_byte` meets its contract: at each return the tests that led there say which case holds.
--- Assumes nothing.
 use borrow.Author.Tests.{lt-ltb, le-ltb, le-leb, lt-leb, eq-eqb, ne-eqb}
 use Rattle.bracket_lines.specs.Split.{stepOf, keep}
 use borrow.Author.Needs.{needs}

@@ -1,4 +1,4 @@
--- `bracket_run::answer` meets its contract. Assumes nothing.
+-- `bracket_run::answer` meets its contract.
 use borrow.Author.Needs.{needs}
 use Rattle.bracket_run.proofs.Replying.{wrote-line}
 use Rattle.bracket_run.proofs.answer.Statement.{statement}
@@ -14,7 +14,9 @@ same-length : tie.Need-same-length
 same-length c = search needs
 
 returns : tie.Need-returns
-returns c = wrote-line (c .before .before .before .before .before .answer-line .ensures) (c .before .before .put-line .ensures)
+returns c =
+    let line-answered = c .before .before .before .before .before in
+    wrote-line (line-answered .answer-line .ensures) (c .before .before .put-line .ensures)
 
 pub answer-spec : {M : Type 1} → statement M
 answer-spec = tie.close (tie.spec answer-line-requires put-line-requires same-length returns)

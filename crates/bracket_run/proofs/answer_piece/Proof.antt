@@ -1,4 +1,4 @@
--- `bracket_run::answer_piece` meets its contract. The loop's invariant: each byte passed has room for a reply. Assumes nothing.
+-- `bracket_run::answer_piece` meets its contract. The loop's invariant: each byte passed has room for a reply.
 use borrow.Author.Needs.{needs}
 use Prim.Native.Nat.{_-_, _*_, _≤_}
 use mathlib.Core.Path.{_≡_, refl}
@@ -11,7 +11,10 @@ use Rattle.bracket_run.proofs.answer_piece.Statement.{statement}
 use Rattle.bracket_run.proofs.answer_piece.Tie as tie
 
 abbrev Inv-loop : tie.InvT-loop
-Inv-loop piece count line₀ mem₀ out₀ at₀ n₀ now-open₀ used₀ line mem out at n now-open used = (at ≤ length piece) × (used ≤ at * mostReply) × (length out ≡ length out₀) × Passed (record { segments = now-open₀ .segments; words = mem₀ }) (record { count = n₀; line = line₀ }) (take at piece) (record { count = n; line = line }) (take used out) (record { segments = now-open .segments; words = mem })
+Inv-loop piece count line₀ mem₀ out₀ at₀ n₀ now-open₀ used₀ line mem out at n now-open used =
+    (at ≤ length piece) × (used ≤ at * mostReply) × (length out ≡ length out₀)
+    × Passed (record { segments = now-open₀ .segments; words = mem₀ }) (record { count = n₀; line = line₀ }) (take at piece)
+    (record { count = n; line = line }) (take used out) (record { segments = now-open .segments; words = mem })
 
 abbrev μ-loop : tie.MeasureT-loop
 μ-loop piece count line₀ mem₀ out₀ at₀ n₀ now-open₀ used₀ line mem out at n now-open used = length piece - at
@@ -26,14 +29,22 @@ hear-requires : tie.Need-hear-requires Inv-loop μ-loop
 hear-requires c κs = (omega arith, λ j e. omega (arith, c .before .before .before .before .next-line .ensures .bounded j e))
 
 loop-less : tie.Need-loop-less Inv-loop μ-loop
-loop-less c = omega (arith, c .before .before .before .before .before .before .before .before .next-line .ensures .moves (c .before .before .before .before .before .before .before .before .before .before .loop-test .taken))
+loop-less c =
+    let heard = c .before .before .before in
+    let line-found = heard .before .before .before .before .before in
+    let turning = line-found .before .before in
+    omega (arith, line-found .next-line .ensures .moves (turning .loop-test .taken))
 
 loop-again : tie.Need-loop-again Inv-loop μ-loop
 loop-again c =
-    let q = passes _ _ _ (c .before .before .before .before .before .before .before .before .before .before .before .loop .at) (record { count = c .before .before .before .before .before .before .before .before .before .before .before .loop .n; line = c .before .before .before .before .before .before .before .before .before .before .before .loop .line }) (c .before .before .before .before .before .before .before .before .before .before .before .loop .inv .3) (c .before .before .before .before .before .before .before .before .next-line .ensures) (c .before .before .before .hear .ensures) in
-    let w = c .before .before .before .hear .ensures .short in
-    let z = c .before .before .before .before .before .before .before .before .next-line .ensures .moves (c .before .before .before .before .before .before .before .before .before .before .loop-test .taken) in
-    let k = c .before .before .before .before .before .before .before .before .next-line .ensures .inside (c .before .before .before .before .before .before .before .before .before .before .before .loop .inv .0) in
+    let heard = c .before .before .before in
+    let line-found = heard .before .before .before .before .before in
+    let turning = line-found .before .before in
+    let looping = turning .before in
+    let q = passes _ _ _ (looping .loop .at) (record { count = looping .loop .n; line = looping .loop .line }) (looping .loop .inv .3) (line-found .next-line .ensures) (heard .hear .ensures) in
+    let w = heard .hear .ensures .short in
+    let z = line-found .next-line .ensures .moves (turning .loop-test .taken) in
+    let k = line-found .next-line .ensures .inside (looping .loop .inv .0) in
     (k, omega arith, omega arith, q)
 
 same-length : tie.Need-same-length Inv-loop μ-loop

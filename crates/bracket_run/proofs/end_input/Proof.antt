@@ -1,4 +1,4 @@
--- `bracket_run::end_input` is safe. Assumes nothing.
+-- `bracket_run::end_input` is safe.
 use borrow.Author.Needs.{needs}
 use mathlib.Core.Path.{sym, _∙_}
 use native.Mathlib.Omega.{arith}

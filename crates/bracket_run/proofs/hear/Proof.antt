@@ -1,4 +1,4 @@
--- `bracket_run::hear` meets its contract. Assumes nothing.
+-- `bracket_run::hear` meets its contract.
 use borrow.Author.Needs.{needs}
 use mathlib.Core.Path.{sym}
 use lib.Seq.{length-take-le}
@@ -13,7 +13,9 @@ enum-known-found : tie.Need-enum-known-found
 enum-known-found c = search needs
 
 slice-aggregate-answer : tie.Need-slice-aggregate-answer
-slice-aggregate-answer c = sym (length-take-le _ _ (c .before .before .before .before .before .before .pre .1 _ (c .before .before .found .given .1)))
+slice-aggregate-answer c =
+    let entry = c .before .before .before .before .before .before in
+    sym (length-take-le _ _ (entry .pre .1 _ (c .before .before .found .given .1)))
 
 answer-requires : tie.Need-answer-requires
 answer-requires c κs = search needs
@@ -31,7 +33,9 @@ same-length : tie.Need-same-length
 same-length c = search needs
 
 returns-2 : tie.Need-returns-2
-returns-2 c = wrote-as _ (c .before .before .before .before .before .before .before .found .given .1) (c .before .before .answer .ensures)
+returns-2 c =
+    let found-bound = c .before .before .before .before .before .before .before in
+    wrote-as _ (found-bound .found .given .1) (c .before .before .answer .ensures)
 
 same-length-2 : tie.Need-same-length-2
 same-length-2 c = search needs

@@ -1,4 +1,4 @@
--- `bracket_run::put_line` meets its contract. Assumes nothing.
+-- `bracket_run::put_line` meets its contract.
 use borrow.Author.Needs.{needs}
 use native.Mathlib.Omega.{arith}
 use Rattle.bracket_run.proofs.Printing.{reply-short, inside, printed}
@@ -30,16 +30,27 @@ copy-requires : tie.Need-copy-requires
 copy-requires c κs = search needs
 
 slice-write-out : tie.Need-slice-write-out
-slice-write-out c = inside _ (c .before .before .before .before .before .write-reply .ensures) (reply-short _) _ _ (c .before .before .before .before .before .before .before .before .pre) _ (c .before .before .copy .ensures .1)
+slice-write-out c =
+    let reply-written = c .before .before .before .before .before in
+    let entry = reply-written .before .before .before in
+    inside _ (reply-written .write-reply .ensures) (reply-short _) _ _ (entry .pre) _ (c .before .before .copy .ensures .1)
 
 add-result : tie.Need-add-result
-add-result c = let k = c .before .before .before .before .before .write-reply .ensures .says in let h = reply-short (c .before .before .before .before .before .before .before .before .args .reply) in omega arith
+add-result c =
+    let reply-written = c .before .before .before .before .before in
+    let entry = reply-written .before .before .before in
+    let k = reply-written .write-reply .ensures .says in
+    let h = reply-short (entry .args .reply) in
+    omega arith
 
 same-length : tie.Need-same-length
 same-length c = search needs
 
 returns : tie.Need-returns
-returns c = printed _ (c .before .before .before .before .before .write-reply .ensures) (reply-short _) _ _ (c .before .before .before .before .before .before .before .before .pre) _ (c .before .before .copy .ensures .1)
+returns c =
+    let reply-written = c .before .before .before .before .before in
+    let entry = reply-written .before .before .before in
+    printed _ (reply-written .write-reply .ensures) (reply-short _) _ _ (entry .pre) _ (c .before .before .copy .ensures .1)
 
 pub put-line-spec : {M : Type 1} → statement M
 put-line-spec =

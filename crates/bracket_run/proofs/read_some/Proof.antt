@@ -1,4 +1,4 @@
--- `bracket_run::read_some` is safe. Assumes nothing.
+-- `bracket_run::read_some` is safe.
 use mathlib.Core.Path.{sym}
 use lib.Seq.{length-take-le}
 use borrow.Author.Needs.{needs}

@@ -1,4 +1,4 @@
--- `bracket_run::run` is safe and ends: it counts its turns down. Assumes nothing.
+-- `bracket_run::run` is safe and ends: it counts its turns down.
 use borrow.Author.Needs.{needs}
 use mathlib.Core.Path.{_≡_}
 use lib.ListN.{length}

@@ -1,4 +1,4 @@
--- `bracket_steps::answer_line` meets its contract. Assumes nothing.
+-- `bracket_steps::answer_line` meets its contract.
 use borrow.Author.Needs.{needs}
 use Rattle.layout.specs.Geometry.{segmentBytes}
 use Rattle.bracket_steps.proofs.Carrying.{of-form, of-none}

@@ -1,4 +1,4 @@
--- `bracket_steps::carry_out` meets its contract. Assumes nothing.
+-- `bracket_steps::carry_out` meets its contract.
 use borrow.Author.Needs.{needs}
 use mathlib.Core.Path.{_≡_, sym, _∙_}
 use native.Mathlib.Omega.{arith}

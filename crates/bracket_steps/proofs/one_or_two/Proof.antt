@@ -1,4 +1,4 @@
--- `bracket_steps::one_or_two` meets its contract. Assumes nothing.
+-- `bracket_steps::one_or_two` meets its contract.
 use borrow.Author.Tests.{eq-eqb, ne-eqb}
 use Rattle.bracket_steps.proofs.one_or_two.Statement.{statement}
 use Rattle.bracket_steps.proofs.one_or_two.Tie as tie

@@ -1,4 +1,4 @@
--- `bracket_steps::reply_of` meets its contract: each arm computes. Assumes nothing.
+-- `bracket_steps::reply_of` meets its contract: each arm computes.
 use borrow.Author.Needs.{needs}
 use Rattle.bracket_steps.proofs.reply_of.Statement.{statement}
 use Rattle.bracket_steps.proofs.reply_of.Tie as tie

@@ -1,4 +1,4 @@
--- `bracket_steps::run` meets its contract. Assumes nothing.
+-- `bracket_steps::run` meets its contract.
 use borrow.Author.Needs.{needs}
 use Rattle.bracket_steps.proofs.Running.{ran-open, ran-call, ran-start, ran-step}
 use Rattle.bracket_steps.proofs.run.Statement.{statement}

@@ -1,4 +1,4 @@
--- `bracket_steps::step_reply` meets its contract: each arm computes. Assumes nothing.
+-- `bracket_steps::step_reply` meets its contract: each arm computes.
 use borrow.Author.Needs.{needs}
 use Rattle.bracket_steps.proofs.step_reply.Statement.{statement}
 use Rattle.bracket_steps.proofs.step_reply.Tie as tie

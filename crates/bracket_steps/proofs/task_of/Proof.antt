@@ -1,4 +1,4 @@
--- `bracket_steps::task_of` meets its contract: each arm computes. Assumes nothing.
+-- `bracket_steps::task_of` meets its contract: each arm computes.
 use borrow.Author.Needs.{needs}
 use Rattle.bracket_steps.proofs.task_of.Statement.{statement}
 use Rattle.bracket_steps.proofs.task_of.Tie as tie

@@ -1,5 +1,4 @@
 -- The proof of the cycle of calls {put_number}. The measure is the number: a tenth of it is written first, then its last digit.
--- Assumes nothing.
 use mathlib.Core.Path.{_∙_}
 use native.Mathlib.Omega.{arith}
 use lib.ListN.{length-set}
@@ -84,15 +83,17 @@ put-number-add-buf-2 t c = search needs
 
 put-number-slice-write-buf-2 : (t : ℕ) → put-number-lts.Need-slice-write-buf-2 (claims t) (put-number-at t) put-number.Post
 put-number-slice-write-buf-2 t c =
-    let a = c .before .before .before .before .before .before .args in
+    let entry = c .before .before .before .before .before .before in
+    let a = entry .args in
     omega
-    (arith, c .before .before .before .before .before .before .pre .1, more-length (a .n) (omega arith) (omega arith), c .before .before .put-number .ensures .0, c .before .before .put-number .kept .0)
+    (arith, entry .pre .1, more-length (a .n) (omega arith) (omega arith), c .before .before .put-number .ensures .0, c .before .before .put-number .kept .0)
 
 put-number-add-result-2 : (t : ℕ) → put-number-lts.Need-add-result-2 (claims t) (put-number-at t) put-number.Post
 put-number-add-result-2 t c =
-    let a = c .before .before .before .before .before .before .args in
+    let entry = c .before .before .before .before .before .before in
+    let a = entry .args in
     omega
-    (arith, c .before .before .before .before .before .before .pre .1, more-length (a .n) (omega arith) (omega arith), c .before .before .put-number .ensures .0, c .before .before .before .before .before .before .good .0)
+    (arith, entry .pre .1, more-length (a .n) (omega arith) (omega arith), c .before .before .put-number .ensures .0, entry .good .0)
 
 put-number-same-length-2 : (t : ℕ) → put-number-lts.Need-same-length-2 (claims t) (put-number-at t) put-number.Post
 put-number-same-length-2 t c =
@@ -101,9 +102,10 @@ put-number-same-length-2 t c =
 
 put-number-returns-2 : (t : ℕ) → put-number-lts.Need-returns-2 (claims t) (put-number-at t) put-number.Post
 put-number-returns-2 t c =
-    let a = c .before .before .before .before .before .before .args in (
+    let entry = c .before .before .before .before .before .before in
+    let a = entry .args in (
       omega (arith, more-length (a .n) (omega arith) (omega arith), c .before .before .put-number .ensures .0),
-      wrote-more (a .buf .now) (a .at) (a .n) (c .before .before .before .before .before .before .pre .1) (omega arith)
+      wrote-more (a .buf .now) (a .at) (a .n) (entry .pre .1) (omega arith)
           (omega arith) (c .before .before .put-number .last .0) (c .before .before .put-number .result)
           (c .before .before .put-number .ensures .0) (c .before .before .put-number .ensures .1),
     )

@@ -1,5 +1,4 @@
 -- `bracket_text::digit` meets its contract: at each return the tests that led there say which case of `digitOf` holds.
--- Assumes nothing.
 use borrow.Author.Tests.{lt-ltb, le-ltb}
 use borrow.Author.Needs.{needs}
 use Rattle.bracket_text.proofs.digit.Statement.{statement}

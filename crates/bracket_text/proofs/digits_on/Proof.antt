@@ -1,5 +1,5 @@
 -- `bracket_text::digits_on` meets its contract. The loop's invariant: reading on from the present place with the present value
--- gives what reading from the first place gives, and the value has 32 bits. Assumes nothing.
+-- gives what reading from the first place gives, and the value has 32 bits.
 use borrow.Author.Needs.{needs}
 use Prim.Native.Nat.{_-_, _≤_, _<_}
 use native.Mathlib.Omega.{arith}
@@ -31,8 +31,10 @@ cast-t12 c = search needs
 
 returns : tie.Need-returns Inv-loop μ-loop
 returns c =
-    let a = c .before .before .before .before .before .before .args in
-    let k = c .before .before .before .before .loop in (
+    let looping = c .before .before .before .before in
+    let entry = looping .before .before in
+    let a = entry .args in
+    let k = looping .loop in (
       k .inv .2 ∙ digits-stop (a .line .now) (k .at) (c .before .digit .result) (omega arith) (c .before .digit .ensures) (k .value)
           (omega arith),
       omega arith,
@@ -46,8 +48,10 @@ add-next c = search needs
 
 returns-2 : tie.Need-returns-2 Inv-loop μ-loop
 returns-2 c =
-    let a = c .before .before .before .before .before .before .before .args in
-    let k = c .before .before .before .before .before .loop in
+    let looping = c .before .before .before .before .before in
+    let entry = looping .before .before in
+    let a = entry .args in
+    let k = looping .loop in
     k .inv .2
     ∙ digits-over (a .line .now) (k .at) (c .before .before .digit .result) (omega arith) (c .before .before .digit .ensures)
     (k .value) (omega arith) (omega arith)
@@ -60,8 +64,10 @@ loop-less c = search needs
 
 loop-again : tie.Need-loop-again Inv-loop μ-loop
 loop-again c =
-    let a = c .before .before .before .before .before .before .before .args in
-    let k = c .before .before .before .before .before .loop in (
+    let looping = c .before .before .before .before .before in
+    let entry = looping .before .before in
+    let a = entry .args in
+    let k = looping .loop in (
       omega arith,
       omega arith,
       k .inv .2 ∙ digits-more (a .line .now) (k .at) (c .before .before .digit .result) (omega arith)

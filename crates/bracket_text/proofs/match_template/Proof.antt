@@ -1,5 +1,5 @@
 -- `bracket_text::match_template` meets its contract. The loop's invariant: reading on by the rest of the template gives what
--- reading by the whole of it gives. Assumes nothing.
+-- reading by the whole of it gives.
 use borrow.Author.Needs.{needs}
 use Prim.Native.Nat.{_-_, _≤_}
 use mathlib.Core.Path.{_≡_, refl, _∙_}
@@ -35,8 +35,10 @@ enum-told c = search needs
 
 returns : tie.Need-returns Inv-loop μ-loop
 returns c =
-    let a = c .before .before .before .before .before .before .before .before .before .args in
-    let k = c .before .before .before .before .before .before .loop in
+    let looping = c .before .before .before .before .before .before in
+    let entry = looping .before .before .before in
+    let a = entry .args in
+    let k = looping .loop in
     k .inv .3
     ∙ matched-astray (a .template .now) (k .i) (k .count) (k .numbers) _ (omega arith)
     (moves-astray (a .line .now) _ _ _ (c .before .before .piece-at .ensures) (c .enum-told .given .1))
@@ -49,9 +51,12 @@ loop-less c = search needs
 
 loop-again : tie.Need-loop-again Inv-loop μ-loop
 loop-again c =
-    let a = c .before .before .before .before .before .before .before .before .before .before .args in
-    let k = c .before .before .before .before .before .before .before .loop in
-    let m = moves-at (a .line .now) _ _ _ (c .before .before .before .piece-at .ensures) (c .before .next .given .1) in (
+    let piece-at-told = c .before .before .before in
+    let looping = piece-at-told .before .before .before .before in
+    let entry = looping .before .before .before in
+    let a = entry .args in
+    let k = looping .loop in
+    let m = moves-at (a .line .now) _ _ _ (piece-at-told .piece-at .ensures) (c .before .next .given .1) in (
       omega arith,
       m .1,
       m .2,

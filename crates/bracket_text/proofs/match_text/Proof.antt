@@ -1,4 +1,4 @@
--- `bracket_text::match_text` meets its contract: the part that it compares with is the template. Assumes nothing.
+-- `bracket_text::match_text` meets its contract: the part that it compares with is the template.
 use borrow.Author.Needs.{needs}
 use Rattle.bracket_text.proofs.Fixed.{part-length, part-is}
 use Rattle.bracket_text.proofs.match_text.Statement.{statement}

@@ -1,5 +1,4 @@
 -- `bracket_text::number_at` meets its contract: each return is one way that reading a number can go.
--- Assumes nothing.
 use native.Mathlib.Omega.{arith}
 use Rattle.bracket_text.proofs.Steps.{number-end, number-none, number-zero, number-more}
 use borrow.Author.Needs.{needs}
@@ -17,7 +16,8 @@ digit-requires c κs = search needs
 
 returns-2 : tie.Need-returns-2
 returns-2 c =
-    let a = c .before .before .before .before .before .args in
+    let entry = c .before .before .before .before .before in
+    let a = entry .args in
     number-none (a .line .now) (a .at) (c .before .digit .result) (omega arith) (c .before .digit .ensures) (omega arith)
 
 add-next : tie.Need-add-next
@@ -25,7 +25,8 @@ add-next c = search needs
 
 returns-3 : tie.Need-returns-3
 returns-3 c =
-    let a = c .before .before .before .before .before .before .args in (
+    let entry = c .before .before .before .before .before .before in
+    let a = entry .args in (
       number-zero (a .line .now) (a .at) (c .before .before .digit .result) (omega arith) (c .before .before .digit .ensures)
           (omega arith),
       omega arith,
@@ -36,9 +37,11 @@ digits-on-requires c κs = search needs
 
 returns-4 : tie.Need-returns-4
 returns-4 c =
-    let a = c .before .before .before .before .before .before .before .args in
+    let digit-told = c .before .before .before in
+    let entry = digit-told .before .before .before .before in
+    let a = entry .args in
     rw
-    (number-more (a .line .now) (a .at) (c .before .before .before .digit .result) (omega arith) (c .before .before .before .digit .ensures) (omega arith) (c .before .if3 .left))
+    (number-more (a .line .now) (a .at) (digit-told .digit .result) (omega arith) (digit-told .digit .ensures) (omega arith) (c .before .if3 .left))
     (c .digits-on .ensures)
 
 pub number-at-spec : {M : Type 1} → statement M

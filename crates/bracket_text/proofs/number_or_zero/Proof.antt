@@ -1,5 +1,4 @@
 -- `bracket_text::number_or_zero` meets its contract: past the end of a list `getD` gives 0.
--- Assumes nothing.
 use mathlib.Core.Path.{sym}
 use lib.ListN.{List·getD-eq-default}
 use borrow.Author.Needs.{needs}

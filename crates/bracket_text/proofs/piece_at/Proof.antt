@@ -1,5 +1,4 @@
 -- `bracket_text::piece_at` meets its contract: each return is one way that reading a byte of a template can go.
--- Assumes nothing.
 use native.Mathlib.Omega.{arith}
 use Rattle.bracket_text.proofs.Steps.{reads-value, reads-nothing, piece-kept, piece-full, piece-no-number, piece-literal, piece-other, piece-end}
 use borrow.Author.Needs.{needs}
@@ -32,9 +31,12 @@ add-t24 c = search needs
 
 returns : tie.Need-returns
 returns c =
-    let a = c .before .before .before .before .before .before .before .args in
-    let h = reads-value (a .line .now) _ _ (c .before .before .before .before .number-at .ensures) (c .before .before .value .given .1) in (
-      piece-kept (a .byte) (a .count) (a .numbers .now) _ (c .before .before .before .before .before .if1 .taken) _ _ (h .0)
+    let number-at-told = c .before .before .before .before in
+    let when-byte = number-at-told .before in
+    let entry = when-byte .before .before in
+    let a = entry .args in
+    let h = reads-value (a .line .now) _ _ (number-at-told .number-at .ensures) (c .before .before .value .given .1) in (
+      piece-kept (a .byte) (a .count) (a .numbers .now) _ (when-byte .if1 .taken) _ _ (h .0)
           (omega arith),
       h .1,
       omega arith,
@@ -42,21 +44,28 @@ returns c =
 
 returns-2 : tie.Need-returns-2
 returns-2 c =
-    let a = c .before .before .before .before .before .before .before .args in
-    let h = reads-value (a .line .now) _ _ (c .before .before .before .before .number-at .ensures) (c .before .before .value .given .1) in
-    piece-full (a .byte) (a .count) (a .numbers .now) _ (c .before .before .before .before .before .if1 .taken) _ _ (h .0)
+    let number-at-told = c .before .before .before .before in
+    let when-byte = number-at-told .before in
+    let entry = when-byte .before .before in
+    let a = entry .args in
+    let h = reads-value (a .line .now) _ _ (number-at-told .number-at .ensures) (c .before .before .value .given .1) in
+    piece-full (a .byte) (a .count) (a .numbers .now) _ (when-byte .if1 .taken) _ _ (h .0)
     (omega arith)
 
 returns-3 : tie.Need-returns-3
 returns-3 c =
-    let a = c .before .before .before .before .before .args in
-    piece-no-number (a .byte) (a .count) (a .numbers .now) _ (c .before .before .before .if1 .taken)
+    let when-byte = c .before .before .before in
+    let entry = when-byte .before .before in
+    let a = entry .args in
+    piece-no-number (a .byte) (a .count) (a .numbers .now) _ (when-byte .if1 .taken)
     (reads-nothing (a .line .now) _ _ (c .before .before .number-at .ensures) (c .enum-told .given .1))
 
 returns-4 : tie.Need-returns-4
 returns-4 c =
-    let a = c .before .before .before .before .before .args in (
-      piece-literal (a .byte) (a .count) (a .numbers .now) (a .line .now) (a .at) (c .before .before .before .if1 .left)
+    let past-byte = c .before .before .before in
+    let entry = past-byte .before .before in
+    let a = entry .args in (
+      piece-literal (a .byte) (a .count) (a .numbers .now) (a .line .now) (a .at) (past-byte .if1 .left)
           (omega arith) (c .if4 .taken),
       omega arith,
       omega arith,
@@ -64,8 +73,10 @@ returns-4 c =
 
 returns-5 : tie.Need-returns-5
 returns-5 c =
-    let a = c .before .before .before .before .before .args in
-    piece-other (a .byte) (a .count) (a .numbers .now) (a .line .now) (a .at) (c .before .before .before .if1 .left) (omega arith)
+    let past-byte = c .before .before .before in
+    let entry = past-byte .before .before in
+    let a = entry .args in
+    piece-other (a .byte) (a .count) (a .numbers .now) (a .line .now) (a .at) (past-byte .if1 .left) (omega arith)
     (c .if4 .left)
 
 returns-6 : tie.Need-returns-6

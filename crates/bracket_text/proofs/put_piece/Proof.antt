@@ -1,5 +1,4 @@
 -- `bracket_text::put_piece` meets its contract: a number's decimal is placed for `#`, and the byte itself otherwise.
--- Assumes nothing.
 use Prim.Native.Nat.{ℕ}
 use Rattle.bracket_text.specs.Text.{decimal}
 use native.Mathlib.Omega.{arith}
@@ -15,9 +14,10 @@ number-or-zero-requires c κs = search needs
 
 put-number-requires : tie.Need-put-number-requires
 put-number-requires c κs =
-    let a = c .before .before .before .before .before .args in
+    let entry = c .before .before .before .before .before in
+    let a = entry .args in
     omega
-    (arith, c .before .before .before .before .before .pre .0, ap length (hole-text (a .byte) (a .pen .count) (a .numbers .now) (c .before .before .if1 .taken)), ap (λ (k : ℕ). length (decimal k)) (c .before .number-or-zero .ensures))
+    (arith, entry .pre .0, ap length (hole-text (a .byte) (a .pen .count) (a .numbers .now) (c .before .before .if1 .taken)), ap (λ (k : ℕ). length (decimal k)) (c .before .number-or-zero .ensures))
 
 add-t13 : tie.Need-add-t13
 add-t13 c = search needs
@@ -36,10 +36,13 @@ same-length c = search needs
 
 returns : tie.Need-returns
 returns c =
-    let a = c .before .before .before .before .before .before .before .before .args in
-    put-hole (a .buf .now) (a .numbers .now) (a .pen) (a .byte) (c .before .before .before .before .number-or-zero .result)
+    let number-or-zero-told = c .before .before .before .before in
+    let when-byte = number-or-zero-told .before in
+    let entry = when-byte .before .before .before in
+    let a = entry .args in
+    put-hole (a .buf .now) (a .numbers .now) (a .pen) (a .byte) (number-or-zero-told .number-or-zero .result)
     (c .before .before .put-number .result) (c .before .before .put-number .last .0)
-    (c .before .before .before .before .before .if1 .taken) (c .before .before .before .before .number-or-zero .ensures)
+    (when-byte .if1 .taken) (number-or-zero-told .number-or-zero .ensures)
     (c .before .before .put-number .ensures .0) (c .before .before .put-number .ensures .1)
 
 same-length-2 : tie.Need-same-length-2

@@ -1,5 +1,4 @@
 -- `bracket_text::template_length` meets its contract. The loop's invariant: the template's length is that among the first n bytes.
--- Assumes nothing.
 use Prim.Native.Nat.{_≤_}
 use mathlib.Core.Path.{_≡_, refl, _∙_}
 use native.Mathlib.Omega.{arith}

@@ -1,5 +1,5 @@
 -- `bracket_text::write_template` meets its contract. The loop's invariant: with the rest of the text placed at the pen, the
--- whole text is placed. Assumes nothing.
+-- whole text is placed.
 use borrow.Author.Needs.{needs}
 use Prim.Native.Nat.{_-_}
 use native.Mathlib.Omega.{arith}
@@ -22,10 +22,12 @@ shared-slice-read-put-piece c = search needs
 
 put-piece-requires : tie.Need-put-piece-requires Inv-loop μ-loop
 put-piece-requires c κs =
-    let a = c .before .before .before .before .before .before .before .args in
-    let k = c .before .before .before .loop in (
+    let looping = c .before .before .before in
+    let entry = looping .before .before .before .before in
+    let a = entry .args in
+    let k = looping .loop in (
       writes-room (a .template .now) (a .numbers .now) (a .buf .now) (k .buf) (k .pen) (k .i) (k .inv)
-          (c .before .before .before .before .before .before .before .pre) (omega arith),
+          (entry .pre) (omega arith),
       omega (arith, k .inv .count),
     )
 
@@ -37,10 +39,12 @@ loop-less c = omega arith
 
 loop-again : tie.Need-loop-again Inv-loop μ-loop
 loop-again c =
-    let a = c .before .before .before .before .before .before .before .before .before .before .args in
-    let k = c .before .before .before .before .before .before .loop in
+    let looping = c .before .before .before .before .before .before in
+    let entry = looping .before .before .before .before in
+    let a = entry .args in
+    let k = looping .loop in
     writes-more (a .template .now) (a .numbers .now) (a .buf .now) (k .buf) (k .pen) (k .i) (k .inv)
-    (c .before .before .before .before .before .before .before .before .before .before .pre) (omega arith)
+    (entry .pre) (omega arith)
     (c .before .before .put-piece .result) (c .before .before .put-piece .last .0) (c .before .before .put-piece .kept .0)
     (c .before .before .put-piece .ensures)
 
@@ -49,10 +53,11 @@ same-length c = c .before .loop .inv .same
 
 returns : tie.Need-returns Inv-loop μ-loop
 returns c =
-    let a = c .before .before .before .before .before .args in
+    let entry = c .before .before .before .before .before in
+    let a = entry .args in
     let k = c .before .loop in
     writes-all (a .template .now) (a .numbers .now) (a .buf .now) (k .buf) (k .pen) (k .i) (k .inv)
-    (c .before .before .before .before .before .pre) (omega arith)
+    (entry .pre) (omega arith)
 
 pub write-template-spec : {M : Type 1} → statement M
 write-template-spec =

@@ -1,4 +1,4 @@
--- `bracket_text::write_text` meets its contract: the part that it writes from is the template. Assumes nothing.
+-- `bracket_text::write_text` meets its contract: the part that it writes from is the template.
 use borrow.Author.Needs.{needs}
 use Rattle.bracket_text.proofs.Fixed.{part-length, part-is}
 use Rattle.bracket_text.proofs.write_text.Statement.{statement}
@@ -11,13 +11,17 @@ slice-aggregate-write-template : tie.Need-slice-aggregate-write-template
 slice-aggregate-write-template c = part-length _ _ (c .before .template-length .ensures)
 
 write-template-requires : tie.Need-write-template-requires
-write-template-requires c κs = rw (part-is _ _ (c .before .before .template-length .ensures)) (c .before .before .before .before .before .before .pre)
+write-template-requires c κs =
+    let entry = c .before .before .before .before .before .before in
+    rw (part-is _ _ (c .before .before .template-length .ensures)) (entry .pre)
 
 same-length : tie.Need-same-length
 same-length c = search needs
 
 returns : tie.Need-returns
-returns c = rw (part-is _ _ (c .before .before .before .before .before .template-length .ensures)) at (c .before .before .write-template .ensures)
+returns c =
+    let template-length-told = c .before .before .before .before .before in
+    rw (part-is _ _ (template-length-told .template-length .ensures)) at (c .before .before .write-template .ensures)
 
 pub write-text-spec : {M : Type 1} → statement M
 write-text-spec =

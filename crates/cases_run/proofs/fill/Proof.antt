@@ -1,4 +1,4 @@
--- `cases_run::fill` meets its contract. Assumes nothing.
+-- `cases_run::fill` meets its contract.
 use mathlib.Core.Path.{_≡_, refl, _∙_}
 use Prim.Native.Nat.{_-_, _≤_}
 use native.Mathlib.Omega.{arith}

@@ -1,4 +1,4 @@
--- `cases_run::space_of` meets its contract. Assumes nothing.
+-- `cases_run::space_of` meets its contract.
 use mathlib.Core.Path.{sym, ap, _∙_}
 use Prim.Native.Nat.{_-_}
 use native.Mathlib.Nat.{le-trans}
@@ -19,18 +19,22 @@ enum-known-shaped c = search needs
 
 sub-t5 : tie.Need-sub-t5
 sub-t5 c =
-    let i = shape-is segmentSize (c .before .before .before .before .before .args .class) (c .before .before .shaped .given .0 .0) (sym (c .before .before .shaped .given .1) ∙ c .before .before .before .before .segment-shape .ensures) in
+    let segment-shape-told = c .before .before .before .before in
+    let entry = segment-shape-told .before in
+    let i = shape-is segmentSize (entry .args .class) (c .before .before .shaped .given .0 .0) (sym (c .before .before .shaped .given .1) ∙ segment-shape-told .segment-shape .ensures) in
     let e = ap (λ (x : SegmentShape). x .levels) (i .shape) in
-    omega (arith, shape-levels-pos (blocksOf segmentSize (c .before .before .before .before .before .args .class)))
+    omega (arith, shape-levels-pos (blocksOf segmentSize (entry .args .class)))
 
 enum-told : tie.Need-enum-told
 enum-told c = search needs
 
 returns : tie.Need-returns
 returns c =
+    let segment-shape-told = c .before .before .before .before in
+    let entry = segment-shape-told .before in
     let x = c .before .before .shaped .given .0 .0 in
-    let i = shape-is segmentSize (c .before .before .before .before .before .args .class) x (sym (c .before .before .shaped .given .1) ∙ c .before .before .before .before .segment-shape .ensures) in
-    let f = class-fits (c .before .before .before .before .before .args .class) x i in
+    let i = shape-is segmentSize (entry .args .class) x (sym (c .before .before .shaped .given .1) ∙ segment-shape-told .segment-shape .ensures) in
+    let f = class-fits (entry .args .class) x i in
     (f, le-trans (words-in (x .levels - 1) (x .blocks)) f)
 
 returns-2 : tie.Need-returns-2

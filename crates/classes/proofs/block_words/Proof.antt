@@ -1,4 +1,4 @@
--- `classes::block_words` meets its contract: the shift's word is one test at each class, which is computed. Assumes nothing.
+-- `classes::block_words` meets its contract: the shift's word is one test at each class, which is computed.
 use mathlib.Core.Bool.{Bool}
 use Prim.Native.Nat.{ℕ, _-_, _*_, _%_, _^_}
 use lib.Dec.{eqb, eqb→eq}

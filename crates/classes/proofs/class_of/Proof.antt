@@ -1,4 +1,4 @@
--- `classes::class_of` meets its contract: the table's rule at each entry that has a name, and at those that have none. Assumes nothing.
+-- `classes::class_of` meets its contract: the table's rule at each entry that has a name, and at those that have none.
 use borrow.Author.Needs.{needs}
 use Rattle.classes.proofs.ClassTable.{entry}
 use Rattle.classes.proofs.class_of.Tie as tie

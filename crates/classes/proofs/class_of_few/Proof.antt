@@ -1,4 +1,4 @@
--- `classes::class_of_few` meets its contract: the table's rule at each entry that has a name; there is no other. Assumes nothing.
+-- `classes::class_of_few` meets its contract: the table's rule at each entry that has a name; there is no other.
 use mathlib.Core.Path.{_≡_}
 use Prim.Native.Nat.{ℕ, suc, _≤_}
 use native.Mathlib.Omega.{arith}

@@ -1,4 +1,4 @@
--- `classes::class_of_many` meets its contract: the table's rule at the entry, and that the entry fits where it is widened. Assumes nothing.
+-- `classes::class_of_many` meets its contract: the table's rule at the entry, and that the entry fits where it is widened.
 use mathlib.Core.Path.{sym}
 use mathlib.Core.Bool.{Bool}
 use Prim.Native.Nat.{ℕ, _^_}

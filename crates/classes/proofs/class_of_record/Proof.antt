@@ -1,4 +1,4 @@
--- `classes::class_of_record` meets its contract: the sum of two counts does not wrap. Assumes nothing.
+-- `classes::class_of_record` meets its contract: the sum of two counts does not wrap.
 use mathlib.Core.Path.{sym}
 use native.Mathlib.Omega.{arith}
 use borrow.Author.Needs.{needs}

@@ -1,4 +1,4 @@
--- `classes::is_class` meets its contract. Assumes nothing.
+-- `classes::is_class` meets its contract.
 use borrow.Author.Needs.{needs}
 use borrow.Author.Tests.{lt-ltb, le-ltb}
 use Rattle.classes.specs.Class.{classTest}

@@ -1,5 +1,4 @@
 -- `classes::segment_shape` meets its contract: the shape of each class is one test at each of the table's entries, which is computed.
--- Assumes nothing.
 use mathlib.Core.Path.{_≡_, refl, sym, ap, _∙_}
 use mathlib.Core.List.{List, [], _∷_}
 use mathlib.Core.Bool.{Bool, true, false, _&&_}

@@ -1,4 +1,4 @@
--- `examine_colours::covered` meets its contract. Assumes nothing.
+-- `examine_colours::covered` meets its contract.
 use mathlib.Core.Path.{_≡_}
 use borrow.Author.Tests.{not-true, not-false}
 use Rattle.layout.specs.Mem.{memOf}
@@ -14,7 +14,14 @@ same-length : tie.Need-same-length
 same-length c = search needs
 
 returns : tie.Need-returns
-returns c = let a = c .before .before .before .before .before .before .before in let g = a .args .g in second-fails g (a .args .mem .now) (a .args .n) (a .args .scratch .now) (a .pre .0) (memOf g (a .args .mem .now)) (a .pre .1) (c .before .before .before .entries-behind .last .1 .1 .1 .0) (c .before .before .before .entries-behind .kept .1 .1 .1 .0) _ (c .before .before .before .entries-behind .ensures) (not-true _ (c .if1 .taken))
+returns c =
+    let entries-behind-told = c .before .before .before in
+    let entry = entries-behind-told .before .before .before .before in
+    let a = entry .args in
+    let g = a .g in
+    second-fails g (a .mem .now) (a .n) (a .scratch .now) (entry .pre .0) (memOf g (a .mem .now)) (entry .pre .1)
+    (entries-behind-told .entries-behind .last .1 .1 .1 .0) (entries-behind-told .entries-behind .kept .1 .1 .1 .0) _
+    (entries-behind-told .entries-behind .ensures) (not-true _ (c .if1 .taken))
 
 roots-in-requires : tie.Need-roots-in-requires
 roots-in-requires c κs = search needs
@@ -23,16 +30,47 @@ same-length-2 : tie.Need-same-length-2
 same-length-2 c = search needs
 
 returns-2 : tie.Need-returns-2
-returns-2 c = let a = c .before .before .before .before .before .before .before .before .before .before in let g = a .args .g in second-roots g (a .args .mem .now) (a .args .n) (a .args .scratch .now) (a .pre .0) (memOf g (a .args .mem .now)) (a .pre .1) (c .before .before .before .before .before .before .entries-behind .last .1 .1 .1 .0) (c .before .before .before .before .before .before .entries-behind .kept .1 .1 .1 .0) _ (c .before .before .before .before .before .before .entries-behind .ensures) (not-false _ (c .before .before .before .if1 .left)) _ (c .before .roots-in .ensures) (not-true _ (c .if2 .taken))
+returns-2 c =
+    let past-ok = c .before .before .before in
+    let entries-behind-told = past-ok .before .before .before in
+    let entry = entries-behind-told .before .before .before .before in
+    let a = entry .args in
+    let g = a .g in
+    second-roots g (a .mem .now) (a .n) (a .scratch .now) (entry .pre .0) (memOf g (a .mem .now)) (entry .pre .1)
+    (entries-behind-told .entries-behind .last .1 .1 .1 .0) (entries-behind-told .entries-behind .kept .1 .1 .1 .0) _
+    (entries-behind-told .entries-behind .ensures) (not-false _ (past-ok .if1 .left)) _ (c .before .roots-in .ensures)
+    (not-true _ (c .if2 .taken))
 
 pointers-in-requires : tie.Need-pointers-in-requires
-pointers-in-requires c κs = let a = c .before .before .before .before .before .before .before .before .before .before .before in let g = a .args .g in let m = memOf g (a .args .mem .now) in (second-room g (a .args .mem .now) (a .args .n) (a .args .scratch .now) (a .pre .0) m (a .pre .1) (c .before .before .before .before .before .before .before .entries-behind .last .1 .1 .1 .0) (c .before .before .before .before .before .before .before .entries-behind .kept .1 .1 .1 .0) _ (c .before .before .before .before .before .before .before .entries-behind .ensures), second-known g (a .args .mem .now) (a .args .n) (a .args .scratch .now) (a .pre .0) m (a .pre .1) (c .before .before .before .before .before .before .before .entries-behind .last .1 .1 .1 .0) (c .before .before .before .before .before .before .before .entries-behind .kept .1 .1 .1 .0) _ (c .before .before .before .before .before .before .before .entries-behind .ensures))
+pointers-in-requires c κs =
+    let entries-behind-told = c .before .before .before .before .before .before .before in
+    let entry = entries-behind-told .before .before .before .before in
+    let a = entry .args in
+    let g = a .g in
+    let m = memOf g (a .mem .now) in (
+      second-room g (a .mem .now) (a .n) (a .scratch .now) (entry .pre .0) m (entry .pre .1)
+          (entries-behind-told .entries-behind .last .1 .1 .1 .0) (entries-behind-told .entries-behind .kept .1 .1 .1 .0) _
+          (entries-behind-told .entries-behind .ensures),
+      second-known g (a .mem .now) (a .n) (a .scratch .now) (entry .pre .0) m (entry .pre .1)
+          (entries-behind-told .entries-behind .last .1 .1 .1 .0) (entries-behind-told .entries-behind .kept .1 .1 .1 .0) _
+          (entries-behind-told .entries-behind .ensures),
+    )
 
 same-length-3 : tie.Need-same-length-3
 same-length-3 c = search needs
 
 returns-3 : tie.Need-returns-3
-returns-3 c = let a = c .before .before .before .before .before .before .before .before .before .before .before .before in let g = a .args .g in second-all g (a .args .mem .now) (a .args .n) (a .args .scratch .now) (a .pre .0) (memOf g (a .args .mem .now)) (a .pre .1) (c .before .before .before .before .before .before .before .before .entries-behind .last .1 .1 .1 .0) (c .before .before .before .before .before .before .before .before .entries-behind .kept .1 .1 .1 .0) _ (c .before .before .before .before .before .before .before .before .entries-behind .ensures) (not-false _ (c .before .before .before .before .before .if1 .left)) _ (c .before .before .before .roots-in .ensures) (not-false _ (c .before .before .if2 .left)) _ (c .pointers-in .ensures)
+returns-3 c =
+    let roots-in-told = c .before .before .before in
+    let past-ok = roots-in-told .before .before in
+    let entries-behind-told = past-ok .before .before .before in
+    let entry = entries-behind-told .before .before .before .before in
+    let a = entry .args in
+    let g = a .g in
+    second-all g (a .mem .now) (a .n) (a .scratch .now) (entry .pre .0) (memOf g (a .mem .now)) (entry .pre .1)
+    (entries-behind-told .entries-behind .last .1 .1 .1 .0) (entries-behind-told .entries-behind .kept .1 .1 .1 .0) _
+    (entries-behind-told .entries-behind .ensures) (not-false _ (past-ok .if1 .left)) _ (roots-in-told .roots-in .ensures)
+    (not-false _ (c .before .before .if2 .left)) _ (c .pointers-in .ensures)
 
 pub covered-spec : {M : Type 1} → statement M
 covered-spec =

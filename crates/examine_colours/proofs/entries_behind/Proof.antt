@@ -1,4 +1,4 @@
--- `examine_colours::entries_behind` meets its contract. Assumes nothing.
+-- `examine_colours::entries_behind` meets its contract.
 use mathlib.Core.Path.{_≡_, sym, subst}
 use mathlib.Core.List.{List}
 use Prim.Native.Nat.{ℕ}
@@ -28,7 +28,17 @@ same-length : tie.Need-same-length
 same-length c = search needs
 
 returns : tie.Need-returns
-returns c = let a = c .before .before .before .before .before .before in let g = a .args .g in let m = memOf g (a .args .mem .now) in let s = a .args .scratch .now in let w = within g (a .args .mem .now) (a .args .n) s (a .pre) in (subst (λ (z : List ℕ). Finds g m (ByEntries g m) (c .before .before .by-entries .result) z) (sym (back (a .args .n) s w (c .before .before .by-entries .last .1 .1 .0))) (c .before .before .by-entries .ensures), front (a .args .n) s w (c .before .before .by-entries .last .1 .1 .0))
+returns c =
+    let entry = c .before .before .before .before .before .before in
+    let a = entry .args in
+    let g = a .g in
+    let m = memOf g (a .mem .now) in
+    let s = a .scratch .now in
+    let w = within g (a .mem .now) (a .n) s (entry .pre) in (
+      subst (λ (z : List ℕ). Finds g m (ByEntries g m) (c .before .before .by-entries .result) z)
+          (sym (back (a .n) s w (c .before .before .by-entries .last .1 .1 .0))) (c .before .before .by-entries .ensures),
+      front (a .n) s w (c .before .before .by-entries .last .1 .1 .0),
+    )
 
 pub entries-behind-spec : {M : Type 1} → statement M
 entries-behind-spec =

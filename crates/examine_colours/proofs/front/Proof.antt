@@ -1,4 +1,4 @@
--- `examine_colours::front` meets its contract. Assumes nothing.
+-- `examine_colours::front` meets its contract.
 use Rattle.examine_colours.proofs.Fields.{field-is}
 use borrow.Author.Needs.{needs}
 use Rattle.examine_colours.proofs.front.Statement.{statement}

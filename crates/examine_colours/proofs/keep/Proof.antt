@@ -1,4 +1,4 @@
--- `examine_colours::keep` meets its contract. Assumes nothing.
+-- `examine_colours::keep` meets its contract.
 use Prim.Native.Nat.{ℕ, _-_, _+_}
 use mathlib.Core.Path.{_≡_, _∙_}
 use native.Mathlib.Omega.{arith}
@@ -37,7 +37,10 @@ loop-less : tie.Need-loop-less Inv-loop μ-loop
 loop-less c = omega (arith, c .before .loop-test .taken)
 
 loop-again : tie.Need-loop-again Inv-loop μ-loop
-loop-again c = let a = c .before .before .before in let l = c .before .before .loop in copied-more (a .args .n) (a .args .scratch .now) (a .pre) (l .scratch) (l .i) (c .before .loop-test .taken) (l .inv)
+loop-again c =
+    let entry = c .before .before .before in
+    let l = c .before .before .loop in
+    copied-more (entry .args .n) (entry .args .scratch .now) (entry .pre) (l .scratch) (l .i) (c .before .loop-test .taken) (l .inv)
 
 same-length : tie.Need-same-length Inv-loop μ-loop
 same-length c = c .before .loop .inv .size

@@ -1,4 +1,4 @@
--- `examine_colours::live_ok` meets its contract. Assumes nothing.
+-- `examine_colours::live_ok` meets its contract.
 use Rattle.layout.specs.Mem.{memOf}
 use Rattle.model.specs.Reaching.{Live}
 use Rattle.examine_colours.proofs.Meaning.{finds-decides}
@@ -16,7 +16,10 @@ same-length : tie.Need-same-length
 same-length c = search needs
 
 returns : tie.Need-returns
-returns c = let a = c .before .before .before .before .before .before .before in let m = memOf (a .args .g) (a .args .mem .now) in finds-decides (a .args .g) m (Live m) _ _ (c .before .before .live-behind .ensures)
+returns c =
+    let entry = c .before .before .before .before .before .before .before in
+    let m = memOf (entry .args .g) (entry .args .mem .now) in
+    finds-decides (entry .args .g) m (Live m) _ _ (c .before .before .live-behind .ensures)
 
 pub live-ok-spec : {M : Type 1} → statement M
 live-ok-spec = tie.close (tie.spec front-requires live-behind-requires same-length returns)

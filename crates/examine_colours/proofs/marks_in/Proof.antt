@@ -1,4 +1,4 @@
--- `examine_colours::marks_in` meets its contract. Assumes nothing.
+-- `examine_colours::marks_in` meets its contract.
 use mathlib.Core.Path.{_≡_, sym, subst}
 use mathlib.Core.List.{List}
 use Prim.Native.Nat.{ℕ, _≤_}
@@ -39,10 +39,25 @@ part-judged-end-2 : tie.Need-part-judged-end-2
 part-judged-end-2 c = search needs
 
 judged-requires : tie.Need-judged-requires
-judged-requires c κs = let a = c .before .before .before .before in let g = a .args .g in let m = memOf g (a .args .mem .now) in let s = a .args .scratch .now in let e = part-is g (a .args .mem .now) (a .args .n) s (a .pre .0) in (a .pre .0 .sized, subst (λ (z : List ℕ). len g Region.marks ≤ length z) (sym e) (behind-room g (a .args .mem .now) (a .args .n) s (a .pre .0)), subst (λ (z : List ℕ). Known g m z) (sym e) (a .pre .1))
+judged-requires c κs =
+    let entry = c .before .before .before .before in
+    let a = entry .args in
+    let g = a .g in
+    let m = memOf g (a .mem .now) in
+    let s = a .scratch .now in
+    let e = part-is g (a .mem .now) (a .n) s (entry .pre .0) in (
+      entry .pre .0 .sized,
+      subst (λ (z : List ℕ). len g Region.marks ≤ length z) (sym e) (behind-room g (a .mem .now) (a .n) s (entry .pre .0)),
+      subst (λ (z : List ℕ). Known g m z) (sym e) (entry .pre .1),
+    )
 
 returns : tie.Need-returns
-returns c = let a = c .before .before .before .before .before in let g = a .args .g in let m = memOf g (a .args .mem .now) in subst (λ (z : List ℕ). Decides (c .judged .result) (Judged Marks g m z z)) (part-is g (a .args .mem .now) (a .args .n) (a .args .scratch .now) (a .pre .0)) (c .judged .ensures)
+returns c =
+    let entry = c .before .before .before .before .before in
+    let a = entry .args in
+    let g = a .g in
+    let m = memOf g (a .mem .now) in
+    subst (λ (z : List ℕ). Decides (c .judged .result) (Judged Marks g m z z)) (part-is g (a .mem .now) (a .n) (a .scratch .now) (entry .pre .0)) (c .judged .ensures)
 
 pub marks-in-spec : {M : Type 1} → statement M
 marks-in-spec =

@@ -1,4 +1,4 @@
--- `examine_colours::pointers_in` meets its contract. Assumes nothing.
+-- `examine_colours::pointers_in` meets its contract.
 use mathlib.Core.Path.{_≡_, sym, subst}
 use lib.Seq.{length-take-le}
 use mathlib.Core.List.{List}
@@ -14,7 +14,10 @@ use Rattle.examine_colours.proofs.pointers_in.Statement.{statement}
 use Rattle.examine_colours.proofs.pointers_in.Tie as tie
 
 slice-aggregate-judged : tie.Need-slice-aggregate-judged
-slice-aggregate-judged c = let a = c .before .before .before in sym (length-take-le (a .args .n) (a .args .scratch .now) (within (a .args .g) (a .args .mem .now) (a .args .n) (a .args .scratch .now) (a .pre .0)))
+slice-aggregate-judged c =
+    let entry = c .before .before .before in
+    let a = entry .args in
+    sym (length-take-le (a .n) (a .scratch .now) (within (a .g) (a .mem .now) (a .n) (a .scratch .now) (entry .pre .0)))
 
 mul-judged : tie.Need-mul-judged
 mul-judged c = search needs
@@ -32,7 +35,12 @@ judged-requires : tie.Need-judged-requires
 judged-requires c κs = search needs
 
 returns : tie.Need-returns
-returns c = let a = c .before .before .before .before .before in let g = a .args .g in let m = memOf g (a .args .mem .now) in subst (λ (z : List ℕ). Decides (c .judged .result) (Judged Pointers g m (take (a .args .n) (a .args .scratch .now)) z)) (part-is g (a .args .mem .now) (a .args .n) (a .args .scratch .now) (a .pre .0)) (c .judged .ensures)
+returns c =
+    let entry = c .before .before .before .before .before in
+    let a = entry .args in
+    let g = a .g in
+    let m = memOf g (a .mem .now) in
+    subst (λ (z : List ℕ). Decides (c .judged .result) (Judged Pointers g m (take (a .n) (a .scratch .now)) z)) (part-is g (a .mem .now) (a .n) (a .scratch .now) (entry .pre .0)) (c .judged .ensures)
 
 pub pointers-in-spec : {M : Type 1} → statement M
 pointers-in-spec =

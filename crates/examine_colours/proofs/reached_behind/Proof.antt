@@ -1,4 +1,4 @@
--- `examine_colours::reached_behind` meets its contract. Assumes nothing.
+-- `examine_colours::reached_behind` meets its contract.
 use mathlib.Core.Path.{_≡_, sym, subst}
 use mathlib.Core.List.{List}
 use Prim.Native.Nat.{ℕ}
@@ -29,7 +29,15 @@ same-length : tie.Need-same-length
 same-length c = search needs
 
 returns : tie.Need-returns
-returns c = let a = c .before .before .before .before .before .before in let g = a .args .g in let m = memOf g (a .args .mem .now) in let s = a .args .scratch .now in subst (λ (z : List ℕ). Finds g m (Reached m) (c .before .before .reached .result) z) (sym (back (a .args .n) s (within g (a .args .mem .now) (a .args .n) s (a .pre)) (c .before .before .reached .last .1 .1 .0))) (c .before .before .reached .ensures)
+returns c =
+    let entry = c .before .before .before .before .before .before in
+    let a = entry .args in
+    let g = a .g in
+    let m = memOf g (a .mem .now) in
+    let s = a .scratch .now in
+    subst (λ (z : List ℕ). Finds g m (Reached m) (c .before .before .reached .result) z)
+    (sym (back (a .n) s (within g (a .mem .now) (a .n) s (entry .pre)) (c .before .before .reached .last .1 .1 .0)))
+    (c .before .before .reached .ensures)
 
 pub reached-behind-spec : {M : Type 1} → statement M
 reached-behind-spec =

@@ -1,4 +1,4 @@
--- `examine_colours::roots_in` meets its contract. Assumes nothing.
+-- `examine_colours::roots_in` meets its contract.
 use mathlib.Core.Path.{_≡_, subst}
 use mathlib.Core.List.{List}
 use Prim.Native.Nat.{ℕ, _<_}
@@ -27,7 +27,13 @@ mutators-fine-requires : tie.Need-mutators-fine-requires
 mutators-fine-requires c κs = search needs
 
 returns : tie.Need-returns
-returns c = let a = c .before .before .before .before in let g = a .args .g in let m = memOf g (a .args .mem .now) in subst (λ (z : List ℕ). Decides (c .mutators-fine .result) ((k : ℕ) → k < mutatorCount → RootsFine g m z k)) (part-is g (a .args .mem .now) (a .args .n) (a .args .scratch .now) (a .pre)) (c .mutators-fine .ensures)
+returns c =
+    let entry = c .before .before .before .before in
+    let a = entry .args in
+    let g = a .g in
+    let m = memOf g (a .mem .now) in
+    subst (λ (z : List ℕ). Decides (c .mutators-fine .result) ((k : ℕ) → k < mutatorCount → RootsFine g m z k))
+    (part-is g (a .mem .now) (a .n) (a .scratch .now) (entry .pre)) (c .mutators-fine .ensures)
 
 pub roots-in-spec : {M : Type 1} → statement M
 roots-in-spec =

@@ -1,4 +1,4 @@
--- `examine_colours::swept` meets its contract. Assumes nothing.
+-- `examine_colours::swept` meets its contract.
 use mathlib.Core.Path.{_≡_, _∙_}
 use lib.ListN.{drop}
 use borrow.Author.Tests.{not-true, not-false}
@@ -22,16 +22,43 @@ same-length : tie.Need-same-length
 same-length c = search needs
 
 returns : tie.Need-returns
-returns c = let a = c .before .before .before .before .before .before .before .before in let g = a .args .g in let m = memOf g (a .args .mem .now) in fails (λ q. refuted (finds-decides g m (Reached m) _ _ (c .before .before .before .reached-behind .ensures)) (not-true _ (c .if1 .taken)) (q .records))
+returns c =
+    let reached-behind-told = c .before .before .before in
+    let entry = reached-behind-told .before .before .before .before .before in
+    let g = entry .args .g in
+    let m = memOf g (entry .args .mem .now) in
+    fails (λ q. refuted (finds-decides g m (Reached m) _ _ (reached-behind-told .reached-behind .ensures)) (not-true _ (c .if1 .taken)) (q .records))
 
 marks-in-requires : tie.Need-marks-in-requires
-marks-in-requires c κs = let a = c .before .before .before .before .before .before .before .before .before in let g = a .args .g in let m = memOf g (a .args .mem .now) in let t = c .before .before .before .before .reached-behind .last .1 .1 .1 .0 in let r : Room g (a .args .mem .now) (c .before .before .before .before .before .before .front .result) t = record { sized = a .pre .0; field = c .before .before .before .before .before .before .front .ensures; room = c .before .before .before .before .reached-behind .kept .1 .1 .1 .0 ∙ a .pre .1 } in (r, known-of g m (Reached m) _ (c .before .before .before .before .reached-behind .ensures .good (not-false _ (c .before .if1 .left))) (behind-room g (a .args .mem .now) (c .before .before .before .before .before .before .front .result) t r))
+marks-in-requires c κs =
+    let reached-behind-told = c .before .before .before .before in
+    let front-told = reached-behind-told .before .before in
+    let entry = front-told .before .before .before in
+    let a = entry .args in
+    let g = a .g in
+    let m = memOf g (a .mem .now) in
+    let t = reached-behind-told .reached-behind .last .1 .1 .1 .0 in
+    let r : Room g (a .mem .now) (front-told .front .result) t =
+    record { sized = entry .pre .0; field = front-told .front .ensures; room = reached-behind-told .reached-behind .kept .1 .1 .1 .0 ∙ entry .pre .1 } in
+    (r, known-of g m (Reached m) _ (reached-behind-told .reached-behind .ensures .good (not-false _ (c .before .if1 .left))) (behind-room g (a .mem .now) (front-told .front .result) t r))
 
 same-length-2 : tie.Need-same-length-2
 same-length-2 c = search needs
 
 returns-2 : tie.Need-returns-2
-returns-2 c = let a = c .before .before .before .before .before .before .before .before .before .before in let g = a .args .g in let m = memOf g (a .args .mem .now) in let t = c .before .before .before .before .before .reached-behind .last .1 .1 .1 .0 in let r : Room g (a .args .mem .now) (c .before .before .before .before .before .before .before .front .result) t = record { sized = a .pre .0; field = c .before .before .before .before .before .before .before .front .ensures; room = c .before .before .before .before .before .reached-behind .kept .1 .1 .1 .0 ∙ a .pre .1 } in sweep-meaning g m (drop (c .before .before .before .before .before .before .before .front .result) t) (drop (c .before .before .before .before .before .before .before .front .result) t) (c .before .before .before .before .before .reached-behind .ensures .good (not-false _ (c .before .before .if1 .left))) (behind-room g (a .args .mem .now) (c .before .before .before .before .before .before .before .front .result) t r) _ (c .marks-in .ensures)
+returns-2 c =
+    let reached-behind-told = c .before .before .before .before .before in
+    let front-told = reached-behind-told .before .before in
+    let entry = front-told .before .before .before in
+    let a = entry .args in
+    let g = a .g in
+    let m = memOf g (a .mem .now) in
+    let t = reached-behind-told .reached-behind .last .1 .1 .1 .0 in
+    let r : Room g (a .mem .now) (front-told .front .result) t =
+    record { sized = entry .pre .0; field = front-told .front .ensures; room = reached-behind-told .reached-behind .kept .1 .1 .1 .0 ∙ entry .pre .1 } in
+    sweep-meaning g m (drop (front-told .front .result) t) (drop (front-told .front .result) t)
+    (reached-behind-told .reached-behind .ensures .good (not-false _ (c .before .before .if1 .left)))
+    (behind-room g (a .mem .now) (front-told .front .result) t r) _ (c .marks-in .ensures)
 
 pub swept-spec : {M : Type 1} → statement M
 swept-spec =

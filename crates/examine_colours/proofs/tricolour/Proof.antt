@@ -1,4 +1,4 @@
--- `examine_colours::tricolour` meets its contract. Assumes nothing.
+-- `examine_colours::tricolour` meets its contract.
 use mathlib.Core.Path.{_≡_, _∙_}
 use lib.ListN.{drop}
 use borrow.Author.Tests.{not-true, not-false}
@@ -22,13 +22,42 @@ same-length : tie.Need-same-length
 same-length c = search needs
 
 returns : tie.Need-returns
-returns c = let a = c .before .before .before .before .before .before .before .before in let g = a .args .g in let m = memOf g (a .args .mem .now) in fails (λ q. refuted (finds-decides g m (Live m) _ _ (c .before .before .before .live-behind .ensures)) (not-true _ (c .if1 .taken)) (q .records))
+returns c =
+    let live-behind-told = c .before .before .before in
+    let entry = live-behind-told .before .before .before .before .before in
+    let g = entry .args .g in
+    let m = memOf g (entry .args .mem .now) in
+    fails (λ q. refuted (finds-decides g m (Live m) _ _ (live-behind-told .live-behind .ensures)) (not-true _ (c .if1 .taken)) (q .records))
 
 keep-requires : tie.Need-keep-requires
-keep-requires c κs = let a = c .before .before .before .before .before .before .before .before .before in let g = a .args .g in let t = c .before .before .before .before .live-behind .last .1 .1 .1 .0 in let r : Room g (a .args .mem .now) (c .before .before .before .before .before .before .front .result) t = record { sized = a .pre .0; field = c .before .before .before .before .before .before .front .ensures; room = c .before .before .before .before .live-behind .kept .1 .1 .1 .0 ∙ a .pre .1 } in twice g (a .args .mem .now) (c .before .before .before .before .before .before .front .result) t r
+keep-requires c κs =
+    let live-behind-told = c .before .before .before .before in
+    let front-told = live-behind-told .before .before in
+    let entry = front-told .before .before .before in
+    let g = entry .args .g in
+    let t = live-behind-told .live-behind .last .1 .1 .1 .0 in
+    let r : Room g (entry .args .mem .now) (front-told .front .result) t =
+    record { sized = entry .pre .0; field = front-told .front .ensures; room = live-behind-told .live-behind .kept .1 .1 .1 .0 ∙ entry .pre .1 } in
+    twice g (entry .args .mem .now) (front-told .front .result) t r
 
 covered-requires : tie.Need-covered-requires
-covered-requires c κs = let a = c .before .before .before .before .before .before .before .before .before .before .before .before .before in let g = a .args .g in let m = memOf g (a .args .mem .now) in let n = c .before .before .before .before .before .before .before .before .before .before .front .result in let t = c .before .before .before .before .before .before .before .before .live-behind .last .1 .1 .1 .0 in let u = c .before .before .before .keep .last .1 .0 in let r : Room g (a .args .mem .now) n t = record { sized = a .pre .0; field = c .before .before .before .before .before .before .before .before .before .before .front .ensures; room = c .before .before .before .before .before .before .before .before .live-behind .kept .1 .1 .1 .0 ∙ a .pre .1 } in (resize g (a .args .mem .now) n t r u (c .before .before .before .keep .kept .1 .0), bits-front g m (Live m) (a .args .mem .now) n t r (drop n t) u (c .before .before .before .keep .ensures) (c .before .before .before .before .before .before .before .before .live-behind .ensures .good (not-false _ (c .before .before .before .before .before .if1 .left))))
+covered-requires c κs =
+    let kept = c .before .before .before in
+    let past-ok = kept .before .before in
+    let live-behind-told = past-ok .before .before .before in
+    let front-told = live-behind-told .before .before in
+    let entry = front-told .before .before .before in
+    let a = entry .args in
+    let g = a .g in
+    let m = memOf g (a .mem .now) in
+    let n = front-told .front .result in
+    let t = live-behind-told .live-behind .last .1 .1 .1 .0 in
+    let u = kept .keep .last .1 .0 in
+    let r : Room g (a .mem .now) n t = record { sized = entry .pre .0; field = front-told .front .ensures; room = live-behind-told .live-behind .kept .1 .1 .1 .0 ∙ entry .pre .1 } in (
+      resize g (a .mem .now) n t r u (kept .keep .kept .1 .0),
+      bits-front g m (Live m) (a .mem .now) n t r (drop n t) u (kept .keep .ensures)
+          (live-behind-told .live-behind .ensures .good (not-false _ (past-ok .if1 .left))),
+    )
 
 same-length-2 : tie.Need-same-length-2
 same-length-2 c = search needs

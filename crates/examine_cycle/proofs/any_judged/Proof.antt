@@ -1,4 +1,4 @@
--- `examine_cycle::any_judged` meets its contract. Assumes nothing.
+-- `examine_cycle::any_judged` meets its contract.
 use mathlib.Core.Path.{_≡_, _∙_, sym}
 use Rattle.layout.specs.Mem.{memOf}
 use Rattle.classes.proofs.Every.{class-passed}

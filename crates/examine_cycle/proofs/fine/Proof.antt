@@ -1,4 +1,4 @@
--- `examine_cycle::fine` meets its contract. Assumes nothing.
+-- `examine_cycle::fine` meets its contract.
 use mathlib.Core.Path.{_≡_, _∙_, sym, subst}
 use Prim.Native.Nat.{_-_}
 use native.Mathlib.Omega.{arith}

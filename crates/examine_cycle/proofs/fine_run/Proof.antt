@@ -1,4 +1,4 @@
--- `examine_cycle::fine_run` meets its contract. Assumes nothing.
+-- `examine_cycle::fine_run` meets its contract.
 use Prim.Native.Nat.{ℕ, _-_, _≤_}
 use mathlib.Core.Path.{_≡_, _∙_, subst}
 use native.Mathlib.Omega.{arith}

@@ -1,4 +1,4 @@
--- `examine_cycle::judged` meets its contract. Assumes nothing.
+-- `examine_cycle::judged` meets its contract.
 use Prim.Native.Nat.{ℕ, _-_, _≤_, _<_}
 use native.Mathlib.Omega.{arith}
 use borrow.Author.Count.{below-more}

@@ -1,4 +1,4 @@
--- `examine_cycle::mutator_fine` meets its contract. Assumes nothing.
+-- `examine_cycle::mutator_fine` meets its contract.
 use mathlib.Core.Path.{_≡_, _∙_, sym, subst}
 use native.Mathlib.Omega.{arith}
 use Rattle.rules.proofs.Deciding.{holds, via}

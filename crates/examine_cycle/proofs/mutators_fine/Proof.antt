@@ -1,4 +1,4 @@
--- `examine_cycle::mutators_fine` meets its contract. Assumes nothing.
+-- `examine_cycle::mutators_fine` meets its contract.
 use Prim.Native.Nat.{ℕ, _-_, _≤_, _<_}
 use native.Mathlib.Omega.{arith}
 use borrow.Author.Count.{below-more}

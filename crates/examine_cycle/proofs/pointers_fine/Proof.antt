@@ -1,4 +1,4 @@
--- `examine_cycle::pointers_fine` meets its contract. Assumes nothing.
+-- `examine_cycle::pointers_fine` meets its contract.
 use Prim.Native.Nat.{ℕ, _+_, _≤_}
 use mathlib.Core.Path.{_≡_, _∙_, sym, subst}
 use Rattle.rules.specs.Decides.{Decides}

@@ -1,4 +1,4 @@
--- `examine_marks::asked` meets its contract. Assumes nothing.
+-- `examine_marks::asked` meets its contract.
 use Rattle.layout.specs.Mem.{memOf}
 use borrow.Author.Tests.{not-true, not-false}
 use Rattle.examine_marks.proofs.Judging.{asked-all, asked-tag}

@@ -1,4 +1,4 @@
--- `examine_marks::head` meets its contract. Assumes nothing.
+-- `examine_marks::head` meets its contract.
 use mathlib.Core.Path.{sym, subst}
 use Prim.Native.Nat.{_<_}
 use Rattle.layout.specs.Mem.{memOf}

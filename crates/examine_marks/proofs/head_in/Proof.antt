@@ -1,4 +1,4 @@
--- `examine_marks::head_in` meets its contract. Assumes nothing.
+-- `examine_marks::head_in` meets its contract.
 use Rattle.layout.specs.Mem.{memOf}
 use Rattle.classes.proofs.Filling.{two-words}
 use Rattle.record_test.proofs.Testing.{head-block, head-segment}

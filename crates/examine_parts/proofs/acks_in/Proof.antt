@@ -1,4 +1,4 @@
--- `examine_parts::acks_in` meets its contract. Assumes nothing.
+-- `examine_parts::acks_in` meets its contract.
 use Rattle.examine_parts.proofs.Tables.{acks-roll-1, acks-roll-2, acks-mark, acks-other}
 use Rattle.examine_parts.proofs.acks_in.Statement.{statement}
 use Rattle.examine_parts.proofs.acks_in.Tie as tie

@@ -1,4 +1,4 @@
--- `examine_parts::cleared` meets its contract. Assumes nothing.
+-- `examine_parts::cleared` meets its contract.
 use Rattle.layout.specs.Mem.{memOf}
 use Rattle.examine_parts.proofs.Records.{cleared-class, cleared-place, cleared-owner}
 use borrow.Author.Needs.{needs}

@@ -1,4 +1,4 @@
--- `examine_parts::entry` meets its contract. Assumes nothing.
+-- `examine_parts::entry` meets its contract.
 use Rattle.layout.specs.Mem.{memOf}
 use Rattle.examine_parts.proofs.Tables.{entry-state, entry-acks, entry-absent, entry-there}
 use borrow.Author.Needs.{needs}

@@ -1,4 +1,4 @@
--- `examine_parts::gone` meets its contract. The loop's invariant: each word passed is 0. Assumes nothing.
+-- `examine_parts::gone` meets its contract. The loop's invariant: each word passed is 0.
 use Prim.Native.Nat.{ℕ, _+_, _-_, _≤_, _<_}
 use native.Mathlib.Omega.{arith}
 use borrow.Author.Count.{below-more, below-none}

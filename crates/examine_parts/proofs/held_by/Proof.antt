@@ -1,4 +1,4 @@
--- `examine_parts::held_by` meets its contract. Assumes nothing.
+-- `examine_parts::held_by` meets its contract.
 use Rattle.layout.specs.Mem.{memOf}
 use Rattle.examine_parts.proofs.Tables.{by-outside, by-tag, by-class, by-owner}
 use borrow.Author.Needs.{needs}

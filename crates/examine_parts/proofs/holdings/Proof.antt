@@ -1,4 +1,4 @@
--- `examine_parts::holdings` meets its contract. The loop's invariant: what the mutator holds of each class passed is held by it. Assumes nothing.
+-- `examine_parts::holdings` meets its contract. The loop's invariant: what the mutator holds of each class passed is held by it.
 use Prim.Native.Nat.{ℕ, _+_, _-_, _≤_, _<_}
 use native.Mathlib.Omega.{arith}
 use borrow.Author.Count.{below-more}

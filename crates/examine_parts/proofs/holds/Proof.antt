@@ -1,4 +1,4 @@
--- `examine_parts::holds` meets its contract. Assumes nothing.
+-- `examine_parts::holds` meets its contract.
 use Rattle.layout.specs.Mem.{memOf}
 use Rattle.examine_parts.proofs.Tables.{holds-none, holds-one}
 use borrow.Author.Needs.{needs}

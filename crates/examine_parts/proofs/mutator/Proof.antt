@@ -1,4 +1,4 @@
--- `examine_parts::mutator` meets its contract. Assumes nothing.
+-- `examine_parts::mutator` meets its contract.
 use Rattle.layout.specs.Mem.{memOf}
 use borrow.Author.Tests.{not-true, not-false}
 use Rattle.examine_parts.proofs.Tables.{mutator-entry, mutator-table, mutator-all}

@@ -1,4 +1,4 @@
--- `examine_parts::none_before` meets its contract. The loop's invariant: no segment passed is condemned. Assumes nothing.
+-- `examine_parts::none_before` meets its contract. The loop's invariant: no segment passed is condemned.
 use Prim.Native.Nat.{ℕ, _-_, _≤_, _<_}
 use native.Mathlib.Omega.{arith}
 use borrow.Author.Count.{below-more, below-none}

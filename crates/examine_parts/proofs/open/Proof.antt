@@ -1,4 +1,4 @@
--- `examine_parts::open` meets its contract. Assumes nothing.
+-- `examine_parts::open` meets its contract.
 use Rattle.layout.specs.Mem.{memOf}
 use Rattle.examine_parts.proofs.Records.{open-none, open-some}
 use borrow.Author.Needs.{needs}

@@ -1,4 +1,4 @@
--- `examine_parts::owned` meets its contract. Assumes nothing.
+-- `examine_parts::owned` meets its contract.
 use Rattle.layout.specs.Mem.{memOf}
 use Rattle.examine_parts.proofs.Records.{owned-outside, owned-absent, owned-there}
 use borrow.Author.Needs.{needs}

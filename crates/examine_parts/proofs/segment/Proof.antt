@@ -1,4 +1,4 @@
--- `examine_parts::segment` meets its contract. Assumes nothing.
+-- `examine_parts::segment` meets its contract.
 use Rattle.layout.specs.Mem.{memOf}
 use Rattle.examine_parts.proofs.Records.{segment-free, segment-past, segment-below, segment-above, segment-used}
 use borrow.Author.Needs.{needs}

@@ -1,4 +1,4 @@
--- `examine_parts::segments` meets its contract. The loop's invariant: each segment passed is in order. Assumes nothing.
+-- `examine_parts::segments` meets its contract. The loop's invariant: each segment passed is in order.
 use Prim.Native.Nat.{ℕ, _-_, _≤_, _<_}
 use native.Mathlib.Omega.{arith}
 use borrow.Author.Count.{below-more, below-none}

@@ -1,4 +1,4 @@
--- `examine_parts::unheld` meets its contract. Assumes nothing.
+-- `examine_parts::unheld` meets its contract.
 use Rattle.layout.specs.Mem.{memOf}
 use Rattle.examine_parts.proofs.Records.{used-owner, used-part, used-full}
 use borrow.Author.Needs.{needs}

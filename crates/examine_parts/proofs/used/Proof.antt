@@ -1,4 +1,4 @@
--- `examine_parts::used` meets its contract. Assumes nothing.
+-- `examine_parts::used` meets its contract.
 use Rattle.layout.specs.Mem.{memOf}
 use borrow.Author.Tests.{not-true, not-false}
 use Rattle.examine_parts.proofs.Records.{used-stranger, used-held}

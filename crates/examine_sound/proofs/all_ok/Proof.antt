@@ -1,4 +1,4 @@
--- `examine_sound::all_ok` meets its contract. Assumes nothing.
+-- `examine_sound::all_ok` meets its contract.
 use mathlib.Core.Path.{_≡_, _∙_}
 use borrow.Author.Tests.{not-true, not-false}
 use Rattle.layout.specs.Mem.{memOf}

@@ -1,4 +1,4 @@
--- `examine_sound::sound` meets its contract. Assumes nothing.
+-- `examine_sound::sound` meets its contract.
 use mathlib.Core.Path.{_≡_, _∙_, ap}
 use Prim.Native.Nat.{ℕ}
 use lib.ListN.{replicate}

@@ -1,4 +1,4 @@
--- `examine_summed::belonging` meets its contract. The loop's invariant: the segments passed that belong on the stack are counted. Assumes nothing.
+-- `examine_summed::belonging` meets its contract. The loop's invariant: the segments passed that belong on the stack are counted.
 use Prim.Native.Nat.{_-_}
 use native.Mathlib.Omega.{arith}
 use Rattle.rules.specs.Pick.{oneIf}

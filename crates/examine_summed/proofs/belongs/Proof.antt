@@ -1,4 +1,4 @@
--- `examine_summed::belongs` meets its contract. Assumes nothing.
+-- `examine_summed::belongs` meets its contract.
 use Rattle.layout.specs.Mem.{memOf}
 use Rattle.examine_summed.proofs.Entering.{on-free, on-other, on-part}
 use borrow.Author.Needs.{needs}

@@ -1,4 +1,4 @@
--- `examine_summed::enter` meets its contract. Assumes nothing.
+-- `examine_summed::enter` meets its contract.
 use borrow.Author.Tests.{not-true, not-false}
 use Rattle.examine_summed.proofs.Entering.{enter-outside, enter-stranger, enter-again, enter-new}
 use borrow.Author.Needs.{needs}

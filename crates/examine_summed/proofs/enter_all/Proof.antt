@@ -1,4 +1,4 @@
--- `examine_summed::enter_all` meets its contract. The loop's invariant: the entries passed are in the table, and no other segment. Assumes nothing.
+-- `examine_summed::enter_all` meets its contract. The loop's invariant: the entries passed are in the table, and no other segment.
 use Prim.Native.Nat.{_-_, _≤_}
 use native.Mathlib.Omega.{arith}
 use borrow.Author.Needs.{needs}

@@ -1,4 +1,4 @@
--- `examine_summed::entry` meets its contract. Assumes nothing.
+-- `examine_summed::entry` meets its contract.
 use native.Mathlib.Omega.{arith}
 use Rattle.stacks.proofs.Stacking.{stack-inside}
 use borrow.Author.Needs.{needs}

@@ -1,4 +1,4 @@
--- `examine_summed::one_if` meets its contract. Assumes nothing.
+-- `examine_summed::one_if` meets its contract.
 use mathlib.Core.Path.{sym, _∙_, ap}
 use Rattle.rules.specs.Pick.{oneIf}
 use borrow.Author.Needs.{needs}

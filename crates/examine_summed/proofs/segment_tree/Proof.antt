@@ -1,4 +1,4 @@
--- `examine_summed::segment_tree` meets its contract. Assumes nothing.
+-- `examine_summed::segment_tree` meets its contract.
 use Rattle.layout.specs.Mem.{memOf}
 use Rattle.examine_summed.proofs.Shapes.{tree-free, tree-used}
 use borrow.Author.Needs.{needs}

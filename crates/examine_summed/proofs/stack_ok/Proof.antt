@@ -1,4 +1,4 @@
--- `examine_summed::stack_ok` meets its contract. Assumes nothing.
+-- `examine_summed::stack_ok` meets its contract.
 use mathlib.Core.Path.{refl}
 use Rattle.layout.specs.Geometry.{maxSegments}
 use Rattle.layout.specs.Mem.{memOf}

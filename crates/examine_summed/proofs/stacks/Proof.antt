@@ -1,4 +1,4 @@
--- `examine_summed::stacks` meets its contract. The loop's invariant: each stack passed is in order. Assumes nothing.
+-- `examine_summed::stacks` meets its contract. The loop's invariant: each stack passed is in order.
 use Prim.Native.Nat.{_-_}
 use native.Mathlib.Omega.{arith}
 use Rattle.layout.specs.Geometry.{stackCount}

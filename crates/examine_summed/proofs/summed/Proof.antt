@@ -1,4 +1,4 @@
--- `examine_summed::summed` meets its contract. Assumes nothing.
+-- `examine_summed::summed` meets its contract.
 use borrow.Author.Tests.{not-true, not-false}
 use Rattle.examine_summed.proofs.Ordered.{trees-wrong, both}
 use Rattle.layout.specs.Mem.{memOf}

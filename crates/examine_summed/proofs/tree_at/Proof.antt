@@ -1,4 +1,4 @@
--- `examine_summed::tree_at` meets its contract. Assumes nothing.
+-- `examine_summed::tree_at` meets its contract.
 use native.Mathlib.Omega.{arith}
 use Rattle.bitmaps.proofs.Lent.{TreePart, tree-at}
 use Rattle.examine_summed.proofs.Shapes.{part-room}

@@ -1,4 +1,4 @@
--- `examine_summed::tree_of` meets its contract. Assumes nothing.
+-- `examine_summed::tree_of` meets its contract.
 use Rattle.classes.proofs.Shapes.{shape-levels-pos}
 use Rattle.layout.specs.Geometry.{blocksIn}
 use Rattle.layout.proofs.Sizes.{class-fits}

@@ -1,4 +1,4 @@
--- `examine_summed::trees` meets its contract. The loop's invariant: the tree of each segment passed is in order. Assumes nothing.
+-- `examine_summed::trees` meets its contract. The loop's invariant: the tree of each segment passed is in order.
 use Prim.Native.Nat.{_-_}
 use native.Mathlib.Omega.{arith}
 use Rattle.layout.specs.Mem.{memOf}

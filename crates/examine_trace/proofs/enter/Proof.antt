@@ -1,4 +1,4 @@
--- `examine_trace::enter` meets its contract. Assumes nothing.
+-- `examine_trace::enter` meets its contract.
 use mathlib.Core.Path.{_≡_, _∙_, sym, subst}
 use Prim.Native.Nat.{_-_}
 use Rattle.layout.specs.Mem.{memOf}

@@ -1,4 +1,4 @@
--- `examine_trace::enter_all` meets its contract. Assumes nothing.
+-- `examine_trace::enter_all` meets its contract.
 use Prim.Native.Nat.{_-_, _≤_}
 use mathlib.Core.Path.{_≡_, _∙_}
 use lib.ListN.{length}

@@ -1,4 +1,4 @@
--- `examining::consistent` meets its contract. Assumes nothing.
+-- `examining::consistent` meets its contract.
 use borrow.Author.Tests.{not-true, not-false}
 use Rattle.rules.proofs.Deciding.{fails, refuted, via}
 use borrow.Author.Needs.{needs}
@@ -21,7 +21,9 @@ same-length-2 : tie.Need-same-length-2
 same-length-2 c = search needs
 
 returns-2 : tie.Need-returns-2
-returns-2 c = (via (λ h. record { summed = h; sound = c .before .before .before .before .sound .ensures .0 .sound (not-false _ (c .before .if1 .left)) }) (λ q. q .summed) (c .summed .ensures), c .before .before .before .before .sound .ensures .1)
+returns-2 c =
+    let sound-told = c .before .before .before .before in
+    (via (λ h. record { summed = h; sound = sound-told .sound .ensures .0 .sound (not-false _ (c .before .if1 .left)) }) (λ q. q .summed) (c .summed .ensures), sound-told .sound .ensures .1)
 
 pub consistent-spec : {M : Type 1} → statement M
 consistent-spec =

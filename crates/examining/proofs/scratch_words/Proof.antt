@@ -1,4 +1,4 @@
--- `examining::scratch_words` meets its contract. Assumes nothing.
+-- `examining::scratch_words` meets its contract.
 use native.Mathlib.Omega.{arith}
 use Rattle.layout.proofs.Sizes.{trace-most}
 use Rattle.examining.proofs.Examined.{words-are}

@@ -1,4 +1,4 @@
--- `field_calls::shape` meets its contract. Assumes nothing.
+-- `field_calls::shape` meets its contract.
 use mathlib.Core.Path.{sym, _∙_}
 use native.Mathlib.Omega.{arith}
 use borrow.Author.Needs.{needs}
@@ -26,8 +26,10 @@ returns-2 c = shape-refused _ _ _ _ _ (sym (c .before .before .before .wrong-siz
 
 root-requires : tie.Need-root-requires
 root-requires c κs =
-    let p = in-range-at _ _ _ (c .before .before .before .before .before .args .i) _ (c .before .root-refusal .ensures) (c .if2 .left) in
-    (sized _ _ (sym (c .before .before .before .wrong-size .ensures) ∙ c .before .before .if1 .left), p .0, p .1)
+    let wrong-size-told = c .before .before .before in
+    let entry = wrong-size-told .before .before in
+    let p = in-range-at _ _ _ (entry .args .i) _ (c .before .root-refusal .ensures) (c .if2 .left) in
+    (sized _ _ (sym (wrong-size-told .wrong-size .ensures) ∙ c .before .before .if1 .left), p .0, p .1)
 
 held-of-requires : tie.Need-held-of-requires
 held-of-requires c κs = search needs
@@ -40,31 +42,52 @@ enum-told c = search needs
 
 returns-3 : tie.Need-returns-3
 returns-3 c =
+    let root-told = c .before .before .before in
+    let past-refused = root-told .before in
+    let root-refusal-told = past-refused .before in
+    let past-wrong-size = root-refusal-told .before in
     held-7 (c-shape _ _) _ _ _ _ _
-    (shape-reaches _ _ _ _ _ (sym (c .before .before .before .before .before .before .before .wrong-size .ensures) ∙ c .before .before .before .before .before .before .if1 .left) (c .before .before .before .before .before .root-refusal .ensures) (c .before .before .before .before .if2 .left))
+    (shape-reaches _ _ _ _ _ (sym (past-wrong-size .before .wrong-size .ensures) ∙ past-wrong-size .if1 .left) (root-refusal-told .root-refusal .ensures) (past-refused .if2 .left))
     _
-    (c .before .before .before .root .ensures)
+    (root-told .root .ensures)
     (sym (c .enum-told .given .1) ∙ c .before .before .held-of .ensures)
 
 heap-words-requires : tie.Need-heap-words-requires
-heap-words-requires c κs = sized _ _ (sym (c .before .before .before .before .before .before .before .before .wrong-size .ensures) ∙ c .before .before .before .before .before .before .before .if1 .left) .few
+heap-words-requires c κs =
+    let past-wrong-size = c .before .before .before .before .before .before .before in
+    sized _ _ (sym (past-wrong-size .before .wrong-size .ensures) ∙ past-wrong-size .if1 .left) .few
 
 returns-4 : tie.Need-returns-4
 returns-4 c =
+    let slot-bound = c .before .before .before in
+    let held-of-told = slot-bound .before .before in
+    let root-told = held-of-told .before in
+    let past-refused = root-told .before in
+    let root-refusal-told = past-refused .before in
+    let past-wrong-size = root-refusal-told .before in
     header-13 (c-shape _ _) _ _ _ _ _
-    (shape-reaches _ _ _ _ _ (sym (c .before .before .before .before .before .before .before .before .before .before .wrong-size .ensures) ∙ c .before .before .before .before .before .before .before .before .before .if1 .left) (c .before .before .before .before .before .before .before .before .root-refusal .ensures) (c .before .before .before .before .before .before .before .if2 .left))
+    (shape-reaches _ _ _ _ _ (sym (past-wrong-size .before .wrong-size .ensures) ∙ past-wrong-size .if1 .left) (root-refusal-told .root-refusal .ensures) (past-refused .if2 .left))
     _
-    (names _ _ _ _ _ _ (c .before .before .before .before .before .before .root .ensures) (sym (c .before .before .before .slot .given .1) ∙ c .before .before .before .before .before .held-of .ensures))
+    (names _ _ _ _ _ _ (root-told .root .ensures) (sym (slot-bound .slot .given .1) ∙ held-of-told .held-of .ensures))
     (omega (arith, c .before .heap-words .ensures, c .if3 .taken))
 
 shape-requires : tie.Need-shape-requires
-shape-requires c κs = (sized _ _ (sym (c .before .before .before .before .before .before .before .before .before .before .wrong-size .ensures) ∙ c .before .before .before .before .before .before .before .before .before .if1 .left), omega (arith, c .before .heap-words .ensures, c .if3 .left))
+shape-requires c κs =
+    let past-refused = c .before .before .before .before .before .before .before in
+    let past-wrong-size = past-refused .before .before in
+    (sized _ _ (sym (past-wrong-size .before .wrong-size .ensures) ∙ past-wrong-size .if1 .left), omega (arith, c .before .heap-words .ensures, c .if3 .left))
 
 returns-5 : tie.Need-returns-5
 returns-5 c =
+    let slot-bound = c .before .before .before .before in
+    let held-of-told = slot-bound .before .before in
+    let root-told = held-of-told .before in
+    let past-refused = root-told .before in
+    let root-refusal-told = past-refused .before in
+    let past-wrong-size = root-refusal-told .before in
     shape-done _ _ _ _ _ _
-    (shape-reaches _ _ _ _ _ (sym (c .before .before .before .before .before .before .before .before .before .before .before .wrong-size .ensures) ∙ c .before .before .before .before .before .before .before .before .before .before .if1 .left) (c .before .before .before .before .before .before .before .before .before .root-refusal .ensures) (c .before .before .before .before .before .before .before .before .if2 .left))
-    (names _ _ _ _ _ _ (c .before .before .before .before .before .before .before .root .ensures) (sym (c .before .before .before .before .slot .given .1) ∙ c .before .before .before .before .before .before .held-of .ensures))
+    (shape-reaches _ _ _ _ _ (sym (past-wrong-size .before .wrong-size .ensures) ∙ past-wrong-size .if1 .left) (root-refusal-told .root-refusal .ensures) (past-refused .if2 .left))
+    (names _ _ _ _ _ _ (root-told .root .ensures) (sym (slot-bound .slot .given .1) ∙ held-of-told .held-of .ensures))
     (c .shape .ensures .shape) (c .shape .ensures .small)
 
 pub shape-spec : {M : Type 1} → statement M

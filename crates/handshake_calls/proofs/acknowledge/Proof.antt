@@ -1,4 +1,4 @@
--- `handshake_calls::acknowledge` meets its contract. Assumes nothing.
+-- `handshake_calls::acknowledge` meets its contract.
 use borrow.Author.Needs.{needs}
 use Rattle.handshake_calls.proofs.Acknowledging.{none-owed, first-given, second-given}
 use Rattle.handshake_calls.proofs.acknowledge.Tie as tie

@@ -1,4 +1,4 @@
--- `handshake_calls::check` meets its contract. Assumes nothing.
+-- `handshake_calls::check` meets its contract.
 use mathlib.Core.Path.{refl, sym, _∙_}
 use borrow.Author.Needs.{needs}
 use Rattle.layout.proofs.Regions.{sized}

@@ -1,4 +1,4 @@
--- `handshake_calls::enter` meets its contract. Assumes nothing.
+-- `handshake_calls::enter` meets its contract.
 use mathlib.Core.Path.{sym, _∙_}
 use borrow.Author.Needs.{needs}
 use Rattle.layout.proofs.Regions.{sized}

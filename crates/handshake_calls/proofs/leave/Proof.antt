@@ -1,4 +1,4 @@
--- `handshake_calls::leave` meets its contract. Assumes nothing.
+-- `handshake_calls::leave` meets its contract.
 use mathlib.Core.Path.{sym, _∙_}
 use native.Mathlib.Omega.{arith}
 use borrow.Author.Needs.{needs}

@@ -1,4 +1,4 @@
--- `layout::block_number` meets its contract. Assumes nothing.
+-- `layout::block_number` meets its contract.
 use borrow.Author.Needs.{needs}
 use Rattle.layout.specs.Geometry.{segmentBytes}
 use Rattle.layout.proofs.block_number.Tie as tie

@@ -1,4 +1,4 @@
--- `layout::blocks_in` meets its contract. Assumes nothing.
+-- `layout::blocks_in` meets its contract.
 use mathlib.Core.Path.{refl, sym}
 use Prim.Native.Nat.{_^_, _≤_}
 use native.Mathlib.Nat.{div-eq-of-lt, pow-le-pow-right}

@@ -1,4 +1,4 @@
--- `layout::heap_words` meets its contract. Assumes nothing.
+-- `layout::heap_words` meets its contract.
 use borrow.Author.Needs.{needs}
 use Rattle.layout.specs.Geometry.{segmentBytes}
 use Rattle.layout.proofs.heap_words.Tie as tie

@@ -1,4 +1,4 @@
--- `layout::mark` meets its contract. Assumes nothing.
+-- `layout::mark` meets its contract.
 use native.Mathlib.Omega.{arith}
 use borrow.Author.Needs.{needs}
 use Rattle.layout.specs.Geometry.{segmentBytes}

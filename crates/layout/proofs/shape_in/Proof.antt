@@ -1,4 +1,4 @@
--- `layout::shape_in` meets its contract. Assumes nothing.
+-- `layout::shape_in` meets its contract.
 use mathlib.Core.Path.{_≡_, sym, _∙_}
 use Prim.Native.Nat.{ℕ}
 use native.Mathlib.Omega.{arith}

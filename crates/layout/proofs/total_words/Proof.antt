@@ -1,4 +1,4 @@
--- `layout::total_words` meets its contract. Assumes nothing.
+-- `layout::total_words` meets its contract.
 use borrow.Author.Needs.{needs}
 use Rattle.layout.specs.Geometry.{segmentBytes}
 use Rattle.layout.proofs.total_words.Tie as tie

@@ -1,4 +1,4 @@
--- `layout::trace` meets its contract. Assumes nothing.
+-- `layout::trace` meets its contract.
 use native.Mathlib.Omega.{arith}
 use borrow.Author.Needs.{needs}
 use Rattle.layout.specs.Geometry.{segmentBytes}

@@ -1,4 +1,4 @@
--- `layout::trace_words` meets its contract. Assumes nothing.
+-- `layout::trace_words` meets its contract.
 use borrow.Author.Needs.{needs}
 use Rattle.layout.specs.Geometry.{segmentBytes}
 use Rattle.layout.proofs.trace_words.Tie as tie

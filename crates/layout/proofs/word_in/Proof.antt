@@ -1,4 +1,4 @@
--- `layout::word_in` meets its contract. Assumes nothing.
+-- `layout::word_in` meets its contract.
 use borrow.Author.Needs.{needs}
 use Rattle.layout.specs.Geometry.{segmentBytes}
 use Rattle.layout.proofs.word_in.Tie as tie

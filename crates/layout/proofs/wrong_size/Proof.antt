@@ -1,4 +1,4 @@
--- `layout::wrong_size` meets its contract. Assumes nothing.
+-- `layout::wrong_size` meets its contract.
 use borrow.Author.Needs.{needs}
 use Rattle.rules.proofs.Tests.{tests}
 use Rattle.layout.specs.Geometry.{wrongSize}

@@ -1,4 +1,4 @@
--- `layout::zero` meets its contract. Assumes nothing.
+-- `layout::zero` meets its contract.
 use Prim.Native.Nat.{_-_}
 use native.Mathlib.Omega.{arith}
 use lib.ListN.{length}

@@ -1,4 +1,4 @@
--- `looks::copy` meets its contract. The loop's invariant: the words passed are copied. Assumes nothing.
+-- `looks::copy` meets its contract. The loop's invariant: the words passed are copied.
 use Prim.Native.Nat.{_-_}
 use mathlib.Core.Path.{sym, _∙_}
 use native.Mathlib.Omega.{arith}

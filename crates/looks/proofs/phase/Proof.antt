@@ -1,4 +1,4 @@
--- `looks::phase` meets its contract. Assumes nothing.
+-- `looks::phase` meets its contract.
 use mathlib.Core.Path.{sym, _∙_}
 use Rattle.layout.proofs.Regions.{sized}
 use Rattle.looks.proofs.Looking.{phase-1, phase-13, phase-is}

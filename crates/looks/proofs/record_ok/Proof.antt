@@ -1,4 +1,4 @@
--- `looks::record_ok` meets its contract. Assumes nothing.
+-- `looks::record_ok` meets its contract.
 use Rattle.looks.proofs.Looking.{no-state, by-class}
 use borrow.Author.Needs.{needs}
 use Rattle.looks.proofs.record_ok.Statement.{statement}

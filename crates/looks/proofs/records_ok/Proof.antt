@@ -1,4 +1,4 @@
--- `looks::records_ok` meets its contract. The loop's invariant: each record passed can be one of consistent memory. Assumes nothing.
+-- `looks::records_ok` meets its contract. The loop's invariant: each record passed can be one of consistent memory.
 use Prim.Native.Nat.{_-_}
 use native.Mathlib.Omega.{arith}
 use Rattle.layout.specs.Mem.{memOf}

@@ -1,4 +1,4 @@
--- `looks::states` meets its contract. Assumes nothing.
+-- `looks::states` meets its contract.
 use mathlib.Core.Path.{sym, _∙_}
 use borrow.Author.Needs.{needs}
 use borrow.Author.Tests.{not-true}

@@ -1,4 +1,4 @@
--- `looks::states_words` meets its contract. Assumes nothing.
+-- `looks::states_words` meets its contract.
 use borrow.Author.Needs.{needs}
 use Rattle.looks.proofs.states_words.Statement.{statement}
 use Rattle.looks.proofs.states_words.Tie as tie

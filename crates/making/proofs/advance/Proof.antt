@@ -1,4 +1,4 @@
--- `making::advance` meets its contract. Assumes nothing.
+-- `making::advance` meets its contract.
 use native.Mathlib.Omega.{arith}
 use Rattle.making.proofs.Placing.{block-small}
 use Rattle.making.proofs.HandingOut.{more-below, advanced-more, advanced-last, advanced-none, advanced-torn}

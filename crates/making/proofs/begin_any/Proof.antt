@@ -1,4 +1,4 @@
--- `making::begin_any` meets its contract. The quick way is tried where `tried` is. Assumes nothing.
+-- `making::begin_any` meets its contract. The quick way is tried where `tried` is.
 use Rattle.making.proofs.Beginning.{tried-made, tried-search, tried-none}
 use borrow.Author.Needs.{needs}
 use Rattle.making.proofs.begin_any.Statement.{statement}

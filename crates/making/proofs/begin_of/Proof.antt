@@ -1,4 +1,4 @@
--- `making::begin_of` meets its contract. The segment is taken where `taken` is. Assumes nothing.
+-- `making::begin_of` meets its contract. The segment is taken where `taken` is.
 use Rattle.making.proofs.Placing.{of-class}
 use Rattle.making.proofs.HandingOut.{make-full, make-torn}
 use Rattle.making.proofs.Beginning.{begun-taken}

@@ -1,5 +1,4 @@
 -- `making::hand_few` meets its contract. The place is read where `read` is, its word asked where `asked` is, and the place moved where `moved` is.
--- Assumes nothing.
 use native.Mathlib.Omega.{arith}
 use Rattle.layout.specs.Mem.{memOf}
 use Rattle.layout.proofs.Sizes.{most-small}

@@ -1,4 +1,4 @@
--- `making::hand_out` meets its contract. The block is found where `found` is. Assumes nothing.
+-- `making::hand_out` meets its contract. The block is found where `found` is.
 use mathlib.Core.Path.{ap, _∙_}
 use Prim.Native.Nat.{ℕ}
 use native.Mathlib.Nat.{mod-eq-of-lt}

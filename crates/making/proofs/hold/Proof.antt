@@ -1,4 +1,4 @@
--- `making::hold` meets its contract. Assumes nothing.
+-- `making::hold` meets its contract.
 use native.Mathlib.Numerals.{add-one}
 use mathlib.Core.Path.{refl, _∙_}
 use borrow.Author.Needs.{needs}

@@ -1,4 +1,4 @@
--- `making::make` meets its contract. What it comes to before a search is known where `begun` is. Assumes nothing.
+-- `making::make` meets its contract. What it comes to before a search is known where `begun` is.
 use Rattle.making.proofs.Beginning.{begun-made, begun-refused, begun-search}
 use borrow.Author.Needs.{needs}
 use Rattle.making.proofs.make.Statement.{statement}

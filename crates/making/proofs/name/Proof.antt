@@ -1,4 +1,4 @@
--- `making::name` meets its contract. Assumes nothing.
+-- `making::name` meets its contract.
 use mathlib.Core.Path.{refl, ap, _∙_}
 use native.Mathlib.Numerals.{add-one}
 use native.Mathlib.Omega.{arith}

@@ -1,4 +1,4 @@
--- `making::take` meets its contract. Assumes nothing.
+-- `making::take` meets its contract.
 use Rattle.making.proofs.Taking.{held-none, held-off, held-there}
 use borrow.Author.Needs.{needs}
 use Rattle.making.proofs.take.Statement.{statement}

@@ -1,4 +1,4 @@
--- `making::take_free` meets its contract. Assumes nothing.
+-- `making::take_free` meets its contract.
 use Rattle.making.proofs.Taking.{free-none, free-torn, free-taken}
 use borrow.Author.Needs.{needs}
 use Rattle.making.proofs.take_free.Statement.{statement}

@@ -1,4 +1,4 @@
--- `making::take_new` meets its contract. Assumes nothing.
+-- `making::take_new` meets its contract.
 use Rattle.making.proofs.Taking.{part-none, part-torn, part-taken}
 use borrow.Author.Needs.{needs}
 use Rattle.making.proofs.take_new.Statement.{statement}

@@ -1,4 +1,4 @@
--- `making::try_held` meets its contract. What the mutator holds is read where `read` is. Assumes nothing.
+-- `making::try_held` meets its contract. What the mutator holds is read where `read` is.
 use Rattle.making.proofs.Placing.{of-class}
 use Rattle.making.proofs.Beginning.{tried-held}
 use borrow.Author.Needs.{needs}

@@ -1,4 +1,4 @@
--- `marking::push_pointers` meets its contract. The loop's invariant: the pointers before `i` are pushed. Assumes nothing.
+-- `marking::push_pointers` meets its contract. The loop's invariant: the pointers before `i` are pushed.
 use mathlib.Core.Path.{_≡_, refl, _∙_}
 use Prim.Native.Nat.{_-_}
 use native.Mathlib.Omega.{arith}

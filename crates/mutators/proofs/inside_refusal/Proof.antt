@@ -1,4 +1,4 @@
--- `mutators::inside_refusal` meets its contract. Assumes nothing.
+-- `mutators::inside_refusal` meets its contract.
 use mathlib.Core.Path.{_∙_}
 use Rattle.mutators.proofs.Inside.{inside-rest, no-root}
 use borrow.Author.Needs.{needs}

@@ -1,4 +1,4 @@
--- `mutators::is_inside` meets its contract. Assumes nothing.
+-- `mutators::is_inside` meets its contract.
 use Rattle.mutators.proofs.Inside.{unknown-no, state-says}
 use borrow.Author.Needs.{needs}
 use Rattle.mutators.proofs.is_inside.Statement.{statement}

@@ -1,4 +1,4 @@
--- `mutators::lowest_refusal` meets its contract. Assumes nothing.
+-- `mutators::lowest_refusal` meets its contract.
 use mathlib.Core.Path.{sym, _∙_}
 use Rattle.theory.proofs.Refusals.{root-rest}
 use Rattle.mutators.proofs.Inside.{unknown-2, absent-4, outside-5, inside-rest, root-6}

@@ -1,4 +1,4 @@
--- `mutators::root_refusal` meets its contract. Assumes nothing.
+-- `mutators::root_refusal` meets its contract.
 use mathlib.Core.Path.{_∙_}
 use Rattle.theory.proofs.Refusals.{root-rest}
 use Rattle.mutators.proofs.Inside.{inside-rest, one-root}

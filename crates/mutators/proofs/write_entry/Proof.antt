@@ -1,4 +1,4 @@
--- `mutators::write_entry` meets its contract. Assumes nothing.
+-- `mutators::write_entry` meets its contract.
 use borrow.Author.Needs.{needs}
 use Rattle.mutators.proofs.Entry.{entry-written}
 use Rattle.mutators.proofs.write_entry.Statement.{statement}

@@ -1,4 +1,4 @@
--- `opening::open` meets its contract. Assumes nothing.
+-- `opening::open` meets its contract.
 use mathlib.Core.Path.{sym, _∙_}
 use native.Mathlib.Omega.{arith}
 use borrow.Author.Needs.{needs}
@@ -17,71 +17,90 @@ clear-control-requires : tie.Need-clear-control-requires
 clear-control-requires c κs = sized _ _ (sym (c .before .before .wrong-size .ensures) ∙ c .before .if1 .left)
 
 clear-mutators-requires : tie.Need-clear-mutators-requires
-clear-mutators-requires c κs = resized _ _ _ (sized _ _ (sym (c .before .before .before .before .before .before .wrong-size .ensures) ∙ c .before .before .before .before .before .if1 .left)) (c .before .before .before .clear-control .kept .1 .0)
+clear-mutators-requires c κs =
+    let control-cleared = c .before .before .before in
+    let past-wrong-size = control-cleared .before .before in
+    resized _ _ _ (sized _ _ (sym (past-wrong-size .before .wrong-size .ensures) ∙ past-wrong-size .if1 .left)) (control-cleared .clear-control .kept .1 .0)
 
 clear-segments-requires : tie.Need-clear-segments-requires
 clear-segments-requires c κs =
-    let did-clear-mutators = c .before .before .before in
-    let did-clear-control = did-clear-mutators .before .before .before .before in
-    let branched1 = did-clear-control .before .before in
-    let did-wrong-size = branched1 .before in
-    resized _ _ _ (resized _ _ _ (sized _ _ (sym (did-wrong-size .wrong-size .ensures) ∙ branched1 .if1 .left)) (did-clear-control .clear-control .kept .1 .0)) (did-clear-mutators .clear-mutators .kept .1 .0)
+    let mutators-cleared = c .before .before .before in
+    let control-cleared = mutators-cleared .before .before .before .before in
+    let past-wrong-size = control-cleared .before .before in
+    resized _ _ _
+    (resized _ _ _ (sized _ _ (sym (past-wrong-size .before .wrong-size .ensures) ∙ past-wrong-size .if1 .left)) (control-cleared .clear-control .kept .1 .0))
+    (mutators-cleared .clear-mutators .kept .1 .0)
 
 clear-stacks-requires : tie.Need-clear-stacks-requires
 clear-stacks-requires c κs =
-    let did-clear-segments = c .before .before .before in
-    let did-clear-mutators = did-clear-segments .before .before .before .before in
-    let did-clear-control = did-clear-mutators .before .before .before .before in
-    let branched1 = did-clear-control .before .before in
-    let did-wrong-size = branched1 .before in
-    resized _ _ _ (resized _ _ _ (resized _ _ _ (sized _ _ (sym (did-wrong-size .wrong-size .ensures) ∙ branched1 .if1 .left)) (did-clear-control .clear-control .kept .1 .0)) (did-clear-mutators .clear-mutators .kept .1 .0)) (did-clear-segments .clear-segments .kept .1 .0)
+    let segments-cleared = c .before .before .before in
+    let mutators-cleared = segments-cleared .before .before .before .before in
+    let control-cleared = mutators-cleared .before .before .before .before in
+    let past-wrong-size = control-cleared .before .before in
+    resized _ _ _
+    (resized _ _ _
+    (resized _ _ _ (sized _ _ (sym (past-wrong-size .before .wrong-size .ensures) ∙ past-wrong-size .if1 .left)) (control-cleared .clear-control .kept .1 .0))
+    (mutators-cleared .clear-mutators .kept .1 .0)) (segments-cleared .clear-segments .kept .1 .0)
 
 cast-set-stack : tie.Need-cast-set-stack
 cast-set-stack c =
-    let did-mem = c .before .before .before .before .before .before .before in
-    let did-clear-mutators = did-mem .before .before .before .before .before in
-    let branched1 = did-clear-mutators .before .before .before .before .before .before in
-    let did-wrong-size = branched1 .before in
-    let z = (sized _ _ (sym (did-wrong-size .wrong-size .ensures) ∙ branched1 .if1 .left)) in
+    let stacks-cleared = c .before .before .before .before in
+    let segments-cleared = stacks-cleared .before .before .before .before in
+    let mutators-cleared = segments-cleared .before .before .before .before in
+    let past-wrong-size = mutators-cleared .before .before .before .before .before .before in
+    let z = (sized _ _ (sym (past-wrong-size .before .wrong-size .ensures) ∙ past-wrong-size .if1 .left)) in
     omega (arith, z .few)
 
 set-stack-requires : tie.Need-set-stack-requires
 set-stack-requires c κs =
-    let did-clear-stacks = c .before .before .before .before in
-    let did-clear-segments = did-clear-stacks .before .before .before .before in
-    let did-clear-mutators = did-clear-segments .before .before .before .before in
-    let did-clear-control = did-clear-mutators .before .before .before .before in
-    let branched1 = did-clear-control .before .before in
-    let did-wrong-size = branched1 .before in
-    ((resized _ _ _ (resized _ _ _ (resized _ _ _ (resized _ _ _ (sized _ _ (sym (did-wrong-size .wrong-size .ensures) ∙ branched1 .if1 .left)) (did-clear-control .clear-control .kept .1 .0)) (did-clear-mutators .clear-mutators .kept .1 .0)) (did-clear-segments .clear-segments .kept .1 .0)) (did-clear-stacks .clear-stacks .kept .1 .0)), omega arith)
+    let stacks-cleared = c .before .before .before .before in
+    let segments-cleared = stacks-cleared .before .before .before .before in
+    let mutators-cleared = segments-cleared .before .before .before .before in
+    let control-cleared = mutators-cleared .before .before .before .before in
+    let past-wrong-size = control-cleared .before .before in (
+      (resized _ _ _
+          (resized _ _ _
+          (resized _ _ _
+          (resized _ _ _ (sized _ _ (sym (past-wrong-size .before .wrong-size .ensures) ∙ past-wrong-size .if1 .left)) (control-cleared .clear-control .kept .1 .0))
+          (mutators-cleared .clear-mutators .kept .1 .0)) (segments-cleared .clear-segments .kept .1 .0))
+          (stacks-cleared .clear-stacks .kept .1 .0)),
+      omega arith,
+    )
 
 stack-down-requires : tie.Need-stack-down-requires
 stack-down-requires c κs =
-    let did-set-stack = c .before .before .before in
-    let did-clear-stacks = did-set-stack .before .before .before .before .before in
-    let did-clear-segments = did-clear-stacks .before .before .before .before in
-    let did-clear-mutators = did-clear-segments .before .before .before .before in
-    let did-clear-control = did-clear-mutators .before .before .before .before in
-    let branched1 = did-clear-control .before .before in
-    let did-wrong-size = branched1 .before in
-    let z = (sized _ _ (sym (did-wrong-size .wrong-size .ensures) ∙ branched1 .if1 .left)) in
-    ((resized _ _ _ (resized _ _ _ (resized _ _ _ (resized _ _ _ (resized _ _ _ (sized _ _ (sym (did-wrong-size .wrong-size .ensures) ∙ branched1 .if1 .left)) (did-clear-control .clear-control .kept .1 .0)) (did-clear-mutators .clear-mutators .kept .1 .0)) (did-clear-segments .clear-segments .kept .1 .0)) (did-clear-stacks .clear-stacks .kept .1 .0)) (did-set-stack .set-stack .kept .1 .0)), omega (arith, z .few), z .few)
+    let stack-set = c .before .before .before in
+    let stacks-cleared = stack-set .before .before .before .before .before in
+    let segments-cleared = stacks-cleared .before .before .before .before in
+    let mutators-cleared = segments-cleared .before .before .before .before in
+    let control-cleared = mutators-cleared .before .before .before .before in
+    let past-wrong-size = control-cleared .before .before in
+    let z = (sized _ _ (sym (past-wrong-size .before .wrong-size .ensures) ∙ past-wrong-size .if1 .left)) in (
+      (resized _ _ _
+          (resized _ _ _
+          (resized _ _ _
+          (resized _ _ _
+          (resized _ _ _ (sized _ _ (sym (past-wrong-size .before .wrong-size .ensures) ∙ past-wrong-size .if1 .left)) (control-cleared .clear-control .kept .1 .0))
+          (mutators-cleared .clear-mutators .kept .1 .0)) (segments-cleared .clear-segments .kept .1 .0))
+          (stacks-cleared .clear-stacks .kept .1 .0)) (stack-set .set-stack .kept .1 .0)),
+      omega (arith, z .few),
+      z .few,
+    )
 
 same-length : tie.Need-same-length
 same-length c = search needs
 
 returns-2 : tie.Need-returns-2
 returns-2 c =
-    let did-set-stack = c .before .before .before .before .before .before in
-    let did-clear-stacks = did-set-stack .before .before .before .before .before in
-    let did-clear-segments = did-clear-stacks .before .before .before .before in
-    let did-clear-mutators = did-clear-segments .before .before .before .before in
-    let did-clear-control = did-clear-mutators .before .before .before .before in
-    let branched1 = did-clear-control .before .before in
-    let did-wrong-size = branched1 .before in
-    open-ok _ _ (sym (did-wrong-size .wrong-size .ensures) ∙ branched1 .if1 .left)
-    (opened-by _ _ (did-clear-control .clear-control .ensures) (did-clear-mutators .clear-mutators .ensures) (did-clear-segments .clear-segments .ensures)
-    (did-clear-stacks .clear-stacks .ensures) (did-set-stack .set-stack .ensures) (c .before .before .stack-down .ensures))
+    let stack-set = c .before .before .before .before .before .before in
+    let stacks-cleared = stack-set .before .before .before .before .before in
+    let segments-cleared = stacks-cleared .before .before .before .before in
+    let mutators-cleared = segments-cleared .before .before .before .before in
+    let control-cleared = mutators-cleared .before .before .before .before in
+    let past-wrong-size = control-cleared .before .before in
+    open-ok _ _ (sym (past-wrong-size .before .wrong-size .ensures) ∙ past-wrong-size .if1 .left)
+    (opened-by _ _ (control-cleared .clear-control .ensures) (mutators-cleared .clear-mutators .ensures) (segments-cleared .clear-segments .ensures)
+    (stacks-cleared .clear-stacks .ensures) (stack-set .set-stack .ensures) (c .before .before .stack-down .ensures))
 
 pub open-spec : {M : Type 1} → statement M
 open-spec =

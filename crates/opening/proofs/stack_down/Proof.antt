@@ -1,4 +1,4 @@
--- `opening::stack_down` meets its contract. The loop's invariant: what is left to do comes to the whole. Assumes nothing.
+-- `opening::stack_down` meets its contract. The loop's invariant: what is left to do comes to the whole.
 use mathlib.Core.Path.{_≡_, refl, _∙_}
 use Prim.Native.Nat.{_+_, _-_, _≤_}
 use native.Mathlib.Omega.{arith}
@@ -41,7 +41,10 @@ loop-less : tie.Need-loop-less Inv-loop μ-loop
 loop-less c = omega arith
 
 loop-again : tie.Need-loop-again Inv-loop μ-loop
-loop-again c = (c .before .before .set-stack .kept .1 .0 ∙ c .before .before .before .before .before .loop .inv .0, omega arith, left-less _ _ _ _ _ (c .before .before .before .before .before .loop .inv .2) (c .before .before .before .before .loop-test .taken) _ (c .before .before .set-stack .ensures))
+loop-again c =
+    let turning = c .before .before .before .before in
+    let looping = turning .before in
+    (c .before .before .set-stack .kept .1 .0 ∙ looping .loop .inv .0, omega arith, left-less _ _ _ _ _ (looping .loop .inv .2) (turning .loop-test .taken) _ (c .before .before .set-stack .ensures))
 
 same-length : tie.Need-same-length Inv-loop μ-loop
 same-length c = c .before .loop .inv .0

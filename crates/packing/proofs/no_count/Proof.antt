@@ -1,4 +1,4 @@
--- `packing::no_count` meets its contract. Assumes nothing.
+-- `packing::no_count` meets its contract.
 use Rattle.rules.proofs.Tests.{tests}
 use Rattle.packing.proofs.no_count.Statement.{statement}
 use Rattle.packing.proofs.no_count.Tie as tie

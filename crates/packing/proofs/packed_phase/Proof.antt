@@ -1,4 +1,4 @@
--- `packing::packed_phase` meets its contract. Assumes nothing.
+-- `packing::packed_phase` meets its contract.
 use mathlib.Core.Path.{sym, ap}
 use Rattle.packing.specs.Packed.{packPhase}
 use borrow.Author.Needs.{needs}

@@ -1,4 +1,4 @@
--- `packing::packed_step` meets its contract. Assumes nothing.
+-- `packing::packed_step` meets its contract.
 use mathlib.Core.Path.{sym, ap}
 use Rattle.packing.specs.Packed.{packStep}
 use borrow.Author.Needs.{needs}

@@ -1,4 +1,4 @@
--- `packing::packed_value` meets its contract. Assumes nothing.
+-- `packing::packed_value` meets its contract.
 use mathlib.Core.Path.{sym, ap}
 use Rattle.packing.specs.Packed.{packValue}
 use borrow.Author.Needs.{needs}

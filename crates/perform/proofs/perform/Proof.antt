@@ -1,4 +1,4 @@
--- `perform::perform` meets its contract. Assumes nothing.
+-- `perform::perform` meets its contract.
 use borrow.Author.Needs.{needs}
 use Rattle.perform.proofs.Performed.{performed}
 use Rattle.perform.proofs.perform.Statement.{statement}
@@ -98,73 +98,97 @@ same-length : tie.Need-same-length
 same-length c = search needs
 
 returns : tie.Need-returns
-returns c = performed (c .before .before .before .before .before .request .given .1) _ _ _ _ (c .before .before .attach .ensures)
+returns c =
+    let request-bound = c .before .before .before .before .before in
+    performed (request-bound .request .given .1) _ _ _ _ (c .before .before .attach .ensures)
 
 same-length-2 : tie.Need-same-length-2
 same-length-2 c = search needs
 
 returns-2 : tie.Need-returns-2
-returns-2 c = performed (c .before .before .before .before .before .request2 .given .1) _ _ _ _ (c .before .before .spawn .ensures)
+returns-2 c =
+    let request-bound = c .before .before .before .before .before in
+    performed (request-bound .request2 .given .1) _ _ _ _ (c .before .before .spawn .ensures)
 
 same-length-3 : tie.Need-same-length-3
 same-length-3 c = search needs
 
 returns-3 : tie.Need-returns-3
-returns-3 c = performed (c .before .before .before .before .before .request3 .given .1) _ _ _ _ (c .before .before .detach .ensures)
+returns-3 c =
+    let request-bound = c .before .before .before .before .before in
+    performed (request-bound .request3 .given .1) _ _ _ _ (c .before .before .detach .ensures)
 
 same-length-4 : tie.Need-same-length-4
 same-length-4 c = search needs
 
 returns-4 : tie.Need-returns-4
-returns-4 c = performed (c .before .before .before .before .before .request4 .given .1) _ _ _ _ (c .before .before .check .ensures)
+returns-4 c =
+    let request-bound = c .before .before .before .before .before in
+    performed (request-bound .request4 .given .1) _ _ _ _ (c .before .before .check .ensures)
 
 same-length-5 : tie.Need-same-length-5
 same-length-5 c = search needs
 
 returns-5 : tie.Need-returns-5
-returns-5 c = performed (c .before .before .before .before .before .request5 .given .1) _ _ _ _ (c .before .before .leave .ensures)
+returns-5 c =
+    let request-bound = c .before .before .before .before .before in
+    performed (request-bound .request5 .given .1) _ _ _ _ (c .before .before .leave .ensures)
 
 same-length-6 : tie.Need-same-length-6
 same-length-6 c = search needs
 
 returns-6 : tie.Need-returns-6
-returns-6 c = performed (c .before .before .before .before .before .request6 .given .1) _ _ _ _ (c .before .before .enter .ensures)
+returns-6 c =
+    let request-bound = c .before .before .before .before .before in
+    performed (request-bound .request6 .given .1) _ _ _ _ (c .before .before .enter .ensures)
 
 same-length-7 : tie.Need-same-length-7
 same-length-7 c = search needs
 
 returns-7 : tie.Need-returns-7
-returns-7 c = performed (c .before .before .before .before .before .request7 .given .1) _ _ _ _ (c .before .before .make .ensures)
+returns-7 c =
+    let request-bound = c .before .before .before .before .before in
+    performed (request-bound .request7 .given .1) _ _ _ _ (c .before .before .make .ensures)
 
 same-length-8 : tie.Need-same-length-8
 same-length-8 c = search needs
 
 returns-8 : tie.Need-returns-8
-returns-8 c = performed (c .before .before .before .before .before .request8 .given .1) _ _ _ _ (c .before .before .load .ensures)
+returns-8 c =
+    let request-bound = c .before .before .before .before .before in
+    performed (request-bound .request8 .given .1) _ _ _ _ (c .before .before .load .ensures)
 
 same-length-9 : tie.Need-same-length-9
 same-length-9 c = search needs
 
 returns-9 : tie.Need-returns-9
-returns-9 c = performed (c .before .before .before .before .before .request9 .given .1) _ _ _ _ (c .before .before .store .ensures)
+returns-9 c =
+    let request-bound = c .before .before .before .before .before in
+    performed (request-bound .request9 .given .1) _ _ _ _ (c .before .before .store .ensures)
 
 same-length-10 : tie.Need-same-length-10
 same-length-10 c = search needs
 
 returns-10 : tie.Need-returns-10
-returns-10 c = performed (c .before .before .before .before .before .request10 .given .1) _ _ _ _ (c .before .before .copy .ensures)
+returns-10 c =
+    let request-bound = c .before .before .before .before .before in
+    performed (request-bound .request10 .given .1) _ _ _ _ (c .before .before .copy .ensures)
 
 same-length-11 : tie.Need-same-length-11
 same-length-11 c = search needs
 
 returns-11 : tie.Need-returns-11
-returns-11 c = performed (c .before .before .before .before .before .request11 .given .1) _ _ _ _ (c .before .before .clear .ensures)
+returns-11 c =
+    let request-bound = c .before .before .before .before .before in
+    performed (request-bound .request11 .given .1) _ _ _ _ (c .before .before .clear .ensures)
 
 same-length-12 : tie.Need-same-length-12
 same-length-12 c = search needs
 
 returns-12 : tie.Need-returns-12
-returns-12 c = performed (c .before .before .before .before .before .request12 .given .1) _ _ _ _ (c .before .before .put .ensures)
+returns-12 c =
+    let request-bound = c .before .before .before .before .before in
+    performed (request-bound .request12 .given .1) _ _ _ _ (c .before .before .put .ensures)
 
 same-length-13 : tie.Need-same-length-13
 same-length-13 c = search needs

@@ -1,4 +1,4 @@
--- `record_test::is_of_class` meets its contract. Assumes nothing.
+-- `record_test::is_of_class` meets its contract.
 use Rattle.record_test.proofs.Fitting.{too-large, in-first, by-half}
 use borrow.Author.Needs.{needs}
 use Rattle.record_test.proofs.is_of_class.Statement.{statement}

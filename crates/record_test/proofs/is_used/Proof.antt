@@ -1,4 +1,4 @@
--- `record_test::is_used` meets its contract. Assumes nothing.
+-- `record_test::is_used` meets its contract.
 use Rattle.layout.specs.Mem.{memOf}
 use Rattle.layout.proofs.Sizes.{most-small}
 use Rattle.record_test.proofs.Testing.{used-before, used-by, lent, lent-room}

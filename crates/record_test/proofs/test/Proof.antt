@@ -1,4 +1,4 @@
--- `record_test::test` meets its contract. Assumes nothing.
+-- `record_test::test` meets its contract.
 use mathlib.Core.Path.{_∙_, sym}
 use Rattle.layout.specs.Mem.{memOf}
 use Rattle.record_test.proofs.Testing.{segment-in, off-heap, in-heap, not-free, no-class, classed}

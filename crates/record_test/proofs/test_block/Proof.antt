@@ -1,4 +1,4 @@
--- `record_test::test_block` meets its contract. Assumes nothing.
+-- `record_test::test_block` meets its contract.
 use Rattle.layout.specs.Mem.{memOf}
 use Rattle.classes.proofs.Filling.{two-words}
 use Rattle.rules.proofs.Deciding.{refuted}

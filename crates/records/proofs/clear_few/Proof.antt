@@ -1,4 +1,4 @@
--- `records::clear_few` meets its contract. Assumes nothing.
+-- `records::clear_few` meets its contract.
 use Rattle.records.proofs.Cleared.{cleared-eight, cleared-sixteen}
 use borrow.Author.Needs.{needs}
 use Rattle.records.proofs.clear_few.Statement.{statement}

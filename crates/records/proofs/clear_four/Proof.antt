@@ -1,4 +1,4 @@
--- `records::clear_four` meets its contract. Assumes nothing.
+-- `records::clear_four` meets its contract.
 use Rattle.records.proofs.Cleared.{cleared-4}
 use borrow.Author.Needs.{needs}
 use Rattle.records.proofs.clear_four.Statement.{statement}

@@ -1,4 +1,4 @@
--- `records::clear_three` meets its contract. Assumes nothing.
+-- `records::clear_three` meets its contract.
 use native.Mathlib.Nat.{pos-of-ne-zero}
 use Rattle.records.proofs.Cleared.{cleared-0, cleared-three}
 use borrow.Author.Needs.{needs}

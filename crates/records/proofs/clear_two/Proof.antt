@@ -1,4 +1,4 @@
--- `records::clear_two` meets its contract. Assumes nothing.
+-- `records::clear_two` meets its contract.
 use mathlib.Core.Path.{refl, _∙_}
 use borrow.Author.Tests.{eq-eqb, ne-eqb}
 use Rattle.records.proofs.Cleared.{cleared-pair}

@@ -1,4 +1,4 @@
--- `records::held_of` meets its contract. Assumes nothing.
+-- `records::held_of` meets its contract.
 use borrow.Author.Needs.{needs}
 use Rattle.records.proofs.FieldTests.{held-record}
 use Rattle.records.proofs.held_of.Tie as tie

@@ -1,4 +1,4 @@
--- `records::pointer_at` meets its contract. Assumes nothing.
+-- `records::pointer_at` meets its contract.
 use borrow.Author.Needs.{needs}
 use Rattle.records.proofs.FieldTests.{pointer-off, no-pointer, pointer-torn, pointer-word}
 use Rattle.records.proofs.pointer_at.Tie as tie
@@ -23,10 +23,18 @@ add-word-2 : tie.Need-add-word-2
 add-word-2 c = search needs
 
 returns-3 : tie.Need-returns-3
-returns-3 c = pointer-torn _ _ (c .before .before .before .before .before .heap-words .ensures) _ _ _ _ (c .before .before .before .shape .ensures .shape) (c .before .before .before .before .if1 .left) (c .before .if2 .left) (c .if3 .taken)
+returns-3 c =
+    let shape-told = c .before .before .before in
+    let past-end-upto-at = shape-told .before in
+    let heap-words-told = past-end-upto-at .before in
+    pointer-torn _ _ (heap-words-told .heap-words .ensures) _ _ _ _ (shape-told .shape .ensures .shape) (past-end-upto-at .if1 .left) (c .before .if2 .left) (c .if3 .taken)
 
 returns-4 : tie.Need-returns-4
-returns-4 c = pointer-word _ _ (c .before .before .before .before .before .heap-words .ensures) _ _ _ _ (c .before .before .before .shape .ensures .shape) (c .before .before .before .before .if1 .left) (c .before .if2 .left) (c .if3 .left)
+returns-4 c =
+    let shape-told = c .before .before .before in
+    let past-end-upto-at = shape-told .before in
+    let heap-words-told = past-end-upto-at .before in
+    pointer-word _ _ (heap-words-told .heap-words .ensures) _ _ _ _ (shape-told .shape .ensures .shape) (past-end-upto-at .if1 .left) (c .before .if2 .left) (c .if3 .left)
 
 pub pointer-at-spec : {M : Type 1} → statement M
 pointer-at-spec =

@@ -1,4 +1,4 @@
--- `records::shape` meets its contract. Assumes nothing.
+-- `records::shape` meets its contract.
 use mathlib.Core.Path.{ap}
 use native.Mathlib.Omega.{arith}
 use borrow.Author.Needs.{needs}

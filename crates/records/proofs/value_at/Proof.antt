@@ -1,4 +1,4 @@
--- `records::value_at` meets its contract. Assumes nothing.
+-- `records::value_at` meets its contract.
 use borrow.Author.Needs.{needs}
 use Rattle.records.proofs.FieldTests.{value-off, no-value, value-torn, value-word}
 use Rattle.records.proofs.value_at.Tie as tie
@@ -29,10 +29,18 @@ add-word-3 : tie.Need-add-word-3
 add-word-3 c = search needs
 
 returns-3 : tie.Need-returns-3
-returns-3 c = value-torn _ _ (c .before .before .before .before .before .before .heap-words .ensures) _ _ _ _ (c .before .before .before .before .shape .ensures .shape) (c .before .before .before .before .before .if1 .left) (c .before .before .if2 .left) (c .if3 .taken)
+returns-3 c =
+    let shape-told = c .before .before .before .before in
+    let past-end-upto-at = shape-told .before in
+    let heap-words-told = past-end-upto-at .before in
+    value-torn _ _ (heap-words-told .heap-words .ensures) _ _ _ _ (shape-told .shape .ensures .shape) (past-end-upto-at .if1 .left) (c .before .before .if2 .left) (c .if3 .taken)
 
 returns-4 : tie.Need-returns-4
-returns-4 c = value-word _ _ (c .before .before .before .before .before .before .heap-words .ensures) _ _ _ _ (c .before .before .before .before .shape .ensures .shape) (c .before .before .before .before .before .if1 .left) (c .before .before .if2 .left) (c .if3 .left)
+returns-4 c =
+    let shape-told = c .before .before .before .before in
+    let past-end-upto-at = shape-told .before in
+    let heap-words-told = past-end-upto-at .before in
+    value-word _ _ (heap-words-told .heap-words .ensures) _ _ _ _ (shape-told .shape .ensures .shape) (past-end-upto-at .if1 .left) (c .before .before .if2 .left) (c .if3 .left)
 
 pub value-at-spec : {M : Type 1} → statement M
 value-at-spec =

@@ -1,4 +1,4 @@
--- `records::write` meets its contract. Assumes nothing.
+-- `records::write` meets its contract.
 use mathlib.Core.Path.{refl, _∙_}
 use borrow.Author.Needs.{needs}
 use Rattle.records.proofs.write.Statement.{statement}

@@ -1,4 +1,4 @@
--- `records::write_few` meets its contract. Assumes nothing.
+-- `records::write_few` meets its contract.
 use mathlib.Core.Path.{refl, _∙_}
 use borrow.Author.Needs.{needs}
 use Rattle.records.proofs.write_few.Statement.{statement}

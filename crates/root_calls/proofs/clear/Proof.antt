@@ -1,4 +1,4 @@
--- `root_calls::clear` meets its contract. Assumes nothing.
+-- `root_calls::clear` meets its contract.
 use mathlib.Core.Path.{refl, sym, _∙_}
 use borrow.Author.Needs.{needs}
 use Rattle.layout.proofs.Regions.{sized}
@@ -28,8 +28,9 @@ returns-2 c = refused (c-clear _ _) _ _ (sym (c .before .before .before .before 
 
 set-root-requires : tie.Need-set-root-requires
 set-root-requires c κs =
+    let past-wrong-size = c .before .before .before .before in
     let p = in-range-at _ _ _ _ _ (c .before .before .root-refusal .ensures) (c .before .if2 .left) in
-    (sized _ _ (sym (c .before .before .before .before .before .wrong-size .ensures) ∙ c .before .before .before .before .if1 .left), p .0, p .1)
+    (sized _ _ (sym (past-wrong-size .before .wrong-size .ensures) ∙ past-wrong-size .if1 .left), p .0, p .1)
 
 same-length-2 : tie.Need-same-length-2
 same-length-2 c = search needs
@@ -37,7 +38,11 @@ same-length-2 c = search needs
 returns-3 : tie.Need-returns-3
 unfolding insideThen act
 returns-3 c =
-    done (c-clear _ _) _ _ (sym (c .before .before .before .before .before .before .before .before .wrong-size .ensures) ∙ c .before .before .before .before .before .before .before .if1 .left) (sym (c .before .before .before .before .if2 .left) ∙ c .before .before .before .before .before .root-refusal .ensures) refl refl refl (c .before .before .set-root .ensures)
+    let past-refused = c .before .before .before .before in
+    let root-refusal-told = past-refused .before in
+    let past-wrong-size = root-refusal-told .before .before in
+    done (c-clear _ _) _ _ (sym (past-wrong-size .before .wrong-size .ensures) ∙ past-wrong-size .if1 .left)
+    (sym (past-refused .if2 .left) ∙ root-refusal-told .root-refusal .ensures) refl refl refl (c .before .before .set-root .ensures)
 
 pub clear-spec : {M : Type 1} → statement M
 clear-spec =

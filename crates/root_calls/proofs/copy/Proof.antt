@@ -1,4 +1,4 @@
--- `root_calls::copy` meets its contract. Assumes nothing.
+-- `root_calls::copy` meets its contract.
 use mathlib.Core.Path.{refl, sym, _∙_, ap}
 use borrow.Author.Needs.{needs}
 use Rattle.layout.proofs.Regions.{sized}
@@ -29,13 +29,19 @@ returns-2 c = refused (c-copy _ _ _) _ _ (sym (c .before .before .before .before
 
 root-requires : tie.Need-root-requires
 root-requires c κs =
-    let p = in-range _ _ _ (c .before .before .before .before .before .before .before .args .to) _ _ (c .before .before .roots-refusal .ensures) (c .before .if2 .left) in
-    (sized _ _ (sym (c .before .before .before .before .before .wrong-size .ensures) ∙ c .before .before .before .before .if1 .left), p .0, p .2)
+    let past-wrong-size = c .before .before .before .before in
+    let entry = past-wrong-size .before .before .before in
+    let p = in-range _ _ _ (entry .args .to) _ _ (c .before .before .roots-refusal .ensures) (c .before .if2 .left) in
+    (sized _ _ (sym (past-wrong-size .before .wrong-size .ensures) ∙ past-wrong-size .if1 .left), p .0, p .2)
 
 set-root-requires : tie.Need-set-root-requires
 set-root-requires c κs =
-    let p = in-range _ _ _ _ (c .before .before .before .before .before .before .before .before .before .args .from) _ (c .before .before .before .before .roots-refusal .ensures) (c .before .before .before .if2 .left) in
-    (sized _ _ (sym (c .before .before .before .before .before .before .before .wrong-size .ensures) ∙ c .before .before .before .before .before .before .if1 .left), p .0, p .1)
+    let past-refused = c .before .before .before in
+    let roots-refusal-told = past-refused .before in
+    let past-wrong-size = roots-refusal-told .before .before in
+    let entry = past-wrong-size .before .before .before in
+    let p = in-range _ _ _ _ (entry .args .from) _ (roots-refusal-told .roots-refusal .ensures) (past-refused .if2 .left) in
+    (sized _ _ (sym (past-wrong-size .before .wrong-size .ensures) ∙ past-wrong-size .if1 .left), p .0, p .1)
 
 same-length-2 : tie.Need-same-length-2
 same-length-2 c = search needs
@@ -43,8 +49,13 @@ same-length-2 c = search needs
 returns-3 : tie.Need-returns-3
 unfolding insideThen act
 returns-3 c =
-    done (c-copy _ _ _) _ _ (sym (c .before .before .before .before .before .before .before .before .before .before .wrong-size .ensures) ∙ c .before .before .before .before .before .before .before .before .before .if1 .left) (sym (c .before .before .before .before .before .before .if2 .left) ∙ c .before .before .before .before .before .before .before .roots-refusal .ensures) refl refl refl
-    (c .before .before .set-root .ensures ∙ ap (setRoot _ _ _) (c .before .before .before .before .root .ensures))
+    let root-told = c .before .before .before .before in
+    let past-refused = root-told .before .before in
+    let roots-refusal-told = past-refused .before in
+    let past-wrong-size = roots-refusal-told .before .before in
+    done (c-copy _ _ _) _ _ (sym (past-wrong-size .before .wrong-size .ensures) ∙ past-wrong-size .if1 .left)
+    (sym (past-refused .if2 .left) ∙ roots-refusal-told .roots-refusal .ensures) refl refl refl
+    (c .before .before .set-root .ensures ∙ ap (setRoot _ _ _) (root-told .root .ensures))
 
 pub copy-spec : {M : Type 1} → statement M
 copy-spec =

@@ -1,4 +1,4 @@
--- `root_calls::same` meets its contract. Assumes nothing.
+-- `root_calls::same` meets its contract.
 use mathlib.Core.Path.{refl, sym, _∙_, ap}
 use borrow.Author.Needs.{needs}
 use Rattle.layout.proofs.Regions.{sized}
@@ -26,18 +26,25 @@ returns-2 c = refused (c-same _ _ _) _ _ (sym (c .before .before .before .wrong-
 
 root-requires : tie.Need-root-requires
 root-requires c κs =
-    let p = in-range _ _ _ _ (c .before .before .before .before .before .args .j) _ (c .before .roots-refusal .ensures) (c .if2 .left) in
-    (sized _ _ (sym (c .before .before .before .wrong-size .ensures) ∙ c .before .before .if1 .left), p .0, p .1)
+    let wrong-size-told = c .before .before .before in
+    let entry = wrong-size-told .before .before in
+    let p = in-range _ _ _ _ (entry .args .j) _ (c .before .roots-refusal .ensures) (c .if2 .left) in
+    (sized _ _ (sym (wrong-size-told .wrong-size .ensures) ∙ c .before .before .if1 .left), p .0, p .1)
 
 root-requires-2 : tie.Need-root-requires-2
 root-requires-2 c κs =
-    let p = in-range _ _ _ (c .before .before .before .before .before .before .args .i) _ _ (c .before .before .roots-refusal .ensures) (c .before .if2 .left) in
-    (sized _ _ (sym (c .before .before .before .before .wrong-size .ensures) ∙ c .before .before .before .if1 .left), p .0, p .2)
+    let past-wrong-size = c .before .before .before in
+    let entry = past-wrong-size .before .before .before in
+    let p = in-range _ _ _ (entry .args .i) _ _ (c .before .before .roots-refusal .ensures) (c .before .if2 .left) in
+    (sized _ _ (sym (past-wrong-size .before .wrong-size .ensures) ∙ past-wrong-size .if1 .left), p .0, p .2)
 
 returns-3 : tie.Need-returns-3
 unfolding insideThen act
 returns-3 c =
-    done (c-same _ _ _) _ _ (sym (c .before .before .before .before .before .wrong-size .ensures) ∙ c .before .before .before .before .if1 .left) (sym (c .before .before .if2 .left) ∙ c .before .before .before .roots-refusal .ensures) (_, refl) refl
+    let roots-refusal-told = c .before .before .before in
+    let past-wrong-size = roots-refusal-told .before in
+    done (c-same _ _ _) _ _ (sym (past-wrong-size .before .wrong-size .ensures) ∙ past-wrong-size .if1 .left)
+    (sym (c .before .before .if2 .left) ∙ roots-refusal-told .roots-refusal .ensures) (_, refl) refl
     (ap a-flag (same-words (c .before .root .ensures) (c .root2 .ensures)))
     refl
 

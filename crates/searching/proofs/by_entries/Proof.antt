@@ -1,4 +1,4 @@
--- `searching::by_entries` meets its contract. Assumes nothing.
+-- `searching::by_entries` meets its contract.
 use mathlib.Core.Path.{_∙_}
 use Rattle.layout.specs.Mem.{memOf}
 use Rattle.searching.specs.declared.Edges.the-variants.{Unentered}

@@ -1,4 +1,4 @@
--- `searching::clear` meets its contract. Assumes nothing.
+-- `searching::clear` meets its contract.
 use mathlib.Core.Path.{_∙_, _≡_, refl}
 use Prim.Native.Nat.{ℕ, _-_, _≤_, _<_}
 use lib.ListN.{length, getD, length-set}

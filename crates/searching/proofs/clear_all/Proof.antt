@@ -1,4 +1,4 @@
--- `searching::clear_all` meets its contract. Assumes nothing.
+-- `searching::clear_all` meets its contract.
 use mathlib.Core.Path.{refl}
 use Rattle.layout.proofs.Filled.{Filled, filled-more, filled-all}
 use Prim.Native.Nat.{_-_}

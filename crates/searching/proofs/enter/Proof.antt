@@ -1,4 +1,4 @@
--- `searching::enter` meets its contract. Assumes nothing.
+-- `searching::enter` meets its contract.
 use mathlib.Core.Path.{_∙_, ap, refl, sym}
 use lib.ListN.{length, set}
 use Prim.Native.Nat.{_-_, _+_}

@@ -1,4 +1,4 @@
--- `searching::entries_at` meets its contract. Assumes nothing.
+-- `searching::entries_at` meets its contract.
 use Rattle.searching.specs.Scratch.{stateOf}
 use Rattle.searching.proofs.Rooting.{entries-all}
 use native.Mathlib.Omega.{arith}

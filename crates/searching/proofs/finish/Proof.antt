@@ -1,4 +1,4 @@
--- `searching::finish` meets its contract. Assumes nothing.
+-- `searching::finish` meets its contract.
 use mathlib.Core.Path.{_∙_, _≡_, subst, sym}
 use mathlib.Core.Bool.{Bool}
 use lib.ListN.{length}

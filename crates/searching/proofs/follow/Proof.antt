@@ -1,4 +1,4 @@
--- `searching::follow` meets its contract. Assumes nothing.
+-- `searching::follow` meets its contract.
 use mathlib.Core.Path.{refl, subst}
 use Rattle.layout.specs.Mem.{memOf}
 use Rattle.searching.specs.declared.Met.{Met}

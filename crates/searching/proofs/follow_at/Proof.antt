@@ -1,4 +1,4 @@
--- `searching::follow_at` meets its contract. Assumes nothing.
+-- `searching::follow_at` meets its contract.
 use mathlib.Core.Path.{subst}
 use Prim.Native.Nat.{_-_}
 use Rattle.layout.specs.Mem.{memOf}

@@ -1,4 +1,4 @@
--- `searching::follow_pointers` meets its contract. Assumes nothing.
+-- `searching::follow_pointers` meets its contract.
 use Prim.Native.Nat.{_-_}
 use Rattle.layout.specs.Mem.{memOf}
 use Rattle.searching.specs.Scratch.{stateOf}

@@ -1,4 +1,4 @@
--- `searching::mutator_at` meets its contract. Assumes nothing.
+-- `searching::mutator_at` meets its contract.
 use mathlib.Core.Path.{_∙_, sym}
 use Rattle.layout.specs.Mem.{memOf}
 use Rattle.walk.proofs.Walking.{run-still}

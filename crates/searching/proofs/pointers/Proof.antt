@@ -1,4 +1,4 @@
--- `searching::pointers` meets its contract. Assumes nothing.
+-- `searching::pointers` meets its contract.
 use mathlib.Core.Path.{_∙_, ap, refl, sym}
 use Rattle.classes.specs.Record.{pointerCountOf}
 use borrow.Author.Needs.{needs}

@@ -1,4 +1,4 @@
--- `searching::seed` meets its contract. Assumes nothing.
+-- `searching::seed` meets its contract.
 use mathlib.Core.Path.{_≡_, _∙_, refl, subst}
 use Prim.Native.Nat.{suc}
 use Rattle.layout.specs.Mem.{memOf}

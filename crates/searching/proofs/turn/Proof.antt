@@ -1,4 +1,4 @@
--- `searching::turn` meets its contract. Assumes nothing.
+-- `searching::turn` meets its contract.
 use mathlib.Core.Path.{_≡_, refl, subst}
 use mathlib.Core.Bool.{true}
 use borrow.Author.Tests.{ltb-true}

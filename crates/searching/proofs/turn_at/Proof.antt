@@ -1,4 +1,4 @@
--- `searching::turn_at` meets its contract. Assumes nothing.
+-- `searching::turn_at` meets its contract.
 use Prim.Native.Nat.{_-_, _+_}
 use lib.ListN.{length}
 use Rattle.layout.specs.Mem.{memOf}

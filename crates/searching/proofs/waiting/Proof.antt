@@ -1,4 +1,4 @@
--- `searching::waiting` meets its contract. Assumes nothing.
+-- `searching::waiting` meets its contract.
 use mathlib.Core.Path.{refl}
 use borrow.Author.Needs.{needs}
 use Rattle.searching.proofs.waiting.Tie as tie

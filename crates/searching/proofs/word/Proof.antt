@@ -1,4 +1,4 @@
--- `searching::word` meets its contract. Assumes nothing.
+-- `searching::word` meets its contract.
 use mathlib.Core.Path.{subst}
 use Prim.Native.Nat.{_<_}
 use Rattle.searching.specs.declared.Source.{Source}

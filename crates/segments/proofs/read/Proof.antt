@@ -1,4 +1,4 @@
--- `segments::read` meets its contract. Assumes nothing.
+-- `segments::read` meets its contract.
 use borrow.Author.Needs.{needs}
 use Rattle.segments.proofs.Records.{tag-read, rest-read}
 use Rattle.segments.proofs.read.Statement.{statement}
@@ -18,19 +18,35 @@ tag-requires : tie.Need-tag-requires
 tag-requires c κs = search needs
 
 returns : tie.Need-returns
-returns c = tag-read (c .before .tag .ensures) (c .before .before .before .before .class .ensures) (c .before .before .before .place .ensures) (c .before .before .owner .ensures) Tag.free (c .match .keys1)
+returns c =
+    let place-told = c .before .before .before in
+    let class-told = place-told .before in
+    tag-read (c .before .tag .ensures) (class-told .class .ensures) (place-told .place .ensures) (c .before .before .owner .ensures) Tag.free (c .match .keys1)
 
 returns-2 : tie.Need-returns-2
-returns-2 c = tag-read (c .before .tag .ensures) (c .before .before .before .before .class .ensures) (c .before .before .before .place .ensures) (c .before .before .owner .ensures) Tag.part (c .match .keys2)
+returns-2 c =
+    let place-told = c .before .before .before in
+    let class-told = place-told .before in
+    tag-read (c .before .tag .ensures) (class-told .class .ensures) (place-told .place .ensures) (c .before .before .owner .ensures) Tag.part (c .match .keys2)
 
 returns-3 : tie.Need-returns-3
-returns-3 c = tag-read (c .before .tag .ensures) (c .before .before .before .before .class .ensures) (c .before .before .before .place .ensures) (c .before .before .owner .ensures) Tag.held (c .match .keys3)
+returns-3 c =
+    let place-told = c .before .before .before in
+    let class-told = place-told .before in
+    tag-read (c .before .tag .ensures) (class-told .class .ensures) (place-told .place .ensures) (c .before .before .owner .ensures) Tag.held (c .match .keys3)
 
 returns-4 : tie.Need-returns-4
-returns-4 c = tag-read (c .before .tag .ensures) (c .before .before .before .before .class .ensures) (c .before .before .before .place .ensures) (c .before .before .owner .ensures) Tag.full (c .match .keys4)
+returns-4 c =
+    let place-told = c .before .before .before in
+    let class-told = place-told .before in
+    tag-read (c .before .tag .ensures) (class-told .class .ensures) (place-told .place .ensures) (c .before .before .owner .ensures) Tag.full (c .match .keys4)
 
 returns-5 : tie.Need-returns-5
-returns-5 c = rest-read (c .before .tag .ensures) (c .before .before .before .before .class .ensures) (c .before .before .before .place .ensures) (c .before .before .owner .ensures) (c .match .rest .0 .0 .0 .1) (c .match .rest .0 .0 .1) (c .match .rest .0 .1) (c .match .rest .1)
+returns-5 c =
+    let place-told = c .before .before .before in
+    let class-told = place-told .before in
+    rest-read (c .before .tag .ensures) (class-told .class .ensures) (place-told .place .ensures) (c .before .before .owner .ensures)
+    (c .match .rest .0 .0 .0 .1) (c .match .rest .0 .0 .1) (c .match .rest .0 .1) (c .match .rest .1)
 
 pub read-spec : {M : Type 1} → statement M
 read-spec =

@@ -1,4 +1,4 @@
--- `segments::write` meets its contract. Assumes nothing.
+-- `segments::write` meets its contract.
 use borrow.Author.Needs.{needs}
 use Rattle.segments.proofs.Records.{state-written}
 use Rattle.segments.proofs.write.Statement.{statement}
@@ -45,25 +45,33 @@ same-length-2 : tie.Need-same-length-2
 same-length-2 c = search needs
 
 returns-2 : tie.Need-returns-2
-returns-2 c = state-written _ _ _ _ (state.Part _ _) _ (c .before .before .before .before .before .state .given .1) (c .before .before .write-as2 .ensures)
+returns-2 c =
+    let state-bound = c .before .before .before .before .before in
+    state-written _ _ _ _ (state.Part _ _) _ (state-bound .state .given .1) (c .before .before .write-as2 .ensures)
 
 same-length-3 : tie.Need-same-length-3
 same-length-3 c = search needs
 
 returns-3 : tie.Need-returns-3
-returns-3 c = state-written _ _ _ _ (state.Held _ _ _) _ (c .before .before .before .before .before .state2 .given .1) (c .before .before .write-as3 .ensures)
+returns-3 c =
+    let state-bound = c .before .before .before .before .before in
+    state-written _ _ _ _ (state.Held _ _ _) _ (state-bound .state2 .given .1) (c .before .before .write-as3 .ensures)
 
 same-length-4 : tie.Need-same-length-4
 same-length-4 c = search needs
 
 returns-4 : tie.Need-returns-4
-returns-4 c = state-written _ _ _ _ (state.Full _) _ (c .before .before .before .before .before .state3 .given .1) (c .before .before .write-filled .ensures)
+returns-4 c =
+    let state-bound = c .before .before .before .before .before in
+    state-written _ _ _ _ (state.Full _) _ (state-bound .state3 .given .1) (c .before .before .write-filled .ensures)
 
 same-length-5 : tie.Need-same-length-5
 same-length-5 c = search needs
 
 returns-5 : tie.Need-returns-5
-returns-5 c = state-written _ _ _ _ (state.Condemned _) _ (c .before .before .before .before .before .state4 .given .1) (c .before .before .write-filled2 .ensures)
+returns-5 c =
+    let state-bound = c .before .before .before .before .before in
+    state-written _ _ _ _ (state.Condemned _) _ (state-bound .state4 .given .1) (c .before .before .write-filled2 .ensures)
 
 pub write-spec : {M : Type 1} → statement M
 write-spec =

@@ -1,4 +1,4 @@
--- `segments::write_as` meets its contract. Assumes nothing.
+-- `segments::write_as` meets its contract.
 use borrow.Author.Needs.{needs}
 use Rattle.segments.proofs.write_as.Statement.{statement}
 use Rattle.segments.proofs.write_as.Tie as tie
@@ -34,7 +34,11 @@ same-length : tie.Need-same-length
 same-length c = search needs
 
 returns : tie.Need-returns
-returns c = rw (← c .before .before .before .before .before .before .before .before .before .before .before .before .before .before .set-segment .ensures, ← c .before .before .before .before .before .before .before .before .before .before .set-segment2 .ensures, ← c .before .before .before .before .before .before .set-segment3 .ensures) (c .before .before .set-segment4 .ensures)
+returns c =
+    let segment-set-third = c .before .before .before .before .before .before in
+    let segment-set-again = segment-set-third .before .before .before .before in
+    let segment-set = segment-set-again .before .before .before .before in
+    rw (← segment-set .set-segment .ensures, ← segment-set-again .set-segment2 .ensures, ← segment-set-third .set-segment3 .ensures) (c .before .before .set-segment4 .ensures)
 
 pub write-as-spec : {M : Type 1} → statement M
 write-as-spec =

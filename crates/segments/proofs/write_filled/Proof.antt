@@ -1,4 +1,4 @@
--- `segments::write_filled` meets its contract. Assumes nothing.
+-- `segments::write_filled` meets its contract.
 use borrow.Author.Needs.{needs}
 use Rattle.segments.proofs.write_filled.Statement.{statement}
 use Rattle.segments.proofs.write_filled.Tie as tie

@@ -1,4 +1,4 @@
--- `stacks::base` meets its contract. Assumes nothing.
+-- `stacks::base` meets its contract.
 use mathlib.Core.Path.{refl}
 use native.Mathlib.Omega.{arith}
 use borrow.Author.Needs.{needs}

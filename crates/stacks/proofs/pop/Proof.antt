@@ -1,4 +1,4 @@
--- `stacks::pop` meets its contract. Assumes nothing.
+-- `stacks::pop` meets its contract.
 use borrow.Author.Needs.{needs}
 use Rattle.stacks.proofs.Stacking.{pop-none, pop-some}
 use Rattle.stacks.proofs.pop.Statement.{statement}
@@ -26,7 +26,10 @@ same-length-2 : tie.Need-same-length-2
 same-length-2 c = search needs
 
 returns-2 : tie.Need-returns-2
-returns-2 c = pop-some _ _ _ _ _ (c .before .before .before .before .before .before .before .base .ensures) (c .before .before .before .before .before .stack .ensures) _ (c .before .before .set-stack .ensures)
+returns-2 c =
+    let stack-told = c .before .before .before .before .before in
+    let base-told = stack-told .before .before in
+    pop-some _ _ _ _ _ (base-told .base .ensures) (stack-told .stack .ensures) _ (c .before .before .set-stack .ensures)
 
 pub pop-spec : {M : Type 1} → statement M
 pop-spec =

@@ -1,4 +1,4 @@
--- `stacks::push` meets its contract. Assumes nothing.
+-- `stacks::push` meets its contract.
 use borrow.Author.Needs.{needs}
 use Rattle.stacks.proofs.Stacking.{push-full, push-done}
 use Rattle.stacks.proofs.push.Statement.{statement}
@@ -44,7 +44,11 @@ same-length-2 : tie.Need-same-length-2
 same-length-2 c = search needs
 
 returns-2 : tie.Need-returns-2
-returns-2 c = push-done _ _ _ _ _ (c .before .before .before .before .before .before .before .before .before .before .before .before .base .ensures) (c .before .before .before .before .before .before .before .before .before .before .stack .ensures) _ _ _ (c .before .before .before .before .before .before .set-stack .ensures) (c .before .before .set-stack2 .ensures)
+returns-2 c =
+    let stack-set = c .before .before .before .before .before .before in
+    let stack-told = stack-set .before .before .before .before in
+    let base-told = stack-told .before .before in
+    push-done _ _ _ _ _ (base-told .base .ensures) (stack-told .stack .ensures) _ _ _ (stack-set .set-stack .ensures) (c .before .before .set-stack2 .ensures)
 
 pub push-spec : {M : Type 1} → statement M
 push-spec =

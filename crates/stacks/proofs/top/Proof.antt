@@ -1,4 +1,4 @@
--- `stacks::top` meets its contract. Assumes nothing.
+-- `stacks::top` meets its contract.
 use borrow.Author.Needs.{needs}
 use Rattle.stacks.proofs.Stacking.{top-none, top-over, top-there, top-off}
 use Rattle.stacks.proofs.top.Statement.{statement}
@@ -29,10 +29,21 @@ cast-s : tie.Need-cast-s
 cast-s c = search needs
 
 returns-3 : tie.Need-returns-3
-returns-3 c = top-there _ _ _ _ _ (c .before .before .before .before .before .before .before .base .ensures) (c .before .before .before .before .before .before .stack .ensures) (c .before .before .before .before .before .if1 .left) (c .before .before .before .if2 .left) _ (c .before .before .stack2 .ensures) (c .if3 .taken)
+returns-3 c =
+    let past-segments-below-count = c .before .before .before in
+    let past-count-is-0 = past-segments-below-count .before .before in
+    let stack-told = past-count-is-0 .before in
+    let base-told = stack-told .before in
+    top-there _ _ _ _ _ (base-told .base .ensures) (stack-told .stack .ensures) (past-count-is-0 .if1 .left)
+    (past-segments-below-count .if2 .left) _ (c .before .before .stack2 .ensures) (c .if3 .taken)
 
 returns-4 : tie.Need-returns-4
-returns-4 c = top-off _ _ _ _ _ (c .before .before .before .before .before .before .before .base .ensures) (c .before .before .before .before .before .before .stack .ensures) (c .before .before .before .before .before .if1 .left) (c .before .before .before .if2 .left) _ (c .before .before .stack2 .ensures) (c .if3 .left)
+returns-4 c =
+    let past-segments-below-count = c .before .before .before in
+    let past-count-is-0 = past-segments-below-count .before .before in
+    let stack-told = past-count-is-0 .before in
+    let base-told = stack-told .before in
+    top-off _ _ _ _ _ (base-told .base .ensures) (stack-told .stack .ensures) (past-count-is-0 .if1 .left) (past-segments-below-count .if2 .left) _ (c .before .before .stack2 .ensures) (c .if3 .left)
 
 pub top-spec : {M : Type 1} → statement M
 top-spec =

@@ -1,4 +1,4 @@
--- `starting::collects` meets its contract. Assumes nothing.
+-- `starting::collects` meets its contract.
 use mathlib.Core.Path.{ap}
 use lib.Dec.{eqb}
 use borrow.Author.Needs.{needs}

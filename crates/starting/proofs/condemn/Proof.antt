@@ -1,4 +1,4 @@
--- `starting::condemn` meets its contract. The loop's invariant: of the segments before `s` those that a start collects are condemned. Assumes nothing.
+-- `starting::condemn` meets its contract. The loop's invariant: of the segments before `s` those that a start collects are condemned.
 use mathlib.Core.Path.{_≡_, refl, _∙_}
 use Prim.Native.Nat.{_-_}
 use native.Mathlib.Omega.{arith}

@@ -1,4 +1,4 @@
--- `starting::condemn_one` meets its contract. Assumes nothing.
+-- `starting::condemn_one` meets its contract.
 use mathlib.Core.Path.{sym, _∙_}
 use borrow.Author.Needs.{needs}
 use Rattle.starting.proofs.condemn_one.Statement.{statement}

@@ -1,4 +1,4 @@
--- `starting::reset_acks` meets its contract. The loop's invariant: the acknowledgements of the mutators before `k` are 0. Assumes nothing.
+-- `starting::reset_acks` meets its contract. The loop's invariant: the acknowledgements of the mutators before `k` are 0.
 use mathlib.Core.Path.{_≡_, refl, _∙_}
 use Prim.Native.Nat.{_-_}
 use native.Mathlib.Omega.{arith}

@@ -1,4 +1,4 @@
--- `starting::start` meets its contract. Assumes nothing.
+-- `starting::start` meets its contract.
 use mathlib.Core.Path.{sym, _∙_}
 use borrow.Author.Needs.{needs}
 use Rattle.layout.proofs.Regions.{sized}

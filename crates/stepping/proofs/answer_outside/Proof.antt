@@ -1,4 +1,4 @@
--- `stepping::answer_outside` meets its contract. The loop's invariant: the mutators outside before `k` have given their acknowledgements, and `k` is the next one. Assumes nothing.
+-- `stepping::answer_outside` meets its contract. The loop's invariant: the mutators outside before `k` have given their acknowledgements, and `k` is the next one.
 use mathlib.Core.Path.{_≡_, refl, _∙_}
 use Prim.Native.Nat.{_-_}
 use native.Mathlib.Omega.{arith}

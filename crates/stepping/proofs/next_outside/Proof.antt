@@ -1,4 +1,4 @@
--- `stepping::next_outside` meets its contract. The loop's invariant: no mutator from `from` to `j` is outside. Assumes nothing.
+-- `stepping::next_outside` meets its contract. The loop's invariant: no mutator from `from` to `j` is outside.
 use mathlib.Core.Path.{sym, _∙_}
 use Prim.Native.Nat.{_-_}
 use native.Mathlib.Omega.{arith}

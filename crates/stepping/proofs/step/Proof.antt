@@ -1,4 +1,4 @@
--- `stepping::step` meets its contract. Assumes nothing.
+-- `stepping::step` meets its contract.
 use mathlib.Core.Path.{refl, sym, _∙_}
 use native.Mathlib.Omega.{arith}
 use borrow.Author.Needs.{needs}

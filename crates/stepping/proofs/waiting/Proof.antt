@@ -1,4 +1,4 @@
--- `stepping::waiting` meets its contract. The loop's invariant: `n` counts the mutators before `i`. Assumes nothing.
+-- `stepping::waiting` meets its contract. The loop's invariant: `n` counts the mutators before `i`.
 use Prim.Native.Nat.{_-_}
 use native.Mathlib.Omega.{arith}
 use Rattle.layout.specs.Geometry.{mutatorCount}

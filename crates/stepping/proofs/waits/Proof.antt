@@ -1,4 +1,4 @@
--- `stepping::waits` meets its contract. Assumes nothing.
+-- `stepping::waits` meets its contract.
 use mathlib.Core.Path.{sym, _∙_}
 use borrow.Author.Needs.{needs}
 use Rattle.stepping.proofs.Counting.{waits-inside, not-inside}

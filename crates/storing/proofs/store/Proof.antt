@@ -1,4 +1,4 @@
--- `storing::store` meets its contract. Assumes nothing.
+-- `storing::store` meets its contract.
 use mathlib.Core.Path.{sym, _∙_}
 use borrow.Author.Needs.{needs}
 use Rattle.layout.proofs.Regions.{sized}

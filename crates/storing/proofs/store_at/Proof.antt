@@ -1,4 +1,4 @@
--- `storing::store_at` meets its contract. Assumes nothing.
+-- `storing::store_at` meets its contract.
 use Rattle.storing.proofs.Storage.{stores-ok, stores-13}
 use borrow.Author.Needs.{needs}
 use Rattle.storing.proofs.store_at.Statement.{statement}

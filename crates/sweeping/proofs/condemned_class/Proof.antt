@@ -1,4 +1,4 @@
--- `sweeping::condemned_class` meets its contract. Assumes nothing.
+-- `sweeping::condemned_class` meets its contract.
 use borrow.Author.Needs.{needs}
 use Rattle.layout.specs.Mem.{memOf}
 use Rattle.sweeping.proofs.Sweeping.{class-read}

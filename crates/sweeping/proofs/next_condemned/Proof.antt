@@ -1,4 +1,4 @@
--- `sweeping::next_condemned` meets its contract. The loop's invariant: the segments from `from` to `s` are not condemned. Assumes nothing.
+-- `sweeping::next_condemned` meets its contract. The loop's invariant: the segments from `from` to `s` are not condemned.
 use Prim.Native.Nat.{_-_}
 use native.Mathlib.Omega.{arith}
 use borrow.Author.Needs.{needs}

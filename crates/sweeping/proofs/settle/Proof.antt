@@ -1,4 +1,4 @@
--- `sweeping::settle` meets its contract. Assumes nothing.
+-- `sweeping::settle` meets its contract.
 use borrow.Author.Needs.{needs}
 use Rattle.layout.proofs.Regions.{resized}
 use Rattle.sweeping.proofs.Settling.{stack-few, settled-full, settled-on}

@@ -1,4 +1,4 @@
--- `sweeping::stack_after` meets its contract. Assumes nothing.
+-- `sweeping::stack_after` meets its contract.
 use mathlib.Core.Path.{refl, _∙_}
 use borrow.Author.Tests.{eq-eqb, ne-eqb}
 use borrow.Author.Needs.{needs}

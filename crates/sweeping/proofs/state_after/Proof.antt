@@ -1,4 +1,4 @@
--- `sweeping::state_after` meets its contract. Assumes nothing.
+-- `sweeping::state_after` meets its contract.
 use mathlib.Core.Path.{refl, sym, _∙_}
 use borrow.Author.Tests.{eq-eqb, ne-eqb}
 use borrow.Author.Needs.{needs}

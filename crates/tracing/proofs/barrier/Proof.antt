@@ -1,4 +1,4 @@
--- `tracing::barrier` meets its contract. Assumes nothing.
+-- `tracing::barrier` meets its contract.
 use borrow.Author.Needs.{needs}
 use Rattle.tracing.proofs.Pushed.{barrier-nothing, barrier-old, barrier-stops, barrier-both}
 use Rattle.tracing.proofs.barrier.Tie as tie

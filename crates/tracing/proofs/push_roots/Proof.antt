@@ -1,4 +1,4 @@
--- `tracing::push_roots` meets its contract. The loop's invariant: the roots before `i` are pushed. Assumes nothing.
+-- `tracing::push_roots` meets its contract. The loop's invariant: the roots before `i` are pushed.
 use mathlib.Core.Path.{_≡_, refl, _∙_}
 use Prim.Native.Nat.{_-_}
 use native.Mathlib.Omega.{arith}

@@ -1,4 +1,4 @@
--- `words::clear_after` meets its contract. Assumes nothing.
+-- `words::clear_after` meets its contract.
 use native.Mathlib.Omega.{arith}
 use borrow.Author.Needs.{needs}
 use Rattle.words.proofs.Second.{after-bit}

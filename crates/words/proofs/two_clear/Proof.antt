@@ -1,4 +1,4 @@
--- `words::two_clear` meets its contract. Assumes nothing.
+-- `words::two_clear` meets its contract.
 use native.Mathlib.Omega.{arith}
 use borrow.Author.Needs.{needs}
 use Rattle.words.proofs.Second.{none-twice, twice}

@@ -1,4 +1,4 @@
--- `bitmap_search::BitPtr::forward` meets its contract. Assumes nothing.
+-- `bitmap_search::BitPtr::forward` meets its contract.
 use mathlib.Core.Path.{_≡_, sym, ap, _∙_}
 use Prim.Native.Nat.{_+_, _-_, ℕ, _<_}
 use native.Mathlib.Nat.{pos-of-ne-zero}
@@ -39,7 +39,22 @@ abbrev forward-below : ℕ → In 1 forward-kinds.ps
 forward-below t = and 1 forward-kinds.ps (falls 1 forward-kinds.ps _<_ μ-forward t) forward.Pre
 
 abbrev claims : ℕ → forward-lts.Claims
-claims t = (at-reads.Asked, at-reads.Learnt, words-for-reads.Asked, words-for-reads.Learnt, clear-from-reads.Asked, clear-from-reads.Learnt, with-reads.Asked, with-reads.Learnt, climb-reads.Asked, climb-reads.Learnt, forward-below t, forward.Post, descend-reads.Asked, descend-reads.Learnt)
+claims t = (
+  at-reads.Asked,
+  at-reads.Learnt,
+  words-for-reads.Asked,
+  words-for-reads.Learnt,
+  clear-from-reads.Asked,
+  clear-from-reads.Learnt,
+  with-reads.Asked,
+  with-reads.Learnt,
+  climb-reads.Asked,
+  climb-reads.Learnt,
+  forward-below t,
+  forward.Post,
+  descend-reads.Asked,
+  descend-reads.Learnt,
+)
 
 forward-at-requires : (t : ℕ) → forward-lts.Need-at-requires (claims t) (forward-at t) forward.Post
 forward-at-requires t c κs = search needs
@@ -67,43 +82,65 @@ forward-shared-slice-read-clear-from t c =
 
 forward-clear-from-requires : (t : ℕ) → forward-lts.Need-clear-from-requires (claims t) (forward-at t) forward.Post
 forward-clear-from-requires t c κs =
-    let e = ap (λ (x : BitPos). x .bit) (c .before .before .before .at .ensures) in
-    omega (arith, c .before .before .before .before .before .pre .1 .1)
+    let at-told = c .before .before .before in
+    let entry = at-told .before .before in
+    let e = ap (λ (x : BitPos). x .bit) (at-told .at .ensures) in
+    omega (arith, entry .pre .1 .1)
 
 forward-with-requires : (t : ℕ) → forward-lts.Need-with-requires (claims t) (forward-at t) forward.Post
 forward-with-requires t c κs = search needs
 
 forward-returns-2 : (t : ℕ) → forward-lts.Need-returns-2 (claims t) (forward-at t) forward.Post
 forward-returns-2 t c =
-    let a = c .before .before .before .before .before .before .before .before .args in
-    ap moved.At (c .with .ensures) ∙ ahead-at (a .above) (a .s .now) (a .n) (a .self) (a .level) (c .before .before .before .before .before .before .at .result) (c .before .before .before .before .before .before .at .ensures) (omega (arith, c .before .before .before .before .before .words-for .ensures, c .before .before .before .before .if1 .left)) (c .before .before .clear-from .result) (c .before .before .clear-from .ensures) (c .before .if2 .taken)
+    let past-words-upto-word = c .before .before .before .before in
+    let words-for-told = past-words-upto-word .before in
+    let at-told = words-for-told .before in
+    let entry = at-told .before .before in
+    let a = entry .args in
+    ap moved.At (c .with .ensures)
+    ∙ ahead-at (a .above) (a .s .now) (a .n) (a .self) (a .level) (at-told .at .result) (at-told .at .ensures)
+    (omega (arith, words-for-told .words-for .ensures, past-words-upto-word .if1 .left)) (c .before .before .clear-from .result)
+    (c .before .before .clear-from .ensures) (c .before .if2 .taken)
 
 forward-returns-3 : (t : ℕ) → forward-lts.Need-returns-3 (claims t) (forward-at t) forward.Post
 forward-returns-3 t c =
-    let a = c .before .before .before .before .before .before .before .before .args in
-    ahead-none (a .above) (a .s .now) (a .n) (a .self) (a .level) (c .before .before .before .before .before .before .at .result) (c .before .before .before .before .before .before .at .ensures) (omega (arith, c .before .before .before .before .before .words-for .ensures, c .before .before .before .before .if1 .left)) (c .before .before .clear-from .result) (c .before .before .clear-from .ensures) (c .before .if2 .left) (c .if3 .taken)
+    let past-words-upto-word = c .before .before .before .before in
+    let words-for-told = past-words-upto-word .before in
+    let at-told = words-for-told .before in
+    let entry = at-told .before .before in
+    let a = entry .args in
+    ahead-none (a .above) (a .s .now) (a .n) (a .self) (a .level) (at-told .at .result) (at-told .at .ensures)
+    (omega (arith, words-for-told .words-for .ensures, past-words-upto-word .if1 .left)) (c .before .before .clear-from .result)
+    (c .before .before .clear-from .ensures) (c .before .if2 .left) (c .if3 .taken)
 
 forward-cast-m : (t : ℕ) → forward-lts.Need-cast-m (claims t) (forward-at t) forward.Post
 forward-cast-m t c = search needs
 
 forward-climb-requires : (t : ℕ) → forward-lts.Need-climb-requires (claims t) (forward-at t) forward.Post
 forward-climb-requires t c κs =
-    let a = c .before .before .before .before .before .before .before .before in
-    let e = ap (λ (x : BitPos). x .word) (c .before .before .before .before .before .before .at .ensures) in
-    omega (arith, c .before .before .before .before .if1 .left, c .before .before .before .before .before .words-for .ensures, a .pre .1 .0 .1, pos-of-ne-zero (c .if3 .left))
+    let past-words-upto-word = c .before .before .before .before in
+    let words-for-told = past-words-upto-word .before in
+    let at-told = words-for-told .before in
+    let entry = at-told .before .before in
+    let e = ap (λ (x : BitPos). x .word) (at-told .at .ensures) in
+    omega (arith, past-words-upto-word .if1 .left, words-for-told .words-for .ensures, entry .pre .1 .0 .1, pos-of-ne-zero (c .if3 .left))
 
 forward-mul-forward : (t : ℕ) → forward-lts.Need-mul-forward (claims t) (forward-at t) forward.Post
-forward-mul-forward t c = omega (arith, c .before .before .before .before .before .before .words-for .ensures)
+forward-mul-forward t c =
+    let words-for-told = c .before .before .before .before .before .before in
+    omega (arith, words-for-told .words-for .ensures)
 
 forward-sub-forward : (t : ℕ) → forward-lts.Need-sub-forward (claims t) (forward-at t) forward.Post
 forward-sub-forward t c =
-    let a = c .before .before .before .before .before .before .before .before .before in
-    omega (arith, c .before .before .before .before .before .before .words-for .ensures, a .pre .1 .0 .0, words-in (a .args .above) (a .args .n))
+    let words-for-told = c .before .before .before .before .before .before in
+    let entry = words-for-told .before .before .before in
+    omega (arith, words-for-told .words-for .ensures, entry .pre .1 .0 .0, words-in (entry .args .above) (entry .args .n))
 
 forward-part-forward-start : (t : ℕ) → forward-lts.Need-part-forward-start (claims t) (forward-at t) forward.Post
 forward-part-forward-start t c =
-    let a = c .before .before .before .before .before .before .before .before .before in
-    omega (arith, c .before .before .before .before .before .before .words-for .ensures, a .pre .1 .0 .0, words-in (a .args .above) (a .args .n))
+    let words-for-told = c .before .before .before .before .before .before in
+    let entry = words-for-told .before .before .before in
+    omega (arith, words-for-told .words-for .ensures, entry .pre .1 .0 .0, words-in (entry .args .above) (entry .args .n))
 
 forward-part-forward-end : (t : ℕ) → forward-lts.Need-part-forward-end (claims t) (forward-at t) forward.Post
 forward-part-forward-end t c = search needs
@@ -112,39 +149,77 @@ forward-sub-forward-2 : (t : ℕ) → forward-lts.Need-sub-forward-2 (claims t) 
 forward-sub-forward-2 t c = pos-of-ne-zero (c .before .before .if3 .left)
 
 forward-add-forward : (t : ℕ) → forward-lts.Need-add-forward (claims t) (forward-at t) forward.Post
-forward-add-forward t c = omega (arith, c .before .before .before .before .before .before .before .before .before .before .pre .1 .0 .1, pos-of-ne-zero (c .before .before .if3 .left))
+forward-add-forward t c =
+    let words-for-told = c .before .before .before .before .before .before .before in
+    let entry = words-for-told .before .before .before in
+    omega (arith, entry .pre .1 .0 .1, pos-of-ne-zero (c .before .before .if3 .left))
 
 forward-forward-requires : (t : ℕ) → forward-lts.Need-forward-requires (claims t) (forward-at t) forward.Post
 forward-forward-requires t c κs =
-    let a = c .before .before .before .before .before .before .before .before .before .before in
+    let words-for-told = c .before .before .before .before .before .before .before in
+    let entry = words-for-told .before .before .before in
+    let a = entry .args in
     let p = pos-of-ne-zero (c .before .before .if3 .left) in
-    let q = ap (λ (x : BitPtr). posAt x (a .args .level + 1) .bit) (c .before .climb .ensures) in
-    (omega (arith, a .pre .0), ((room-behind (a .args .above) (a .args .n) (c .before .before .before .before .before .before .before .words-for .result) (a .args .s .now) p (c .before .before .before .before .before .before .before .words-for .ensures) (a .pre .1 .0 .0), omega (arith, a .pre .1 .0 .1)), omega (arith, climbed-small (a .args .self) (a .args .level))))
+    let q = ap (λ (x : BitPtr). posAt x (a .level + 1) .bit) (c .before .climb .ensures) in (
+      omega (arith, entry .pre .0),
+      (
+        (room-behind (a .above) (a .n) (words-for-told .words-for .result) (a .s .now) p (words-for-told .words-for .ensures) (entry .pre .1 .0 .0), omega (arith, entry .pre .1 .0 .1)),
+        omega (arith, climbed-small (a .self) (a .level)),
+      ),
+    )
 
 module _ (t : ℕ) (c : forward-lts.After-forward (claims t) (forward-at t) forward.Post) where
   -- what was found above
   above : c .forward .result
-      ≡ forwarded (c .before .before .before .before .before .before .before .before .before .before .before .args .above - 1) (drop (wordsFor (c .before .before .before .before .before .before .before .before .before .before .before .args .n)) (c .before .before .before .before .before .before .before .before .before .before .before .args .s .now)) (wordsFor (c .before .before .before .before .before .before .before .before .before .before .before .args .n)) (climbed (c .before .before .before .before .before .before .before .before .before .before .before .args .self) (c .before .before .before .before .before .before .before .before .before .before .before .args .level)) (c .before .before .before .before .before .before .before .before .before .before .before .args .level + 1)
+      ≡ forwarded (c .before .before .before .before .before .before .before .before .before .before .before .args .above - 1)
+      (drop (wordsFor (c .before .before .before .before .before .before .before .before .before .before .before .args .n))
+      (c .before .before .before .before .before .before .before .before .before .before .before .args .s .now))
+      (wordsFor (c .before .before .before .before .before .before .before .before .before .before .before .args .n))
+      (climbed (c .before .before .before .before .before .before .before .before .before .before .before .args .self)
+      (c .before .before .before .before .before .before .before .before .before .before .before .args .level))
+      (c .before .before .before .before .before .before .before .before .before .before .before .args .level + 1)
   above =
       let a = c .before .before .before .before .before .before .before .before .before .before .before .args in
-      handed-on (a .above - 1) (a .s .now) (wordsFor (a .n)) (a .level) (c .before .before .before .before .before .before .before .before .words-for .result) (a .self) (c .before .before .climb .result) (c .forward .result) (c .before .before .before .before .before .before .before .before .words-for .ensures) (c .before .before .climb .ensures) (c .forward .ensures)
+      handed-on (a .above - 1) (a .s .now) (wordsFor (a .n)) (a .level)
+      (c .before .before .before .before .before .before .before .before .words-for .result) (a .self)
+      (c .before .before .climb .result) (c .forward .result)
+      (c .before .before .before .before .before .before .before .before .words-for .ensures) (c .before .before .climb .ensures)
+      (c .forward .ensures)
 
   -- and the way down from there
   down : (r : Next) → c .forward .result ≡ r
-      → loweredFrom (c .before .before .before .before .before .before .before .before .before .before .before .args .s .now) (wordsFor (c .before .before .before .before .before .before .before .before .before .before .before .args .n)) (c .before .before .before .before .before .before .before .before .before .before .before .args .level) r ≡ forwarded (c .before .before .before .before .before .before .before .before .before .before .before .args .above) (c .before .before .before .before .before .before .before .before .before .before .before .args .s .now) (c .before .before .before .before .before .before .before .before .before .before .before .args .n) (c .before .before .before .before .before .before .before .before .before .before .before .args .self) (c .before .before .before .before .before .before .before .before .before .before .before .args .level)
+      → loweredFrom (c .before .before .before .before .before .before .before .before .before .before .before .args .s .now)
+      (wordsFor (c .before .before .before .before .before .before .before .before .before .before .before .args .n))
+      (c .before .before .before .before .before .before .before .before .before .before .before .args .level) r ≡ forwarded
+      (c .before .before .before .before .before .before .before .before .before .before .before .args .above)
+      (c .before .before .before .before .before .before .before .before .before .before .before .args .s .now)
+      (c .before .before .before .before .before .before .before .before .before .before .before .args .n)
+      (c .before .before .before .before .before .before .before .before .before .before .before .args .self)
+      (c .before .before .before .before .before .before .before .before .before .before .before .args .level)
   down r e =
       let a = c .before .before .before .before .before .before .before .before .before .before .before .args in
-      ahead-down (a .above) (a .s .now) (a .n) (a .self) (a .level) (c .before .before .before .before .before .before .before .before .before .at .result) (c .before .before .before .before .before .before .before .before .before .at .ensures) (omega (arith, c .before .before .before .before .before .before .before .before .words-for .ensures, c .before .before .before .before .before .before .before .if1 .left))
-      (c .before .before .before .before .before .clear-from .result) (c .before .before .before .before .before .clear-from .ensures) (c .before .before .before .before .if2 .left) (c .before .before .before .if3 .left) r (sym e ∙ above)
+      ahead-down (a .above) (a .s .now) (a .n) (a .self) (a .level)
+      (c .before .before .before .before .before .before .before .before .before .at .result)
+      (c .before .before .before .before .before .before .before .before .before .at .ensures)
+      (omega (arith, c .before .before .before .before .before .before .before .before .words-for .ensures, c .before .before .before .before .before .before .before .if1 .left))
+      (c .before .before .before .before .before .clear-from .result) (c .before .before .before .before .before .clear-from .ensures)
+      (c .before .before .before .before .if2 .left) (c .before .before .before .if3 .left) r (sym e ∙ above)
 
 forward-enum-known-found : (t : ℕ) → forward-lts.Need-enum-known-found (claims t) (forward-at t) forward.Post
 forward-enum-known-found t c = search needs
 
 forward-descend-requires : (t : ℕ) → forward-lts.Need-descend-requires (claims t) (forward-at t) forward.Post
 forward-descend-requires t c κs =
-    let a = c .before .before .before .before .before .before .before .before .before .before .before .before .before .before in
-    let h = handed-bound (a .args .above - 1) (drop (wordsFor (a .args .n)) (a .args .s .now)) (wordsFor (a .args .n)) (climbed (a .args .self) (a .args .level)) (c .before .found .given .0 .0) (a .args .level + 1) (sym (c .before .found .given .1) ∙ above t (c .before .before .before)) in
-    ((omega (arith, c .before .before .before .before .before .before .before .before .before .before .before .words-for .ensures, a .pre .1 .0 .0, words-in (a .args .above) (a .args .n)), omega (arith, a .pre .1 .0 .1, pos-of-ne-zero (c .before .before .before .before .before .before .if3 .left))), omega (arith, h))
+    let forward-told = c .before .before .before in
+    let past-above-is-0 = forward-told .before .before .before in
+    let words-for-told = past-above-is-0 .before .before .before .before .before in
+    let entry = words-for-told .before .before .before in
+    let a = entry .args in
+    let h = handed-bound (a .above - 1) (drop (wordsFor (a .n)) (a .s .now)) (wordsFor (a .n)) (climbed (a .self) (a .level))
+    (c .before .found .given .0 .0) (a .level + 1) (sym (c .before .found .given .1) ∙ above t forward-told) in (
+      (omega (arith, words-for-told .words-for .ensures, entry .pre .1 .0 .0, words-in (a .above) (a .n)), omega (arith, entry .pre .1 .0 .1, pos-of-ne-zero (past-above-is-0 .if3 .left))),
+      omega (arith, h),
+    )
 
 forward-enum-told : (t : ℕ) → forward-lts.Need-enum-told (claims t) (forward-at t) forward.Post
 forward-enum-told t c = search needs
@@ -154,9 +229,13 @@ forward-enum-told-2 t c = search needs
 
 forward-returns-4 : (t : ℕ) → forward-lts.Need-returns-4 (claims t) (forward-at t) forward.Post
 forward-returns-4 t c =
-    let a = c .before .before .before .before .before .before .before .before .before .before .before .before .before .before .before .args in
+    let forward-told = c .before .before .before .before in
+    let past-words-upto-word = forward-told .before .before .before .before .before .before .before in
+    let words-for-told = past-words-upto-word .before in
+    let entry = words-for-told .before .before .before in
+    let a = entry .args in
     let q = c .before .before .found .given .0 .0 in
-    c .descend .ensures ∙ ap (λ (m : ℕ). lowered (a .s .now) m q (a .level)) (c .before .before .before .before .before .before .before .before .before .before .before .before .words-for .ensures) ∙ down t (c .before .before .before .before) (moved.At q) (c .before .before .found .given .1)
+    c .descend .ensures ∙ ap (λ (m : ℕ). lowered (a .s .now) m q (a .level)) (words-for-told .words-for .ensures) ∙ down t forward-told (moved.At q) (c .before .before .found .given .1)
 
 forward-returns-5 : (t : ℕ) → forward-lts.Need-returns-5 (claims t) (forward-at t) forward.Post
 forward-returns-5 t c = down t (c .before .before) moved.Nothing (c .enum-told .given .1)

@@ -1,4 +1,4 @@
--- `bitmap_search::BitPtr::aim` meets its contract. Assumes nothing.
+-- `bitmap_search::BitPtr::aim` meets its contract.
 use borrow.Author.Needs.{needs}
 use Rattle.bitmap_search.proofs.Pointers.{aimed-high}
 use Rattle.bitmap_search.proofs.BitPtr.aim.Tie as tie
@@ -23,7 +23,9 @@ returns-2 : tie.Need-returns-2
 returns-2 c = rw (c .before .before .match .keys2, c .before .of .ensures, c .of2 .ensures)
 
 returns-3 : tie.Need-returns-3
-returns-3 c = rw (c .of3 .ensures) (aimed-high (c .before .before .before .before .args .self) (c .before .before .before .before .args .level) (c .before .before .before .before .args .index) (c .before .match .rest .0 .1) (c .before .match .rest .1))
+returns-3 c =
+    let entry = c .before .before .before .before in
+    rw (c .of3 .ensures) (aimed-high (entry .args .self) (entry .args .level) (entry .args .index) (c .before .match .rest .0 .1) (c .before .match .rest .1))
 
 pub aim-spec : {M : Type 1} → statement M
 aim-spec =

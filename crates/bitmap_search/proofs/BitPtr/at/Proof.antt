@@ -1,4 +1,4 @@
--- `bitmap_search::BitPtr::at` meets its contract. Assumes nothing.
+-- `bitmap_search::BitPtr::at` meets its contract.
 use borrow.Author.Needs.{needs}
 use Rattle.bitmap_search.proofs.Pointers.{pos-high}
 use Rattle.bitmap_search.proofs.BitPtr.at.Tie as tie

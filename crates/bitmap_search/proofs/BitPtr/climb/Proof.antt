@@ -1,4 +1,4 @@
--- `bitmap_search::BitPtr::climb` meets its contract. Assumes nothing.
+-- `bitmap_search::BitPtr::climb` meets its contract.
 use mathlib.Core.Path.{ap, _∙_}
 use Prim.Native.Nat.{_+_}
 use native.Mathlib.Omega.{arith}

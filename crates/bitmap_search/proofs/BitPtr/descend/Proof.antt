@@ -1,4 +1,4 @@
--- `bitmap_search::BitPtr::descend` meets its contract. Assumes nothing.
+-- `bitmap_search::BitPtr::descend` meets its contract.
 use mathlib.Core.Path.{ap, _∙_}
 use native.Mathlib.Omega.{arith}
 use borrow.Author.Needs.{needs}
@@ -18,7 +18,10 @@ index-requires : tie.Need-index-requires
 index-requires c κs = let e = ap indexOf (c .at .ensures) in omega arith
 
 returns : tie.Need-returns
-returns c = down-past (c .before .before .before .before .args .s .now) (c .before .before .before .before .args .words) (c .before .before .before .before .args .self) (c .before .before .before .before .args .level) (c .before .index .result) (c .before .index .ensures ∙ ap indexOf (c .before .before .at .ensures)) (c .if1 .taken)
+returns c =
+    let entry = c .before .before .before .before in
+    let a = entry .args in
+    down-past (a .s .now) (a .words) (a .self) (a .level) (c .before .index .result) (c .before .index .ensures ∙ ap indexOf (c .before .before .at .ensures)) (c .if1 .taken)
 
 cast-i : tie.Need-cast-i
 cast-i c = search needs
@@ -37,13 +40,26 @@ with-requires c κs = search needs
 
 returns-2 : tie.Need-returns-2
 returns-2 c =
-    let a = c .before .before .before .before .before .before .before .before .args in
-    ap moved.At (c .with .ensures) ∙ down-at (a .s .now) (a .words) (a .self) (a .level) (c .before .before .before .before .before .index .result) (c .before .before .before .before .before .index .ensures ∙ ap indexOf (c .before .before .before .before .before .before .at .ensures)) (c .before .before .before .before .if1 .left) (c .before .before .clear-from .result) (c .before .before .clear-from .ensures) (c .before .if2 .taken)
+    let past-words-upto-word = c .before .before .before .before in
+    let index-told = past-words-upto-word .before in
+    let at-told = index-told .before in
+    let entry = at-told .before .before in
+    let a = entry .args in
+    ap moved.At (c .with .ensures)
+    ∙ down-at (a .s .now) (a .words) (a .self) (a .level) (index-told .index .result)
+    (index-told .index .ensures ∙ ap indexOf (at-told .at .ensures)) (past-words-upto-word .if1 .left)
+    (c .before .before .clear-from .result) (c .before .before .clear-from .ensures) (c .before .if2 .taken)
 
 returns-3 : tie.Need-returns-3
 returns-3 c =
-    let a = c .before .before .before .before .before .before .before .args in
-    down-full (a .s .now) (a .words) (a .self) (a .level) (c .before .before .before .before .index .result) (c .before .before .before .before .index .ensures ∙ ap indexOf (c .before .before .before .before .before .at .ensures)) (c .before .before .before .if1 .left) (c .before .clear-from .result) (c .before .clear-from .ensures) (c .if2 .left)
+    let past-words-upto-word = c .before .before .before in
+    let index-told = past-words-upto-word .before in
+    let at-told = index-told .before in
+    let entry = at-told .before .before in
+    let a = entry .args in
+    down-full (a .s .now) (a .words) (a .self) (a .level) (index-told .index .result)
+    (index-told .index .ensures ∙ ap indexOf (at-told .at .ensures)) (past-words-upto-word .if1 .left) (c .before .clear-from .result)
+    (c .before .clear-from .ensures) (c .if2 .left)
 
 pub descend-spec : {M : Type 1} → statement M
 descend-spec =

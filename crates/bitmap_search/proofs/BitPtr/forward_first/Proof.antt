@@ -1,5 +1,5 @@
 -- `bitmap_search::BitPtr::forward_first` meets its contract. The words are counted where `counted` is, the pointer's own word is read where `read` is,
--- and the levels above are asked where `above` is. Assumes nothing.
+-- and the levels above are asked where `above` is.
 use mathlib.Core.Path.{_≡_, refl, sym, ap, _∙_}
 use Prim.Native.Nat.{ℕ, _-_}
 use native.Mathlib.Nat.{pos-of-ne-zero}

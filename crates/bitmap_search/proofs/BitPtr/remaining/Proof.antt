@@ -1,5 +1,5 @@
 -- `bitmap_search::BitPtr::remaining` meets its contract. The block's number is counted where `counted` is, its word is read where `read` is, and the
--- search from just after it ends where `ahead` is. Assumes nothing.
+-- search from just after it ends where `ahead` is.
 use mathlib.Core.Path.{_≡_, sym, ap, _∙_}
 use native.Mathlib.Omega.{arith}
 use borrow.Author.Needs.{needs}

@@ -1,4 +1,4 @@
--- `bitmap_search::BitPtr::search_two` meets its contract. Assumes nothing.
+-- `bitmap_search::BitPtr::search_two` meets its contract.
 use mathlib.Core.Path.{sym, _∙_}
 use native.Mathlib.Omega.{arith}
 use borrow.Author.Needs.{needs}
@@ -29,9 +29,11 @@ enum-told-2 c = search needs
 
 returns : tie.Need-returns
 returns c =
-    let a = c .before .before .before .before .before .before .args in
-    c .remaining .ensures ∙ from-place (a .above) (a .s .now) (a .n) (a .self) (c .before .before .before .before .forward-first .result)
-    (moved.At (c .before .before .found .given .0 .0)) (c .before .before .before .before .forward-first .ensures) (c .before .before .found .given .1)
+    let forward-first-told = c .before .before .before .before in
+    let entry = forward-first-told .before .before in
+    let a = entry .args in
+    c .remaining .ensures ∙ from-place (a .above) (a .s .now) (a .n) (a .self) (forward-first-told .forward-first .result)
+    (moved.At (c .before .before .found .given .0 .0)) (forward-first-told .forward-first .ensures) (c .before .before .found .given .1)
 
 returns-2 : tie.Need-returns-2
 returns-2 c =

@@ -1,4 +1,4 @@
--- `bitmap_search::BitPtr::to` meets its contract. Assumes nothing.
+-- `bitmap_search::BitPtr::to` meets its contract.
 use borrow.Author.Needs.{needs}
 use Rattle.bitmap_search.proofs.BitPtr.to.Tie as tie
 use Rattle.bitmap_search.proofs.BitPtr.to.Statement.{statement}

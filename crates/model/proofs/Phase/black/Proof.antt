@@ -1,4 +1,4 @@
--- `model::Phase::black` meets its contract. Assumes nothing.
+-- `model::Phase::black` meets its contract.
 use native.Mathlib.Omega.{arith}
 use Rattle.model.proofs.Phases.{black-other, black-here}
 use Rattle.model.proofs.Phase.black.Tie as tie

@@ -1,4 +1,4 @@
--- `model::Phase::duty` meets its contract. Assumes nothing.
+-- `model::Phase::duty` meets its contract.
 use native.Mathlib.Omega.{arith}
 use Rattle.model.proofs.Phases.{duty-none, duty-both}
 use Rattle.model.proofs.Phase.duty.Tie as tie

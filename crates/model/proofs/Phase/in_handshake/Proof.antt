@@ -1,4 +1,4 @@
--- `model::Phase::in_handshake` meets its contract. Assumes nothing.
+-- `model::Phase::in_handshake` meets its contract.
 use Rattle.model.proofs.Phases.{handshake-second}
 use Rattle.model.proofs.Phase.in_handshake.Tie as tie
 use Rattle.model.proofs.Phase.in_handshake.Statement.{statement}

@@ -1,4 +1,4 @@
--- `model::Phase::newcomer` meets its contract. Assumes nothing.
+-- `model::Phase::newcomer` meets its contract.
 use Rattle.model.proofs.Phases.{newcomer-other}
 use Rattle.model.proofs.Phase.newcomer.Tie as tie
 use Rattle.model.proofs.Phase.newcomer.Statement.{statement}

@@ -1,4 +1,4 @@
--- `model::Phase::owes` meets its contract. Assumes nothing.
+-- `model::Phase::owes` meets its contract.
 use Rattle.model.proofs.Phases.{owes-first, owes-second, owes-other}
 use Rattle.model.proofs.Phase.owes.Tie as tie
 use Rattle.model.proofs.Phase.owes.Statement.{statement}
