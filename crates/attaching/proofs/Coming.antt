@@ -47,7 +47,8 @@ module _ (c : Call) (g : Geometry) (xs : List ℕ) (k v : ℕ) (acts : act g (me
   pub comes : wrongSize g (length xs) ≡ false → 0 ≡ refusal (observe (memOf g xs)) c → (r : Answer) (ys : List ℕ) → Admits (memOf g xs) k v r (memOf g ys) → Promise c g xs r ys
   comes e z r ys a = go (a .either)
     where
-      go : ((r ≡ Ok) × (inHandshake (phase (memOf g xs)) ≡ false) × (memOf g ys ≡ attached (memOf g xs) k v)) ⊎ ((r ≡ Refused 11) × (inHandshake (phase (memOf g xs)) ≡ true) × (memOf g ys ≡ memOf g xs))
+      go : ((r ≡ Ok) × (inHandshake (phase (memOf g xs)) ≡ false) × (memOf g ys ≡ attached (memOf g xs) k v))
+          ⊎ ((r ≡ Refused 11) × (inHandshake (phase (memOf g xs)) ≡ true) × (memOf g ys ≡ memOf g xs))
           → Promise c g xs r ys
       go (inl (q, b, y)) =
           let w = acts ∙ ap (λ x. unless x 11 (memOf g xs) (attached (memOf g xs) k v)) b in

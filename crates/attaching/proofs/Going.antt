@@ -109,7 +109,10 @@ module _ (g : Geometry) (m : Mem) (k i : ℕ) (m′ : Mem) (p : ReleasedTo g m k
 release-succeeds : (g : Geometry) (m : Mem) → Sizes g m → Consistent g m → (k : ℕ) → k < mutatorCount → ClassFails g m k → ⊥
 release-succeeds g m s c k l f = go (f .why .why)
   where
-    go : (g .segments ≤ f .why .segment) ⊎ (g .segments ≤ count g (setSegmentState g (released g m k (f .index)) (f .why .segment) (Part (firstClass + f .index) (place (released g m k (f .index)) (f .why .segment)))) (partStack (firstClass + f .index))) → ⊥
+    go : (g .segments ≤ f .why .segment)
+        ⊎ (g .segments ≤ count g
+        (setSegmentState g (released g m k (f .index)) (f .why .segment) (Part (firstClass + f .index) (place (released g m k (f .index)) (f .why .segment))))
+        (partStack (firstClass + f .index))) → ⊥
     go (inl h) = let z = release-inside g m s (releasable g m c) k l (f .index) (f .within) (f .why .segment) (f .why .names) in omega arith
     go (inr h) = let z = release-room g m s (releasable g m c) k l (f .index) (f .within) (f .why .segment) (f .why .names) in omega arith
 

@@ -165,7 +165,9 @@ module _ (g : Geometry) (m : Mem) (t : Traced g m) where
     where
       go : ((i : ℕ) × (i < traceCount m) × (entryBit g m i ≡ k)) ⊎ ((i : ℕ) → i < traceCount m → entryBit g m i ≡ k → ⊥) → IsEntry m (bitWord k)
       go (inl r) = subst (IsEntry m) (sym (word-of (r .0) (r .1)) ∙ ap bitWord (r .2)) (entry-of (r .0) (r .1))
-      go (inr d) = absurd (places-all (traceCount m) (bitAt (m .marks)) (g .segments * mostBlocks g) (entryBit g m) (λ i h. (place-of i h, t .trace .bits (entryAt m i) (entry-of i h))) apart q k l e d)
+      go (inr d) =
+          absurd
+          (places-all (traceCount m) (bitAt (m .marks)) (g .segments * mostBlocks g) (entryBit g m) (λ i h. (place-of i h, t .trace .bits (entryAt m i) (entry-of i h))) apart q k l e d)
 
   few : OnlyEntries g m → onesAmong (bitAt (m .marks)) (g .segments * mostBlocks g) ≤ traceCount m
   few h = ones-le (traceCount m) (bitAt (m .marks)) (g .segments * mostBlocks g) (entryBit g m) (at-lt (m .marks)) place-of found

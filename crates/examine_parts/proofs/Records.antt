@@ -84,7 +84,9 @@ module _ (m : Mem) (s c k : ℕ) (x : k ≡ owner m s) where
 
   pub owned-there : k < mutatorCount → (t : ℕ) → t ≡ state m k → (t ≡ absent → ⊥) → (h : ℕ) → h ≡ holding m k c → Decides (eqb h (s + 1)) (Owned m s c)
   owned-there l t y f h z =
-      via (λ e. (subst (λ v. v < mutatorCount) x l, (λ q. f (y ∙ ap (state m) x ∙ q)), ap (λ v. holding m v c) (sym x) ∙ sym z ∙ e ∙ omega arith)) (λ q. z ∙ ap (λ v. holding m v c) x ∙ q .2 ∙ omega arith) (eq-decides h (s + 1))
+      via
+      (λ e. (subst (λ v. v < mutatorCount) x l, (λ q. f (y ∙ ap (state m) x ∙ q)), ap (λ v. holding m v c) (sym x) ∙ sym z ∙ e ∙ omega arith))
+      (λ q. z ∙ ap (λ v. holding m v c) x ∙ q .2 ∙ omega arith) (eq-decides h (s + 1))
 
 -- ---- a segment that is not free
 
@@ -97,7 +99,10 @@ module _ (g : Geometry) (m : Mem) (s t c : ℕ) where
     used-part e h r d = via (λ o. record { held = λ a. absurd (other a); unowned = λ _. sym x ∙ e; opened = λ _. o; filled = λ l. absurd (omega arith) }) (λ q. q .opened (omega arith)) d
 
     pub used-full : k ≡ 0 → (t ≡ Tag.part → ⊥) → (p b : ℕ) → p ≡ place m s → b ≡ blocksIn g c → Decides (eqb p b) (Used g m s t c)
-    used-full e h p b y z = via (λ o. record { held = λ a. absurd (other a); unowned = λ _. sym x ∙ e; opened = λ l. absurd (omega arith); filled = λ _. sym y ∙ o ∙ z }) (λ q. y ∙ q .filled (omega arith) ∙ sym z) (eq-decides p b)
+    used-full e h p b y z =
+        via
+        (λ o. record { held = λ a. absurd (other a); unowned = λ _. sym x ∙ e; opened = λ l. absurd (omega arith); filled = λ _. sym y ∙ o ∙ z })
+        (λ q. y ∙ q .filled (omega arith) ∙ sym z) (eq-decides p b)
 
   pub used-stranger : t ≡ Tag.held → (r : Bool) → Decides r (Owned m s c) → r ≡ false → Decides false (Used g m s t c)
   used-stranger e r d h = fails (λ q. refuted d h (q .held e))

@@ -93,7 +93,9 @@ module _ (g : Geometry) (m : Mem) (k : ℕ) where
   pub mutator-table : (r : Bool) → Decides r ((c : ℕ) → c < firstClass + classCount → firstClass ≤ c → Holds g m k c) → r ≡ false → Decides false (MutatorParts g m k)
   mutator-table r d e = fails (λ q. refuted d e (λ c l h s w. q .0 .holds c s (h, l) w))
 
-  pub mutator-all : (r : Bool) → Decides r (Entry m k) → r ≡ true → (b : Bool) → Decides b ((c : ℕ) → c < firstClass + classCount → firstClass ≤ c → Holds g m k c) → b ≡ true → (a : Bool) → Decides a (Acknowledged m k) → Decides a (MutatorParts g m k)
+  pub mutator-all : (r : Bool) → Decides r (Entry m k) → r ≡ true → (b : Bool)
+      → Decides b ((c : ℕ) → c < firstClass + classCount → firstClass ≤ c → Holds g m k c) → b ≡ true → (a : Bool)
+      → Decides a (Acknowledged m k) → Decides a (MutatorParts g m k)
   mutator-all r d e b h f a o =
       let w = d .sound e in
       let v = h .sound f in
@@ -111,10 +113,14 @@ module _ (g : Geometry) (m : Mem) (p : ℕ) (x : p ≡ controlWord m 0) where
   pub parts-behind : (r : Bool) → Decides r (Behind g m) → r ≡ false → Decides false (Parts g m)
   parts-behind r d e = fails (λ q. refuted d e (q .behind))
 
-  pub parts-all : p ≤ phaseNumber sweep → (r : Bool) → Decides r ((s : ℕ) → s < g .segments → SegmentParts g m s) → r ≡ true → (v : Bool) → Decides v (Behind g m) → v ≡ true → (b : Bool) → Decides b ((k : ℕ) → k < mutatorCount → MutatorParts g m k) → Decides b (Parts g m)
+  pub parts-all : p ≤ phaseNumber sweep → (r : Bool) → Decides r ((s : ℕ) → s < g .segments → SegmentParts g m s) → r ≡ true → (v : Bool)
+      → Decides v (Behind g m) → v ≡ true → (b : Bool) → Decides b ((k : ℕ) → k < mutatorCount → MutatorParts g m k)
+      → Decides b (Parts g m)
   parts-all l r d e v u f b o =
       let w = d .sound e in
-      via (λ q. record { phases = omega arith; segments = λ s h. w s h .0; occupied = λ s h. w s h .1; behind = u .sound f; mutators = λ k h. q k h .0; acknowledgements = λ k h. q k h .1 }) (λ q k h. (q .mutators k h, q .acknowledgements k h)) o
+      via
+      (λ q. record { phases = omega arith; segments = λ s h. w s h .0; occupied = λ s h. w s h .1; behind = u .sound f; mutators = λ k h. q k h .0; acknowledgements = λ k h. q k h .1 })
+      (λ q k h. (q .mutators k h, q .acknowledgements k h)) o
 
 -- ---- the cursor, c, which may stand past the last segment
 

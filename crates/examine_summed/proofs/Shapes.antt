@@ -81,7 +81,8 @@ past-tree g c l n e r ws d = subst (λ a. Decides r (Tree a (blocksIn g c) ws)) 
 
 -- ---- the part that is lent
 
-pub part-room : (g : Geometry) (xs : List ℕ) → Sized g (length xs) → (s : ℕ) → s < g .segments → (c a b : ℕ) → TreePart g xs s c a b → (k n : ℕ) → treeWords k n ≤ bitmapWords g → treeWords k n ≤ length (midOf a (b - a) xs)
+pub part-room : (g : Geometry) (xs : List ℕ) → Sized g (length xs) → (s : ℕ) → s < g .segments → (c a b : ℕ) → TreePart g xs s c a b → (k n : ℕ)
+    → treeWords k n ≤ bitmapWords g → treeWords k n ≤ length (midOf a (b - a) xs)
 part-room g xs z s h c a b p k n l = subst (λ w. treeWords k n ≤ w) (sym (ap length (p .is) ∙ length-bitmap g (memOf g xs) (sizes-of g xs z) s h)) l
 
 -- ---- a segment's

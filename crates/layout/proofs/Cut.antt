@@ -33,7 +33,13 @@ pub writes : (ks l : List ℕ) (k i : ℕ) (vs : List ℕ) → i + length vs ≤
 writes ks l k i [] h = sym (set-getD (parts ks l) k [])
 writes ks l k i (v ∷ vs) h =
     let j : i < getD ks k 0 = omega arith in
-    rw (← add-suc (start ks k) i, writes ks (set l (start ks k + i) v) k (suc i) vs (omega arith), write ks l k i v j, set-set (parts ks l) k, getD-set-same (parts ks l) k (set (at ks l k) i v) [] (long ks l k i j))
+    rw (
+      ← add-suc (start ks k) i,
+      writes ks (set l (start ks k + i) v) k (suc i) vs (omega arith),
+      write ks l k i v j,
+      set-set (parts ks l) k,
+      getD-set-same (parts ks l) k (set (at ks l k) i v) [] (long ks l k i j),
+    )
 
 -- a part of a part
 inside : (i n x : ℕ) (l : List ℕ) → i + n ≤ x → take n (drop i (take x l)) ≡ take n (drop i l)

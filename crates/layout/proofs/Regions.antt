@@ -27,15 +27,21 @@ module _ (g : Geometry) (l : List ℕ) where
   set-at k i j v (e, h) = rw e (ap ofParts (write (lens g) l k i v h))
 
   -- w words from word i of region k, lent to a leaf that makes g of them: `&mut mem[a..a + w]`
-  leaf-sets : (k i w a : ℕ) (make : List ℕ → List ℕ) (ys : List ℕ) → ys ≡ make (midOf a (a + w - a) l) → length ys ≡ length (midOf a (a + w - a) l) → (a ≡ from g k + i) × (i + w ≤ len g k) × (k < regionCount) × (a + w ≤ length l) → memOf g (putMid a (a + w - a) l ys) ≡ withRegion (memOf g l) k (sets (region (memOf g l) k) i (make (readRun (memOf g l) k i w)))
+  leaf-sets : (k i w a : ℕ) (make : List ℕ → List ℕ) (ys : List ℕ) → ys ≡ make (midOf a (a + w - a) l)
+      → length ys ≡ length (midOf a (a + w - a) l) → (a ≡ from g k + i) × (i + w ≤ len g k) × (k < regionCount) × (a + w ≤ length l)
+      → memOf g (putMid a (a + w - a) l ys) ≡ withRegion (memOf g l) k (sets (region (memOf g l) k) i (make (readRun (memOf g l) k i w)))
   unfolding memOf
   leaf-sets k i w a make ys t s (e, h, q, u) =
       let f : a + w - a ≡ w = omega arith in
       let z : length ys ≡ w = s ∙ length-take (a + w - a) (drop a l) ∙ simp length-drop (omega arith) in
       rw (f, drop-drop w a l, ← z, ← append-assoc (take a l) ys (drop (a + length ys) l), ← sets-eq ys l a (omega arith), e)
-      (ap ofParts (writes (lens g) l k i ys (omega arith)) ∙ ap (λ (x : List ℕ). ofParts (set (parts (lens g) l) k (sets (getD (parts (lens g) l) k []) i x))) (t ∙ ap make (rw (f, e, z) (lent (lens g) l k i w h q))))
+      (ap ofParts (writes (lens g) l k i ys (omega arith))
+      ∙ ap (λ (x : List ℕ). ofParts (set (parts (lens g) l) k (sets (getD (parts (lens g) l) k []) i x)))
+      (t ∙ ap make (rw (f, e, z) (lent (lens g) l k i w h q))))
 
-  pub leaf-at : (k i w a : ℕ) (make : List ℕ → List ℕ) (ys : List ℕ) → ys ≡ make (midOf a (a + w - a) l) → length ys ≡ length (midOf a (a + w - a) l) → (a ≡ from g k + i) × (i + w ≤ len g k) × (k < regionCount) × (a + w ≤ length l) → memOf g (putMid a (a + w - a) l ys) ≡ setRun (memOf g l) k i (make (readRun (memOf g l) k i w))
+  pub leaf-at : (k i w a : ℕ) (make : List ℕ → List ℕ) (ys : List ℕ) → ys ≡ make (midOf a (a + w - a) l)
+      → length ys ≡ length (midOf a (a + w - a) l) → (a ≡ from g k + i) × (i + w ≤ len g k) × (k < regionCount) × (a + w ≤ length l)
+      → memOf g (putMid a (a + w - a) l ys) ≡ setRun (memOf g l) k i (make (readRun (memOf g l) k i w))
   leaf-at k i w a make ys t s q = leaf-sets k i w a make ys t s q ∙ sym (run-sets (memOf g l) k i (make (readRun (memOf g l) k i w)))
 
   -- the same part, by where it ends: `&mem[a..b]` read, and `&mut mem[a..b]`
@@ -43,7 +49,9 @@ module _ (g : Geometry) (l : List ℕ) where
   unfolding memOf
   read-at k i w a b (e, f, h, q) = let z : b - a ≡ w = omega arith in rw (z, e) (lent (lens g) l k i w h q)
 
-  pub part-at : (k i w a b : ℕ) (make : List ℕ → List ℕ) (ys : List ℕ) → ys ≡ make (midOf a (b - a) l) → length ys ≡ length (midOf a (b - a) l) → (a ≡ from g k + i) × (b ≡ a + w) × (i + w ≤ len g k) × (k < regionCount) × (b ≤ length l) → memOf g (putMid a (b - a) l ys) ≡ setRun (memOf g l) k i (make (readRun (memOf g l) k i w))
+  pub part-at : (k i w a b : ℕ) (make : List ℕ → List ℕ) (ys : List ℕ) → ys ≡ make (midOf a (b - a) l) → length ys ≡ length (midOf a (b - a) l)
+      → (a ≡ from g k + i) × (b ≡ a + w) × (i + w ≤ len g k) × (k < regionCount) × (b ≤ length l)
+      → memOf g (putMid a (b - a) l ys) ≡ setRun (memOf g l) k i (make (readRun (memOf g l) k i w))
   part-at k i w a b make ys t s (e, f, h, q, u) = ap (λ z. memOf g (putMid a (z - a) l ys)) f ∙ leaf-at k i w a make ys (rw f at t) (rw f at s) (e, h, q, omega arith)
 
   pub length-region : (k : ℕ) → length l ≡ total g → from g k + len g k ≤ total g → length (region (memOf g l) k) ≡ len g k
@@ -58,13 +66,16 @@ module _ (g : Geometry) (l : List ℕ) where
       run-sets (memOf g l) k 0 ys ∙ ap (withRegion (memOf g l) k) (sets-eq ys r 0 (omega arith) ∙ rw (drop-of-length-le r {i = 0 + length ys} (omega arith)) (append-nil ys))
 
   -- a part lent to a leaf that clears what it is lent, `&mut mem[a..b]`, and a whole region
-  pub cleared-part : (k i w a b : ℕ) (ys : List ℕ) → ys ≡ replicate (length (midOf a (b - a) l)) 0 → (a ≡ from g k + i) × (b ≡ a + w) × (i + w ≤ len g k) × (k < regionCount) × (b ≤ length l) → memOf g (putMid a (b - a) l ys) ≡ setRun (memOf g l) k i (replicate w 0)
+  pub cleared-part : (k i w a b : ℕ) (ys : List ℕ) → ys ≡ replicate (length (midOf a (b - a) l)) 0
+      → (a ≡ from g k + i) × (b ≡ a + w) × (i + w ≤ len g k) × (k < regionCount) × (b ≤ length l)
+      → memOf g (putMid a (b - a) l ys) ≡ setRun (memOf g l) k i (replicate w 0)
   cleared-part k i w a b ys t (e, f, h, q, u) =
       let y : length (midOf a (b - a) l) ≡ b - a = length-take-le (b - a) (drop a l) (omega (arith, length-drop a l)) in
       let z : length (midOf a (b - a) l) ≡ w = omega arith in
       part-at k i w a b (λ _. replicate w 0) ys (t ∙ ap (λ (j : ℕ). replicate j 0) z) (ap length t ∙ length-replicate _ 0) (e, f, h, q, u)
 
-  pub cleared-at : (k a b : ℕ) (ys : List ℕ) → ys ≡ replicate (length (midOf a (b - a) l)) 0 → (a ≡ from g k) × (b ≡ a + len g k) × (k < regionCount) → length l ≡ total g → from g k + len g k ≤ total g → memOf g (putMid a (b - a) l ys) ≡ clearRegion g (memOf g l) k
+  pub cleared-at : (k a b : ℕ) (ys : List ℕ) → ys ≡ replicate (length (midOf a (b - a) l)) 0 → (a ≡ from g k) × (b ≡ a + len g k) × (k < regionCount)
+      → length l ≡ total g → from g k + len g k ≤ total g → memOf g (putMid a (b - a) l ys) ≡ clearRegion g (memOf g l) k
   unfolding clearRegion
   cleared-at k a b ys t (e, h, q) f o =
       cleared-part k 0 (len g k) a b ys t (omega arith) ∙ run-all k (replicate (len g k) 0) f o (length-replicate (len g k) 0)

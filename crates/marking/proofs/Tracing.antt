@@ -77,7 +77,8 @@ module _ (g : Geometry) (m : Mem) (s : Sizes g m) (k : ℕ) (e : k ≡ traceCoun
         pub trace-visits : (r : Step) (m′ : Mem) → Visits g m (w - 1) r m′ → StepsAs inMark g m r m′
         trace-visits r m′ x = go (x .either)
           where
-            go : ((r ≡ Traced) × (m′ ≡ traced g m (w - 1))) ⊎ ((r ≡ Refused 13) × ((len g Region.heap ≤ w - 1 + pointerCount m (w - 1)) ⊎ PointerFails g (popped g m (w - 1)) (w - 1) (pointerCount m (w - 1))))
+            go : ((r ≡ Traced) × (m′ ≡ traced g m (w - 1)))
+                ⊎ ((r ≡ Refused 13) × ((len g Region.heap ≤ w - 1 + pointerCount m (w - 1)) ⊎ PointerFails g (popped g m (w - 1)) (w - 1) (pointerCount m (w - 1))))
                 → StepsAs inMark g m r m′
             go (inl (u, y)) =
                 subst (λ z. StepsAs inMark g m z m′) (sym u)

@@ -42,7 +42,10 @@ word-within m k o v vs h =
 pub entry-written : (m m₁ m₂ m₃ m₄ : Mem) (k v s a : ℕ) → m₁ ≡ setEntry m k (replicate mutatorWords 0) → m₂ ≡ setRoot m₁ k 0 v → m₃ ≡ setMutatorState m₂ k s → m₄ ≡ setAcks m₃ k a
     → m₄ ≡ setEntry m k (entryOf v s a)
 entry-written m m₁ m₂ m₃ m₄ k v s a e₁ e₂ e₃ e₄ =
-    e₄ ∙ ap (λ z. setAcks z k a) (e₃ ∙ ap (λ z. setMutatorState z k s) (e₂ ∙ ap (λ z. setRoot z k 0 v) e₁ ∙ word-within m k 0 v _ (omega arith)) ∙ word-within m k stateAt s _ (omega arith)) ∙ word-within m k acksAt a _ (omega arith)
+    e₄
+    ∙ ap (λ z. setAcks z k a)
+    (e₃ ∙ ap (λ z. setMutatorState z k s) (e₂ ∙ ap (λ z. setRoot z k 0 v) e₁ ∙ word-within m k 0 v _ (omega arith)) ∙ word-within m k stateAt s _ (omega arith))
+    ∙ word-within m k acksAt a _ (omega arith)
 
 -- an absent mutator's
 pub entry-cleared : entryOf 0 absent 0 ≡ replicate mutatorWords 0

@@ -29,7 +29,8 @@ module _ (g : Geometry) (m : Mem) where
   pub by-bits : {x : ℕ} → Protected (IsEntry m) (isMarked g m) (PointsTo m) x → Protected (ByEntry m) (isEntered g m) (PointsTo m) x
   by-bits p = reach-ind (Protected (ByEntry m) (isEntered g m) (PointsTo m)) (λ x e. root (inl e)) (λ x y q ih w. go x y ih w (isEntered g m x) refl) p
     where
-      go : (x y : ℕ) → Protected (ByEntry m) (isEntered g m) (PointsTo m) x → (isMarked g m x ≡ false) × PointsTo m x y → (b : Bool) → isEntered g m x ≡ b → Protected (ByEntry m) (isEntered g m) (PointsTo m) y
+      go : (x y : ℕ) → Protected (ByEntry m) (isEntered g m) (PointsTo m) x → (isMarked g m x ≡ false) × PointsTo m x y → (b : Bool)
+          → isEntered g m x ≡ b → Protected (ByEntry m) (isEntered g m) (PointsTo m) y
       go x y ih w false e = next ih (e, w .1)
       go x y ih w true e = known (entered-as g m x (eqb-true _ _ e))
         where

@@ -46,7 +46,10 @@ module _ (m : Mem) (k x : ℕ) where
   here q = record { mutator = k; few = omega arith; names = q }
 
   split : RootBelow m (k + 1) x → RootBelow m k x ⊎ RootOf m k x
-  split q = ⊎-elim (λ e. inr (subst (λ (r : ℕ). RootOf m r x) e (q .names))) (λ e. inl (record { mutator = q .mutator; few = lt-of (subst (λ (z : ℕ). q .mutator < z) (add-one k) (q .few)) e; names = q .names })) (same-or-not (q .mutator) k)
+  split q =
+      ⊎-elim (λ e. inr (subst (λ (r : ℕ). RootOf m r x) e (q .names)))
+      (λ e. inl (record { mutator = q .mutator; few = lt-of (subst (λ (z : ℕ). q .mutator < z) (add-one k) (q .few)) e; names = q .names }))
+      (same-or-not (q .mutator) k)
 
 module _ (g : Geometry) (m : Mem) (s : State) where
   pub roots-none : Valid (recordsOf g m) s → Run (recordsOf g m) (RootBelow m 0) s s
@@ -86,7 +89,10 @@ module _ (g : Geometry) (l : List ℕ) (z : Sized g (length l)) (s : State) (n :
   below x q = ⊎-elim (λ h. h) (λ h. absurd (off h)) (e .all (q .index) (q .within))
     where
       off : len g Region.trace ≤ q .index → ⊥
-      off h = let y : getD (memOf g l .trace) (q .index) 0 ≡ 0 = List·getD-eq-default (memOf g l .trace) 0 (subst (λ k. k ≤ q .index) (sym (sizes-of g l z .trace)) h) in let w = q .names in omega arith
+      off h =
+          let y : getD (memOf g l .trace) (q .index) 0 ≡ 0 = List·getD-eq-default (memOf g l .trace) 0 (subst (λ k. k ≤ q .index) (sym (sizes-of g l z .trace)) h) in
+          let w = q .names in
+          omega arith
 
   pub entries-all : (met : Met) (after : List ℕ) → Came g (memOf g l) (InRun (memOf g l .trace) 0 n) s met after → Came g (memOf g l) (IsEntry (memOf g l)) s met after
   entries-all met after c =
@@ -155,12 +161,16 @@ module _ (m : Mem) (k x : ℕ) where
   seed-here q = record { index = k; few = omega arith; seed = q }
 
   seed-split : SeedBelow m (k + 1) x → SeedBelow m k x ⊎ Seeds m (getD (m .trace) k 0) x
-  seed-split q = ⊎-elim (λ e. inr (subst (λ (r : ℕ). Seeds m (getD (m .trace) r 0) x) e (q .seed))) (λ e. inl (record { index = q .index; few = lt-of (subst (λ (z : ℕ). q .index < z) (add-one k) (q .few)) e; seed = q .seed })) (same-or-not (q .index) k)
+  seed-split q =
+      ⊎-elim (λ e. inr (subst (λ (r : ℕ). Seeds m (getD (m .trace) r 0) x) e (q .seed)))
+      (λ e. inl (record { index = q .index; few = lt-of (subst (λ (z : ℕ). q .index < z) (add-one k) (q .few)) e; seed = q .seed }))
+      (same-or-not (q .index) k)
 
 module _ (g : Geometry) (m : Mem) (s : State) where
   pub seeds-none : Valid (recordsOf g m) s → Run (recordsOf g m) (SeedBelow m 0) s s
   seeds-none f = run-still f (λ x q. absurd (omega (arith, q .few)))
 
   -- one entry more
-  pub seeds-more : (k w : ℕ) → w ≡ getD (m .trace) k 0 → (met r : Met) (before after : List ℕ) → Came g m (SeedBelow m k) s met before → Then g m (Seeds m w) before met r after → Came g m (SeedBelow m (k + 1)) s r after
+  pub seeds-more : (k w : ℕ) → w ≡ getD (m .trace) k 0 → (met r : Met) (before after : List ℕ) → Came g m (SeedBelow m k) s met before
+      → Then g m (Seeds m w) before met r after → Came g m (SeedBelow m (k + 1)) s r after
   seeds-more k w e met r before after c t = came-then g m s (seed-up m k) (seed-here m k) (seed-split m k) met r before after c (subst (λ (z : ℕ). Then g m (Seeds m z) before met r after) e t)

@@ -26,7 +26,8 @@ use Rattle.model.specs.Consistent.{RecordOk}
 use Rattle.laws.proofs.Blocks.{bit-below, same-bit}
 use Rattle.laws.proofs.Apart.{class-of, field-inside}
 use Rattle.walk.specs.Walk.{State, Placed, Seen, Valid, Run}
-use Rattle.walk.proofs.Walking.{room-le, run-still, run-more, run-same, Pushed, push-room, run-push, valid-empty, valid-popped, run-first, underway-from, exact-roots, fails-roots, underway-turn, left-turn, turn-fails, underway-exact}
+use Rattle.walk.proofs.Walking.{room-le, run-still, run-more, run-same, Pushed, push-room, run-push, valid-empty, valid-popped, run-first}
+use Rattle.walk.proofs.Walking.{underway-from, exact-roots, fails-roots, underway-turn, left-turn, turn-fails, underway-exact}
 use Rattle.searching.specs.declared.Edges.{Edges}
 use Rattle.searching.specs.declared.Edges.the-variants.{All, Unentered}
 use Rattle.searching.specs.declared.Met.{Met}
@@ -103,7 +104,8 @@ module _ (g : Geometry) (m : Mem) (s : State) where
   came-ready A Bad scratch c = tt
 
   -- one run after another
-  pub came-then : {A B C : ℕ → Type 0} → ((x : ℕ) → A x → C x) → ((x : ℕ) → B x → C x) → ((x : ℕ) → C x → A x ⊎ B x) → (met r : Met) (before after : List ℕ) → Came g m A s met before → Then g m B before met r after → Came g m C s r after
+  pub came-then : {A B C : ℕ → Type 0} → ((x : ℕ) → A x → C x) → ((x : ℕ) → B x → C x) → ((x : ℕ) → C x → A x ⊎ B x)
+      → (met r : Met) (before after : List ℕ) → Came g m A s met before → Then g m B before met r after → Came g m C s r after
   came-then {A} {B} {C} up here split Bad r before after c e = subst (λ (x : Met). Came g m C s x after) (sym e) (record { node = c .node; named = up (c .node) (c .named); fails = c .fails })
   came-then up here split (Top t) (Top u) before after c e = run-more c e up here split
   came-then up here split (Top t) Bad before after c e = record { node = e .node; named = here (e .node) (e .named); fails = e .fails }
@@ -122,10 +124,14 @@ module _ (list : List ℕ) (from f x : ℕ) where
   run-here q = record { index = f; within = omega arith; names = q }
 
   run-split : InRun list from (f + 1) x → InRun list from f x ⊎ (getD list (from + f) 0 ≡ suc x)
-  run-split q = ⊎-elim (λ e. inr (ap (λ (i : ℕ). getD list (from + i) 0) (sym e) ∙ q .names)) (λ e. inl (record { index = q .index; within = lt-of (subst (λ (z : ℕ). q .index < z) (add-one f) (q .within)) e; names = q .names })) (same-or-not (q .index) f)
+  run-split q =
+      ⊎-elim (λ e. inr (ap (λ (i : ℕ). getD list (from + i) 0) (sym e) ∙ q .names))
+      (λ e. inl (record { index = q .index; within = lt-of (subst (λ (z : ℕ). q .index < z) (add-one f) (q .within)) e; names = q .names }))
+      (same-or-not (q .index) f)
 
 module _ (g : Geometry) (m : Mem) (list : List ℕ) (from : ℕ) (s : State) where
-  pub came-more : (f w : ℕ) → w ≡ getD list (from + f) 0 → (met r : Met) (before after : List ℕ) → Came g m (InRun list from f) s met before → Then g m (λ x. w ≡ suc x) before met r after → Came g m (InRun list from (f + 1)) s r after
+  pub came-more : (f w : ℕ) → w ≡ getD list (from + f) 0 → (met r : Met) (before after : List ℕ) → Came g m (InRun list from f) s met before
+      → Then g m (λ x. w ≡ suc x) before met r after → Came g m (InRun list from (f + 1)) s r after
   came-more f w e met r before after c t =
       came-then g m s (run-up list from f) (λ x q. run-here list from f x (sym e ∙ q)) (λ x q. ⊎-elim inl (λ z. inr (e ∙ z)) (run-split list from f x q)) met r before after c t
 
@@ -175,7 +181,8 @@ module _ (g : Geometry) (m : Mem) (s : List ℕ) (top : ℕ) (f : Valid (records
 -- clearing, one word more, and what it comes to
 pub cleared-more : (s : List ℕ) (i : ℕ) → i < length s → ((j : ℕ) → j < i → getD s j 0 ≡ 0) → (j : ℕ) → j < i + 1 → getD (set s i 0) j 0 ≡ 0
 cleared-more s i h z j l =
-    ⊎-elim (λ e. subst (λ (x : ℕ). getD (set s i 0) x 0 ≡ 0) (sym e) (getD-set-same s i 0 0 h)) (λ d. getD-set-other s i j 0 0 d ∙ z j (lt-of (subst (λ (x : ℕ). j < x) (add-one i) l) d)) (same-or-not j i)
+    ⊎-elim (λ e. subst (λ (x : ℕ). getD (set s i 0) x 0 ≡ 0) (sym e) (getD-set-same s i 0 0 h))
+    (λ d. getD-set-other s i j 0 0 d ∙ z j (lt-of (subst (λ (x : ℕ). j < x) (add-one i) l) d)) (same-or-not j i)
 
 pub cleared-bits : (g : Geometry) (s : List ℕ) → ((j : ℕ) → j < len g Region.marks → getD s j 0 ≡ 0) → Blank g s
 cleared-bits g s z k l = bit-split s k ∙ ap (λ (w : ℕ). bitOf w (k % 32)) (z (k / 32) (bit-word g k l)) ∙ bit-zero (k % 32)

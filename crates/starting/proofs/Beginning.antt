@@ -56,9 +56,14 @@ reset-next m k m₁ m₂ e h = h ∙ ap (λ z. setAcks z k 0) e
 
 -- ---- the whole
 
-pub started-by : (g : Geometry) (m : Mem) → Sizes g m → (m₁ m₂ m₃ m₄ m₅ : Mem) → m₁ ≡ condemned m (g .segments) → m₂ ≡ acksReset m₁ mutatorCount → m₃ ≡ clearRegion g m₂ Region.marks → m₄ ≡ setControl m₃ 2 0 → m₅ ≡ setControl m₄ 0 1 → m₅ ≡ started g m
+pub started-by : (g : Geometry) (m : Mem) → Sizes g m → (m₁ m₂ m₃ m₄ m₅ : Mem) → m₁ ≡ condemned m (g .segments) → m₂ ≡ acksReset m₁ mutatorCount
+    → m₃ ≡ clearRegion g m₂ Region.marks → m₄ ≡ setControl m₃ 2 0 → m₅ ≡ setControl m₄ 0 1 → m₅ ≡ started g m
 unfolding started clearRegion
 started-by g m z m₁ m₂ m₃ m₄ m₅ e₁ e₂ e₃ e₄ e₅ =
     let m₀ : Mem = acksReset (condemned m (g .segments)) mutatorCount in
     let y : Sizes g m₀ = sizes-reset g (condemned m (g .segments)) (sizes-condemned g m z (g .segments)) mutatorCount in
-    e₅ ∙ ap (λ x. setControl x 0 1) (e₄ ∙ ap (λ x. setControl x 2 0) (e₃ ∙ ap (λ x. clearRegion g x Region.marks) (e₂ ∙ ap (λ x. acksReset x mutatorCount) e₁) ∙ ap (λ k. withRegion m₀ Region.marks (replicate k 0)) (sym (y .marks))))
+    e₅
+    ∙ ap (λ x. setControl x 0 1)
+    (e₄
+    ∙ ap (λ x. setControl x 2 0)
+    (e₃ ∙ ap (λ x. clearRegion g x Region.marks) (e₂ ∙ ap (λ x. acksReset x mutatorCount) e₁) ∙ ap (λ k. withRegion m₀ Region.marks (replicate k 0)) (sym (y .marks))))

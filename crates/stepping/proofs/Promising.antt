@@ -41,7 +41,8 @@ module _ (g : Geometry) (xs : List ℕ) where
     step-idle z = keeps-done stepAnswerOf StepResult stepMayGive stepOf g xs Idle e refl isIdle xs (λ _. by 0 z)
 
     -- in the phase of number k step is a part
-    pub step-as : (part : Geometry → Mem → Answer × Mem) (k : ℕ) → part g (memOf g xs) ≡ stepIn (phaseOf k) g (memOf g xs) → n ≡ k → (r : Step) (ys : List ℕ) → StepsAs part g (memOf g xs) r (memOf g ys) → StepPromise g xs r ys
+    pub step-as : (part : Geometry → Mem → Answer × Mem) (k : ℕ) → part g (memOf g xs) ≡ stepIn (phaseOf k) g (memOf g xs) → n ≡ k
+        → (r : Step) (ys : List ℕ) → StepsAs part g (memOf g xs) r (memOf g ys) → StepPromise g xs r ys
     step-as part k d z r ys s = keeps-part part g xs r ys e (d ∙ by k z) s
 
     -- "13, torn"

@@ -26,7 +26,12 @@ same-length-2 : tie.Need-same-length-2
 same-length-2 c = search needs
 
 returns-2 : tie.Need-returns-2
-returns-2 c = admitted _ _ _ _ _ (c .before .before .before .before .before .before .before .phase .ensures) (c .before .before .before .before .before .before .in-handshake .ensures) (c .before .before .before .before .before .if1 .left) _ (c .before .before .before .before .newcomer .ensures) _ (c .before .before .write-entry .ensures)
+returns-2 c =
+    let newcomer-told = c .before .before .before .before in
+    let past-in-handshake = newcomer-told .before in
+    let phase-told = past-in-handshake .before .before in
+    admitted _ _ _ _ _ (phase-told .phase .ensures) (past-in-handshake .before .in-handshake .ensures) (past-in-handshake .if1 .left)
+    _ (newcomer-told .newcomer .ensures) _ (c .before .before .write-entry .ensures)
 
 pub admit-spec : {M : Type 1} → statement M
 admit-spec =

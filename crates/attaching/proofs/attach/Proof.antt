@@ -23,16 +23,28 @@ same-length : tie.Need-same-length
 same-length c = search needs
 
 returns-3 : tie.Need-returns-3
-returns-3 c = attach-3 _ _ _ (sym (c .before .before .before .before .before .wrong-size .ensures) ∙ c .before .before .before .before .if1 .left) (c .before .before .before .if2 .left) _ (c .before .state .ensures) (c .if3 .taken)
+returns-3 c =
+    let past-mutators-upto-k = c .before .before .before in
+    let past-wrong-size = past-mutators-upto-k .before in
+    attach-3 _ _ _ (sym (past-wrong-size .before .wrong-size .ensures) ∙ past-wrong-size .if1 .left) (past-mutators-upto-k .if2 .left) _ (c .before .state .ensures) (c .if3 .taken)
 
 admit-requires : tie.Need-admit-requires
-admit-requires c κs = (sized _ _ (sym (c .before .before .before .before .before .before .wrong-size .ensures) ∙ c .before .before .before .before .before .if1 .left), c .before .before .before .before .if2 .left)
+admit-requires c κs =
+    let past-mutators-upto-k = c .before .before .before .before in
+    let past-wrong-size = past-mutators-upto-k .before in
+    (sized _ _ (sym (past-wrong-size .before .wrong-size .ensures) ∙ past-wrong-size .if1 .left), past-mutators-upto-k .if2 .left)
 
 same-length-2 : tie.Need-same-length-2
 same-length-2 c = search needs
 
 returns-4 : tie.Need-returns-4
-returns-4 c = attaches _ _ _ (sym (c .before .before .before .before .before .before .before .before .before .wrong-size .ensures) ∙ c .before .before .before .before .before .before .before .before .if1 .left) (c .before .before .before .before .before .before .before .if2 .left) _ (c .before .before .before .before .before .state .ensures) (c .before .before .before .before .if3 .left) _ _ (c .before .before .admit .ensures)
+returns-4 c =
+    let past-state-not-absent = c .before .before .before .before in
+    let state-told = past-state-not-absent .before in
+    let past-mutators-upto-k = state-told .before .before in
+    let past-wrong-size = past-mutators-upto-k .before in
+    attaches _ _ _ (sym (past-wrong-size .before .wrong-size .ensures) ∙ past-wrong-size .if1 .left) (past-mutators-upto-k .if2 .left)
+    _ (state-told .state .ensures) (past-state-not-absent .if3 .left) _ _ (c .before .before .admit .ensures)
 
 pub attach-spec : {M : Type 1} → statement M
 attach-spec =

@@ -26,7 +26,9 @@ unfolding insideThen
 returns-2 c = refused (c-detach _) _ _ (sym (c .before .before .before .before .wrong-size .ensures) ∙ c .before .before .before .if1 .left) (c .before .inside-refusal .ensures) (c .if2 .taken)
 
 phase-requires : tie.Need-phase-requires
-phase-requires c κs = sized _ _ (sym (c .before .before .before .before .before .wrong-size .ensures) ∙ c .before .before .before .before .if1 .left)
+phase-requires c κs =
+    let past-wrong-size = c .before .before .before .before in
+    sized _ _ (sym (past-wrong-size .before .wrong-size .ensures) ∙ past-wrong-size .if1 .left)
 
 in-handshake-requires : tie.Need-in-handshake-requires
 in-handshake-requires c κs = search needs
@@ -35,25 +37,63 @@ same-length-2 : tie.Need-same-length-2
 same-length-2 c = search needs
 
 returns-3 : tie.Need-returns-3
-returns-3 c = detach-11 _ _ _ _ (c .before .before .before .before .before .inside-refusal .ensures) (c .before .before .before .before .if2 .left) (sym (c .before .before .before .before .before .before .before .before .wrong-size .ensures) ∙ c .before .before .before .before .before .before .before .if1 .left) _ _ (c .before .before .phase .ensures) (c .before .in-handshake .ensures) (c .if3 .taken)
+returns-3 c =
+    let past-refused = c .before .before .before .before in
+    let inside-refusal-told = past-refused .before in
+    let past-wrong-size = inside-refusal-told .before .before in
+    detach-11 _ _ _ _ (inside-refusal-told .inside-refusal .ensures) (past-refused .if2 .left)
+    (sym (past-wrong-size .before .wrong-size .ensures) ∙ past-wrong-size .if1 .left) _ _ (c .before .before .phase .ensures)
+    (c .before .in-handshake .ensures) (c .if3 .taken)
 
 release-requires : tie.Need-release-requires
-release-requires c κs = (sized _ _ (sym (c .before .before .before .before .before .before .before .before .before .wrong-size .ensures) ∙ c .before .before .before .before .before .before .before .before .if1 .left), known _ _ _ _ (c .before .before .before .before .before .before .inside-refusal .ensures) (c .before .before .before .before .before .if2 .left))
+release-requires c κs =
+    let past-refused = c .before .before .before .before .before in
+    let inside-refusal-told = past-refused .before in
+    let past-wrong-size = inside-refusal-told .before .before in
+    (sized _ _ (sym (past-wrong-size .before .wrong-size .ensures) ∙ past-wrong-size .if1 .left), known _ _ _ _ (inside-refusal-told .inside-refusal .ensures) (past-refused .if2 .left))
 
 write-entry-requires : tie.Need-write-entry-requires
-write-entry-requires c κs = (resized _ _ _ (sized _ _ (sym (c .before .before .before .before .before .before .before .before .before .before .before .before .before .before .wrong-size .ensures) ∙ c .before .before .before .before .before .before .before .before .before .before .before .before .before .if1 .left)) (c .before .before .before .before .release .kept .1 .0), known _ _ _ _ (c .before .before .before .before .before .before .before .before .before .before .before .inside-refusal .ensures) (c .before .before .before .before .before .before .before .before .before .before .if2 .left))
+write-entry-requires c κs =
+    let released = c .before .before .before .before in
+    let past-refused = released .before .before .before .before .before .before in
+    let inside-refusal-told = past-refused .before in
+    let past-wrong-size = inside-refusal-told .before .before in (
+      resized _ _ _ (sized _ _ (sym (past-wrong-size .before .wrong-size .ensures) ∙ past-wrong-size .if1 .left)) (released .release .kept .1 .0),
+      known _ _ _ _ (inside-refusal-told .inside-refusal .ensures) (past-refused .if2 .left),
+    )
 
 same-length-3 : tie.Need-same-length-3
 same-length-3 c = search needs
 
 returns-4 : tie.Need-returns-4
-returns-4 c = detaches _ _ _ _ (c .before .before .before .before .before .before .before .before .before .before .before .before .before .before .inside-refusal .ensures) (c .before .before .before .before .before .before .before .before .before .before .before .before .before .if2 .left) (sym (c .before .before .before .before .before .before .before .before .before .before .before .before .before .before .before .before .before .wrong-size .ensures) ∙ c .before .before .before .before .before .before .before .before .before .before .before .before .before .before .before .before .if1 .left) _ _ (c .before .before .before .before .before .before .before .before .before .before .before .phase .ensures) (c .before .before .before .before .before .before .before .before .before .before .in-handshake .ensures) (c .before .before .before .before .before .before .before .before .before .if3 .left) _ _ (c .before .before .before .before .before .before .before .release .ensures) (c .before .before .before .before .if4 .taken) _ (c .before .before .write-entry .ensures)
+returns-4 c =
+    let when-release = c .before .before .before .before in
+    let released = when-release .before .before .before in
+    let past-in-handshake = released .before .before in
+    let phase-told = past-in-handshake .before .before in
+    let past-refused = phase-told .before .before in
+    let inside-refusal-told = past-refused .before in
+    let past-wrong-size = inside-refusal-told .before .before in
+    detaches _ _ _ _ (inside-refusal-told .inside-refusal .ensures) (past-refused .if2 .left)
+    (sym (past-wrong-size .before .wrong-size .ensures) ∙ past-wrong-size .if1 .left) _ _ (phase-told .phase .ensures)
+    (past-in-handshake .before .in-handshake .ensures) (past-in-handshake .if3 .left) _ _ (released .release .ensures)
+    (when-release .if4 .taken) _ (c .before .before .write-entry .ensures)
 
 same-length-4 : tie.Need-same-length-4
 same-length-4 c = search needs
 
 returns-5 : tie.Need-returns-5
-returns-5 c = detach-13 _ _ _ _ (c .before .before .before .before .before .before .before .before .before .before .inside-refusal .ensures) (c .before .before .before .before .before .before .before .before .before .if2 .left) (sym (c .before .before .before .before .before .before .before .before .before .before .before .before .before .wrong-size .ensures) ∙ c .before .before .before .before .before .before .before .before .before .before .before .before .if1 .left) _ _ (c .before .before .before .before .before .before .before .phase .ensures) (c .before .before .before .before .before .before .in-handshake .ensures) (c .before .before .before .before .before .if3 .left) _ _ (c .before .before .before .release .ensures) (c .if4 .left) _
+returns-5 c =
+    let released = c .before .before .before in
+    let past-in-handshake = released .before .before in
+    let phase-told = past-in-handshake .before .before in
+    let past-refused = phase-told .before .before in
+    let inside-refusal-told = past-refused .before in
+    let past-wrong-size = inside-refusal-told .before .before in
+    detach-13 _ _ _ _ (inside-refusal-told .inside-refusal .ensures) (past-refused .if2 .left)
+    (sym (past-wrong-size .before .wrong-size .ensures) ∙ past-wrong-size .if1 .left) _ _ (phase-told .phase .ensures)
+    (past-in-handshake .before .in-handshake .ensures) (past-in-handshake .if3 .left) _ _ (released .release .ensures) (c .if4 .left)
+    _
 
 pub detach-spec : {M : Type 1} → statement M
 detach-spec =

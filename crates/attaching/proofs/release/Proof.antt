@@ -32,13 +32,24 @@ loop-less : tie.Need-loop-less Inv-loop μ-loop
 loop-less c = omega arith
 
 loop-again : tie.Need-loop-again Inv-loop μ-loop
-loop-again c = (c .before .before .before .release-one .kept .1 .0 ∙ c .before .before .before .before .before .before .loop .inv .0, one-more _ _ _ _ _ (c .before .before .before .before .before .before .loop .inv .1) (c .before .before .before .before .before .loop-test .taken) _ _ (c .before .before .before .release-one .ensures) (c .if1 .taken))
+loop-again c =
+    let one-released = c .before .before .before in
+    let turning = one-released .before .before in
+    let looping = turning .before in
+    (one-released .release-one .kept .1 .0 ∙ looping .loop .inv .0, one-more _ _ _ _ _ (looping .loop .inv .1) (turning .loop-test .taken) _ _ (one-released .release-one .ensures) (c .if1 .taken))
 
 same-length : tie.Need-same-length Inv-loop μ-loop
-same-length c = c .before .before .before .release-one .kept .1 .0 ∙ c .before .before .before .before .before .before .loop .inv .0
+same-length c =
+    let one-released = c .before .before .before in
+    let looping = one-released .before .before .before in
+    one-released .release-one .kept .1 .0 ∙ looping .loop .inv .0
 
 returns : tie.Need-returns Inv-loop μ-loop
-returns c = one-fails _ _ _ _ _ (c .before .before .before .before .before .before .loop .inv .1) (c .before .before .before .before .before .loop-test .taken) _ _ (c .before .before .before .release-one .ensures) (c .if1 .left)
+returns c =
+    let one-released = c .before .before .before in
+    let turning = one-released .before .before in
+    let looping = turning .before in
+    one-fails _ _ _ _ _ (looping .loop .inv .1) (turning .loop-test .taken) _ _ (one-released .release-one .ensures) (c .if1 .left)
 
 same-length-2 : tie.Need-same-length-2 Inv-loop μ-loop
 same-length-2 c = c .before .loop .inv .0

@@ -41,7 +41,14 @@ same-length-3 : tie.Need-same-length-3
 same-length-3 c = search needs
 
 returns-3 : tie.Need-returns-3
-returns-3 c = releases _ _ _ _ _ (c .before .before .before .before .before .before .before .before .before .before .before .before .before .before .holding .ensures) (c .before .before .before .before .before .before .before .before .before .before .before .before .before .if1 .left) _ (c .before .before .before .before .before .before .before .before .before .place .ensures) _ (c .before .before .before .before .before .before .before .write .ensures) _ (c .before .before .before .part-stack .ensures) _ _ (c .before .before .push .ensures)
+returns-3 c =
+    let part-stack-told = c .before .before .before in
+    let written = part-stack-told .before .before .before .before in
+    let place-told = written .before .before in
+    let past-held-is-0 = place-told .before .before .before .before in
+    let holding-told = past-held-is-0 .before in
+    releases _ _ _ _ _ (holding-told .holding .ensures) (past-held-is-0 .if1 .left) _ (place-told .place .ensures) _
+    (written .write .ensures) _ (part-stack-told .part-stack .ensures) _ _ (c .before .before .push .ensures)
 
 pub release-one-spec : {M : Type 1} → statement M
 release-one-spec =

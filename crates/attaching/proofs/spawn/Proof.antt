@@ -25,20 +25,31 @@ returns-2 c = spawn-refused _ _ _ _ _ _ (sym (c .before .before .before .before 
 
 root-requires : tie.Need-root-requires
 root-requires c κs =
-    let e = sym (c .before .before .before .before .before .wrong-size .ensures) ∙ c .before .before .before .before .if1 .left in
+    let past-wrong-size = c .before .before .before .before in
+    let e = sym (past-wrong-size .before .wrong-size .ensures) ∙ past-wrong-size .if1 .left in
     let p = in-range _ _ _ _ _ _ e (c .before .before .spawn-refusal .ensures) (c .before .if2 .left) in
     (sized _ _ e, omega arith, omega arith)
 
 admit-requires : tie.Need-admit-requires
 admit-requires c κs =
-    let e = sym (c .before .before .before .before .before .before .before .wrong-size .ensures) ∙ c .before .before .before .before .before .before .if1 .left in
-    (sized _ _ e, in-range _ _ _ _ _ _ e (c .before .before .before .before .spawn-refusal .ensures) (c .before .before .before .if2 .left) .0)
+    let past-refused = c .before .before .before in
+    let spawn-refusal-told = past-refused .before in
+    let past-wrong-size = spawn-refusal-told .before .before in
+    let e = sym (past-wrong-size .before .wrong-size .ensures) ∙ past-wrong-size .if1 .left in
+    (sized _ _ e, in-range _ _ _ _ _ _ e (spawn-refusal-told .spawn-refusal .ensures) (past-refused .if2 .left) .0)
 
 same-length-2 : tie.Need-same-length-2
 same-length-2 c = search needs
 
 returns-3 : tie.Need-returns-3
-returns-3 c = spawns _ _ _ _ _ _ (sym (c .before .before .before .before .before .before .before .before .before .before .wrong-size .ensures) ∙ c .before .before .before .before .before .before .before .before .before .if1 .left) (c .before .before .before .before .before .before .before .spawn-refusal .ensures) (c .before .before .before .before .before .before .if2 .left) _ (c .before .before .before .before .root .ensures) _ _ (c .before .before .admit .ensures)
+returns-3 c =
+    let root-told = c .before .before .before .before in
+    let past-refused = root-told .before .before in
+    let spawn-refusal-told = past-refused .before in
+    let past-wrong-size = spawn-refusal-told .before .before in
+    spawns _ _ _ _ _ _ (sym (past-wrong-size .before .wrong-size .ensures) ∙ past-wrong-size .if1 .left)
+    (spawn-refusal-told .spawn-refusal .ensures) (past-refused .if2 .left) _ (root-told .root .ensures) _ _
+    (c .before .before .admit .ensures)
 
 pub spawn-spec : {M : Type 1} → statement M
 spawn-spec =

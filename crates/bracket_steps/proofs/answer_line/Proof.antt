@@ -22,7 +22,10 @@ enum-told : tie.Need-enum-told
 enum-told c = search needs
 
 returns : tie.Need-returns
-returns c = of-form _ _ (c .before .before .before .before .before .before .read-form .ensures) (c .before .before .before .before .form .given .1) (c .before .task-of .ensures) (c .carry-out .ensures)
+returns c =
+    let form-bound = c .before .before .before .before in
+    let form-read = form-bound .before .before in
+    of-form _ _ (form-read .read-form .ensures) (form-bound .form .given .1) (c .before .task-of .ensures) (c .carry-out .ensures)
 
 returns-2 : tie.Need-returns-2
 returns-2 c = of-none _ _ (c .before .before .read-form .ensures) (c .enum-told .given .1)

@@ -25,9 +25,11 @@ part-run-start c = search needs
 
 part-run-end : tie.Need-part-run-end
 part-run-end c =
-    let k = fits (c .before .before .before .segments-for .result) (sym (c .before .before .one-or-two .ensures) ∙ c .before .if1 .taken) in
-    let e : c .total-words .result ≡ total (heap (c .before .before .before .segments-for .result)) = c .total-words .ensures in
-    let r = c .before .before .before .before .before .pre in
+    let segments-for-told = c .before .before .before in
+    let entry = segments-for-told .before .before in
+    let k = fits (segments-for-told .segments-for .result) (sym (c .before .before .one-or-two .ensures) ∙ c .before .if1 .taken) in
+    let e : c .total-words .result ≡ total (heap (segments-for-told .segments-for .result)) = c .total-words .ensures in
+    let r = entry .pre in
     omega arith
 
 run-requires : tie.Need-run-requires
@@ -37,7 +39,14 @@ same-length : tie.Need-same-length
 same-length c = search needs
 
 returns : tie.Need-returns
-returns c = carries _ _ _ (c .before .before .before .before .before .before .before .segments-for .ensures) (sym (c .before .before .before .before .before .before .one-or-two .ensures) ∙ c .before .before .before .before .before .if1 .taken) (c .before .before .before .before .before .before .before .before .before .pre) _ _ _ (c .before .before .before .before .total-words .ensures) (c .before .before .run .kept .1 .0) (c .before .before .run .ensures)
+returns c =
+    let total-words-told = c .before .before .before .before in
+    let when-one-or-two = total-words-told .before in
+    let segments-for-told = when-one-or-two .before .before in
+    let entry = segments-for-told .before .before in
+    carries _ _ _ (segments-for-told .segments-for .ensures)
+    (sym (when-one-or-two .before .one-or-two .ensures) ∙ when-one-or-two .if1 .taken) (entry .pre) _ _ _
+    (total-words-told .total-words .ensures) (c .before .before .run .kept .1 .0) (c .before .before .run .ensures)
 
 returns-2 : tie.Need-returns-2
 returns-2 c = refused _ _ _ (c .before .before .segments-for .ensures) (sym (c .before .one-or-two .ensures) ∙ c .if1 .left)

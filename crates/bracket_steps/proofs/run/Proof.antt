@@ -44,25 +44,37 @@ same-length : tie.Need-same-length
 same-length c = search needs
 
 returns : tie.Need-returns
-returns c = ran-open _ _ _ _ _ (c .before .before .before .before .before .enum-told .given .1) (c .before .before .before .«open» .ensures) (c .reply-of .ensures)
+returns c =
+    let opened = c .before .before .before in
+    let variant-told = opened .before .before in
+    ran-open _ _ _ _ _ (variant-told .enum-told .given .1) (opened .«open» .ensures) (c .reply-of .ensures)
 
 same-length-2 : tie.Need-same-length-2
 same-length-2 c = search needs
 
 returns-2 : tie.Need-returns-2
-returns-2 c = ran-call _ _ _ _ _ (c .before .before .before .before .before .before .task .given .1) (c .before .before .before .perform .ensures) (c .reply-of2 .ensures)
+returns-2 c =
+    let performed = c .before .before .before in
+    let task-bound = performed .before .before .before in
+    ran-call _ _ _ _ _ (task-bound .task .given .1) (performed .perform .ensures) (c .reply-of2 .ensures)
 
 same-length-3 : tie.Need-same-length-3
 same-length-3 c = search needs
 
 returns-3 : tie.Need-returns-3
-returns-3 c = ran-start _ _ _ _ _ (c .before .before .before .before .before .enum-told2 .given .1) (c .before .before .before .start .ensures) (c .reply-of3 .ensures)
+returns-3 c =
+    let started = c .before .before .before in
+    let variant-told = started .before .before in
+    ran-start _ _ _ _ _ (variant-told .enum-told2 .given .1) (started .start .ensures) (c .reply-of3 .ensures)
 
 same-length-4 : tie.Need-same-length-4
 same-length-4 c = search needs
 
 returns-4 : tie.Need-returns-4
-returns-4 c = ran-step _ _ _ _ _ (c .before .before .before .before .before .enum-told3 .given .1) (c .before .before .before .step .ensures) (c .step-reply .ensures)
+returns-4 c =
+    let step-told = c .before .before .before in
+    let variant-told = step-told .before .before in
+    ran-step _ _ _ _ _ (variant-told .enum-told3 .given .1) (step-told .step .ensures) (c .step-reply .ensures)
 
 pub run-spec : {M : Type 1} → statement M
 run-spec =

@@ -14,13 +14,23 @@ is-class-requires : tie.Need-is-class-requires
 is-class-requires c κs = search needs
 
 segment-judged-requires : tie.Need-segment-judged-requires
-segment-judged-requires c κs = let a = c .before .before .before .before .before .before in ((a .pre .0, a .pre .1, a .pre .2), (a .pre .3, (c .before .before .class .ensures, class-passed _ (sym (c .before .is-class .ensures) ∙ c .if1 .taken))))
+segment-judged-requires c κs =
+    let entry = c .before .before .before .before .before .before in
+    ((entry .pre .0, entry .pre .1, entry .pre .2), (entry .pre .3, (c .before .before .class .ensures, class-passed _ (sym (c .before .is-class .ensures) ∙ c .if1 .taken))))
 
 returns : tie.Need-returns
-returns c = let a = c .before .before .before .before .before .before .before in any-by (a .args .g) (memOf (a .args .g) (a .args .mem .now)) (a .args .asked) (a .args .bits .now) (a .args .cover .now) (a .args .s) _ (c .before .before .before .class .ensures) (class-passed _ (sym (c .before .before .is-class .ensures) ∙ c .before .if1 .taken)) _ (c .segment-judged .ensures)
+returns c =
+    let class-told = c .before .before .before in
+    let entry = class-told .before .before .before .before in
+    let a = entry .args in
+    any-by (a .g) (memOf (a .g) (a .mem .now)) (a .asked) (a .bits .now) (a .cover .now) (a .s) _ (class-told .class .ensures)
+    (class-passed _ (sym (c .before .before .is-class .ensures) ∙ c .before .if1 .taken)) _ (c .segment-judged .ensures)
 
 returns-2 : tie.Need-returns-2
-returns-2 c = let a = c .before .before .before .before .before .before in any-none (a .args .g) (memOf (a .args .g) (a .args .mem .now)) (a .args .asked) (a .args .bits .now) (a .args .cover .now) (a .args .s) _ (c .before .before .class .ensures) (sym (c .before .is-class .ensures) ∙ c .if1 .left)
+returns-2 c =
+    let entry = c .before .before .before .before .before .before in
+    let a = entry .args in
+    any-none (a .g) (memOf (a .g) (a .mem .now)) (a .asked) (a .bits .now) (a .cover .now) (a .s) _ (c .before .before .class .ensures) (sym (c .before .is-class .ensures) ∙ c .if1 .left)
 
 pub any-judged-spec : {M : Type 1} → statement M
 any-judged-spec =

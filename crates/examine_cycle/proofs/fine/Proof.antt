@@ -39,21 +39,22 @@ fine-bit-requires c κs =
 
 returns-2 : tie.Need-returns-2
 returns-2 c =
-    let tested = c .before .before in
-    let branched = tested .before in
-    let entry = branched .before .before .before in
-    fine-torn (entry .args .g) (memOf (entry .args .g) (entry .args .mem .now)) _ (entry .args .w) (branched .if1 .left)
-    (subst (Tested (entry .args .g) (memOf (entry .args .g) (entry .args .mem .now)) (entry .args .w - 1)) (c .enum-told .given .1) (tested .test .ensures))
+    let past-w-is-0 = c .before .before .before in
+    let entry = past-w-is-0 .before .before .before in
+    let a = entry .args in
+    fine-torn (a .g) (memOf (a .g) (a .mem .now)) _ (a .w) (past-w-is-0 .if1 .left)
+    (subst (Tested (a .g) (memOf (a .g) (a .mem .now)) (a .w - 1)) (c .enum-told .given .1) (c .before .before .test .ensures))
 
 returns-3 : tie.Need-returns-3
 returns-3 c =
     let known = c .before .before in
     let tested = known .before .before in
-    let branched = tested .before in
-    let entry = branched .before .before .before in
-    let m = memOf (entry .args .g) (entry .args .mem .now) in
-    let t = subst (Tested (entry .args .g) m (entry .args .w - 1)) (known .k .given .1) (tested .test .ensures) in
-    fine-by (entry .args .g) m (entry .args .cover .now) (entry .args .w) (branched .if1 .left) (t .0) _ (t .1) _ (c .fine-bit .ensures)
+    let past-w-is-0 = tested .before in
+    let entry = past-w-is-0 .before .before .before in
+    let a = entry .args in
+    let m = memOf (a .g) (a .mem .now) in
+    let t = subst (Tested (a .g) m (a .w - 1)) (known .k .given .1) (tested .test .ensures) in
+    fine-by (a .g) m (a .cover .now) (a .w) (past-w-is-0 .if1 .left) (t .0) _ (t .1) _ (c .fine-bit .ensures)
 
 pub fine-spec : {M : Type 1} → statement M
 fine-spec =

@@ -31,19 +31,43 @@ fine-requires : tie.Need-fine-requires Inv-loop μ-loop
 fine-requires c κs = let a = c .before .before .before .before .before in (a .pre .0, a .pre .1)
 
 returns : tie.Need-returns Inv-loop μ-loop
-returns c = let a = c .before .before .before .before .before .before .before in let m = memOf (a .args .g) (a .args .mem .now) in fails (λ q. refuted (c .before .fine .ensures) (not-true _ (c .if1 .taken)) (run-one (a .args .g) m (a .args .cover .now) (wordsOf (a .args .source) m) (a .args .from) (c .before .before .before .before .loop .f) _ (c .before .before .word .ensures) (a .args .count) (c .before .before .before .loop-test .taken) q))
+returns c =
+    let turning = c .before .before .before in
+    let looping = turning .before in
+    let entry = looping .before .before .before in
+    let a = entry .args in
+    let m = memOf (a .g) (a .mem .now) in
+    fails
+    (λ q. refuted (c .before .fine .ensures) (not-true _ (c .if1 .taken))
+    (run-one (a .g) m (a .cover .now) (wordsOf (a .source) m) (a .from) (looping .loop .f) _ (c .before .before .word .ensures) (a .count) (turning .loop-test .taken) q))
 
 add-f : tie.Need-add-f Inv-loop μ-loop
-add-f c = let a = c .before .before .before .before .before .before .before in omega (arith, a .pre .2, c .before .before .before .loop-test .taken, length-most (a .args .source) (a .args .g) (a .pre .0 .few))
+add-f c =
+    let turning = c .before .before .before in
+    let entry = turning .before .before .before .before in
+    omega (arith, entry .pre .2, turning .loop-test .taken, length-most (entry .args .source) (entry .args .g) (entry .pre .0 .few))
 
 loop-less : tie.Need-loop-less Inv-loop μ-loop
 loop-less c = omega (arith, c .before .before .before .loop-test .taken)
 
 loop-again : tie.Need-loop-again Inv-loop μ-loop
-loop-again c = let a = c .before .before .before .before .before .before .before in let m = memOf (a .args .g) (a .args .mem .now) in (omega (arith, c .before .before .before .loop-test .taken), run-more (a .args .g) m (a .args .cover .now) (wordsOf (a .args .source) m) (a .args .from) (c .before .before .before .before .loop .f) _ (c .before .before .word .ensures) (c .before .before .before .before .loop .inv .1) (c .before .fine .ensures .sound (not-false _ (c .if1 .left))))
+loop-again c =
+    let turning = c .before .before .before in
+    let looping = turning .before in
+    let entry = looping .before .before .before in
+    let a = entry .args in
+    let m = memOf (a .g) (a .mem .now) in (
+      omega (arith, turning .loop-test .taken),
+      run-more (a .g) m (a .cover .now) (wordsOf (a .source) m) (a .from) (looping .loop .f) _ (c .before .before .word .ensures)
+          (looping .loop .inv .1) (c .before .fine .ensures .sound (not-false _ (c .if1 .left))),
+    )
 
 returns-2 : tie.Need-returns-2 Inv-loop μ-loop
-returns-2 c = let a = c .before .before .before .before in let m = memOf (a .args .g) (a .args .mem .now) in holds (subst (λ (k : ℕ). FineRun (a .args .g) m (a .args .cover .now) (wordsOf (a .args .source) m) (a .args .from) k) (omega (arith, c .loop-test .left, c .before .loop .inv .0)) (c .before .loop .inv .1))
+returns-2 c =
+    let entry = c .before .before .before .before in
+    let a = entry .args in
+    let m = memOf (a .g) (a .mem .now) in
+    holds (subst (λ (k : ℕ). FineRun (a .g) m (a .cover .now) (wordsOf (a .source) m) (a .from) k) (omega (arith, c .loop-test .left, c .before .loop .inv .0)) (c .before .loop .inv .1))
 
 pub fine-run-spec : {M : Type 1} → statement M
 fine-run-spec =

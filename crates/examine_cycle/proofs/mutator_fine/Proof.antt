@@ -28,7 +28,10 @@ fine-run-requires : tie.Need-fine-run-requires
 fine-run-requires c κs = search needs
 
 returns-3 : tie.Need-returns-3
-returns-3 c = via (λ h f l. h) (λ q. q (λ e. c .before .before .before .if1 .left (c .before .before .before .before .state .ensures ∙ e)) (omega (arith, c .before .before .acks .ensures, c .before .if2 .left))) (c .fine-run .ensures)
+returns-3 c =
+    let past-state-is-absent = c .before .before .before in
+    let state-told = past-state-is-absent .before in
+    via (λ h f l. h) (λ q. q (λ e. past-state-is-absent .if1 .left (state-told .state .ensures ∙ e)) (omega (arith, c .before .before .acks .ensures, c .before .if2 .left))) (c .fine-run .ensures)
 
 pub mutator-fine-spec : {M : Type 1} → statement M
 mutator-fine-spec =

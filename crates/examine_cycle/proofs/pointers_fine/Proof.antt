@@ -18,10 +18,17 @@ add-fine-run : tie.Need-add-fine-run
 add-fine-run c = search needs
 
 fine-run-requires : tie.Need-fine-run-requires
-fine-run-requires c κs = let a = c .before .before .before in (a .pre .0, a .pre .1, subst (λ (n : ℕ). a .args .at + 1 + n ≤ len (a .args .g) Region.heap) (sym (c .pointers .ensures)) (pointers-inside (a .args .g) (memOf (a .args .g) (a .args .mem .now)) (a .args .at) (a .pre .2)))
+fine-run-requires c κs =
+    let entry = c .before .before .before in
+    let a = entry .args in
+    (entry .pre .0, entry .pre .1, subst (λ (n : ℕ). a .at + 1 + n ≤ len (a .g) Region.heap) (sym (c .pointers .ensures)) (pointers-inside (a .g) (memOf (a .g) (a .mem .now)) (a .at) (entry .pre .2)))
 
 returns : tie.Need-returns
-returns c = let a = c .before .before .before .before in let m = memOf (a .args .g) (a .args .mem .now) in subst (λ (n : ℕ). Decides (c .fine-run .result) (FineRun (a .args .g) m (a .args .cover .now) (m .heap) (a .args .at + 1) n)) (c .before .pointers .ensures) (c .fine-run .ensures)
+returns c =
+    let entry = c .before .before .before .before in
+    let a = entry .args in
+    let m = memOf (a .g) (a .mem .now) in
+    subst (λ (n : ℕ). Decides (c .fine-run .result) (FineRun (a .g) m (a .cover .now) (m .heap) (a .at + 1) n)) (c .before .pointers .ensures) (c .fine-run .ensures)
 
 pub pointers-fine-spec : {M : Type 1} → statement M
 pointers-fine-spec = tie.close (tie.spec pointers-requires add-fine-run fine-run-requires returns)

@@ -18,12 +18,11 @@ pointers-fine-requires c κs = search needs
 
 returns : tie.Need-returns
 returns c =
-    let branched = c .before in
-    let tested = branched .before in
-    let told = tested .before in
-    let a = told .before .before .before .before .args in
+    let told = c .before .before .before in
+    let entry = told .before .before .before .before in
+    let a = entry .args in
     ask (a .g) (memOf (a .g) (a .mem .now)) (a .cover .now) (a .s) (a .at) (a .k) (a .asked) _ _ (told .enum-told .given .1)
-    (via (λ h e. h) (λ q. q (tested .is-set .ensures .sound (branched .if1 .taken))) (c .pointers-fine .ensures))
+    (via (λ h e. h) (λ q. q (c .before .before .is-set .ensures .sound (c .before .if1 .taken))) (c .pointers-fine .ensures))
 
 enum-told-2 : tie.Need-enum-told-2
 enum-told-2 c = search needs
@@ -36,12 +35,12 @@ is-set-requires-2 c κs = search needs
 
 returns-2 : tie.Need-returns-2
 returns-2 c =
-    let branched = c .before in
-    let tagged = branched .before in
+    let tagged = c .before .before in
     let told = tagged .before in
-    let a = told .before .before .before .before .args in
+    let entry = told .before .before .before .before in
+    let a = entry .args in
     ask (a .g) (memOf (a .g) (a .mem .now)) (a .cover .now) (a .s) (a .at) (a .k) (a .asked) _ _ (told .enum-told2 .given .1)
-    (via (λ h e. h) (λ q. q (sym (tagged .tag .ensures) ∙ branched .if2 .taken)) (c .is-set2 .ensures))
+    (via (λ h e. h) (λ q. q (sym (tagged .tag .ensures) ∙ c .before .if2 .taken)) (c .is-set2 .ensures))
 
 returns-3 : tie.Need-returns-3
 returns-3 c =

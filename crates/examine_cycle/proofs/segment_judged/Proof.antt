@@ -58,31 +58,29 @@ block-judged-requires c κs =
 returns : tie.Need-returns Inv-loop μ-loop
 returns c =
     let judged = c .before in
-    let looped = judged .before in
-    let turn = looped .before in
+    let turn = judged .before .before in
     let counted = turn .before .before .before in
-    let a = counted .before .before .before .before .args in
+    let entry = counted .before .before .before .before in
+    let a = entry .args in
     let one = BlockJudged (a .asked) (a .g) (memOf (a .g) (a .mem .now)) (a .bits .now) (a .cover .now) (a .s) in
     fails
     (λ q. refuted (judged .block-judged .ensures) (not-true _ (c .if1 .taken))
-    (subst one (sym (turn .loop .inv .1)) (q (turn .loop .b) (omega (arith, looped .loop-test .taken, counted .blocks-in .ensures)))))
+    (subst one (sym (turn .loop .inv .1)) (q (turn .loop .b) (omega (arith, judged .before .loop-test .taken, counted .blocks-in .ensures)))))
 
 add-b : tie.Need-add-b Inv-loop μ-loop
 add-b c =
-    let looped = c .before .before in
-    let counted = looped .before .before .before .before in
+    let counted = c .before .before .before .before .before .before in
     let entry = counted .before .before .before .before in
-    omega (arith, looped .loop-test .taken, counted .blocks-in .ensures, most-small (entry .args .g), blocks-most (entry .args .g) (entry .args .class) (entry .pre .1 .1 .1))
+    omega (arith, c .before .before .loop-test .taken, counted .blocks-in .ensures, most-small (entry .args .g), blocks-most (entry .args .g) (entry .args .class) (entry .pre .1 .1 .1))
 
 add-at : tie.Need-add-at Inv-loop μ-loop
 add-at c =
-    let looped = c .before .before in
-    let turn = looped .before in
+    let turn = c .before .before .before in
     let measured = turn .before .before in
     let counted = measured .before in
     let entry = counted .before .before .before .before in
     let a = entry .args in
-    let below : turn .loop .b < blocksIn (a .g) (a .class) = omega (arith, looped .loop-test .taken, counted .blocks-in .ensures) in
+    let below : turn .loop .b < blocksIn (a .g) (a .class) = omega (arith, c .before .before .loop-test .taken, counted .blocks-in .ensures) in
     let ends = block-ends (a .g) (a .s) (a .class) _ _ (turn .loop .inv .1) (entry .pre .1 .1 .1) below (entry .pre .1 .0) in
     omega (arith, ends, measured .block-words .ensures, heap-most (a .g) (entry .pre .0 .0 .few))
 
@@ -92,13 +90,13 @@ loop-less c = omega (arith, c .before .before .loop-test .taken)
 loop-again : tie.Need-loop-again Inv-loop μ-loop
 loop-again c =
     let judged = c .before in
-    let looped = judged .before in
-    let turn = looped .before in
+    let turn = judged .before .before in
     let measured = turn .before .before in
-    let a = measured .before .before .before .before .before .args in
+    let entry = measured .before .before .before .before .before in
+    let a = entry .args in
     let one = BlockJudged (a .asked) (a .g) (memOf (a .g) (a .mem .now)) (a .bits .now) (a .cover .now) (a .s) in
     let here = turn .loop .inv .1 in (
-      omega (arith, looped .loop-test .taken),
+      omega (arith, judged .before .loop-test .taken),
       header-next (a .g) (a .s) (a .class) _ _ _ here (measured .block-words .ensures),
       below-more (λ j. one (headerOf (a .g) (a .s) (a .class) j)) _ (turn .loop .inv .2) (subst one here (judged .block-judged .ensures .sound (not-false _ (c .if1 .left)))),
     )

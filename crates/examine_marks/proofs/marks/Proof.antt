@@ -34,8 +34,11 @@ word-fine-requires c κs =
 returns : tie.Need-returns Inv-loop μ-loop
 returns c =
     let counted = c .before .before .before .before in
-    let g = counted .before .before .args .g in
-    fails (λ q. refuted (c .before .word-fine .ensures) (not-true _ (c .if1 .taken)) (λ i h. q _ (omega (arith, c .before .before .loop-test .taken, counted .trace-words .ensures, marks-are g (g .segments)))))
+    let entry = counted .before .before in
+    let g = entry .args .g in
+    fails
+    (λ q. refuted (c .before .word-fine .ensures) (not-true _ (c .if1 .taken))
+    (λ i h. q _ (omega (arith, c .before .before .loop-test .taken, counted .trace-words .ensures, marks-are g (g .segments)))))
 
 add-q : tie.Need-add-q Inv-loop μ-loop
 add-q c =
@@ -53,7 +56,9 @@ returns-2 : tie.Need-returns-2 Inv-loop μ-loop
 returns-2 c =
     let counted = c .before .before in
     let a = counted .before .before .args in
-    holds (λ k h. subst (BitFine (a .condemned-only) (a .g) (memOf (a .g) (a .mem .now))) (let e : k / 32 * 32 + k % 32 ≡ k = omega arith in e) (c .before .loop .inv .1 (k / 32) (omega (arith, c .loop-test .left, counted .trace-words .ensures, marks-are (a .g) (a .g .segments))) (k % 32) (omega arith)))
+    holds
+    (λ k h. subst (BitFine (a .condemned-only) (a .g) (memOf (a .g) (a .mem .now))) (let e : k / 32 * 32 + k % 32 ≡ k = omega arith in e)
+    (c .before .loop .inv .1 (k / 32) (omega (arith, c .loop-test .left, counted .trace-words .ensures, marks-are (a .g) (a .g .segments))) (k % 32) (omega arith)))
 
 pub marks-spec : {M : Type 1} → statement M
 marks-spec =

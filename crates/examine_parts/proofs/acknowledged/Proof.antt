@@ -28,11 +28,11 @@ returns-2 : tie.Need-returns-2
 returns-2 c =
     let counted = c .before in
     let phased = counted .before in
-    let branched = phased .before in
-    let stated = branched .before in
+    let past-state-is-absent = phased .before in
+    let stated = past-state-is-absent .before in
     let entry = stated .before .before in
     let a = entry .args in
-    acked-there (memOf (a .g) (a .mem .now)) (a .k) _ (stated .state .ensures) (branched .if1 .left) _ (phased .phase .ensures) _ (counted .acks .ensures) _ (c .acks-in .ensures)
+    acked-there (memOf (a .g) (a .mem .now)) (a .k) _ (stated .state .ensures) (past-state-is-absent .if1 .left) _ (phased .phase .ensures) _ (counted .acks .ensures) _ (c .acks-in .ensures)
 
 pub acknowledged-spec : {M : Type 1} → statement M
 acknowledged-spec =

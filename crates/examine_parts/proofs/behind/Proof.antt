@@ -16,22 +16,20 @@ none-before-requires c κs = search needs
 
 returns : tie.Need-returns
 returns c =
-    let branched = c .before in
-    let read = branched .before in
+    let read = c .before .before in
     let entry = read .before .before in
     let a = entry .args in
-    behind-within (a .g) (memOf (a .g) (a .mem .now)) _ (read .cursor .ensures) _ (branched .if1 .taken) (c .none-before .ensures)
+    behind-within (a .g) (memOf (a .g) (a .mem .now)) _ (read .cursor .ensures) _ (c .before .if1 .taken) (c .none-before .ensures)
 
 none-before-requires-2 : tie.Need-none-before-requires-2
 none-before-requires-2 c κs = search needs
 
 returns-2 : tie.Need-returns-2
 returns-2 c =
-    let branched = c .before in
-    let read = branched .before in
+    let read = c .before .before in
     let entry = read .before .before in
     let a = entry .args in
-    behind-past (a .g) (memOf (a .g) (a .mem .now)) _ (read .cursor .ensures) _ (branched .if1 .left) (c .none-before2 .ensures)
+    behind-past (a .g) (memOf (a .g) (a .mem .now)) _ (read .cursor .ensures) _ (c .before .if1 .left) (c .none-before2 .ensures)
 
 pub behind-spec : {M : Type 1} → statement M
 behind-spec =

@@ -15,13 +15,27 @@ owner-requires : tie.Need-owner-requires
 owner-requires c κs = search needs
 
 returns : tie.Need-returns
-returns c = let a = c .before .before .before .before .before .args in cleared-class (memOf (a .g) (a .mem .now)) (a .s) _ _ _ (c .before .before .before .class .ensures) (c .before .before .place .ensures) (c .before .owner .ensures) (c .if1 .taken)
+returns c =
+    let class-told = c .before .before .before in
+    let entry = class-told .before .before in
+    let a = entry .args in
+    cleared-class (memOf (a .g) (a .mem .now)) (a .s) _ _ _ (class-told .class .ensures) (c .before .before .place .ensures) (c .before .owner .ensures) (c .if1 .taken)
 
 returns-2 : tie.Need-returns-2
-returns-2 c = let a = c .before .before .before .before .before .before .args in cleared-place (memOf (a .g) (a .mem .now)) (a .s) _ _ _ (c .before .before .before .before .class .ensures) (c .before .before .before .place .ensures) (c .before .before .owner .ensures) (c .if2 .taken)
+returns-2 c =
+    let place-told = c .before .before .before in
+    let class-told = place-told .before in
+    let entry = class-told .before .before in
+    let a = entry .args in
+    cleared-place (memOf (a .g) (a .mem .now)) (a .s) _ _ _ (class-told .class .ensures) (place-told .place .ensures) (c .before .before .owner .ensures) (c .if2 .taken)
 
 returns-3 : tie.Need-returns-3
-returns-3 c = let a = c .before .before .before .before .before .before .args in cleared-owner (memOf (a .g) (a .mem .now)) (a .s) _ _ _ (c .before .before .before .before .class .ensures) (c .before .before .before .place .ensures) (c .before .before .owner .ensures) (c .before .if1 .left) (c .if2 .left)
+returns-3 c =
+    let place-told = c .before .before .before in
+    let class-told = place-told .before in
+    let entry = class-told .before .before in
+    let a = entry .args in
+    cleared-owner (memOf (a .g) (a .mem .now)) (a .s) _ _ _ (class-told .class .ensures) (place-told .place .ensures) (c .before .before .owner .ensures) (c .before .if1 .left) (c .if2 .left)
 
 pub cleared-spec : {M : Type 1} → statement M
 cleared-spec =

@@ -35,7 +35,12 @@ loop-less : tie.Need-loop-less Inv-loop μ-loop
 loop-less c = omega (arith, c .before .before .loop-test .taken)
 
 loop-again : tie.Need-loop-again Inv-loop μ-loop
-loop-again c = (omega (arith, c .before .before .before .loop .inv .0), omega (arith, c .before .before .loop-test .taken), below-more _ _ (c .before .before .before .loop .inv .2) (λ _. c .before .holds .ensures .sound (not-false _ (c .if1 .left))))
+loop-again c =
+    let looping = c .before .before .before in (
+      omega (arith, looping .loop .inv .0),
+      omega (arith, c .before .before .loop-test .taken),
+      below-more _ _ (looping .loop .inv .2) (λ _. c .before .holds .ensures .sound (not-false _ (c .if1 .left))),
+    )
 
 returns-2 : tie.Need-returns-2 Inv-loop μ-loop
 returns-2 c = holds (λ d h. c .before .loop .inv .2 d (omega (arith, c .loop-test .left)))

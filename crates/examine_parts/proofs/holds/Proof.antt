@@ -21,7 +21,10 @@ held-by-requires : tie.Need-held-by-requires
 held-by-requires c κs = search needs
 
 returns-2 : tie.Need-returns-2
-returns-2 c = let a = c .before .before .before .before .args in holds-one (a .g) (memOf (a .g) (a .mem .now)) (a .k) (a .class) _ (c .before .before .holding .ensures) (c .before .if1 .left) _ (c .held-by .ensures)
+returns-2 c =
+    let entry = c .before .before .before .before in
+    let a = entry .args in
+    holds-one (a .g) (memOf (a .g) (a .mem .now)) (a .k) (a .class) _ (c .before .before .holding .ensures) (c .before .if1 .left) _ (c .held-by .ensures)
 
 pub holds-spec : {M : Type 1} → statement M
 holds-spec =

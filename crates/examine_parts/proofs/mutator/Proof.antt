@@ -16,13 +16,22 @@ holdings-requires : tie.Need-holdings-requires
 holdings-requires c κs = search needs
 
 returns-2 : tie.Need-returns-2
-returns-2 c = let a = c .before .before .before .before .before .args in mutator-table (a .g) (memOf (a .g) (a .mem .now)) (a .k) _ (c .before .holdings .ensures) (not-true _ (c .if2 .taken))
+returns-2 c =
+    let entry = c .before .before .before .before .before in
+    let a = entry .args in
+    mutator-table (a .g) (memOf (a .g) (a .mem .now)) (a .k) _ (c .before .holdings .ensures) (not-true _ (c .if2 .taken))
 
 acknowledged-requires : tie.Need-acknowledged-requires
 acknowledged-requires c κs = search needs
 
 returns-3 : tie.Need-returns-3
-returns-3 c = let a = c .before .before .before .before .before .before .args in mutator-all (a .g) (memOf (a .g) (a .mem .now)) (a .k) _ (c .before .before .before .before .entry .ensures) (not-false _ (c .before .before .before .if1 .left)) _ (c .before .before .holdings .ensures) (not-false _ (c .before .if2 .left)) _ (c .acknowledged .ensures)
+returns-3 c =
+    let past-entry = c .before .before .before in
+    let entry = past-entry .before .before .before in
+    let a = entry .args in
+    mutator-all (a .g) (memOf (a .g) (a .mem .now)) (a .k) _ (past-entry .before .entry .ensures)
+    (not-false _ (past-entry .if1 .left)) _ (c .before .before .holdings .ensures) (not-false _ (c .before .if2 .left)) _
+    (c .acknowledged .ensures)
 
 pub mutator-spec : {M : Type 1} → statement M
 mutator-spec =

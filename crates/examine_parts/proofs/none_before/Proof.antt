@@ -26,7 +26,9 @@ returns : tie.Need-returns Inv-loop μ-loop
 returns c = fails (λ q. q _ (c .before .before .loop-test .taken) (sym (c .before .tag .ensures) ∙ c .if1 .taken))
 
 add-s : tie.Need-add-s Inv-loop μ-loop
-add-s c = omega (arith, c .before .before .before .before .before .pre .0 .few, c .before .before .before .before .before .pre .1)
+add-s c =
+    let entry = c .before .before .before .before .before in
+    omega (arith, entry .pre .0 .few, entry .pre .1)
 
 loop-less : tie.Need-loop-less Inv-loop μ-loop
 loop-less c = omega (arith, c .before .before .loop-test .taken)

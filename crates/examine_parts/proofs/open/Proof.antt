@@ -15,10 +15,18 @@ blocks-in-requires : tie.Need-blocks-in-requires
 blocks-in-requires c κs = search needs
 
 returns : tie.Need-returns
-returns c = let a = c .before .before .before .before .before .args in open-none (a .g) (memOf (a .g) (a .mem .now)) (a .s) (a .class) _ _ _ (c .before .before .before .place .ensures) (c .before .before .in-use .ensures) (c .before .blocks-in .ensures) (c .if1 .taken)
+returns c =
+    let place-told = c .before .before .before in
+    let entry = place-told .before .before in
+    let a = entry .args in
+    open-none (a .g) (memOf (a .g) (a .mem .now)) (a .s) (a .class) _ _ _ (place-told .place .ensures) (c .before .before .in-use .ensures) (c .before .blocks-in .ensures) (c .if1 .taken)
 
 returns-2 : tie.Need-returns-2
-returns-2 c = let a = c .before .before .before .before .before .args in open-some (a .g) (memOf (a .g) (a .mem .now)) (a .s) (a .class) _ _ _ (c .before .before .before .place .ensures) (c .before .before .in-use .ensures) (c .before .blocks-in .ensures) (c .if1 .left)
+returns-2 c =
+    let place-told = c .before .before .before in
+    let entry = place-told .before .before in
+    let a = entry .args in
+    open-some (a .g) (memOf (a .g) (a .mem .now)) (a .s) (a .class) _ _ _ (place-told .place .ensures) (c .before .before .in-use .ensures) (c .before .blocks-in .ensures) (c .if1 .left)
 
 pub open-spec : {M : Type 1} → statement M
 open-spec =

@@ -15,7 +15,11 @@ state-requires : tie.Need-state-requires
 state-requires c κs = search needs
 
 returns-2 : tie.Need-returns-2
-returns-2 c = let a = c .before .before .before .before .before .args in owned-absent (memOf (a .g) (a .mem .now)) (a .s) (a .class) _ (c .before .before .before .owner .ensures) _ (c .before .state .ensures) (c .if2 .taken)
+returns-2 c =
+    let owner-told = c .before .before .before in
+    let entry = owner-told .before .before in
+    let a = entry .args in
+    owned-absent (memOf (a .g) (a .mem .now)) (a .s) (a .class) _ (owner-told .owner .ensures) _ (c .before .state .ensures) (c .if2 .taken)
 
 holding-requires : tie.Need-holding-requires
 holding-requires c κs = search needs
@@ -27,7 +31,13 @@ add-result : tie.Need-add-result
 add-result c = search needs
 
 returns-3 : tie.Need-returns-3
-returns-3 c = let a = c .before .before .before .before .before .before .args in owned-there (memOf (a .g) (a .mem .now)) (a .s) (a .class) _ (c .before .before .before .before .owner .ensures) (c .before .before .before .if1 .left) _ (c .before .before .state .ensures) (c .before .if2 .left) _ (c .holding .ensures)
+returns-3 c =
+    let past-mutators-upto-k = c .before .before .before in
+    let owner-told = past-mutators-upto-k .before in
+    let entry = owner-told .before .before in
+    let a = entry .args in
+    owned-there (memOf (a .g) (a .mem .now)) (a .s) (a .class) _ (owner-told .owner .ensures) (past-mutators-upto-k .if1 .left) _
+    (c .before .before .state .ensures) (c .before .if2 .left) _ (c .holding .ensures)
 
 pub owned-spec : {M : Type 1} → statement M
 owned-spec =

@@ -25,7 +25,9 @@ returns : tie.Need-returns Inv-loop μ-loop
 returns c = fails (λ q. refuted (c .before .segment .ensures) (not-true _ (c .if1 .taken)) (q _ (c .before .before .loop-test .taken)))
 
 add-s : tie.Need-add-s Inv-loop μ-loop
-add-s c = omega (arith, c .before .before .before .before .before .pre .few)
+add-s c =
+    let entry = c .before .before .before .before .before in
+    omega (arith, entry .pre .few)
 
 loop-less : tie.Need-loop-less Inv-loop μ-loop
 loop-less c = omega (arith, c .before .before .loop-test .taken)

@@ -9,13 +9,21 @@ owner-requires : tie.Need-owner-requires
 owner-requires c κs = search needs
 
 returns : tie.Need-returns
-returns c = let a = c .before .before .before .args in used-owner (a .g) (memOf (a .g) (a .mem .now)) (a .s) (a .tag) (a .class) (c .before .before .before .pre .1 .1 .0) (c .before .before .before .pre .1 .1 .1) _ (c .before .owner .ensures) (c .if1 .taken)
+returns c =
+    let entry = c .before .before .before in
+    let a = entry .args in
+    used-owner (a .g) (memOf (a .g) (a .mem .now)) (a .s) (a .tag) (a .class) (entry .pre .1 .1 .0) (entry .pre .1 .1 .1) _ (c .before .owner .ensures) (c .if1 .taken)
 
 open-requires : tie.Need-open-requires
 open-requires c κs = search needs
 
 returns-2 : tie.Need-returns-2
-returns-2 c = let a = c .before .before .before .before .before .args in used-part (a .g) (memOf (a .g) (a .mem .now)) (a .s) (a .tag) (a .class) (c .before .before .before .before .before .pre .1 .1 .0) (c .before .before .before .before .before .pre .1 .1 .1) _ (c .before .before .before .owner .ensures) (c .before .before .if1 .left) (c .before .if2 .taken) _ (c .«open» .ensures)
+returns-2 c =
+    let owner-told = c .before .before .before in
+    let entry = owner-told .before .before in
+    let a = entry .args in
+    used-part (a .g) (memOf (a .g) (a .mem .now)) (a .s) (a .tag) (a .class) (entry .pre .1 .1 .0) (entry .pre .1 .1 .1) _
+    (owner-told .owner .ensures) (c .before .before .if1 .left) (c .before .if2 .taken) _ (c .«open» .ensures)
 
 place-requires : tie.Need-place-requires
 place-requires c κs = search needs
@@ -24,7 +32,14 @@ blocks-in-requires : tie.Need-blocks-in-requires
 blocks-in-requires c κs = search needs
 
 returns-3 : tie.Need-returns-3
-returns-3 c = let a = c .before .before .before .before .before .before .args in used-full (a .g) (memOf (a .g) (a .mem .now)) (a .s) (a .tag) (a .class) (c .before .before .before .before .before .before .pre .1 .1 .0) (c .before .before .before .before .before .before .pre .1 .1 .1) _ (c .before .before .before .before .owner .ensures) (c .before .before .before .if1 .left) (c .before .before .if2 .left) _ _ (c .before .place .ensures) (c .blocks-in .ensures)
+returns-3 c =
+    let past-k = c .before .before .before in
+    let owner-told = past-k .before in
+    let entry = owner-told .before .before in
+    let a = entry .args in
+    used-full (a .g) (memOf (a .g) (a .mem .now)) (a .s) (a .tag) (a .class) (entry .pre .1 .1 .0) (entry .pre .1 .1 .1) _
+    (owner-told .owner .ensures) (past-k .if1 .left) (c .before .before .if2 .left) _ _ (c .before .place .ensures)
+    (c .blocks-in .ensures)
 
 pub unheld-spec : {M : Type 1} → statement M
 unheld-spec =

@@ -16,13 +16,21 @@ owned-requires : tie.Need-owned-requires
 owned-requires c κs = search needs
 
 returns-2 : tie.Need-returns-2
-returns-2 c = let a = c .before .before .before .before .args in used-stranger (a .g) (memOf (a .g) (a .mem .now)) (a .s) (a .tag) (a .class) (c .before .before .if1 .left) _ (c .before .owned .ensures) (not-true _ (c .if2 .taken))
+returns-2 c =
+    let entry = c .before .before .before .before in
+    let a = entry .args in
+    used-stranger (a .g) (memOf (a .g) (a .mem .now)) (a .s) (a .tag) (a .class) (c .before .before .if1 .left) _ (c .before .owned .ensures) (not-true _ (c .if2 .taken))
 
 open-requires : tie.Need-open-requires
 open-requires c κs = search needs
 
 returns-3 : tie.Need-returns-3
-returns-3 c = let a = c .before .before .before .before .before .args in used-held (a .g) (memOf (a .g) (a .mem .now)) (a .s) (a .tag) (a .class) (c .before .before .before .if1 .left) _ (c .before .before .owned .ensures) (not-false _ (c .before .if2 .left)) _ (c .«open» .ensures)
+returns-3 c =
+    let past-tag-not-tag-held = c .before .before .before in
+    let entry = past-tag-not-tag-held .before .before in
+    let a = entry .args in
+    used-held (a .g) (memOf (a .g) (a .mem .now)) (a .s) (a .tag) (a .class) (past-tag-not-tag-held .if1 .left) _
+    (c .before .before .owned .ensures) (not-false _ (c .before .if2 .left)) _ (c .«open» .ensures)
 
 pub used-spec : {M : Type 1} → statement M
 used-spec =

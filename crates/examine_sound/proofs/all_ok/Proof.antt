@@ -21,29 +21,35 @@ same-length c = search needs
 
 returns-2 : tie.Need-returns-2
 returns-2 c =
-    let did-trace-ok = c .before .before .before in
-    let entry = did-trace-ok .before .before .before .before .before .before in
-    let a = entry in trace-fails (a .args .g) (memOf (a .args .g) (a .args .mem .now)) _ (did-trace-ok .trace-ok .ensures) (not-true _ (c .if2 .taken))
+    let trace-ok-told = c .before .before .before in
+    let entry = trace-ok-told .before .before .before .before .before .before in
+    trace-fails (entry .args .g) (memOf (entry .args .g) (entry .args .mem .now)) _ (trace-ok-told .trace-ok .ensures) (not-true _ (c .if2 .taken))
 
 rest-ok-requires : tie.Need-rest-ok-requires
 rest-ok-requires c κs =
-    let did-trace-ok = c .before .before .before .before in
-    let branched1 = did-trace-ok .before .before in
-    let did-parts = branched1 .before in
-    let entry = did-parts .before .before .before in
-    let a = entry in let p = did-parts .parts .ensures .sound (not-false _ (branched1 .if1 .left)) in (a .pre .0, did-trace-ok .trace-ok .kept .1 .1 .0 ∙ a .pre .1, classes-of (a .args .g) (memOf (a .args .g) (a .args .mem .now)) p, p .phases, did-trace-ok .trace-ok .ensures .sound (not-false _ (c .before .if2 .left)))
+    let trace-ok-told = c .before .before .before .before in
+    let past-parts = trace-ok-told .before .before in
+    let entry = past-parts .before .before .before .before in
+    let p = past-parts .before .parts .ensures .sound (not-false _ (past-parts .if1 .left)) in (
+      entry .pre .0,
+      trace-ok-told .trace-ok .kept .1 .1 .0 ∙ entry .pre .1,
+      classes-of (entry .args .g) (memOf (entry .args .g) (entry .args .mem .now)) p,
+      p .phases,
+      trace-ok-told .trace-ok .ensures .sound (not-false _ (c .before .if2 .left)),
+    )
 
 same-length-2 : tie.Need-same-length-2
 same-length-2 c = search needs
 
 returns-3 : tie.Need-returns-3
 returns-3 c =
-    let branched2 = c .before .before .before .before in
-    let did-trace-ok = branched2 .before .before .before in
-    let branched1 = did-trace-ok .before .before in
-    let did-parts = branched1 .before in
-    let entry = did-parts .before .before .before in
-    let a = entry in all-of (a .args .g) (memOf (a .args .g) (a .args .mem .now)) (did-parts .parts .ensures .sound (not-false _ (branched1 .if1 .left))) (did-trace-ok .trace-ok .ensures .sound (not-false _ (branched2 .if2 .left))) _ (c .before .before .rest-ok .ensures)
+    let past-trace = c .before .before .before .before in
+    let trace-ok-told = past-trace .before .before .before in
+    let past-parts = trace-ok-told .before .before in
+    let entry = past-parts .before .before .before .before in
+    all-of (entry .args .g) (memOf (entry .args .g) (entry .args .mem .now))
+    (past-parts .before .parts .ensures .sound (not-false _ (past-parts .if1 .left)))
+    (trace-ok-told .trace-ok .ensures .sound (not-false _ (past-trace .if2 .left))) _ (c .before .before .rest-ok .ensures)
 
 pub all-ok-spec : {M : Type 1} → statement M
 all-ok-spec =

@@ -18,7 +18,9 @@ same-length : tie.Need-same-length
 same-length c = search needs
 
 returns-2 : tie.Need-returns-2
-returns-2 c = via (λ h. record { marks = c .before .before .before .before .before .marks .ensures .sound (not-false _ (c .before .before .before .before .if1 .left)); coloured = h }) (λ q. q .coloured) (c .before .before .tricolour .ensures)
+returns-2 c =
+    let past-marks = c .before .before .before .before in
+    via (λ h. record { marks = past-marks .before .marks .ensures .sound (not-false _ (past-marks .if1 .left)); coloured = h }) (λ q. q .coloured) (c .before .before .tricolour .ensures)
 
 pub mark-ok-spec : {M : Type 1} → statement M
 mark-ok-spec = tie.close (tie.spec marks-requires returns tricolour-requires same-length returns-2)

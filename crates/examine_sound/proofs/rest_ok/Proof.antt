@@ -17,10 +17,10 @@ same-length c = search needs
 returns : tie.Need-returns
 returns c =
     let judged = c .before .before in
-    let branched = judged .before .before in
-    let phased = branched .before in
+    let when-number-is-idle = judged .before .before in
+    let phased = when-number-is-idle .before in
     let entry = phased .before .before .before in
-    in-idle (entry .args .g) (memOf (entry .args .g) (entry .args .mem .now)) _ (phased .phase .ensures) _ (branched .if1 .taken) (judged .idle-ok .ensures)
+    in-idle (entry .args .g) (memOf (entry .args .g) (entry .args .mem .now)) _ (phased .phase .ensures) _ (when-number-is-idle .if1 .taken) (judged .idle-ok .ensures)
 
 sync-ok-requires : tie.Need-sync-ok-requires
 sync-ok-requires c κs = search needs
@@ -31,10 +31,10 @@ same-length-2 c = search needs
 returns-2 : tie.Need-returns-2
 returns-2 c =
     let judged = c .before .before in
-    let branched = judged .before .before in
-    let phased = branched .before .before in
+    let when-number-is-sync1 = judged .before .before in
+    let phased = when-number-is-sync1 .before .before in
     let entry = phased .before .before .before in
-    in-sync (entry .args .g) (memOf (entry .args .g) (entry .args .mem .now)) _ (phased .phase .ensures) _ (branched .if2 .taken) (judged .sync-ok .ensures)
+    in-sync (entry .args .g) (memOf (entry .args .g) (entry .args .mem .now)) _ (phased .phase .ensures) _ (when-number-is-sync1 .if2 .taken) (judged .sync-ok .ensures)
 
 mark-ok-requires : tie.Need-mark-ok-requires
 mark-ok-requires c κs = search needs

@@ -16,7 +16,10 @@ same-length : tie.Need-same-length
 same-length c = search needs
 
 returns : tie.Need-returns
-returns c = (c .before .before .before .before .before .before .all-ok .ensures, c .before .before .clear-all .ensures ∙ ap (λ (n : ℕ). replicate n 0) (c .before .before .before .before .before .before .all-ok .kept .1 .1 .0 ∙ c .before .before .before .before .before .before .before .before .before .before .pre .1))
+returns c =
+    let all-ok-told = c .before .before .before .before .before .before in
+    let entry = all-ok-told .before .before .before .before in
+    (all-ok-told .all-ok .ensures, c .before .before .clear-all .ensures ∙ ap (λ (n : ℕ). replicate n 0) (all-ok-told .all-ok .kept .1 .1 .0 ∙ entry .pre .1))
 
 pub sound-spec : {M : Type 1} → statement M
 sound-spec = tie.close (tie.spec all-ok-requires clear-all-requires same-length returns)

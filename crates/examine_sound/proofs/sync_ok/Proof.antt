@@ -18,7 +18,11 @@ same-length : tie.Need-same-length
 same-length c = search needs
 
 returns-2 : tie.Need-returns-2
-returns-2 c = via (λ h. record { only = c .before .before .before .before .before .only-entries .ensures .sound (not-false _ (c .before .before .before .before .if1 .left)); records = h }) (λ q. q .records) (c .before .before .live-ok .ensures)
+returns-2 c =
+    let past-only-entries = c .before .before .before .before in
+    via
+    (λ h. record { only = past-only-entries .before .only-entries .ensures .sound (not-false _ (past-only-entries .if1 .left)); records = h })
+    (λ q. q .records) (c .before .before .live-ok .ensures)
 
 pub sync-ok-spec : {M : Type 1} → statement M
 sync-ok-spec =

@@ -23,7 +23,13 @@ one-if-requires : tie.Need-one-if-requires Inv-loop μ-loop
 one-if-requires c κs = (c .before .before .before .pre .0, c .loop-test .taken, c .before .before .before .pre .1)
 
 add-k : tie.Need-add-k Inv-loop μ-loop
-add-k c = let a = c .before .before .before .before .args in let q = ones-few (onStack (memOf (a .g) (a .mem .now)) (a .t)) (c .before .before .loop .s) (c .before .before .loop .k) (c .one-if .result) (c .before .before .loop .inv .is) (c .one-if .ensures) in let l = c .before .loop-test .taken in omega (arith, c .before .before .before .before .pre .0 .few)
+add-k c =
+    let entry = c .before .before .before .before in
+    let a = entry .args in
+    let q = ones-few (onStack (memOf (a .g) (a .mem .now)) (a .t)) (c .before .before .loop .s) (c .before .before .loop .k)
+    (c .one-if .result) (c .before .before .loop .inv .is) (c .one-if .ensures) in
+    let l = c .before .loop-test .taken in
+    omega (arith, entry .pre .0 .few)
 
 add-s : tie.Need-add-s Inv-loop μ-loop
 add-s c = omega (arith, c .before .loop-test .taken, c .before .before .before .before .pre .0 .few)

@@ -27,7 +27,11 @@ add-result : tie.Need-add-result
 add-result c = search needs
 
 returns-3 : tie.Need-returns-3
-returns-3 c = let a = c .before .before .before .before .before .args in on-part (memOf (a .g) (a .mem .now)) (a .t) (a .s) _ (c .before .before .before .tag .ensures) (c .before .before .if1 .left) (c .before .if2 .left) _ (c .class .ensures)
+returns-3 c =
+    let tag-told = c .before .before .before in
+    let entry = tag-told .before .before in
+    let a = entry .args in
+    on-part (memOf (a .g) (a .mem .now)) (a .t) (a .s) _ (tag-told .tag .ensures) (c .before .before .if1 .left) (c .before .if2 .left) _ (c .class .ensures)
 
 pub belongs-spec : {M : Type 1} → statement M
 belongs-spec =

@@ -24,7 +24,9 @@ slice-read-if3 : tie.Need-slice-read-if3
 slice-read-if3 c = search needs
 
 returns-3 : tie.Need-returns-3
-returns-3 c = enter-again _ _ _ _ _ _ (c .before .before .before .before .before .before .entry .ensures) (c .if3 .taken)
+returns-3 c =
+    let entry-told = c .before .before .before .before .before .before in
+    enter-again _ _ _ _ _ _ (entry-told .entry .ensures) (c .if3 .taken)
 
 mul-seen : tie.Need-mul-seen
 mul-seen c = search needs
@@ -36,7 +38,11 @@ same-length : tie.Need-same-length
 same-length c = search needs
 
 returns-4 : tie.Need-returns-4
-returns-4 c = enter-new _ _ _ _ _ _ (c .before .before .before .before .before .before .entry .ensures) (c .before .before .before .before .if1 .left) _ (c .before .before .before .belongs .ensures) (not-false _ (c .before .before .if2 .left)) (c .if3 .left)
+returns-4 c =
+    let belongs-told = c .before .before .before in
+    let past-segments-upto-s = belongs-told .before in
+    let entry-told = past-segments-upto-s .before .before in
+    enter-new _ _ _ _ _ _ (entry-told .entry .ensures) (past-segments-upto-s .if1 .left) _ (belongs-told .belongs .ensures) (not-false _ (c .before .before .if2 .left)) (c .if3 .left)
 
 pub enter-spec : {M : Type 1} → statement M
 enter-spec =

@@ -19,22 +19,39 @@ loop-holds : tie.Need-loop-holds Inv-loop μ-loop
 loop-holds c = (omega arith, seen-none _ _ _ _ (c .before .before .pre .1 .0) (c .before .before .pre .1 .1))
 
 enter-requires : tie.Need-enter-requires Inv-loop μ-loop
-enter-requires c κs = ((c .before .before .before .before .before .pre .0 .0, c .before .before .before .before .before .pre .0 .1, (let l = c .before .loop-test .taken in let n = c .before .before .before .before .before .pre .0 .3 in omega arith)), c .before .before .loop .inv .1 .long)
+enter-requires c κs =
+    let entry = c .before .before .before .before .before in
+    ((entry .pre .0 .0, entry .pre .0 .1, (let l = c .before .loop-test .taken in let n = entry .pre .0 .3 in omega arith)), c .before .before .loop .inv .1 .long)
 
 same-length : tie.Need-same-length Inv-loop μ-loop
 same-length c = search needs
 
 returns : tie.Need-returns Inv-loop μ-loop
-returns c = one-wrong _ _ _ _ _ _ _ (c .before .before .before .before .before .before .before .before .before .pre .0 .2) (c .before .before .before .before .before .loop-test .taken) (c .before .before .before .before .before .before .loop .inv .1) _ (c .before .before .before .enter .ensures) (not-true _ (c .if1 .taken))
+returns c =
+    let entered = c .before .before .before in
+    let turning = entered .before .before in
+    let looping = turning .before in
+    let entry = looping .before .before .before in
+    one-wrong _ _ _ _ _ _ _ (entry .pre .0 .2) (turning .loop-test .taken) (looping .loop .inv .1) _ (entered .enter .ensures) (not-true _ (c .if1 .taken))
 
 add-i : tie.Need-add-i Inv-loop μ-loop
-add-i c = omega (arith, c .before .before .before .before .before .before .before .before .before .pre .0 .3, c .before .before .before .before .before .before .before .before .before .pre .0 .0 .few)
+add-i c =
+    let entered = c .before .before .before in
+    let entry = entered .before .before .before .before .before .before in
+    omega (arith, entry .pre .0 .3, entry .pre .0 .0 .few)
 
 loop-less : tie.Need-loop-less Inv-loop μ-loop
-loop-less c = omega (arith, c .before .before .before .before .before .loop-test .taken)
+loop-less c =
+    let turning = c .before .before .before .before .before in
+    omega (arith, turning .loop-test .taken)
 
 loop-again : tie.Need-loop-again Inv-loop μ-loop
-loop-again c = (omega (arith, c .before .before .before .before .before .loop-test .taken), seen-more _ _ _ _ _ (c .before .before .before .before .before .before .loop .inv .1) _ _ (c .before .before .before .enter .ensures) (c .before .before .before .before .before .before .before .before .before .pre .0 .0 .few) (not-false _ (c .if1 .left)))
+loop-again c =
+    let entered = c .before .before .before in
+    let turning = entered .before .before in
+    let looping = turning .before in
+    let entry = looping .before .before .before in
+    (omega (arith, turning .loop-test .taken), seen-more _ _ _ _ _ (looping .loop .inv .1) _ _ (entered .enter .ensures) (entry .pre .0 .0 .few) (not-false _ (c .if1 .left)))
 
 same-length-2 : tie.Need-same-length-2 Inv-loop μ-loop
 same-length-2 c = search needs

@@ -18,7 +18,11 @@ tree-of-requires : tie.Need-tree-of-requires
 tree-of-requires c κs = search needs
 
 returns-2 : tie.Need-returns-2
-returns-2 c = let a = c .before .before .before .before .before .args in tree-used (a .g) (memOf (a .g) (a .mem .now)) (a .s) _ (c .before .before .before .tag .ensures) (c .before .before .if1 .left) _ (c .before .class .ensures) _ (c .tree-of .ensures)
+returns-2 c =
+    let tag-told = c .before .before .before in
+    let entry = tag-told .before .before in
+    let a = entry .args in
+    tree-used (a .g) (memOf (a .g) (a .mem .now)) (a .s) _ (tag-told .tag .ensures) (c .before .before .if1 .left) _ (c .before .class .ensures) _ (c .tree-of .ensures)
 
 pub segment-tree-spec : {M : Type 1} → statement M
 segment-tree-spec =

@@ -16,7 +16,10 @@ stacks-requires : tie.Need-stacks-requires
 stacks-requires c κs = search needs
 
 returns-2 : tie.Need-returns-2
-returns-2 c = let a = c .before .before .before .before .args in both (a .g) (memOf (a .g) (a .mem .now)) _ (c .before .before .trees .ensures) (not-false _ (c .before .if1 .left)) _ (c .stacks .ensures)
+returns-2 c =
+    let entry = c .before .before .before .before in
+    let a = entry .args in
+    both (a .g) (memOf (a .g) (a .mem .now)) _ (c .before .before .trees .ensures) (not-false _ (c .before .if1 .left)) _ (c .stacks .ensures)
 
 pub summed-spec : {M : Type 1} → statement M
 summed-spec = tie.close (tie.spec trees-requires returns stacks-requires returns-2)

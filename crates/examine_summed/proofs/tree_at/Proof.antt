@@ -7,10 +7,14 @@ use Rattle.examine_summed.proofs.tree_at.Statement.{statement}
 use Rattle.examine_summed.proofs.tree_at.Tie as tie
 
 -- the part that is lent
-tree : (c : tie.After-bitmap-from2) → TreePart (c .before .before .before .args .g) (c .before .before .before .args .mem .now) (c .before .before .before .args .s) 3 (c .before .bitmap-from .result) (c .bitmap-from2 .result)
+tree : (c : tie.After-bitmap-from2)
+    → TreePart (c .before .before .before .args .g) (c .before .before .before .args .mem .now) (c .before .before .before .args .s) 3
+    (c .before .bitmap-from .result) (c .bitmap-from2 .result)
 tree c =
-    let x = c .before .before .before in
-    tree-at (x .args .g) (x .args .mem .now) (x .pre .0 .0) (x .args .s) (x .pre .0 .1) (c .before .bitmap-from .result) (c .bitmap-from2 .result) (c .before .bitmap-from .ensures) (c .bitmap-from2 .ensures) 3 (omega arith, omega arith)
+    let entry = c .before .before .before in
+    tree-at (entry .args .g) (entry .args .mem .now) (entry .pre .0 .0) (entry .args .s) (entry .pre .0 .1)
+    (c .before .bitmap-from .result) (c .bitmap-from2 .result) (c .before .bitmap-from .ensures) (c .bitmap-from2 .ensures) 3
+    (omega arith, omega arith)
 
 bitmap-from-requires : tie.Need-bitmap-from-requires
 bitmap-from-requires c κs = search needs
@@ -34,7 +38,9 @@ part-is-tree-end : tie.Need-part-is-tree-end
 part-is-tree-end c = tree c .within
 
 is-tree-requires : tie.Need-is-tree-requires
-is-tree-requires c κs = part-room _ _ (c .before .before .before .before .pre .0 .0) _ (c .before .before .before .before .pre .0 .1) _ _ _ (tree (c .before)) (c .before .before .before .before .args .above) (c .before .before .before .before .args .n) (c .before .before .before .before .pre .1)
+is-tree-requires c κs =
+    let entry = c .before .before .before .before in
+    part-room _ _ (entry .pre .0 .0) _ (entry .pre .0 .1) _ _ _ (tree (c .before)) (entry .args .above) (entry .args .n) (entry .pre .1)
 
 returns : tie.Need-returns
 returns c = rw (tree (c .before .before) .is) at (c .is-tree .ensures)

@@ -17,10 +17,15 @@ shape-in-requires : tie.Need-shape-in-requires
 shape-in-requires c κs = search needs
 
 sub-tree-at : tie.Need-sub-tree-at
-sub-tree-at c = rw (c .before .shape-in .ensures) (shape-levels-pos (blocksIn (c .before .before .before .before .before .args .g) (c .before .before .before .before .before .args .class)))
+sub-tree-at c =
+    let entry = c .before .before .before .before .before in
+    rw (c .before .shape-in .ensures) (shape-levels-pos (blocksIn (entry .args .g) (entry .args .class)))
 
 tree-at-requires : tie.Need-tree-at-requires
-tree-at-requires c κs = (c .before .before .before .before .before .pre, rw (c .before .shape-in .ensures) (class-fits _ _ (c .before .before .before .if1 .left, c .before .before .if2 .taken)))
+tree-at-requires c κs =
+    let past-class-below-first-class = c .before .before .before in
+    let entry = past-class-below-first-class .before .before in
+    (entry .pre, rw (c .before .shape-in .ensures) (class-fits _ _ (past-class-below-first-class .if1 .left, c .before .before .if2 .taken)))
 
 returns-2 : tie.Need-returns-2
 returns-2 c = rw (c .before .before .shape-in .ensures) at (c .tree-at .ensures)

@@ -56,11 +56,11 @@ returns-3 c =
     let entered = c .before .before in
     let known = entered .before .before .before in
     let tested = known .before .before in
-    let branched = tested .before in
-    let read = branched .before in
+    let past-w-is-0 = tested .before in
+    let read = past-w-is-0 .before in
     let entry = read .before .before .before in
     let t = subst (Tested (entry .args .g) (memOf (entry .args .g) (entry .args .mem .now)) (read .trace .result - 1)) (known .k .given .1) (tested .test .ensures) in
-    enter-by _ _ _ _ _ (read .trace .ensures) (branched .if1 .left) (t .0) _ (t .1) _ _ (entered .enter-bit .ensures)
+    enter-by _ _ _ _ _ (read .trace .ensures) (past-w-is-0 .if1 .left) (t .0) _ (t .1) _ _ (entered .enter-bit .ensures)
 
 pub enter-spec : {M : Type 1} → statement M
 enter-spec =

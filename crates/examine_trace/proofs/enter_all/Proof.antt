@@ -21,22 +21,44 @@ loop-holds : tie.Need-loop-holds Inv-loop μ-loop
 loop-holds c = (omega arith, omega arith, seen-none _ _ _ (c .before .before .pre .1 .0) (c .before .before .pre .1 .1))
 
 enter-requires : tie.Need-enter-requires Inv-loop μ-loop
-enter-requires c κs = (c .before .before .before .before .before .pre .0 .0, (let l = c .before .loop-test .taken in let n = c .before .before .before .before .before .pre .0 .2 in omega arith), c .before .before .loop .inv .2 .long)
+enter-requires c κs =
+    let entry = c .before .before .before .before .before in
+    (entry .pre .0 .0, (let l = c .before .loop-test .taken in let n = entry .pre .0 .2 in omega arith), c .before .before .loop .inv .2 .long)
 
 same-length : tie.Need-same-length Inv-loop μ-loop
-same-length c = c .before .before .before .enter .kept .1 .1 .1 .0 ∙ c .before .before .before .before .before .before .loop .inv .1
+same-length c =
+    let entered = c .before .before .before in
+    let looping = entered .before .before .before in
+    entered .enter .kept .1 .1 .1 .0 ∙ looping .loop .inv .1
 
 returns : tie.Need-returns Inv-loop μ-loop
-returns c = one-wrong _ _ _ _ _ _ (c .before .before .before .before .before .before .before .before .before .pre .0 .1) (c .before .before .before .before .before .loop-test .taken) (c .before .before .before .before .before .before .loop .inv .2) _ (c .before .before .before .enter .ensures) (not-true _ (c .if1 .taken))
+returns c =
+    let entered = c .before .before .before in
+    let turning = entered .before .before in
+    let looping = turning .before in
+    let entry = looping .before .before .before in
+    one-wrong _ _ _ _ _ _ (entry .pre .0 .1) (turning .loop-test .taken) (looping .loop .inv .2) _ (entered .enter .ensures) (not-true _ (c .if1 .taken))
 
 add-i : tie.Need-add-i Inv-loop μ-loop
-add-i c = omega (arith, c .before .before .before .before .before .loop-test .taken, c .before .before .before .before .before .before .before .before .before .pre .0 .2, trace-most (c .before .before .before .before .before .before .before .before .before .args .g) (c .before .before .before .before .before .before .before .before .before .pre .0 .0 .few))
+add-i c =
+    let turning = c .before .before .before .before .before in
+    let entry = turning .before .before .before .before in
+    omega (arith, turning .loop-test .taken, entry .pre .0 .2, trace-most (entry .args .g) (entry .pre .0 .0 .few))
 
 loop-less : tie.Need-loop-less Inv-loop μ-loop
-loop-less c = omega (arith, c .before .before .before .before .before .loop-test .taken)
+loop-less c =
+    let turning = c .before .before .before .before .before in
+    omega (arith, turning .loop-test .taken)
 
 loop-again : tie.Need-loop-again Inv-loop μ-loop
-loop-again c = (omega (arith, c .before .before .before .before .before .loop-test .taken), c .before .before .before .enter .kept .1 .1 .1 .0 ∙ c .before .before .before .before .before .before .loop .inv .1, seen-more _ _ _ _ (c .before .before .before .before .before .before .loop .inv .2) _ _ (c .before .before .before .enter .ensures) (not-false _ (c .if1 .left)))
+loop-again c =
+    let entered = c .before .before .before in
+    let turning = entered .before .before in
+    let looping = turning .before in (
+      omega (arith, turning .loop-test .taken),
+      entered .enter .kept .1 .1 .1 .0 ∙ looping .loop .inv .1,
+      seen-more _ _ _ _ (looping .loop .inv .2) _ _ (entered .enter .ensures) (not-false _ (c .if1 .left)),
+    )
 
 same-length-2 : tie.Need-same-length-2 Inv-loop μ-loop
 same-length-2 c = c .before .loop .inv .1

@@ -40,14 +40,14 @@ same-length-2 c = search needs
 
 returns-3 : tie.Need-returns-3
 returns-3 c =
-    let branched2 = c .before .before .before .before in
-    let did-bit-at = branched2 .before in
-    let branched1 = did-bit-at .before .before in
-    let tested = branched1 .before in
-    let entry = tested .before .before .before in
-    let m = memOf (entry .args .g) (entry .args .mem .now) in
-    subst (BitEnters m (entry .args .k) (entry .args .scratch .now) _) (sym (c .before .before .set-bit .ensures))
-    (bit-new m (entry .args .k) (entry .args .scratch .now) (tested .is-set .ensures .sound (not-false _ (branched1 .if1 .left))) (λ q. branched2 .if2 .left (did-bit-at .bit-at .ensures ∙ q)))
+    let past-bit-at-is-1 = c .before .before .before .before in
+    let bit-at-told = past-bit-at-is-1 .before in
+    let past-is-set = bit-at-told .before .before in
+    let entry = past-is-set .before .before .before .before in
+    let a = entry .args in
+    let m = memOf (a .g) (a .mem .now) in
+    subst (BitEnters m (a .k) (a .scratch .now) _) (sym (c .before .before .set-bit .ensures))
+    (bit-new m (a .k) (a .scratch .now) (past-is-set .before .is-set .ensures .sound (not-false _ (past-is-set .if1 .left))) (λ q. past-bit-at-is-1 .if2 .left (bit-at-told .bit-at .ensures ∙ q)))
 
 pub enter-bit-spec : {M : Type 1} → statement M
 enter-bit-spec =

@@ -23,7 +23,15 @@ same-length : tie.Need-same-length
 same-length c = search needs
 
 returns : tie.Need-returns
-returns c = second-given _ _ _ _ _ _ (c .before .before .before .before .before .before .before .before .before .before .before .before .before .phase .ensures) (c .before .before .before .before .before .before .before .before .before .before .before .acks .ensures) (c .before .before .before .before .before .before .before .before .before .before .owes .ensures) (c .before .before .before .before .before .before .before .before .before .if1 .taken) (c .before .before .before .before .before .before .before .before .if2 .taken) _ (c .before .before .before .before .before .before .set-acks .ensures) _ _ (c .before .before .push-roots .ensures)
+returns c =
+    let acks-set = c .before .before .before .before .before .before in
+    let when-number-is-sync2 = acks-set .before .before in
+    let when-owes = when-number-is-sync2 .before in
+    let acks-told = when-owes .before .before in
+    let phase-told = acks-told .before .before in
+    second-given _ _ _ _ _ _ (phase-told .phase .ensures) (acks-told .acks .ensures) (when-owes .before .owes .ensures)
+    (when-owes .if1 .taken) (when-number-is-sync2 .if2 .taken) _ (acks-set .set-acks .ensures) _ _
+    (c .before .before .push-roots .ensures)
 
 set-acks-requires-2 : tie.Need-set-acks-requires-2
 set-acks-requires-2 c κs = search needs
@@ -32,7 +40,13 @@ same-length-2 : tie.Need-same-length-2
 same-length-2 c = search needs
 
 returns-2 : tie.Need-returns-2
-returns-2 c = first-given _ _ _ _ _ _ (c .before .before .before .before .before .before .before .before .before .phase .ensures) (c .before .before .before .before .before .before .before .acks .ensures) (c .before .before .before .before .before .before .owes .ensures) (c .before .before .before .before .before .if1 .taken) (c .before .before .before .before .if2 .left) _ (c .before .before .set-acks2 .ensures)
+returns-2 c =
+    let past-number-is-sync2 = c .before .before .before .before in
+    let when-owes = past-number-is-sync2 .before in
+    let acks-told = when-owes .before .before in
+    let phase-told = acks-told .before .before in
+    first-given _ _ _ _ _ _ (phase-told .phase .ensures) (acks-told .acks .ensures) (when-owes .before .owes .ensures)
+    (when-owes .if1 .taken) (past-number-is-sync2 .if2 .left) _ (c .before .before .set-acks2 .ensures)
 
 same-length-3 : tie.Need-same-length-3
 same-length-3 c = search needs

@@ -27,19 +27,35 @@ unfolding insideThen
 returns-2 c = refused (c-check _) _ _ (sym (c .before .before .before .before .wrong-size .ensures) ∙ c .before .before .before .if1 .left) (c .before .inside-refusal .ensures) (c .if2 .taken)
 
 acknowledge-requires : tie.Need-acknowledge-requires
-acknowledge-requires c κs = (sized _ _ (sym (c .before .before .before .before .before .wrong-size .ensures) ∙ c .before .before .before .before .if1 .left), then-known _ _ _ 0 (c .before .before .inside-refusal .ensures) (c .before .if2 .left))
+acknowledge-requires c κs =
+    let past-wrong-size = c .before .before .before .before in
+    (sized _ _ (sym (past-wrong-size .before .wrong-size .ensures) ∙ past-wrong-size .if1 .left), then-known _ _ _ 0 (c .before .before .inside-refusal .ensures) (c .before .if2 .left))
 
 same-length-2 : tie.Need-same-length-2
 same-length-2 c = search needs
 
 returns-3 : tie.Need-returns-3
-returns-3 c = checked _ _ _ _ (c .before .before .before .before .before .before .inside-refusal .ensures) (c .before .before .before .before .before .if2 .left) (sym (c .before .before .before .before .before .before .before .before .before .wrong-size .ensures) ∙ c .before .before .before .before .before .before .before .before .if1 .left) _ _ (c .before .before .before .acknowledge .ensures) (c .if3 .taken) _ refl
+returns-3 c =
+    let acknowledged = c .before .before .before in
+    let past-refused = acknowledged .before .before in
+    let inside-refusal-told = past-refused .before in
+    let past-wrong-size = inside-refusal-told .before .before in
+    checked _ _ _ _ (inside-refusal-told .inside-refusal .ensures) (past-refused .if2 .left)
+    (sym (past-wrong-size .before .wrong-size .ensures) ∙ past-wrong-size .if1 .left) _ _ (acknowledged .acknowledge .ensures)
+    (c .if3 .taken) _ refl
 
 same-length-3 : tie.Need-same-length-3
 same-length-3 c = search needs
 
 returns-4 : tie.Need-returns-4
-returns-4 c = hindered _ _ _ _ (c .before .before .before .before .before .before .inside-refusal .ensures) (c .before .before .before .before .before .if2 .left) (sym (c .before .before .before .before .before .before .before .before .before .wrong-size .ensures) ∙ c .before .before .before .before .before .before .before .before .if1 .left) _ _ (c .before .before .before .acknowledge .ensures) (c .if3 .left) (c-check _) _
+returns-4 c =
+    let acknowledged = c .before .before .before in
+    let past-refused = acknowledged .before .before in
+    let inside-refusal-told = past-refused .before in
+    let past-wrong-size = inside-refusal-told .before .before in
+    hindered _ _ _ _ (inside-refusal-told .inside-refusal .ensures) (past-refused .if2 .left)
+    (sym (past-wrong-size .before .wrong-size .ensures) ∙ past-wrong-size .if1 .left) _ _ (acknowledged .acknowledge .ensures)
+    (c .if3 .left) (c-check _) _
 
 pub check-spec : {M : Type 1} → statement M
 check-spec =

@@ -28,22 +28,47 @@ unfolding insideThen
 returns-2 c = refused (c-leave _) _ _ (sym (c .before .before .before .before .wrong-size .ensures) ∙ c .before .before .before .if1 .left) (c .before .inside-refusal .ensures) (c .if2 .taken)
 
 acknowledge-requires : tie.Need-acknowledge-requires
-acknowledge-requires c κs = let l = then-known _ _ _ 0 (c .before .before .inside-refusal .ensures) (c .before .if2 .left) in (sized _ _ (sym (c .before .before .before .before .before .wrong-size .ensures) ∙ c .before .before .before .before .if1 .left), omega arith)
+acknowledge-requires c κs =
+    let past-wrong-size = c .before .before .before .before in
+    let l = then-known _ _ _ 0 (c .before .before .inside-refusal .ensures) (c .before .if2 .left) in
+    (sized _ _ (sym (past-wrong-size .before .wrong-size .ensures) ∙ past-wrong-size .if1 .left), omega arith)
 
 set-state-requires : tie.Need-set-state-requires
-set-state-requires c κs = (resized _ _ _ (sized _ _ (sym (c .before .before .before .before .before .before .before .before .before .before .wrong-size .ensures) ∙ c .before .before .before .before .before .before .before .before .before .if1 .left)) (c .before .before .before .before .acknowledge .kept .1 .0), then-known _ _ _ 0 (c .before .before .before .before .before .before .before .inside-refusal .ensures) (c .before .before .before .before .before .before .if2 .left))
+set-state-requires c κs =
+    let acknowledged = c .before .before .before .before in
+    let past-refused = acknowledged .before .before in
+    let inside-refusal-told = past-refused .before in
+    let past-wrong-size = inside-refusal-told .before .before in (
+      resized _ _ _ (sized _ _ (sym (past-wrong-size .before .wrong-size .ensures) ∙ past-wrong-size .if1 .left)) (acknowledged .acknowledge .kept .1 .0),
+      then-known _ _ _ 0 (inside-refusal-told .inside-refusal .ensures) (past-refused .if2 .left),
+    )
 
 same-length-2 : tie.Need-same-length-2
 same-length-2 c = search needs
 
 returns-3 : tie.Need-returns-3
-returns-3 c = left _ _ _ _ (c .before .before .before .before .before .before .before .before .before .before .inside-refusal .ensures) (c .before .before .before .before .before .before .before .before .before .if2 .left) (sym (c .before .before .before .before .before .before .before .before .before .before .before .before .before .wrong-size .ensures) ∙ c .before .before .before .before .before .before .before .before .before .before .before .before .if1 .left) _ _ (c .before .before .before .before .before .before .before .acknowledge .ensures) (c .before .before .before .before .if3 .taken) _ (c .before .before .set-state .ensures)
+returns-3 c =
+    let when-given = c .before .before .before .before in
+    let acknowledged = when-given .before .before .before in
+    let past-refused = acknowledged .before .before in
+    let inside-refusal-told = past-refused .before in
+    let past-wrong-size = inside-refusal-told .before .before in
+    left _ _ _ _ (inside-refusal-told .inside-refusal .ensures) (past-refused .if2 .left)
+    (sym (past-wrong-size .before .wrong-size .ensures) ∙ past-wrong-size .if1 .left) _ _ (acknowledged .acknowledge .ensures)
+    (when-given .if3 .taken) _ (c .before .before .set-state .ensures)
 
 same-length-3 : tie.Need-same-length-3
 same-length-3 c = search needs
 
 returns-4 : tie.Need-returns-4
-returns-4 c = hindered _ _ _ _ (c .before .before .before .before .before .before .inside-refusal .ensures) (c .before .before .before .before .before .if2 .left) (sym (c .before .before .before .before .before .before .before .before .before .wrong-size .ensures) ∙ c .before .before .before .before .before .before .before .before .if1 .left) _ _ (c .before .before .before .acknowledge .ensures) (c .if3 .left) (c-leave _) _
+returns-4 c =
+    let acknowledged = c .before .before .before in
+    let past-refused = acknowledged .before .before in
+    let inside-refusal-told = past-refused .before in
+    let past-wrong-size = inside-refusal-told .before .before in
+    hindered _ _ _ _ (inside-refusal-told .inside-refusal .ensures) (past-refused .if2 .left)
+    (sym (past-wrong-size .before .wrong-size .ensures) ∙ past-wrong-size .if1 .left) _ _ (acknowledged .acknowledge .ensures)
+    (c .if3 .left) (c-leave _) _
 
 pub leave-spec : {M : Type 1} → statement M
 leave-spec =

@@ -21,7 +21,10 @@ enum-told c = search needs
 
 returns : tie.Need-returns
 unfolding segmentBytes
-returns c = shape-is segmentSize (c .before .before .before .before .args .class) (c .before .shape .given .0 .0) (sym (c .before .shape .given .1) ∙ c .before .before .before .segment-shape .ensures) .shape
+returns c =
+    let segment-shape-told = c .before .before .before in
+    let entry = segment-shape-told .before in
+    shape-is segmentSize (entry .args .class) (c .before .shape .given .0 .0) (sym (c .before .shape .given .1) ∙ segment-shape-told .segment-shape .ensures) .shape
 
 returns-2 : tie.Need-returns-2
 returns-2 c =

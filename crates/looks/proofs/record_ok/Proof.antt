@@ -20,7 +20,10 @@ is-class-requires : tie.Need-is-class-requires
 is-class-requires c κs = search needs
 
 returns-3 : tie.Need-returns-3
-returns-3 c = by-class _ _ _ (c .before .before .before .before .tag .ensures) (c .before .before .before .if1 .left) (c .before .before .if2 .left) _ (c .before .class .ensures) _ (c .is-class .ensures)
+returns-3 c =
+    let past-tag-condemned-below-tag = c .before .before .before in
+    let tag-told = past-tag-condemned-below-tag .before in
+    by-class _ _ _ (tag-told .tag .ensures) (past-tag-condemned-below-tag .if1 .left) (c .before .before .if2 .left) _ (c .before .class .ensures) _ (c .is-class .ensures)
 
 pub record-ok-spec : {M : Type 1} → statement M
 record-ok-spec =

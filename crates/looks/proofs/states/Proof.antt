@@ -23,16 +23,30 @@ records-ok-requires : tie.Need-records-ok-requires
 records-ok-requires c κs = sized _ _ (sym (c .before .before .before .wrong-size .ensures) ∙ c .before .before .if1 .left)
 
 returns-3 : tie.Need-returns-3
-returns-3 c = states-13 _ _ _ (sym (c .before .before .before .before .before .wrong-size .ensures) ∙ c .before .before .before .before .if1 .left) (c .before .before .if2 .left ∙ c .before .before .before .states-words .ensures) _ (c .before .records-ok .ensures) (not-true _ (c .if3 .taken))
+returns-3 c =
+    let states-words-told = c .before .before .before in
+    let past-wrong-size = states-words-told .before in
+    states-13 _ _ _ (sym (past-wrong-size .before .wrong-size .ensures) ∙ past-wrong-size .if1 .left)
+    (c .before .before .if2 .left ∙ states-words-told .states-words .ensures) _ (c .before .records-ok .ensures)
+    (not-true _ (c .if3 .taken))
 
 copy-requires : tie.Need-copy-requires
-copy-requires c κs = (sized _ _ (sym (c .before .before .before .before .before .before .wrong-size .ensures) ∙ c .before .before .before .before .before .if1 .left), c .before .before .before .if2 .left ∙ c .before .before .before .before .states-words .ensures)
+copy-requires c κs =
+    let past-output-not-states-words = c .before .before .before in
+    let states-words-told = past-output-not-states-words .before in
+    let past-wrong-size = states-words-told .before in
+    (sized _ _ (sym (past-wrong-size .before .wrong-size .ensures) ∙ past-wrong-size .if1 .left), past-output-not-states-words .if2 .left ∙ states-words-told .states-words .ensures)
 
 same-length : tie.Need-same-length
 same-length c = search needs
 
 returns-4 : tie.Need-returns-4
-returns-4 c = states-ok _ _ _ (sym (c .before .before .before .before .before .before .before .before .before .wrong-size .ensures) ∙ c .before .before .before .before .before .before .before .before .if1 .left) (c .before .before .before .before .before .before .if2 .left ∙ c .before .before .before .before .before .before .before .states-words .ensures) _ (c .before .before .copy .ensures)
+returns-4 c =
+    let past-output-not-states-words = c .before .before .before .before .before .before in
+    let states-words-told = past-output-not-states-words .before in
+    let past-wrong-size = states-words-told .before in
+    states-ok _ _ _ (sym (past-wrong-size .before .wrong-size .ensures) ∙ past-wrong-size .if1 .left)
+    (past-output-not-states-words .if2 .left ∙ states-words-told .states-words .ensures) _ (c .before .before .copy .ensures)
 
 pub states-spec : {M : Type 1} → statement M
 states-spec =

@@ -16,7 +16,11 @@ enum-known-b : tie.Need-enum-known-b
 enum-known-b c = search needs
 
 add-set-place : tie.Need-add-set-place
-add-set-place c = let n = block-small _ _ _ (c .before .before .before .before .before .before .before .before .before .pre .2) (more-below (c .before .before .before .before .next-two .ensures) (c .before .before .b .given .1)) .1 in omega arith
+add-set-place c =
+    let two-found = c .before .before .before .before in
+    let entry = two-found .before .before .before .before .before in
+    let n = block-small _ _ _ (entry .pre .2) (more-below (two-found .next-two .ensures) (c .before .before .b .given .1)) .1 in
+    omega arith
 
 set-place-requires : tie.Need-set-place-requires
 set-place-requires c κs = search needs
@@ -40,13 +44,22 @@ same-length : tie.Need-same-length
 same-length c = search needs
 
 returns : tie.Need-returns
-returns c = advanced-more _ _ _ _ _ _ (c .before .before .before .before .before .before .before .before .before .place .ensures) _ (c .before .before .before .before .before .before .before .next-two .ensures) _ (c .before .before .before .before .before .b .given .1) _ (c .before .before .set-place .ensures)
+returns c =
+    let b-bound = c .before .before .before .before .before in
+    let two-found = b-bound .before .before in
+    let place-told = two-found .before .before in
+    advanced-more _ _ _ _ _ _ (place-told .place .ensures) _ (two-found .next-two .ensures) _ (b-bound .b .given .1) _ (c .before .before .set-place .ensures)
 
 same-length-2 : tie.Need-same-length-2
 same-length-2 c = search needs
 
 returns-2 : tie.Need-returns-2
-returns-2 c = advanced-last _ _ _ _ _ _ (c .before .before .before .before .before .before .before .before .before .before .before .before .before .place .ensures) _ (c .before .before .before .before .before .before .before .before .before .before .before .next-two .ensures) _ (c .before .before .before .before .before .before .before .before .before .b2 .given .1) _ _ (c .before .before .before .before .before .before .write .ensures) (c .before .before .set-holding .ensures)
+returns-2 c =
+    let written = c .before .before .before .before .before .before in
+    let b-bound = written .before .before .before in
+    let two-found = b-bound .before .before in
+    let place-told = two-found .before .before in
+    advanced-last _ _ _ _ _ _ (place-told .place .ensures) _ (two-found .next-two .ensures) _ (b-bound .b2 .given .1) _ _ (written .write .ensures) (c .before .before .set-holding .ensures)
 
 same-length-3 : tie.Need-same-length-3
 same-length-3 c = search needs

@@ -32,11 +32,11 @@ same-length c = search needs
 returns : tie.Need-returns
 returns c =
     let placed = c .before .before .before in
-    let branched = placed .before .before in
-    let asked = branched .before in
+    let when-black = placed .before .before in
+    let asked = when-black .before in
     let counted = asked .before in
     let phased = counted .before .before in
-    born-black _ _ _ _ _ _ _ (phased .phase .ensures) (counted .acks .ensures) (asked .black .ensures) (branched .if1 .taken) _ (placed .mark-bit .ensures) _ (c .before .before .set .ensures)
+    born-black _ _ _ _ _ _ _ (phased .phase .ensures) (counted .acks .ensures) (asked .black .ensures) (when-black .if1 .taken) _ (placed .mark-bit .ensures) _ (c .before .before .set .ensures)
 
 same-length-2 : tie.Need-same-length-2
 same-length-2 c = search needs

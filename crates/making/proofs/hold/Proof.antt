@@ -21,7 +21,10 @@ same-length : tie.Need-same-length
 same-length c = search needs
 
 returns : tie.Need-returns
-returns c = c .before .before .set-holding .ensures ∙ rw (c .before .before .before .before .before .before .write .ensures, add-one (c .before .before .before .before .before .before .before .before .before .args .s)) refl
+returns c =
+    let written = c .before .before .before .before .before .before in
+    let entry = written .before .before .before in
+    c .before .before .set-holding .ensures ∙ rw (written .write .ensures, add-one (entry .args .s)) refl
 
 pub hold-spec : {M : Type 1} → statement M
 hold-spec =

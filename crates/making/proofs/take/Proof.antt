@@ -17,13 +17,19 @@ same-length : tie.Need-same-length
 same-length c = search needs
 
 returns : tie.Need-returns
-returns c = held-none _ _ _ _ _ (c .before .before .before .before .before .holding .ensures) (c .before .before .before .before .if1 .taken) _ _ (c .before .before .take-new .ensures)
+returns c =
+    let when-held-is-0 = c .before .before .before .before in
+    let holding-told = when-held-is-0 .before in
+    held-none _ _ _ _ _ (holding-told .holding .ensures) (when-held-is-0 .if1 .taken) _ _ (c .before .before .take-new .ensures)
 
 same-length-2 : tie.Need-same-length-2
 same-length-2 c = search needs
 
 returns-2 : tie.Need-returns-2
-returns-2 c = held-off _ _ _ _ _ (c .before .before .before .holding .ensures) (c .before .before .if1 .left) (c .before .before .before .before .before .before .pre .1) (c .before .before .before .before .before .before .pre .2) (c .if2 .taken)
+returns-2 c =
+    let holding-told = c .before .before .before in
+    let entry = holding-told .before .before .before in
+    held-off _ _ _ _ _ (holding-told .holding .ensures) (c .before .before .if1 .left) (entry .pre .1) (entry .pre .2) (c .if2 .taken)
 
 sub-t12 : tie.Need-sub-t12
 sub-t12 c = search needs

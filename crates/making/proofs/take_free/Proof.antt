@@ -23,10 +23,19 @@ pop-requires : tie.Need-pop-requires
 pop-requires c κs = search needs
 
 hold-requires : tie.Need-hold-requires
-hold-requires c κs = let l = c .before .before .before .before .before .before .before .before .top .ensures .segment _ (c .before .before .before .before .before .before .s .given .1) .1 in search needs
+hold-requires c κs =
+    let s-bound = c .before .before .before .before .before .before in
+    let top-told = s-bound .before .before in
+    let l = top-told .top .ensures .segment _ (s-bound .s .given .1) .1 in
+    search needs
 
 fresh-requires : tie.Need-fresh-requires
-fresh-requires c κs = let l = c .before .before .before .before .before .before .before .before .before .before .before .before .top .ensures .segment _ (c .before .before .before .before .before .before .before .before .before .before .s .given .1) .1 in search needs
+fresh-requires c κs =
+    let popped = c .before .before .before .before .before .before .before in
+    let s-bound = popped .before .before .before in
+    let top-told = s-bound .before .before in
+    let l = top-told .top .ensures .segment _ (s-bound .s .given .1) .1 in
+    search needs
 
 same-length : tie.Need-same-length
 same-length c = search needs
@@ -44,7 +53,14 @@ same-length-3 : tie.Need-same-length-3
 same-length-3 c = search needs
 
 returns-3 : tie.Need-returns-3
-returns-3 c = free-taken _ _ _ _ _ (c .before .before .before .before .before .before .before .before .before .before .before .before .before .before .before .before .before .free-stack .ensures) _ (c .before .before .before .before .before .before .before .before .before .before .before .before .before .before .before .top .ensures) _ (c .before .before .before .before .before .before .before .before .before .before .before .before .before .s .given .1) _ _ _ (c .before .before .before .before .before .before .before .before .before .before .pop .ensures) (c .before .before .before .before .before .before .hold .ensures) (c .before .before .fresh .ensures)
+returns-3 c =
+    let held = c .before .before .before .before .before .before in
+    let popped = held .before .before .before .before in
+    let s-bound = popped .before .before .before in
+    let top-told = s-bound .before .before in
+    let free-stack-told = top-told .before .before in
+    free-taken _ _ _ _ _ (free-stack-told .free-stack .ensures) _ (top-told .top .ensures) _ (s-bound .s .given .1) _ _ _
+    (popped .pop .ensures) (held .hold .ensures) (c .before .before .fresh .ensures)
 
 pub take-free-spec : {M : Type 1} → statement M
 take-free-spec =

@@ -56,10 +56,13 @@ returns-4 : tie.Need-returns-4
 returns-4 c =
     let handed = c .before .before in
     let classed = handed .before .before in
-    let tested = classed .before .before in
-    let sizes = tested .before .before in
-    let x = sizes .before .before .before .before .before .before .args in
-    tried-called (x .g) (x .k) (x .d) (x .shape) (x .mem .now) (sym (sizes .before .wrong-size .ensures) ∙ sizes .if2 .left) _ (tested .root-refusal .ensures) (classed .before .if3 .left) _
+    let past-root-refusal = classed .before in
+    let root-refusal-told = past-root-refusal .before in
+    let sizes = root-refusal-told .before .before in
+    let entry = sizes .before .before .before .before .before .before in
+    let x = entry .args in
+    tried-called (x .g) (x .k) (x .d) (x .shape) (x .mem .now) (sym (sizes .before .wrong-size .ensures) ∙ sizes .if2 .left) _
+    (root-refusal-told .root-refusal .ensures) (past-root-refusal .if3 .left) _
     (classed .class-of-few .ensures) (handed .try-held .result) (handed .try-held .last .1 .0) (handed .try-held .ensures)
 
 pub try-few-spec : {M : Type 1} → statement M

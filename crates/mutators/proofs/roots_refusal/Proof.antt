@@ -10,7 +10,10 @@ is-inside-requires : tie.Need-is-inside-requires
 is-inside-requires c κs = search needs
 
 returns : tie.Need-returns
-returns c = let p = c .before .before .before .is-inside .ensures .sound (c .before .before .if1 .taken) in root-rest _ _ (c .if3 .taken) ∙ root-rest _ _ (c .before .if2 .taken) ∙ inside-rest _ _ _ (p .0) (p .1)
+returns c =
+    let inside-tested = c .before .before .before in
+    let p = inside-tested .is-inside .ensures .sound (c .before .before .if1 .taken) in
+    root-rest _ _ (c .if3 .taken) ∙ root-rest _ _ (c .before .if2 .taken) ∙ inside-rest _ _ _ (p .0) (p .1)
 
 lowest-refusal-requires : tie.Need-lowest-refusal-requires
 lowest-refusal-requires c κs = search needs

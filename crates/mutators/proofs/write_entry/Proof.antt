@@ -20,7 +20,11 @@ same-length : tie.Need-same-length
 same-length c = search needs
 
 returns : tie.Need-returns
-returns c = entry-written _ _ _ _ _ _ _ _ _ (c .before .before .before .before .before .before .before .before .before .before .before .before .before .before .clear-entry .ensures) (c .before .before .before .before .before .before .before .before .before .before .set-root .ensures) (c .before .before .before .before .before .before .set-state .ensures) (c .before .before .set-acks .ensures)
+returns c =
+    let state-set = c .before .before .before .before .before .before in
+    let root-set = state-set .before .before .before .before in
+    let entry-cleared = root-set .before .before .before .before in
+    entry-written _ _ _ _ _ _ _ _ _ (entry-cleared .clear-entry .ensures) (root-set .set-root .ensures) (state-set .set-state .ensures) (c .before .before .set-acks .ensures)
 
 pub write-entry-spec : {M : Type 1} → statement M
 write-entry-spec =

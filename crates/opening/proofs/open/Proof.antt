@@ -20,16 +20,17 @@ clear-mutators-requires : tie.Need-clear-mutators-requires
 clear-mutators-requires c κs =
     let control-cleared = c .before .before .before in
     let past-wrong-size = control-cleared .before .before in
-    resized _ _ _ (sized _ _ (sym (past-wrong-size .before .wrong-size .ensures) ∙ past-wrong-size .if1 .left)) (control-cleared .clear-control .kept .1 .0)
+    let of-size = sized _ _ (sym (past-wrong-size .before .wrong-size .ensures) ∙ past-wrong-size .if1 .left) in
+    resized _ _ _ of-size (control-cleared .clear-control .kept .1 .0)
 
 clear-segments-requires : tie.Need-clear-segments-requires
 clear-segments-requires c κs =
     let mutators-cleared = c .before .before .before in
     let control-cleared = mutators-cleared .before .before .before .before in
     let past-wrong-size = control-cleared .before .before in
-    resized _ _ _
-    (resized _ _ _ (sized _ _ (sym (past-wrong-size .before .wrong-size .ensures) ∙ past-wrong-size .if1 .left)) (control-cleared .clear-control .kept .1 .0))
-    (mutators-cleared .clear-mutators .kept .1 .0)
+    let of-size = sized _ _ (sym (past-wrong-size .before .wrong-size .ensures) ∙ past-wrong-size .if1 .left) in
+    let control-size = resized _ _ _ of-size (control-cleared .clear-control .kept .1 .0) in
+    resized _ _ _ control-size (mutators-cleared .clear-mutators .kept .1 .0)
 
 clear-stacks-requires : tie.Need-clear-stacks-requires
 clear-stacks-requires c κs =
@@ -37,10 +38,10 @@ clear-stacks-requires c κs =
     let mutators-cleared = segments-cleared .before .before .before .before in
     let control-cleared = mutators-cleared .before .before .before .before in
     let past-wrong-size = control-cleared .before .before in
-    resized _ _ _
-    (resized _ _ _
-    (resized _ _ _ (sized _ _ (sym (past-wrong-size .before .wrong-size .ensures) ∙ past-wrong-size .if1 .left)) (control-cleared .clear-control .kept .1 .0))
-    (mutators-cleared .clear-mutators .kept .1 .0)) (segments-cleared .clear-segments .kept .1 .0)
+    let of-size = sized _ _ (sym (past-wrong-size .before .wrong-size .ensures) ∙ past-wrong-size .if1 .left) in
+    let control-size = resized _ _ _ of-size (control-cleared .clear-control .kept .1 .0) in
+    let mutators-size = resized _ _ _ control-size (mutators-cleared .clear-mutators .kept .1 .0) in
+    resized _ _ _ mutators-size (segments-cleared .clear-segments .kept .1 .0)
 
 cast-set-stack : tie.Need-cast-set-stack
 cast-set-stack c =
@@ -48,8 +49,8 @@ cast-set-stack c =
     let segments-cleared = stacks-cleared .before .before .before .before in
     let mutators-cleared = segments-cleared .before .before .before .before in
     let past-wrong-size = mutators-cleared .before .before .before .before .before .before in
-    let z = (sized _ _ (sym (past-wrong-size .before .wrong-size .ensures) ∙ past-wrong-size .if1 .left)) in
-    omega (arith, z .few)
+    let of-size = sized _ _ (sym (past-wrong-size .before .wrong-size .ensures) ∙ past-wrong-size .if1 .left) in
+    omega (arith, of-size .few)
 
 set-stack-requires : tie.Need-set-stack-requires
 set-stack-requires c κs =
@@ -57,15 +58,12 @@ set-stack-requires c κs =
     let segments-cleared = stacks-cleared .before .before .before .before in
     let mutators-cleared = segments-cleared .before .before .before .before in
     let control-cleared = mutators-cleared .before .before .before .before in
-    let past-wrong-size = control-cleared .before .before in (
-      (resized _ _ _
-          (resized _ _ _
-          (resized _ _ _
-          (resized _ _ _ (sized _ _ (sym (past-wrong-size .before .wrong-size .ensures) ∙ past-wrong-size .if1 .left)) (control-cleared .clear-control .kept .1 .0))
-          (mutators-cleared .clear-mutators .kept .1 .0)) (segments-cleared .clear-segments .kept .1 .0))
-          (stacks-cleared .clear-stacks .kept .1 .0)),
-      omega arith,
-    )
+    let past-wrong-size = control-cleared .before .before in
+    let of-size = sized _ _ (sym (past-wrong-size .before .wrong-size .ensures) ∙ past-wrong-size .if1 .left) in
+    let control-size = resized _ _ _ of-size (control-cleared .clear-control .kept .1 .0) in
+    let mutators-size = resized _ _ _ control-size (mutators-cleared .clear-mutators .kept .1 .0) in
+    let segments-size = resized _ _ _ mutators-size (segments-cleared .clear-segments .kept .1 .0) in
+    (resized _ _ _ segments-size (stacks-cleared .clear-stacks .kept .1 .0), omega arith)
 
 stack-down-requires : tie.Need-stack-down-requires
 stack-down-requires c κs =
@@ -75,17 +73,12 @@ stack-down-requires c κs =
     let mutators-cleared = segments-cleared .before .before .before .before in
     let control-cleared = mutators-cleared .before .before .before .before in
     let past-wrong-size = control-cleared .before .before in
-    let z = (sized _ _ (sym (past-wrong-size .before .wrong-size .ensures) ∙ past-wrong-size .if1 .left)) in (
-      (resized _ _ _
-          (resized _ _ _
-          (resized _ _ _
-          (resized _ _ _
-          (resized _ _ _ (sized _ _ (sym (past-wrong-size .before .wrong-size .ensures) ∙ past-wrong-size .if1 .left)) (control-cleared .clear-control .kept .1 .0))
-          (mutators-cleared .clear-mutators .kept .1 .0)) (segments-cleared .clear-segments .kept .1 .0))
-          (stacks-cleared .clear-stacks .kept .1 .0)) (stack-set .set-stack .kept .1 .0)),
-      omega (arith, z .few),
-      z .few,
-    )
+    let of-size = sized _ _ (sym (past-wrong-size .before .wrong-size .ensures) ∙ past-wrong-size .if1 .left) in
+    let control-size = resized _ _ _ of-size (control-cleared .clear-control .kept .1 .0) in
+    let mutators-size = resized _ _ _ control-size (mutators-cleared .clear-mutators .kept .1 .0) in
+    let segments-size = resized _ _ _ mutators-size (segments-cleared .clear-segments .kept .1 .0) in
+    let stacks-size = resized _ _ _ segments-size (stacks-cleared .clear-stacks .kept .1 .0) in
+    (resized _ _ _ stacks-size (stack-set .set-stack .kept .1 .0), omega (arith, of-size .few), of-size .few)
 
 same-length : tie.Need-same-length
 same-length c = search needs

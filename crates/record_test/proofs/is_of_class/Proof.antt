@@ -20,13 +20,22 @@ block-words-requires : tie.Need-block-words-requires
 block-words-requires c κs = search needs
 
 returns : tie.Need-returns
-returns c = too-large _ _ (c .before .before .before .before .shape .ensures .shape) _ _ (c .before .before .before .before .before .before .pre .2) (c .before .block-words .ensures) (c .if1 .taken)
+returns c =
+    let shape-told = c .before .before .before .before in
+    let entry = shape-told .before .before in
+    too-large _ _ (shape-told .shape .ensures .shape) _ _ (entry .pre .2) (c .before .block-words .ensures) (c .if1 .taken)
 
 returns-2 : tie.Need-returns-2
-returns-2 c = in-first _ _ (c .before .before .before .before .before .shape .ensures .shape) _ _ (c .before .before .before .before .before .before .before .pre .2) (c .before .before .block-words .ensures) (c .before .if1 .left) (c .if2 .taken)
+returns-2 c =
+    let shape-told = c .before .before .before .before .before in
+    let entry = shape-told .before .before in
+    in-first _ _ (shape-told .shape .ensures .shape) _ _ (entry .pre .2) (c .before .before .block-words .ensures) (c .before .if1 .left) (c .if2 .taken)
 
 returns-3 : tie.Need-returns-3
-returns-3 c = by-half _ _ (c .before .before .before .before .before .shape .ensures .shape) _ _ (c .before .before .before .before .before .before .before .pre .2) (c .before .before .block-words .ensures) (c .before .if1 .left) (c .if2 .left)
+returns-3 c =
+    let shape-told = c .before .before .before .before .before in
+    let entry = shape-told .before .before in
+    by-half _ _ (shape-told .shape .ensures .shape) _ _ (entry .pre .2) (c .before .before .block-words .ensures) (c .before .if1 .left) (c .if2 .left)
 
 pub is-of-class-spec : {M : Type 1} → statement M
 is-of-class-spec =

@@ -17,10 +17,9 @@ segment-of-requires c κs = search needs
 
 tag-requires : tie.Need-tag-requires
 tag-requires c κs =
-    let branched = c .before in
-    let sized = branched .before in
+    let sized = c .before .before in
     let entry = sized .before .before in
-    (entry .pre, segment-in _ _ _ _ (sized .heap-words .ensures) (branched .if1 .left) (c .segment-of .ensures))
+    (entry .pre, segment-in _ _ _ _ (sized .heap-words .ensures) (c .before .if1 .left) (c .segment-of .ensures))
 
 returns-2 : tie.Need-returns-2
 returns-2 c = not-free _ _ _ _ (c .before .before .segment-of .ensures) _ (c .before .tag .ensures) (c .if2 .taken)
@@ -28,10 +27,10 @@ returns-2 c = not-free _ _ _ _ (c .before .before .segment-of .ensures) _ (c .be
 class-requires : tie.Need-class-requires
 class-requires c κs =
     let located = c .before .before in
-    let branched = located .before in
-    let sized = branched .before in
+    let past-heap-words-upto-at = located .before in
+    let sized = past-heap-words-upto-at .before in
     let entry = sized .before .before in
-    (entry .pre, segment-in _ _ _ _ (sized .heap-words .ensures) (branched .if1 .left) (located .segment-of .ensures))
+    (entry .pre, segment-in _ _ _ _ (sized .heap-words .ensures) (past-heap-words-upto-at .if1 .left) (located .segment-of .ensures))
 
 is-class-requires : tie.Need-is-class-requires
 is-class-requires c κs = search needs
@@ -43,11 +42,11 @@ test-block-requires c κs =
     let used = read .before in
     let tagged = used .before in
     let located = tagged .before in
-    let branched = located .before in
-    let sized = branched .before in
+    let past-heap-words-upto-at = located .before in
+    let sized = past-heap-words-upto-at .before in
     let entry = sized .before .before in
     let here = located .segment-of .ensures in
-    let inside = in-heap _ (memOf (entry .args .g) (entry .args .mem .now)) _ _ (sized .heap-words .ensures) (branched .if1 .left) in
+    let inside = in-heap _ (memOf (entry .args .g) (entry .args .mem .now)) _ _ (sized .heap-words .ensures) (past-heap-words-upto-at .if1 .left) in
     let passed = sym (asked .is-class .ensures) ∙ c .if3 .taken in
     (entry .pre, inside, here, classed _ _ _ _ here _ _ (tagged .tag .ensures) (used .if2 .left) (read .class .ensures) passed)
 

@@ -36,13 +36,22 @@ loop-less : tie.Need-loop-less Inv-loop μ-loop
 loop-less c = omega (arith, c .loop-test .taken)
 
 loop-again : tie.Need-loop-again Inv-loop μ-loop
-loop-again c = let l = c .before .loop in (omega (arith, c .loop-test .taken), length-set (l .scratch) (l .i) 0 ∙ l .inv .1, cleared-more (l .scratch) (l .i) (omega (arith, l .inv .1, c .loop-test .taken, c .before .before .before .before .pre .1, c .before .before .trace-words .ensures)) (l .inv .2))
+loop-again c =
+    let entry = c .before .before .before .before in
+    let l = c .before .loop in (
+      omega (arith, c .loop-test .taken),
+      length-set (l .scratch) (l .i) 0 ∙ l .inv .1,
+      cleared-more (l .scratch) (l .i) (omega (arith, l .inv .1, c .loop-test .taken, entry .pre .1, c .before .before .trace-words .ensures)) (l .inv .2),
+    )
 
 same-length : tie.Need-same-length Inv-loop μ-loop
 same-length c = c .before .loop .inv .1
 
 returns : tie.Need-returns Inv-loop μ-loop
-returns c = let a = c .before .before .before .before in let l = c .before .loop in cleared-bits (a .args .g) (l .scratch) (λ j h. l .inv .2 j (omega (arith, c .loop-test .left, base-is (a .args .g) _ _ (a .pre .1) (c .before .before .trace-words .ensures))))
+returns c =
+    let entry = c .before .before .before .before in
+    let l = c .before .loop in
+    cleared-bits (entry .args .g) (l .scratch) (λ j h. l .inv .2 j (omega (arith, c .loop-test .left, base-is (entry .args .g) _ _ (entry .pre .1) (c .before .before .trace-words .ensures))))
 
 pub clear-spec : {M : Type 1} → statement M
 clear-spec = tie.close (tie.spec Inv-loop μ-loop trace-words-requires sub-n loop-holds mul-scratch slice-write-scratch add-i loop-less loop-again same-length returns)

@@ -27,28 +27,83 @@ trace-words-requires : tie.Need-trace-words-requires
 trace-words-requires c κs = search needs
 
 sub-base : tie.Need-sub-base
-sub-base c = omega (arith, c .trace-words .ensures, c .before .before .before .before .before .pre .1)
+sub-base c =
+    let entry = c .before .before .before .before .before in
+    omega (arith, c .trace-words .ensures, entry .pre .1)
 
 set-bit-requires : tie.Need-set-bit-requires
-set-bit-requires c κs = omega (arith, bit-word (c .before .before .before .before .before .before .args .g) (c .before .before .before .before .before .before .args .k) (c .before .before .before .before .before .before .pre .2), c .before .before .before .before .before .before .pre .1)
+set-bit-requires c κs =
+    let entry = c .before .before .before .before .before .before in
+    omega (arith, bit-word (entry .args .g) (entry .args .k) (entry .pre .2), entry .pre .1)
 
 add-i : tie.Need-add-i
-add-i c = omega (arith, base-is (c .before .before .before .before .before .before .before .before .before .args .g) _ _ (c .before .before .before .before .before .before .before .before .before .pre .1) (c .before .before .before .before .trace-words .ensures), c .before .before .before .before .before .before .before .before .before .pre .3 (λ q. c .before .before .before .before .before .if1 .left (c .before .before .before .before .before .before .bit-at .ensures ∙ q)), c .before .before .before .before .before .before .before .before .before .pre .1, c .before .before .before .before .before .before .before .before .before .good)
+add-i c =
+    let trace-words-told = c .before .before .before .before in
+    let past-bit-at-is-1 = trace-words-told .before in
+    let bit-at-told = past-bit-at-is-1 .before in
+    let entry = bit-at-told .before .before .before in
+    omega (
+      arith,
+      base-is (entry .args .g) _ _ (entry .pre .1) (trace-words-told .trace-words .ensures),
+      entry .pre .3 (λ q. past-bit-at-is-1 .if1 .left (bit-at-told .bit-at .ensures ∙ q)),
+      entry .pre .1,
+      entry .good,
+    )
 
 mul-scratch : tie.Need-mul-scratch
-mul-scratch c = omega (arith, base-is (c .before .before .before .before .before .before .before .before .before .args .g) _ _ (c .before .before .before .before .before .before .before .before .before .pre .1) (c .before .before .before .before .trace-words .ensures), c .before .before .before .before .before .before .before .before .before .pre .3 (λ q. c .before .before .before .before .before .if1 .left (c .before .before .before .before .before .before .bit-at .ensures ∙ q)), c .before .before .before .before .before .before .before .before .before .pre .1, c .before .before .before .before .before .before .before .before .before .good)
+mul-scratch c =
+    let trace-words-told = c .before .before .before .before in
+    let past-bit-at-is-1 = trace-words-told .before in
+    let bit-at-told = past-bit-at-is-1 .before in
+    let entry = bit-at-told .before .before .before in
+    omega (
+      arith,
+      base-is (entry .args .g) _ _ (entry .pre .1) (trace-words-told .trace-words .ensures),
+      entry .pre .3 (λ q. past-bit-at-is-1 .if1 .left (bit-at-told .bit-at .ensures ∙ q)),
+      entry .pre .1,
+      entry .good,
+    )
 
 slice-write-scratch : tie.Need-slice-write-scratch
-slice-write-scratch c = omega (arith, base-is (c .before .before .before .before .before .before .before .before .before .args .g) _ _ (c .before .before .before .before .before .before .before .before .before .pre .1) (c .before .before .before .before .trace-words .ensures), c .before .before .before .before .before .before .before .before .before .pre .3 (λ q. c .before .before .before .before .before .if1 .left (c .before .before .before .before .before .before .bit-at .ensures ∙ q)), c .before .before .before .before .before .before .before .before .before .pre .1, ap length (c .before .before .set-bit .ensures) ∙ length-setBit (c .before .before .before .before .before .before .before .before .before .args .scratch .now) (c .before .before .before .before .before .before .before .before .before .args .k))
+slice-write-scratch c =
+    let trace-words-told = c .before .before .before .before in
+    let past-bit-at-is-1 = trace-words-told .before in
+    let bit-at-told = past-bit-at-is-1 .before in
+    let entry = bit-at-told .before .before .before in
+    omega (
+      arith,
+      base-is (entry .args .g) _ _ (entry .pre .1) (trace-words-told .trace-words .ensures),
+      entry .pre .3 (λ q. past-bit-at-is-1 .if1 .left (bit-at-told .bit-at .ensures ∙ q)),
+      entry .pre .1,
+      ap length (c .before .before .set-bit .ensures) ∙ length-setBit (entry .args .scratch .now) (entry .args .k),
+    )
 
 add-result : tie.Need-add-result
-add-result c = omega (arith, c .before .before .before .before .before .before .before .before .before .pre .3 (λ q. c .before .before .before .before .before .if1 .left (c .before .before .before .before .before .before .bit-at .ensures ∙ q)), c .before .before .before .before .before .before .before .before .before .pre .1, c .before .before .before .before .before .before .before .before .before .good)
+add-result c =
+    let past-bit-at-is-1 = c .before .before .before .before .before in
+    let bit-at-told = past-bit-at-is-1 .before in
+    let entry = bit-at-told .before .before .before in
+    omega (arith, entry .pre .3 (λ q. past-bit-at-is-1 .if1 .left (bit-at-told .bit-at .ensures ∙ q)), entry .pre .1, entry .good)
 
 same-length-2 : tie.Need-same-length-2
 same-length-2 c = search needs
 
 returns-2 : tie.Need-returns-2
-returns-2 c = let a = c .before .before .before .before .before .before .before .before .before in record { old = λ q. absurd (c .before .before .before .before .before .if1 .left (c .before .before .before .before .before .before .bit-at .ensures ∙ q)); new = λ q. (refl, ap (λ l. set l (length (a .args .scratch .now) - c .before .before .before .before .trace-words .result + a .args .top) (a .args .at)) (c .before .before .set-bit .ensures) ∙ ap (λ b. set (setBit (a .args .scratch .now) (a .args .k)) (b + a .args .top) (a .args .at)) (base-is (a .args .g) _ _ (a .pre .1) (c .before .before .before .before .trace-words .ensures))) }
+returns-2 c =
+    let trace-words-told = c .before .before .before .before in
+    let past-bit-at-is-1 = trace-words-told .before in
+    let bit-at-told = past-bit-at-is-1 .before in
+    let entry = bit-at-told .before .before .before in
+    let a = entry .args in
+    record {
+      old = λ q. absurd (past-bit-at-is-1 .if1 .left (bit-at-told .bit-at .ensures ∙ q));
+      new =
+          λ q. (
+            refl,
+            ap (λ l. set l (length (a .scratch .now) - trace-words-told .trace-words .result + a .top) (a .at)) (c .before .before .set-bit .ensures)
+                ∙ ap (λ b. set (setBit (a .scratch .now) (a .k)) (b + a .top) (a .at)) (base-is (a .g) _ _ (entry .pre .1) (trace-words-told .trace-words .ensures)),
+          );
+    }
 
 pub enter-spec : {M : Type 1} → statement M
 enter-spec = tie.close (tie.spec cast-bit bit-at-requires same-length returns trace-words-requires sub-base set-bit-requires add-i mul-scratch slice-write-scratch add-result same-length-2 returns-2)

@@ -16,7 +16,13 @@ same-length : tie.Need-same-length
 same-length c = search needs
 
 returns : tie.Need-returns
-returns c = let a = c .before .before .before .before .before .before .before in entries-all (a .args .g) (a .args .mem .now) (a .pre .0 .sized) (stateOf (a .args .g) (a .args .scratch .now) (a .args .top)) _ (c .before .before .before .before .entry-count .ensures) (c .before .before .follow-run .result) (c .before .before .follow-run .last .1 .1 .1 .1 .1 .0) (c .before .before .follow-run .ensures)
+returns c =
+    let entry-count-told = c .before .before .before .before in
+    let entry = entry-count-told .before .before .before in
+    let a = entry .args in
+    entries-all (a .g) (a .mem .now) (entry .pre .0 .sized) (stateOf (a .g) (a .scratch .now) (a .top)) _
+    (entry-count-told .entry-count .ensures) (c .before .before .follow-run .result)
+    (c .before .before .follow-run .last .1 .1 .1 .1 .1 .0) (c .before .before .follow-run .ensures)
 
 pub entries-at-spec : {M : Type 1} → statement M
 entries-at-spec = tie.close (tie.spec entry-count-requires follow-run-requires same-length returns)

@@ -21,22 +21,58 @@ waiting-requires : tie.Need-waiting-requires Inv-loop μ-loop
 waiting-requires c κs = tt
 
 turn-requires : tie.Need-turn-requires Inv-loop μ-loop
-turn-requires c κs = let a = c .before .before .before .before .before .before in let l = c .before .before .before .loop in (record { sized = a .pre .0 .sized; room = l .inv .0 }, under-ready (a .args .g) (memOf (a .args .g) (a .args .mem .now)) (a .args .edges) (a .args .scratch .now) (a .args .start) (l .met) (l .scratch) (l .inv .1), sym (c .before .before .waiting .ensures) ∙ c .before .if1 .taken)
+turn-requires c κs =
+    let looping = c .before .before .before in
+    let entry = looping .before .before .before in
+    let a = entry .args in
+    let l = looping .loop in (
+      record { sized = entry .pre .0 .sized; room = l .inv .0 },
+      under-ready (a .g) (memOf (a .g) (a .mem .now)) (a .edges) (a .scratch .now) (a .start) (l .met) (l .scratch) (l .inv .1),
+      sym (c .before .before .waiting .ensures) ∙ c .before .if1 .taken,
+    )
 
 loop-less : tie.Need-loop-less Inv-loop μ-loop
-loop-less c = let a = c .before .before .before .before .before .before .before .before .before in let l = c .before .before .before .before .before .before .loop in under-more (a .args .g) (memOf (a .args .g) (a .args .mem .now)) (a .args .edges) (a .args .scratch .now) (a .args .start) (l .met) (c .before .before .turn .result) (l .scratch) (c .before .before .turn .last .1 .1 .1 .0) (l .inv .1) (sym (c .before .before .before .before .before .waiting .ensures) ∙ c .before .before .before .before .if1 .taken) (c .before .before .turn .ensures) .1
+loop-less c =
+    let when-waiting = c .before .before .before .before in
+    let looping = when-waiting .before .before in
+    let entry = looping .before .before .before in
+    let a = entry .args in
+    let l = looping .loop in
+    under-more (a .g) (memOf (a .g) (a .mem .now)) (a .edges) (a .scratch .now) (a .start) (l .met) (c .before .before .turn .result)
+    (l .scratch) (c .before .before .turn .last .1 .1 .1 .0) (l .inv .1)
+    (sym (when-waiting .before .waiting .ensures) ∙ when-waiting .if1 .taken) (c .before .before .turn .ensures) .1
 
 loop-again : tie.Need-loop-again Inv-loop μ-loop
-loop-again c = let a = c .before .before .before .before .before .before .before .before .before in let l = c .before .before .before .before .before .before .loop in (c .before .before .turn .kept .1 .1 .1 .0 ∙ l .inv .0, under-more (a .args .g) (memOf (a .args .g) (a .args .mem .now)) (a .args .edges) (a .args .scratch .now) (a .args .start) (l .met) (c .before .before .turn .result) (l .scratch) (c .before .before .turn .last .1 .1 .1 .0) (l .inv .1) (sym (c .before .before .before .before .before .waiting .ensures) ∙ c .before .before .before .before .if1 .taken) (c .before .before .turn .ensures) .0)
+loop-again c =
+    let when-waiting = c .before .before .before .before in
+    let looping = when-waiting .before .before in
+    let entry = looping .before .before .before in
+    let a = entry .args in
+    let l = looping .loop in (
+      c .before .before .turn .kept .1 .1 .1 .0 ∙ l .inv .0,
+      under-more (a .g) (memOf (a .g) (a .mem .now)) (a .edges) (a .scratch .now) (a .start) (l .met) (c .before .before .turn .result)
+          (l .scratch) (c .before .before .turn .last .1 .1 .1 .0) (l .inv .1)
+          (sym (when-waiting .before .waiting .ensures) ∙ when-waiting .if1 .taken) (c .before .before .turn .ensures) .0,
+    )
 
 good-requires : tie.Need-good-requires Inv-loop μ-loop
 good-requires c κs = tt
 
 same-length : tie.Need-same-length Inv-loop μ-loop
-same-length c = c .before .before .before .loop .inv .0 ∙ sym (c .before .before .before .before .before .before .pre .0 .room)
+same-length c =
+    let looping = c .before .before .before in
+    let entry = looping .before .before .before in
+    looping .loop .inv .0 ∙ sym (entry .pre .0 .room)
 
 returns : tie.Need-returns Inv-loop μ-loop
-returns c = let a = c .before .before .before .before .before .before in let l = c .before .before .before .loop in subst (λ (b : Bool). Finished (a .args .g) (memOf (a .args .g) (a .args .mem .now)) (a .args .edges) (a .args .scratch .now) (a .args .start) b (l .scratch)) (sym (c .good2 .ensures)) (under-end (a .args .g) (memOf (a .args .g) (a .args .mem .now)) (a .args .edges) (a .args .scratch .now) (a .args .start) (l .met) (l .scratch) (l .inv .1) (sym (c .before .before .waiting .ensures) ∙ c .before .if1 .left))
+returns c =
+    let looping = c .before .before .before in
+    let entry = looping .before .before .before in
+    let a = entry .args in
+    let l = looping .loop in
+    subst (λ (b : Bool). Finished (a .g) (memOf (a .g) (a .mem .now)) (a .edges) (a .scratch .now) (a .start) b (l .scratch))
+    (sym (c .good2 .ensures))
+    (under-end (a .g) (memOf (a .g) (a .mem .now)) (a .edges) (a .scratch .now) (a .start) (l .met) (l .scratch) (l .inv .1) (sym (c .before .before .waiting .ensures) ∙ c .before .if1 .left))
 
 pub finish-spec : {M : Type 1} → statement M
 finish-spec = tie.close (tie.spec Inv-loop μ-loop loop-holds waiting-requires turn-requires loop-less loop-again good-requires same-length returns)

@@ -42,16 +42,16 @@ enter-requires c κs =
 
 returns-2 : tie.Need-returns-2
 returns-2 c =
-    let tested = c .before .before in
-    let branched = tested .before in
-    let entry = branched .before .before .before in
+    let past-w-is-0 = c .before .before .before in
+    let entry = past-w-is-0 .before .before .before in
+    let a = entry .args in
     record {
       node =
-          entry .args .w - 1;
+          a .w - 1;
       named =
-          omega (arith, branched .if1 .left);
-      fails = subst (λ (x : Bit). Tested (entry .args .g) (memOf (entry .args .g) (entry .args .mem .now)) (entry .args .w - 1) x) (c .enum-told .given .1)
-          (tested .test .ensures);
+          omega (arith, past-w-is-0 .if1 .left);
+      fails = subst (λ (x : Bit). Tested (a .g) (memOf (a .g) (a .mem .now)) (a .w - 1) x) (c .enum-told .given .1)
+          (c .before .before .test .ensures);
     }
 
 same-length : tie.Need-same-length
@@ -62,12 +62,13 @@ returns-3 c =
     let entered = c .before .before in
     let known = entered .before .before .before in
     let tested = known .before .before in
-    let branched = tested .before in
-    let entry = branched .before .before .before in
-    let m = memOf (entry .args .g) (entry .args .mem .now) in
-    let t = subst (λ (x : Bit). Tested (entry .args .g) m (entry .args .w - 1) x) (known .k .given .1) (tested .test .ensures) in
-    enter-run (entry .args .g) m (entry .args .scratch .now) (entry .args .top) (entry .args .w - 1) _ (entry .pre .1) (t .0) (t .1) (entry .pre .0 .room) (entry .args .w)
-    (omega (arith, branched .if1 .left)) (entered .enter .result) (entered .enter .last .1 .0) (entered .enter .ensures)
+    let past-w-is-0 = tested .before in
+    let entry = past-w-is-0 .before .before .before in
+    let a = entry .args in
+    let m = memOf (a .g) (a .mem .now) in
+    let t = subst (λ (x : Bit). Tested (a .g) m (a .w - 1) x) (known .k .given .1) (tested .test .ensures) in
+    enter-run (a .g) m (a .scratch .now) (a .top) (a .w - 1) _ (entry .pre .1) (t .0) (t .1) (entry .pre .0 .room) (a .w)
+    (omega (arith, past-w-is-0 .if1 .left)) (entered .enter .result) (entered .enter .last .1 .0) (entered .enter .ensures)
 
 pub follow-at-spec : {M : Type 1} → statement M
 follow-at-spec = tie.close (tie.spec returns sub-at cast-test test-requires enum-told enum-known-k enter-requires returns-2 same-length returns-3)

@@ -9,7 +9,10 @@ use Rattle.searching.proofs.follow_pointers.Tie as tie
 use Rattle.searching.proofs.follow_pointers.Statement.{statement}
 
 returns : tie.Need-returns
-returns c = let a = c .before .before .before in pointed-none (a .args .g) (memOf (a .args .g) (a .args .mem .now)) (stateOf (a .args .g) (a .args .scratch .now) (a .args .top)) (a .args .w) (c .if1 .taken) (a .pre .1)
+returns c =
+    let entry = c .before .before .before in
+    let a = entry .args in
+    pointed-none (a .g) (memOf (a .g) (a .mem .now)) (stateOf (a .g) (a .scratch .now) (a .top)) (a .w) (c .if1 .taken) (entry .pre .1)
 
 sub-at : tie.Need-sub-at
 sub-at c = search needs
@@ -24,17 +27,27 @@ add-follow-run : tie.Need-add-follow-run
 add-follow-run c = search needs
 
 follow-run-requires : tie.Need-follow-run-requires
-follow-run-requires c κs = let a = c .before .before .before .before .before in (a .pre .0, a .pre .1, pointers-room (a .args .g) (memOf (a .args .g) (a .args .mem .now)) (a .args .w - 1) _ (a .pre .2 (a .args .w - 1) (omega (arith, c .before .before .if1 .left))) (c .before .pointers .ensures))
+follow-run-requires c κs =
+    let entry = c .before .before .before .before .before in
+    let a = entry .args in (
+      entry .pre .0,
+      entry .pre .1,
+      pointers-room (a .g) (memOf (a .g) (a .mem .now)) (a .w - 1) _
+          (entry .pre .2 (a .w - 1) (omega (arith, c .before .before .if1 .left))) (c .before .pointers .ensures),
+    )
 
 same-length : tie.Need-same-length
 same-length c = search needs
 
 returns-2 : tie.Need-returns-2
 returns-2 c =
-    let did-pointers = c .before .before .before .before in
-    let branched1 = did-pointers .before in
-    let entry = branched1 .before .before .before in
-    let a = entry in pointed-run (a .args .g) (memOf (a .args .g) (a .args .mem .now)) (stateOf (a .args .g) (a .args .scratch .now) (a .args .top)) (a .args .w) (branched1 .if1 .left) _ (did-pointers .pointers .ensures) (c .before .before .follow-run .result) (c .before .before .follow-run .last .1 .1 .1 .1 .1 .0) (c .before .before .follow-run .ensures)
+    let pointers-told = c .before .before .before .before in
+    let past-w-is-0 = pointers-told .before in
+    let entry = past-w-is-0 .before .before .before in
+    let a = entry .args in
+    pointed-run (a .g) (memOf (a .g) (a .mem .now)) (stateOf (a .g) (a .scratch .now) (a .top)) (a .w) (past-w-is-0 .if1 .left) _
+    (pointers-told .pointers .ensures) (c .before .before .follow-run .result) (c .before .before .follow-run .last .1 .1 .1 .1 .1 .0)
+    (c .before .before .follow-run .ensures)
 
 pub follow-pointers-spec : {M : Type 1} → statement M
 follow-pointers-spec = tie.close (tie.spec returns sub-at cast-at pointers-requires add-follow-run follow-run-requires same-length returns-2)

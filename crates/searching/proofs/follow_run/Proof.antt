@@ -19,7 +19,14 @@ abbrev μ-loop : tie.MeasureT-loop
 μ-loop g mem source from count scratch₀ top met₀ f₀ scratch met f = count - f
 
 loop-holds : tie.Need-loop-holds Inv-loop μ-loop
-loop-holds c = let a = c .before .before in let m = memOf (a .args .g) (a .args .mem .now) in (omega arith, a .pre .0 .room, came-none (a .args .g) m (wordsOf (a .args .source) m) (a .args .from) (stateOf (a .args .g) (a .args .scratch .now) (a .args .top)) (a .args .top) (a .args .scratch .now) (a .pre .1))
+loop-holds c =
+    let a = c .before .before in
+    let m = memOf (a .args .g) (a .args .mem .now) in (
+      omega arith,
+      a .pre .0 .room,
+      came-none (a .args .g) m (wordsOf (a .args .source) m) (a .args .from)
+          (stateOf (a .args .g) (a .args .scratch .now) (a .args .top)) (a .args .top) (a .args .scratch .now) (a .pre .1),
+    )
 
 add-word : tie.Need-add-word Inv-loop μ-loop
 add-word c = let a = c .before .before .before .before in omega (arith, a .pre .2, c .loop-test .taken, length-most (a .args .source) (a .args .g) (a .pre .0 .sized .few))
@@ -28,30 +35,55 @@ word-requires : tie.Need-word-requires Inv-loop μ-loop
 word-requires c κs = let a = c .before .before .before .before in (a .pre .0 .sized, omega (arith, a .pre .2, c .loop-test .taken))
 
 follow-requires : tie.Need-follow-requires Inv-loop μ-loop
-follow-requires c κs = let a = c .before .before .before .before .before .before in let m = memOf (a .args .g) (a .args .mem .now) in let l = c .before .before .before .loop in (record { sized = a .pre .0 .sized; room = l .inv .1 }, came-ready (a .args .g) m (stateOf (a .args .g) (a .args .scratch .now) (a .args .top)) (InRun (wordsOf (a .args .source) m) (a .args .from) (l .f)) (l .met) (l .scratch) (l .inv .2))
+follow-requires c κs =
+    let looping = c .before .before .before in
+    let entry = looping .before .before .before in
+    let a = entry .args in
+    let m = memOf (a .g) (a .mem .now) in
+    let l = looping .loop in (
+      record { sized = entry .pre .0 .sized; room = l .inv .1 },
+      came-ready (a .g) m (stateOf (a .g) (a .scratch .now) (a .top)) (InRun (wordsOf (a .source) m) (a .from) (l .f)) (l .met) (l .scratch) (l .inv .2),
+    )
 
 add-f : tie.Need-add-f Inv-loop μ-loop
-add-f c = let a = c .before .before .before .before .before .before .before .before .before in omega (arith, a .pre .2, c .before .before .before .before .before .loop-test .taken, length-most (a .args .source) (a .args .g) (a .pre .0 .sized .few))
+add-f c =
+    let turning = c .before .before .before .before .before in
+    let entry = turning .before .before .before .before in
+    omega (arith, entry .pre .2, turning .loop-test .taken, length-most (entry .args .source) (entry .args .g) (entry .pre .0 .sized .few))
 
 loop-less : tie.Need-loop-less Inv-loop μ-loop
-loop-less c = omega (arith, c .before .before .before .before .before .loop-test .taken)
+loop-less c =
+    let turning = c .before .before .before .before .before in
+    omega (arith, turning .loop-test .taken)
 
 loop-again : tie.Need-loop-again Inv-loop μ-loop
 loop-again c =
-    let a = c .before .before .before .before .before .before .before .before .before in
-    let m = memOf (a .args .g) (a .args .mem .now) in
-    let l = c .before .before .before .before .before .before .loop in
-    (omega (arith, c .before .before .before .before .before .loop-test .taken), c .before .before .follow .kept .1 .1 .1 .0 ∙ l .inv .1, came-more (a .args .g) m (wordsOf (a .args .source) m) (a .args .from) (stateOf (a .args .g) (a .args .scratch .now) (a .args .top)) (l .f) (c .before .before .before .before .word .result) (c .before .before .before .before .word .ensures) (l .met) (c .before .before .follow .result) (l .scratch) (c .before .before .follow .last .1 .1 .1 .0) (l .inv .2) (c .before .before .follow .ensures))
+    let word-told = c .before .before .before .before in
+    let turning = word-told .before in
+    let looping = turning .before in
+    let entry = looping .before .before .before in
+    let a = entry .args in
+    let m = memOf (a .g) (a .mem .now) in
+    let l = looping .loop in (
+      omega (arith, turning .loop-test .taken),
+      c .before .before .follow .kept .1 .1 .1 .0 ∙ l .inv .1,
+      came-more (a .g) m (wordsOf (a .source) m) (a .from) (stateOf (a .g) (a .scratch .now) (a .top)) (l .f) (word-told .word .result)
+          (word-told .word .ensures) (l .met) (c .before .before .follow .result) (l .scratch) (c .before .before .follow .last .1 .1 .1 .0)
+          (l .inv .2) (c .before .before .follow .ensures),
+    )
 
 same-length : tie.Need-same-length Inv-loop μ-loop
 same-length c = c .before .loop .inv .1 ∙ sym (c .before .before .before .before .pre .0 .room)
 
 returns : tie.Need-returns Inv-loop μ-loop
 returns c =
-    let a = c .before .before .before .before in
-    let m = memOf (a .args .g) (a .args .mem .now) in
+    let entry = c .before .before .before .before in
+    let a = entry .args in
+    let m = memOf (a .g) (a .mem .now) in
     let l = c .before .loop in
-    subst (λ (k : ℕ). Came (a .args .g) m (InRun (wordsOf (a .args .source) m) (a .args .from) k) (stateOf (a .args .g) (a .args .scratch .now) (a .args .top)) (l .met) (l .scratch)) (omega (arith, c .loop-test .left, l .inv .0)) (l .inv .2)
+    subst
+    (λ (k : ℕ). Came (a .g) m (InRun (wordsOf (a .source) m) (a .from) k) (stateOf (a .g) (a .scratch .now) (a .top)) (l .met) (l .scratch))
+    (omega (arith, c .loop-test .left, l .inv .0)) (l .inv .2)
 
 pub follow-run-spec : {M : Type 1} → statement M
 follow-run-spec = tie.close (tie.spec Inv-loop μ-loop loop-holds add-word word-requires follow-requires add-f loop-less loop-again same-length returns)

@@ -28,7 +28,15 @@ same-length : tie.Need-same-length
 same-length c = search needs
 
 returns-2 : tie.Need-returns-2
-returns-2 c = let a = c .before .before .before .before .before .before .before .before in came-same (a .args .g) (memOf (a .args .g) (a .args .mem .now)) (stateOf (a .args .g) (a .args .scratch .now) (a .args .top)) (λ x q. ((λ e. c .before .before .before .before .if1 .left (c .before .before .before .before .before .state .ensures ∙ e)), q)) (λ x q. q .1) (c .before .before .follow-run .result) (c .before .before .follow-run .last .1 .1 .1 .1 .1 .0) (c .before .before .follow-run .ensures)
+returns-2 c =
+    let past-state-is-absent = c .before .before .before .before in
+    let state-told = past-state-is-absent .before in
+    let entry = state-told .before .before .before in
+    let a = entry .args in
+    came-same (a .g) (memOf (a .g) (a .mem .now)) (stateOf (a .g) (a .scratch .now) (a .top))
+    (λ x q. ((λ e. past-state-is-absent .if1 .left (state-told .state .ensures ∙ e)), q)) (λ x q. q .1)
+    (c .before .before .follow-run .result) (c .before .before .follow-run .last .1 .1 .1 .1 .1 .0)
+    (c .before .before .follow-run .ensures)
 
 pub mutator-at-spec : {M : Type 1} → statement M
 mutator-at-spec = tie.close (tie.spec state-requires returns mul-from cast-follow-run follow-run-requires same-length returns-2)

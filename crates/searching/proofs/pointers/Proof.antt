@@ -27,7 +27,9 @@ returns-2 : tie.Need-returns-2
 returns-2 c = rw (c .enum-told .given .1) (ap pointerCountOf (c .before .before .before .shape .ensures .shape))
 
 returns-3 : tie.Need-returns-3
-returns-3 c = rw (c .before .before .enum-told2 .given .1, sym (c .before .is-entered .ensures) ∙ c .if1 .left) (ap pointerCountOf (c .before .before .before .before .before .shape .ensures .shape))
+returns-3 c =
+    let shape-told = c .before .before .before .before .before in
+    rw (c .before .before .enum-told2 .given .1, sym (c .before .is-entered .ensures) ∙ c .if1 .left) (ap pointerCountOf (shape-told .shape .ensures .shape))
 
 pub pointers-spec : {M : Type 1} → statement M
 pointers-spec = tie.close (tie.spec shape-requires cast-n enum-told enum-told-2 is-entered-requires returns returns-2 returns-3)

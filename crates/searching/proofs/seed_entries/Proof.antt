@@ -22,46 +22,68 @@ entry-count-requires : tie.Need-entry-count-requires Inv-loop μ-loop
 entry-count-requires c κs = c .before .before .pre .0 .sized
 
 loop-holds : tie.Need-loop-holds Inv-loop μ-loop
-loop-holds c = let a = c .before .before .before in let m = memOf (a .args .g) (a .args .mem .now) in (omega arith, a .pre .0 .room, seeds-none (a .args .g) m (stateOf (a .args .g) (a .args .scratch .now) 0) (start-valid (a .args .g) m (SeedBelow m 0) (a .args .scratch .now) (a .pre .1)))
+loop-holds c =
+    let entry = c .before .before .before in
+    let a = entry .args in
+    let m = memOf (a .g) (a .mem .now) in
+    (omega arith, entry .pre .0 .room, seeds-none (a .g) m (stateOf (a .g) (a .scratch .now) 0) (start-valid (a .g) m (SeedBelow m 0) (a .scratch .now) (entry .pre .1)))
 
 trace-requires : tie.Need-trace-requires Inv-loop μ-loop
-trace-requires c κs = (c .before .before .before .before .before .pre .0 .sized, omega (arith, c .loop-test .taken, c .before .before .entry-count .ensures .room))
+trace-requires c κs =
+    let entry = c .before .before .before .before .before in
+    (entry .pre .0 .sized, omega (arith, c .loop-test .taken, c .before .before .entry-count .ensures .room))
 
 seed-requires : tie.Need-seed-requires Inv-loop μ-loop
-seed-requires c κs = let a = c .before .before .before .before .before .before .before in let m = memOf (a .args .g) (a .args .mem .now) in let l = c .before .before .before .loop in (record { sized = a .pre .0 .sized; room = l .inv .1 }, came-ready (a .args .g) m (stateOf (a .args .g) (a .args .scratch .now) 0) (SeedBelow m (l .i)) (l .met) (l .scratch) (l .inv .2))
+seed-requires c κs =
+    let looping = c .before .before .before in
+    let entry = looping .before .before .before .before in
+    let a = entry .args in
+    let m = memOf (a .g) (a .mem .now) in
+    let l = looping .loop in
+    (record { sized = entry .pre .0 .sized; room = l .inv .1 }, came-ready (a .g) m (stateOf (a .g) (a .scratch .now) 0) (SeedBelow m (l .i)) (l .met) (l .scratch) (l .inv .2))
 
 add-i : tie.Need-add-i Inv-loop μ-loop
 add-i c =
-    let tested = c .before .before .before .before .before in
-    let did-entry-count = tested .before .before in
-    let entry = did-entry-count .before .before .before in
-    let a = entry in omega (arith, tested .loop-test .taken, did-entry-count .entry-count .ensures .room, trace-most (a .args .g) (a .pre .0 .sized .few))
+    let turning = c .before .before .before .before .before in
+    let entry-count-told = turning .before .before in
+    let entry = entry-count-told .before .before .before in
+    omega (arith, turning .loop-test .taken, entry-count-told .entry-count .ensures .room, trace-most (entry .args .g) (entry .pre .0 .sized .few))
 
 loop-less : tie.Need-loop-less Inv-loop μ-loop
-loop-less c = omega (arith, c .before .before .before .before .before .loop-test .taken)
+loop-less c =
+    let turning = c .before .before .before .before .before in
+    omega (arith, turning .loop-test .taken)
 
 loop-again : tie.Need-loop-again Inv-loop μ-loop
 loop-again c =
-    let did-trace = c .before .before .before .before in
-    let tested = did-trace .before in
-    let looped = tested .before in
-    let entry = looped .before .before .before .before in
-    let a = entry in
-    let m = memOf (a .args .g) (a .args .mem .now) in
-    let l = looped .loop in
-    let q = c .before .before .seed in
-    (omega (arith, tested .loop-test .taken), q .kept .1 .1 .1 .0 ∙ l .inv .1, seeds-more (a .args .g) m (stateOf (a .args .g) (a .args .scratch .now) 0) (l .i) (did-trace .trace .result) (did-trace .trace .ensures) (l .met) (q .result) (l .scratch) (q .last .1 .1 .1 .0) (l .inv .2) (q .ensures))
+    let trace-told = c .before .before .before .before in
+    let turning = trace-told .before in
+    let looping = turning .before in
+    let entry = looping .before .before .before .before in
+    let a = entry .args in
+    let m = memOf (a .g) (a .mem .now) in
+    let l = looping .loop in
+    let q = c .before .before .seed in (
+      omega (arith, turning .loop-test .taken),
+      q .kept .1 .1 .1 .0 ∙ l .inv .1,
+      seeds-more (a .g) m (stateOf (a .g) (a .scratch .now) 0) (l .i) (trace-told .trace .result) (trace-told .trace .ensures) (l .met)
+          (q .result) (l .scratch) (q .last .1 .1 .1 .0) (l .inv .2) (q .ensures),
+    )
 
 same-length : tie.Need-same-length Inv-loop μ-loop
-same-length c = c .before .loop .inv .1 ∙ sym (c .before .before .before .before .before .pre .0 .room)
+same-length c =
+    let entry = c .before .before .before .before .before in
+    c .before .loop .inv .1 ∙ sym (entry .pre .0 .room)
 
 returns : tie.Need-returns Inv-loop μ-loop
 returns c =
-    let a = c .before .before .before .before .before in
-    let m = memOf (a .args .g) (a .args .mem .now) in
+    let entry = c .before .before .before .before .before in
+    let a = entry .args in
+    let m = memOf (a .g) (a .mem .now) in
     let l = c .before .loop in
-    let s = stateOf (a .args .g) (a .args .scratch .now) 0 in
-    seeds-all (a .args .g) (a .args .mem .now) (a .pre .0 .sized) s _ (c .before .before .entry-count .ensures) (l .met) (l .scratch) (subst (λ (k : ℕ). Came (a .args .g) m (SeedBelow m k) s (l .met) (l .scratch)) (omega (arith, c .loop-test .left, l .inv .0)) (l .inv .2))
+    let s = stateOf (a .g) (a .scratch .now) 0 in
+    seeds-all (a .g) (a .mem .now) (entry .pre .0 .sized) s _ (c .before .before .entry-count .ensures) (l .met) (l .scratch)
+    (subst (λ (k : ℕ). Came (a .g) m (SeedBelow m k) s (l .met) (l .scratch)) (omega (arith, c .loop-test .left, l .inv .0)) (l .inv .2))
 
 pub seed-entries-spec : {M : Type 1} → statement M
 seed-entries-spec = tie.close (tie.spec Inv-loop μ-loop entry-count-requires loop-holds trace-requires seed-requires add-i loop-less loop-again same-length returns)

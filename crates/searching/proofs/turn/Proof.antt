@@ -17,9 +17,13 @@ enum-known-met c = search needs
 
 turn-at-requires : tie.Need-turn-at-requires
 turn-at-requires c κs =
-    let a = c .before .before .before .before .before .before in
-    let e = c .before .before .met .given .1 in
-    (a .pre .0, subst (λ (x : Met). Ready (a .args .g) (memOf (a .args .g) (a .args .mem .now)) (a .args .scratch .now) x) e (a .pre .1), ltb-true 0 (c .before .before .met .given .0 .0) (subst (λ (x : Met). isWaiting x ≡ true) e (a .pre .2)))
+    let entry = c .before .before .before .before .before .before in
+    let a = entry .args in
+    let e = c .before .before .met .given .1 in (
+      entry .pre .0,
+      subst (λ (x : Met). Ready (a .g) (memOf (a .g) (a .mem .now)) (a .scratch .now) x) e (entry .pre .1),
+      ltb-true 0 (c .before .before .met .given .0 .0) (subst (λ (x : Met). isWaiting x ≡ true) e (entry .pre .2)),
+    )
 
 returns : tie.Need-returns
 returns c = rw (c .enum-told .given .1) refl
@@ -28,7 +32,9 @@ same-length : tie.Need-same-length
 same-length c = search needs
 
 returns-2 : tie.Need-returns-2
-returns-2 c = rw (c .before .before .before .before .before .met .given .1) (c .before .before .turn-at .ensures)
+returns-2 c =
+    let met-bound = c .before .before .before .before .before in
+    rw (met-bound .met .given .1) (c .before .before .turn-at .ensures)
 
 pub turn-spec : {M : Type 1} → statement M
 turn-spec = tie.close (tie.spec enum-told enum-known-met turn-at-requires returns same-length returns-2)

@@ -24,13 +24,21 @@ condemn-one-requires : tie.Need-condemn-one-requires Inv-loop μ-loop
 condemn-one-requires c κs = (resized _ _ _ (c .before .before .before .before .pre) (c .before .before .loop .inv .0), c .before .loop-test .taken)
 
 add-s : tie.Need-add-s Inv-loop μ-loop
-add-s c = omega (arith, c .before .before .before .before .before .before .before .pre .few)
+add-s c =
+    let entry = c .before .before .before .before .before .before .before in
+    omega (arith, entry .pre .few)
 
 loop-less : tie.Need-loop-less Inv-loop μ-loop
 loop-less c = omega arith
 
 loop-again : tie.Need-loop-again Inv-loop μ-loop
-loop-again c = (c .before .before .condemn-one .kept .1 .0 ∙ c .before .before .before .before .before .loop .inv .0, one-turn _ _ _ _ (c .before .before .before .before .before .loop .inv .1) (c .before .before .before .before .loop-test .taken) _ (condemned-next _ _ _ _ (c .before .before .before .before .before .loop .inv .1 .is) (c .before .before .condemn-one .ensures)))
+loop-again c =
+    let turning = c .before .before .before .before in
+    let looping = turning .before in (
+      c .before .before .condemn-one .kept .1 .0 ∙ looping .loop .inv .0,
+      one-turn _ _ _ _ (looping .loop .inv .1) (turning .loop-test .taken) _
+          (condemned-next _ _ _ _ (looping .loop .inv .1 .is) (c .before .before .condemn-one .ensures)),
+    )
 
 same-length : tie.Need-same-length Inv-loop μ-loop
 same-length c = c .before .loop .inv .0

@@ -14,7 +14,9 @@ same-length : tie.Need-same-length
 same-length c = search needs
 
 returns : tie.Need-returns
-returns c = rw (sym (c .before .before .before .before .before .collects .ensures) ∙ c .before .before .before .before .if1 .taken) (c .before .before .set-tag .ensures)
+returns c =
+    let when-collects = c .before .before .before .before in
+    rw (sym (when-collects .before .collects .ensures) ∙ when-collects .if1 .taken) (c .before .before .set-tag .ensures)
 
 same-length-2 : tie.Need-same-length-2
 same-length-2 c = search needs

@@ -31,7 +31,13 @@ loop-less : tie.Need-loop-less Inv-loop μ-loop
 loop-less c = omega arith
 
 loop-again : tie.Need-loop-again Inv-loop μ-loop
-loop-again c = (c .before .before .set-acks .kept .1 .0 ∙ c .before .before .before .before .before .loop .inv .0, one-turn _ _ _ _ (c .before .before .before .before .before .loop .inv .1) (omega (arith, c .before .before .before .before .loop-test .taken)) _ (reset-next _ _ _ _ (c .before .before .before .before .before .loop .inv .1 .is) (c .before .before .set-acks .ensures)))
+loop-again c =
+    let turning = c .before .before .before .before in
+    let looping = turning .before in (
+      c .before .before .set-acks .kept .1 .0 ∙ looping .loop .inv .0,
+      one-turn _ _ _ _ (looping .loop .inv .1) (omega (arith, turning .loop-test .taken)) _
+          (reset-next _ _ _ _ (looping .loop .inv .1 .is) (c .before .before .set-acks .ensures)),
+    )
 
 same-length : tie.Need-same-length Inv-loop μ-loop
 same-length c = c .before .loop .inv .0

@@ -19,16 +19,25 @@ same-length : tie.Need-same-length
 same-length c = search needs
 
 returns-2 : tie.Need-returns-2
-returns-2 c = start-11 _ _ (sym (c .before .before .before .before .before .wrong-size .ensures) ∙ c .before .before .before .before .if1 .left) _ (c .before .before .phase .ensures) (c .if2 .taken)
+returns-2 c =
+    let past-wrong-size = c .before .before .before .before in
+    start-11 _ _ (sym (past-wrong-size .before .wrong-size .ensures) ∙ past-wrong-size .if1 .left) _ (c .before .before .phase .ensures) (c .if2 .taken)
 
 begin-requires : tie.Need-begin-requires
-begin-requires c κs = sized _ _ (sym (c .before .before .before .before .before .before .wrong-size .ensures) ∙ c .before .before .before .before .before .if1 .left)
+begin-requires c κs =
+    let past-wrong-size = c .before .before .before .before .before in
+    sized _ _ (sym (past-wrong-size .before .wrong-size .ensures) ∙ past-wrong-size .if1 .left)
 
 same-length-2 : tie.Need-same-length-2
 same-length-2 c = search needs
 
 returns-3 : tie.Need-returns-3
-returns-3 c = start-ok _ _ (sym (c .before .before .before .before .before .before .before .before .before .wrong-size .ensures) ∙ c .before .before .before .before .before .before .before .before .if1 .left) _ (c .before .before .before .before .before .before .phase .ensures) (c .before .before .before .before .if2 .left) _ (c .before .before .begin .ensures)
+returns-3 c =
+    let past-number-not-idle = c .before .before .before .before in
+    let phase-told = past-number-not-idle .before .before in
+    let past-wrong-size = phase-told .before .before in
+    start-ok _ _ (sym (past-wrong-size .before .wrong-size .ensures) ∙ past-wrong-size .if1 .left) _ (phase-told .phase .ensures)
+    (past-number-not-idle .if2 .left) _ (c .before .before .begin .ensures)
 
 pub start-spec : {M : Type 1} → statement M
 start-spec =

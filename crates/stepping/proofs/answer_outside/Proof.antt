@@ -24,25 +24,49 @@ loop-holds : tie.Need-loop-holds Inv-loop μ-loop
 loop-holds c = (refl, answered-first _ _ (sizes-of _ _ (c .before .before .before .pre)) _ (c .next-outside .ensures))
 
 acknowledge-requires : tie.Need-acknowledge-requires Inv-loop μ-loop
-acknowledge-requires c κs = (resized _ _ _ (c .before .before .before .before .before .before .pre) (c .before .before .loop .inv .0), omega (arith, c .before .loop-test .taken))
+acknowledge-requires c κs =
+    let entry = c .before .before .before .before .before .before in
+    (resized _ _ _ (entry .pre) (c .before .before .loop .inv .0), omega (arith, c .before .loop-test .taken))
 
 add-next-outside : tie.Need-add-next-outside Inv-loop μ-loop
 add-next-outside c = omega arith
 
 next-outside-requires-2 : tie.Need-next-outside-requires-2 Inv-loop μ-loop
-next-outside-requires-2 c κs = (resized _ _ _ (resized _ _ _ (c .before .before .before .before .before .before .before .before .before .before .before .pre) (c .before .before .before .before .before .before .before .loop .inv .0)) (c .before .before .before .before .acknowledge .kept .1 .0), omega (arith, c .before .before .before .before .before .before .loop-test .taken))
+next-outside-requires-2 c κs =
+    let acknowledged = c .before .before .before .before in
+    let turning = acknowledged .before .before in
+    let looping = turning .before in
+    let entry = looping .before .before .before .before in
+    (resized _ _ _ (resized _ _ _ (entry .pre) (looping .loop .inv .0)) (acknowledged .acknowledge .kept .1 .0), omega (arith, turning .loop-test .taken))
 
 loop-less : tie.Need-loop-less Inv-loop μ-loop
-loop-less c = omega (arith, c .next-outside2 .ensures .after, c .before .before .before .before .before .before .before .loop-test .taken)
+loop-less c =
+    let turning = c .before .before .before .before .before .before .before in
+    omega (arith, c .next-outside2 .ensures .after, turning .loop-test .taken)
 
 loop-again : tie.Need-loop-again Inv-loop μ-loop
-loop-again c = (c .before .before .before .before .before .acknowledge .kept .1 .0 ∙ c .before .before .before .before .before .before .before .before .loop .inv .0, answered-more _ _ _ _ (c .before .before .before .before .before .before .before .before .loop .inv .1) (omega (arith, c .before .before .before .before .before .before .before .loop-test .taken)) _ _ (c .before .before .before .before .before .acknowledge .ensures) (sizes-of _ _ (c .before .before .before .before .before .before .before .before .before .before .before .before .pre)) (c .before .before .if1 .taken) _ (c .next-outside2 .ensures))
+loop-again c =
+    let acknowledged = c .before .before .before .before .before in
+    let turning = acknowledged .before .before in
+    let looping = turning .before in
+    let entry = looping .before .before .before .before in (
+      acknowledged .acknowledge .kept .1 .0 ∙ looping .loop .inv .0,
+      answered-more _ _ _ _ (looping .loop .inv .1) (omega (arith, turning .loop-test .taken)) _ _ (acknowledged .acknowledge .ensures)
+          (sizes-of _ _ (entry .pre)) (c .before .before .if1 .taken) _ (c .next-outside2 .ensures),
+    )
 
 same-length : tie.Need-same-length Inv-loop μ-loop
-same-length c = c .before .before .before .acknowledge .kept .1 .0 ∙ c .before .before .before .before .before .before .loop .inv .0
+same-length c =
+    let acknowledged = c .before .before .before in
+    let looping = acknowledged .before .before .before in
+    acknowledged .acknowledge .kept .1 .0 ∙ looping .loop .inv .0
 
 returns : tie.Need-returns Inv-loop μ-loop
-returns c = answer-hindered _ _ _ _ (c .before .before .before .before .before .before .loop .inv .1) (omega (arith, c .before .before .before .before .before .loop-test .taken)) _ _ (c .before .before .before .acknowledge .ensures) (c .if1 .left)
+returns c =
+    let acknowledged = c .before .before .before in
+    let turning = acknowledged .before .before in
+    let looping = turning .before in
+    answer-hindered _ _ _ _ (looping .loop .inv .1) (omega (arith, turning .loop-test .taken)) _ _ (acknowledged .acknowledge .ensures) (c .if1 .left)
 
 same-length-2 : tie.Need-same-length-2 Inv-loop μ-loop
 same-length-2 c = c .before .loop .inv .0

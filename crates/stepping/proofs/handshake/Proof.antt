@@ -39,7 +39,10 @@ same-length-3 : tie.Need-same-length-3
 same-length-3 c = search needs
 
 returns-3 : tie.Need-returns-3
-returns-3 c = step-torn _ _ _ _ (c .before .before .before .answer-outside .ensures) (c .if1 .left) (sizes-of _ _ (c .before .before .before .before .before .before .pre .0)) _
+returns-3 c =
+    let outside-answered = c .before .before .before in
+    let entry = outside-answered .before .before .before in
+    step-torn _ _ _ _ (outside-answered .answer-outside .ensures) (c .if1 .left) (sizes-of _ _ (entry .pre .0)) _
 
 pub handshake-spec : {M : Type 1} → statement M
 handshake-spec =

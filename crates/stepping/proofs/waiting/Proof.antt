@@ -34,7 +34,10 @@ loop-less : tie.Need-loop-less Inv-loop μ-loop
 loop-less c = omega arith
 
 loop-again : tie.Need-loop-again Inv-loop μ-loop
-loop-again c = one-turn _ _ _ _ (c .before .before .loop .inv) (omega (arith, c .before .loop-test .taken)) _ (waiting-next _ _ _ _ _ (c .before .before .before .phase .ensures) (c .before .before .loop .inv .is) (c .waits .ensures))
+loop-again c =
+    let phase-told = c .before .before .before in
+    one-turn _ _ _ _ (c .before .before .loop .inv) (omega (arith, c .before .loop-test .taken)) _
+    (waiting-next _ _ _ _ _ (phase-told .phase .ensures) (c .before .before .loop .inv .is) (c .waits .ensures))
 
 returns : tie.Need-returns Inv-loop μ-loop
 returns c = all-turns _ _ _ _ (c .before .loop .inv) (omega (arith, c .loop-test .left))

@@ -15,10 +15,16 @@ owes-requires : tie.Need-owes-requires
 owes-requires c κs = search needs
 
 returns : tie.Need-returns
-returns c = waits-inside _ _ _ _ (c .before .before .before .before .state .ensures) (c .before .before .before .if1 .taken) _ (c .before .before .acks .ensures) _ (sym (c .if2 .taken) ∙ c .before .owes .ensures)
+returns c =
+    let when-state-is-inside = c .before .before .before in
+    let state-told = when-state-is-inside .before in
+    waits-inside _ _ _ _ (state-told .state .ensures) (when-state-is-inside .if1 .taken) _ (c .before .before .acks .ensures) _ (sym (c .if2 .taken) ∙ c .before .owes .ensures)
 
 returns-2 : tie.Need-returns-2
-returns-2 c = waits-inside _ _ _ _ (c .before .before .before .before .state .ensures) (c .before .before .before .if1 .taken) _ (c .before .before .acks .ensures) _ (sym (c .if2 .left) ∙ c .before .owes .ensures)
+returns-2 c =
+    let when-state-is-inside = c .before .before .before in
+    let state-told = when-state-is-inside .before in
+    waits-inside _ _ _ _ (state-told .state .ensures) (when-state-is-inside .if1 .taken) _ (c .before .before .acks .ensures) _ (sym (c .if2 .left) ∙ c .before .owes .ensures)
 
 returns-3 : tie.Need-returns-3
 returns-3 c = not-inside _ _ _ _ (c .before .state .ensures) (c .if1 .left)

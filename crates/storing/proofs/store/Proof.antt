@@ -28,9 +28,11 @@ returns-2 c = store-refused _ _ _ _ _ _ _ (sym (c .before .before .before .befor
 
 root-requires : tie.Need-root-requires
 root-requires c κs =
-    let a = c .before .before .before .before .before .before .before .args in
+    let past-wrong-size = c .before .before .before .before in
+    let entry = past-wrong-size .before .before .before in
+    let a = entry .args in
     let p = in-range _ _ _ (a .i) (a .j) _ (c .before .before .roots-refusal .ensures) (c .before .if2 .left) in
-    (sized _ _ (sym (c .before .before .before .before .before .wrong-size .ensures) ∙ c .before .before .before .before .if1 .left), p .0, p .1)
+    (sized _ _ (sym (past-wrong-size .before .wrong-size .ensures) ∙ past-wrong-size .if1 .left), p .0, p .1)
 
 held-of-requires : tie.Need-held-of-requires
 held-of-requires c κs = search needs
@@ -46,10 +48,19 @@ same-length-2 c = search needs
 
 returns-3 : tie.Need-returns-3
 returns-3 c =
-    held-7 (c-store _ _ _ _) _ _ _ _ _ (store-reaches _ _ _ _ _ _ _ (sym (c .before .before .before .before .before .before .before .before .before .wrong-size .ensures) ∙ c .before .before .before .before .before .before .before .before .if1 .left) (c .before .before .before .before .before .before .roots-refusal .ensures) (c .before .before .before .before .before .if2 .left)) _ (c .before .before .before .root .ensures) (sym (c .enum-told .given .1) ∙ c .before .before .held-of .ensures)
+    let root-told = c .before .before .before in
+    let past-refused = root-told .before .before in
+    let roots-refusal-told = past-refused .before in
+    let past-wrong-size = roots-refusal-told .before .before in
+    held-7 (c-store _ _ _ _) _ _ _ _ _
+    (store-reaches _ _ _ _ _ _ _ (sym (past-wrong-size .before .wrong-size .ensures) ∙ past-wrong-size .if1 .left) (roots-refusal-told .roots-refusal .ensures) (past-refused .if2 .left))
+    _ (root-told .root .ensures) (sym (c .enum-told .given .1) ∙ c .before .before .held-of .ensures)
 
 pointer-at-requires : tie.Need-pointer-at-requires
-pointer-at-requires c κs = sized _ _ (sym (c .before .before .before .before .before .before .before .before .before .before .before .wrong-size .ensures) ∙ c .before .before .before .before .before .before .before .before .before .before .if1 .left)
+pointer-at-requires c κs =
+    let past-refused = c .before .before .before .before .before .before .before in
+    let past-wrong-size = past-refused .before .before .before in
+    sized _ _ (sym (past-wrong-size .before .wrong-size .ensures) ∙ past-wrong-size .if1 .left)
 
 enum-known-n : tie.Need-enum-known-n
 enum-known-n c = search needs
@@ -59,36 +70,68 @@ enum-known-word c = search needs
 
 root-requires-2 : tie.Need-root-requires-2
 root-requires-2 c κs =
-    let a = c .before .before .before .before .before .before .before .before .before .before .before .before .before .before .before .before .before .before .args in
-    let p = in-range _ _ _ (a .i) (a .j) _ (c .before .before .before .before .before .before .before .before .before .before .before .before .before .roots-refusal .ensures) (c .before .before .before .before .before .before .before .before .before .before .before .before .if2 .left) in
-    (sized _ _ (sym (c .before .before .before .before .before .before .before .before .before .before .before .before .before .before .before .before .wrong-size .ensures) ∙ c .before .before .before .before .before .before .before .before .before .before .before .before .before .before .before .if1 .left), p .0, p .2)
+    let pointer-at-told = c .before .before .before .before in
+    let root-told = pointer-at-told .before .before .before .before .before .before in
+    let past-refused = root-told .before .before in
+    let roots-refusal-told = past-refused .before in
+    let past-wrong-size = roots-refusal-told .before .before in
+    let entry = past-wrong-size .before .before .before in
+    let a = entry .args in
+    let p = in-range _ _ _ (a .i) (a .j) _ (roots-refusal-told .roots-refusal .ensures) (past-refused .if2 .left) in
+    (sized _ _ (sym (past-wrong-size .before .wrong-size .ensures) ∙ past-wrong-size .if1 .left), p .0, p .2)
 
 store-at-requires : tie.Need-store-at-requires
 store-at-requires c κs =
-    let a = c .before .before .before .before .before .before .before .before .before .before .before .before .before .before .before .before .before .before .before .before .args in
-    let p = in-range _ _ _ (a .i) (a .j) _ (c .before .before .before .before .before .before .before .before .before .before .before .before .before .before .before .roots-refusal .ensures) (c .before .before .before .before .before .before .before .before .before .before .before .before .before .before .if2 .left) in
-    let t = pointer-found _ _ _ _ _ (sym (c .before .before .before .before .word .given .1) ∙ c .before .before .before .before .before .before .pointer-at .ensures) in
-    (sized _ _ (sym (c .before .before .before .before .before .before .before .before .before .before .before .before .before .before .before .before .before .before .wrong-size .ensures) ∙ c .before .before .before .before .before .before .before .before .before .before .before .before .before .before .before .before .before .if1 .left), p .0, t .within)
+    let word-bound = c .before .before .before .before in
+    let pointer-at-told = word-bound .before .before in
+    let root-told = pointer-at-told .before .before .before .before .before .before in
+    let past-refused = root-told .before .before in
+    let roots-refusal-told = past-refused .before in
+    let past-wrong-size = roots-refusal-told .before .before in
+    let entry = past-wrong-size .before .before .before in
+    let a = entry .args in
+    let p = in-range _ _ _ (a .i) (a .j) _ (roots-refusal-told .roots-refusal .ensures) (past-refused .if2 .left) in
+    let t = pointer-found _ _ _ _ _ (sym (word-bound .word .given .1) ∙ pointer-at-told .pointer-at .ensures) in
+    (sized _ _ (sym (past-wrong-size .before .wrong-size .ensures) ∙ past-wrong-size .if1 .left), p .0, t .within)
 
 same-length-3 : tie.Need-same-length-3
 same-length-3 c = search needs
 
 returns-4 : tie.Need-returns-4
 returns-4 c =
+    let pointer-at-told = c .before .before .before in
+    let slot-bound = pointer-at-told .before .before .before in
+    let held-of-told = slot-bound .before .before in
+    let root-told = held-of-told .before in
+    let past-refused = root-told .before .before in
+    let roots-refusal-told = past-refused .before in
+    let past-wrong-size = roots-refusal-told .before .before in
     pointer-refused (c-store _ _ _ _) _ _ _ _ _ _
-    (names _ _ _ _ _ _ (c .before .before .before .before .before .before .before .before .before .root .ensures) (sym (c .before .before .before .before .before .before .slot .given .1) ∙ c .before .before .before .before .before .before .before .before .held-of .ensures))
-    (store-reaches _ _ _ _ _ _ _ (sym (c .before .before .before .before .before .before .before .before .before .before .before .before .before .before .before .wrong-size .ensures) ∙ c .before .before .before .before .before .before .before .before .before .before .before .before .before .before .if1 .left) (c .before .before .before .before .before .before .before .before .before .before .before .before .roots-refusal .ensures) (c .before .before .before .before .before .before .before .before .before .before .before .if2 .left)) _ (sym (c .before .n .given .1) ∙ c .before .before .before .pointer-at .ensures)
+    (names _ _ _ _ _ _ (root-told .root .ensures) (sym (slot-bound .slot .given .1) ∙ held-of-told .held-of .ensures))
+    (store-reaches _ _ _ _ _ _ _ (sym (past-wrong-size .before .wrong-size .ensures) ∙ past-wrong-size .if1 .left) (roots-refusal-told .roots-refusal .ensures) (past-refused .if2 .left))
+    _ (sym (c .before .n .given .1) ∙ pointer-at-told .pointer-at .ensures)
 
 same-length-4 : tie.Need-same-length-4
 same-length-4 c = search needs
 
 returns-5 : tie.Need-returns-5
 returns-5 c =
-    let a = c .before .before .before .before .before .before .before .before .before .before .before .before .before .before .before .before .before .before .before .before .before .before .before .args in
-    let p = in-range _ _ _ (a .i) (a .j) _ (c .before .before .before .before .before .before .before .before .before .before .before .before .before .before .before .before .before .before .roots-refusal .ensures) (c .before .before .before .before .before .before .before .before .before .before .before .before .before .before .before .before .before .if2 .left) in
-    store-by _ _ _ _ _ _ _ (store-reaches _ _ _ _ _ _ _ (sym (c .before .before .before .before .before .before .before .before .before .before .before .before .before .before .before .before .before .before .before .before .before .wrong-size .ensures) ∙ c .before .before .before .before .before .before .before .before .before .before .before .before .before .before .before .before .before .before .before .before .if1 .left) (c .before .before .before .before .before .before .before .before .before .before .before .before .before .before .before .before .before .before .roots-refusal .ensures) (c .before .before .before .before .before .before .before .before .before .before .before .before .before .before .before .before .before .if2 .left))
-    (names _ _ _ _ _ _ (c .before .before .before .before .before .before .before .before .before .before .before .before .before .before .before .root .ensures) (sym (c .before .before .before .before .before .before .before .before .before .before .before .before .slot .given .1) ∙ c .before .before .before .before .before .before .before .before .before .before .before .before .before .before .held-of .ensures))
-    (p .2) _ _ _ _ (sym (c .before .before .before .before .before .before .before .word .given .1) ∙ c .before .before .before .before .before .before .before .before .before .pointer-at .ensures) (c .before .before .before .before .root2 .ensures) (c .before .before .store-at .ensures)
+    let root-told-again = c .before .before .before .before in
+    let word-bound = root-told-again .before .before .before in
+    let pointer-at-told = word-bound .before .before in
+    let slot-bound = pointer-at-told .before .before .before in
+    let held-of-told = slot-bound .before .before in
+    let root-told = held-of-told .before in
+    let past-refused = root-told .before .before in
+    let roots-refusal-told = past-refused .before in
+    let past-wrong-size = roots-refusal-told .before .before in
+    let entry = past-wrong-size .before .before .before in
+    let a = entry .args in
+    let p = in-range _ _ _ (a .i) (a .j) _ (roots-refusal-told .roots-refusal .ensures) (past-refused .if2 .left) in
+    store-by _ _ _ _ _ _ _
+    (store-reaches _ _ _ _ _ _ _ (sym (past-wrong-size .before .wrong-size .ensures) ∙ past-wrong-size .if1 .left) (roots-refusal-told .roots-refusal .ensures) (past-refused .if2 .left))
+    (names _ _ _ _ _ _ (root-told .root .ensures) (sym (slot-bound .slot .given .1) ∙ held-of-told .held-of .ensures))
+    (p .2) _ _ _ _ (sym (word-bound .word .given .1) ∙ pointer-at-told .pointer-at .ensures) (root-told-again .root2 .ensures) (c .before .before .store-at .ensures)
 
 pub store-spec : {M : Type 1} → statement M
 store-spec =

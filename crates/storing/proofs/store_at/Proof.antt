@@ -27,14 +27,26 @@ same-length c = search needs
 
 returns : tie.Need-returns
 returns c =
-    stores-ok _ _ _ _ _ _ _ _ _ _ _ (c .before .before .before .before .before .before .before .before .before .before .before .before .before .before .phase .ensures) (c .before .before .before .before .before .before .before .before .before .before .before .before .acks .ensures) (c .before .before .before .before .before .before .before .before .before .before .before .duty .ensures) (c .before .before .before .before .before .before .before .before .before .field .ensures) (c .before .before .before .before .before .before .before .barrier .ensures)
-    _ (c .before .before .before .before .if1 .taken) (c .before .before .set-field .ensures)
+    let when-barrier = c .before .before .before .before in
+    let guarded = when-barrier .before .before .before in
+    let field-told = guarded .before .before in
+    let duty-told = field-told .before .before in
+    let acks-told = duty-told .before in
+    let phase-told = acks-told .before .before in
+    stores-ok _ _ _ _ _ _ _ _ _ _ _ (phase-told .phase .ensures) (acks-told .acks .ensures) (duty-told .duty .ensures) (field-told .field .ensures) (guarded .barrier .ensures)
+    _ (when-barrier .if1 .taken) (c .before .before .set-field .ensures)
 
 same-length-2 : tie.Need-same-length-2
 same-length-2 c = search needs
 
 returns-2 : tie.Need-returns-2
-returns-2 c = stores-13 _ _ _ _ _ _ _ _ _ _ _ (c .before .before .before .before .before .before .before .before .before .before .phase .ensures) (c .before .before .before .before .before .before .before .before .acks .ensures) (c .before .before .before .before .before .before .before .duty .ensures) (c .before .before .before .before .before .field .ensures) (c .before .before .before .barrier .ensures) (c .if1 .left)
+returns-2 c =
+    let guarded = c .before .before .before in
+    let field-told = guarded .before .before in
+    let duty-told = field-told .before .before in
+    let acks-told = duty-told .before in
+    let phase-told = acks-told .before .before in
+    stores-13 _ _ _ _ _ _ _ _ _ _ _ (phase-told .phase .ensures) (acks-told .acks .ensures) (duty-told .duty .ensures) (field-told .field .ensures) (guarded .barrier .ensures) (c .if1 .left)
 
 pub store-at-spec : {M : Type 1} → statement M
 store-at-spec =

@@ -24,19 +24,33 @@ enum-told : tie.Need-enum-told
 enum-told c = search needs
 
 returns : tie.Need-returns
-returns c = class-read (memOf (c .before .before .before .before .before .args .g) (c .before .before .before .before .before .args .mem .now)) (c .before .before .before .before .before .args .s) _ (c .before .before .before .read .ensures) (c .before .before .before .before .before .pre .1) _ (c .before .state .given .1)
+returns c =
+    let read = c .before .before .before in
+    let entry = read .before .before in
+    class-read (memOf (entry .args .g) (entry .args .mem .now)) (entry .args .s) _ (read .read .ensures) (entry .pre .1) _ (c .before .state .given .1)
 
 returns-2 : tie.Need-returns-2
-returns-2 c = class-read (memOf (c .before .before .before .before .before .args .g) (c .before .before .before .before .before .args .mem .now)) (c .before .before .before .before .before .args .s) _ (c .before .before .before .read .ensures) (c .before .before .before .before .before .pre .1) _ (c .before .state2 .given .1)
+returns-2 c =
+    let read = c .before .before .before in
+    let entry = read .before .before in
+    class-read (memOf (entry .args .g) (entry .args .mem .now)) (entry .args .s) _ (read .read .ensures) (entry .pre .1) _ (c .before .state2 .given .1)
 
 returns-3 : tie.Need-returns-3
-returns-3 c = class-read (memOf (c .before .before .before .before .before .args .g) (c .before .before .before .before .before .args .mem .now)) (c .before .before .before .before .before .args .s) _ (c .before .before .before .read .ensures) (c .before .before .before .before .before .pre .1) _ (c .before .state3 .given .1)
+returns-3 c =
+    let read = c .before .before .before in
+    let entry = read .before .before in
+    class-read (memOf (entry .args .g) (entry .args .mem .now)) (entry .args .s) _ (read .read .ensures) (entry .pre .1) _ (c .before .state3 .given .1)
 
 returns-4 : tie.Need-returns-4
-returns-4 c = class-read (memOf (c .before .before .before .before .before .args .g) (c .before .before .before .before .before .args .mem .now)) (c .before .before .before .before .before .args .s) _ (c .before .before .before .read .ensures) (c .before .before .before .before .before .pre .1) _ (c .before .state4 .given .1)
+returns-4 c =
+    let read = c .before .before .before in
+    let entry = read .before .before in
+    class-read (memOf (entry .args .g) (entry .args .mem .now)) (entry .args .s) _ (read .read .ensures) (entry .pre .1) _ (c .before .state4 .given .1)
 
 returns-5 : tie.Need-returns-5
-returns-5 c = class-read (memOf (c .before .before .before .before .args .g) (c .before .before .before .before .args .mem .now)) (c .before .before .before .before .args .s) _ (c .before .before .read .ensures) (c .before .before .before .before .pre .1) _ (c .enum-told .given .1)
+returns-5 c =
+    let entry = c .before .before .before .before in
+    class-read (memOf (entry .args .g) (entry .args .mem .now)) (entry .args .s) _ (c .before .before .read .ensures) (entry .pre .1) _ (c .enum-told .given .1)
 
 pub condemned-class-spec : {M : Type 1} → statement M
 condemned-class-spec =

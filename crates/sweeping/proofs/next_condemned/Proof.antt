@@ -29,7 +29,10 @@ loop-less : tie.Need-loop-less Inv-loop μ-loop
 loop-less c = omega arith
 
 loop-again : tie.Need-loop-again Inv-loop μ-loop
-loop-again c = one-other (c .before .before .before .before .before .args .g) _ _ _ (c .before .before .before .loop .inv) _ (c .before .tag .ensures) (c .if1 .left)
+loop-again c =
+    let looping = c .before .before .before in
+    let entry = looping .before .before in
+    one-other (entry .args .g) _ _ _ (looping .loop .inv) _ (c .before .tag .ensures) (c .if1 .left)
 
 returns-2 : tie.Need-returns-2 Inv-loop μ-loop
 returns-2 c = next-none _ _ _ _ (c .before .loop .inv) (c .loop-test .left)

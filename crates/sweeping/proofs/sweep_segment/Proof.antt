@@ -58,7 +58,8 @@ returns : tie.Need-returns
 returns c =
     let done = c .before .before in
     let written = done .before .before .before .before in
-    let seen = written .before .before .before in
+    let when-unmarked = written .before .before in
+    let seen = when-unmarked .before in
     let counted = seen .before .before in
     let placed = counted .before .before in
     let known = placed .before .before in
@@ -66,9 +67,12 @@ returns c =
     let entry = classed .before .before .before in
     let a = entry .args in
     let m = memOf (a .g) (a .mem .now) in
-    let u = seen .unmarked .ensures (written .before .before .if2 .taken) in
+    let u = seen .unmarked .ensures (when-unmarked .if2 .taken) in
     let k = is-one known in
-    swept-finished (a .g) _ (a .s) (sizes-of _ _ (entry .pre .0 .0)) (entry .pre .0 .1) (entry .pre .1) _ (classed .condemned-class .ensures) (sym (known .before .is-class .ensures) ∙ known .if1 .taken) _ _ 0 (placed .place .ensures) (counted .in-use .ensures) _ (written .fresh .ensures ∙ unset-fresh (a .g) m (a .s) _ k u) (unset-ones (a .g) m (a .s) _ k u) _ _ (done .finish .ensures)
+    swept-finished (a .g) _ (a .s) (sizes-of _ _ (entry .pre .0 .0)) (entry .pre .0 .1) (entry .pre .1) _
+    (classed .condemned-class .ensures) (sym (known .before .is-class .ensures) ∙ known .if1 .taken) _ _ 0 (placed .place .ensures)
+    (counted .in-use .ensures) _ (written .fresh .ensures ∙ unset-fresh (a .g) m (a .s) _ k u) (unset-ones (a .g) m (a .s) _ k u) _ _
+    (done .finish .ensures)
 
 adopt-requires : tie.Need-adopt-requires
 adopt-requires c κs =
@@ -98,7 +102,9 @@ returns-2 c =
     let classed = known .before .before in
     let entry = classed .before .before .before in
     let a = entry .args in
-    swept-finished (a .g) _ (a .s) (sizes-of _ _ (entry .pre .0 .0)) (entry .pre .0 .1) (entry .pre .1) _ (classed .condemned-class .ensures) (sym (known .before .is-class .ensures) ∙ known .if1 .taken) _ _ _ (placed .place .ensures) (counted .in-use .ensures) _ (written .adopt .ensures .0) (written .adopt .ensures .1) _ _ (done .finish2 .ensures)
+    swept-finished (a .g) _ (a .s) (sizes-of _ _ (entry .pre .0 .0)) (entry .pre .0 .1) (entry .pre .1) _
+    (classed .condemned-class .ensures) (sym (known .before .is-class .ensures) ∙ known .if1 .taken) _ _ _ (placed .place .ensures)
+    (counted .in-use .ensures) _ (written .adopt .ensures .0) (written .adopt .ensures .1) _ _ (done .finish2 .ensures)
 
 same-length-3 : tie.Need-same-length-3
 same-length-3 c = search needs

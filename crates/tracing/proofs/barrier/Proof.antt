@@ -21,7 +21,10 @@ same-length c = search needs
 
 returns : tie.Need-returns
 returns c =
-    barrier-both _ _ _ _ _ (c .before .before .before .before .before .before .before .before .before .enum-told2 .given .1) _ _ _ _ (c .before .before .before .before .before .before .before .push .ensures) (c .before .before .before .before .if1 .taken) (c .before .before .push2 .ensures)
+    let when-push = c .before .before .before .before in
+    let pushed = when-push .before .before .before in
+    let variant-told = pushed .before .before in
+    barrier-both _ _ _ _ _ (variant-told .enum-told2 .given .1) _ _ _ _ (pushed .push .ensures) (when-push .if1 .taken) (c .before .before .push2 .ensures)
 
 enum-told-3 : tie.Need-enum-told-3
 enum-told-3 c = search needs
@@ -36,7 +39,10 @@ same-length-2 : tie.Need-same-length-2
 same-length-2 c = search needs
 
 returns-3 : tie.Need-returns-3
-returns-3 c = barrier-stops _ _ _ _ _ (c .before .before .before .before .before .enum-told2 .given .1) _ _ (c .before .before .before .push .ensures) (c .if1 .left)
+returns-3 c =
+    let pushed = c .before .before .before in
+    let variant-told = pushed .before .before in
+    barrier-stops _ _ _ _ _ (variant-told .enum-told2 .given .1) _ _ (pushed .push .ensures) (c .if1 .left)
 
 same-length-3 : tie.Need-same-length-3
 same-length-3 c = search needs

@@ -32,8 +32,8 @@ returns-2 : tie.Need-returns-2
 returns-2 c =
     let roomed = c .before in
     let counted = roomed .before in
-    let branched = counted .before .before in
-    push-full _ _ _ _ (refuted (branched .before .is-set .ensures) (branched .if1 .left)) _ (counted .trace-count .ensures) _
+    let past-is-set = counted .before .before in
+    push-full _ _ _ _ (refuted (past-is-set .before .is-set .ensures) (past-is-set .if1 .left)) _ (counted .trace-count .ensures) _
     (roomed .trace-words .ensures) (c .if2 .taken)
 
 set-requires : tie.Need-set-requires
@@ -68,8 +68,8 @@ returns-3 c =
     let entered = recounted .before .before .before .before in
     let marked = entered .before .before .before .before in
     let counted = marked .before .before .before .before in
-    let branched = counted .before .before in
-    push-done _ _ _ _ (refuted (branched .before .is-set .ensures) (branched .if1 .left)) _ (counted .trace-count .ensures) _ _ _
+    let past-is-set = counted .before .before in
+    push-done _ _ _ _ (refuted (past-is-set .before .is-set .ensures) (past-is-set .if1 .left)) _ (counted .trace-count .ensures) _ _ _
     (marked .set .ensures) (entered .set-trace .ensures) (recounted .set-trace-count .ensures)
 
 pub push-bit-spec : {M : Type 1} → statement M

@@ -170,40 +170,32 @@ forward-forward-requires t c κs =
 
 module _ (t : ℕ) (c : forward-lts.After-forward (claims t) (forward-at t) forward.Post) where
   -- what was found above
-  above : c .forward .result
-      ≡ forwarded (c .before .before .before .before .before .before .before .before .before .before .before .args .above - 1)
-      (drop (wordsFor (c .before .before .before .before .before .before .before .before .before .before .before .args .n))
-      (c .before .before .before .before .before .before .before .before .before .before .before .args .s .now))
-      (wordsFor (c .before .before .before .before .before .before .before .before .before .before .before .args .n))
-      (climbed (c .before .before .before .before .before .before .before .before .before .before .before .args .self)
-      (c .before .before .before .before .before .before .before .before .before .before .before .args .level))
-      (c .before .before .before .before .before .before .before .before .before .before .before .args .level + 1)
+  above : let past-words-upto-word = c .before .before .before .before .before .before .before in
+      let a = past-words-upto-word .before .before .before .before .args in
+      c .forward .result ≡ forwarded (a .above - 1) (drop (wordsFor (a .n)) (a .s .now)) (wordsFor (a .n)) (climbed (a .self) (a .level)) (a .level + 1)
   above =
-      let a = c .before .before .before .before .before .before .before .before .before .before .before .args in
-      handed-on (a .above - 1) (a .s .now) (wordsFor (a .n)) (a .level)
-      (c .before .before .before .before .before .before .before .before .words-for .result) (a .self)
-      (c .before .before .climb .result) (c .forward .result)
-      (c .before .before .before .before .before .before .before .before .words-for .ensures) (c .before .before .climb .ensures)
+      let past-words-upto-word = c .before .before .before .before .before .before .before in
+      let words-for-told = past-words-upto-word .before in
+      let a = words-for-told .before .before .before .args in
+      handed-on (a .above - 1) (a .s .now) (wordsFor (a .n)) (a .level) (words-for-told .words-for .result) (a .self)
+      (c .before .before .climb .result) (c .forward .result) (words-for-told .words-for .ensures) (c .before .before .climb .ensures)
       (c .forward .ensures)
 
   -- and the way down from there
   down : (r : Next) → c .forward .result ≡ r
-      → loweredFrom (c .before .before .before .before .before .before .before .before .before .before .before .args .s .now)
-      (wordsFor (c .before .before .before .before .before .before .before .before .before .before .before .args .n))
-      (c .before .before .before .before .before .before .before .before .before .before .before .args .level) r ≡ forwarded
-      (c .before .before .before .before .before .before .before .before .before .before .before .args .above)
-      (c .before .before .before .before .before .before .before .before .before .before .before .args .s .now)
-      (c .before .before .before .before .before .before .before .before .before .before .before .args .n)
-      (c .before .before .before .before .before .before .before .before .before .before .before .args .self)
-      (c .before .before .before .before .before .before .before .before .before .before .before .args .level)
+      → let past-words-upto-word = c .before .before .before .before .before .before .before in
+      let a = past-words-upto-word .before .before .before .before .args in
+      loweredFrom (a .s .now) (wordsFor (a .n)) (a .level) r ≡ forwarded (a .above) (a .s .now) (a .n) (a .self) (a .level)
   down r e =
-      let a = c .before .before .before .before .before .before .before .before .before .before .before .args in
-      ahead-down (a .above) (a .s .now) (a .n) (a .self) (a .level)
-      (c .before .before .before .before .before .before .before .before .before .at .result)
-      (c .before .before .before .before .before .before .before .before .before .at .ensures)
-      (omega (arith, c .before .before .before .before .before .before .before .before .words-for .ensures, c .before .before .before .before .before .before .before .if1 .left))
-      (c .before .before .before .before .before .clear-from .result) (c .before .before .before .before .before .clear-from .ensures)
-      (c .before .before .before .before .if2 .left) (c .before .before .before .if3 .left) r (sym e ∙ above)
+      let past-above-is-0 = c .before .before .before in
+      let clear-from-told = past-above-is-0 .before .before in
+      let past-words-upto-word = clear-from-told .before .before in
+      let words-for-told = past-words-upto-word .before in
+      let at-told = words-for-told .before in
+      let a = at-told .before .before .args in
+      ahead-down (a .above) (a .s .now) (a .n) (a .self) (a .level) (at-told .at .result) (at-told .at .ensures)
+      (omega (arith, words-for-told .words-for .ensures, past-words-upto-word .if1 .left)) (clear-from-told .clear-from .result)
+      (clear-from-told .clear-from .ensures) (past-above-is-0 .before .if2 .left) (past-above-is-0 .if3 .left) r (sym e ∙ above)
 
 forward-enum-known-found : (t : ℕ) → forward-lts.Need-enum-known-found (claims t) (forward-at t) forward.Post
 forward-enum-known-found t c = search needs

@@ -100,7 +100,8 @@ forward-requires c κs =
 
 module _ (above : tie.After-forward) where
   -- what was found above
-  found : let x = above .before .before .before .before .before .before .before .before .before .before .args in
+  found : let read = above .before .before .before .before .before in
+      let x = read .before .before .before .before .before .args in
       above .forward .result ≡ forwarded (x .above - 1) (drop (wordsFor (x .n)) (x .s .now)) (wordsFor (x .n)) (climbed (x .self) 0) 1
   found =
       let read = above .before .before .before .before .before in
@@ -110,7 +111,9 @@ module _ (above : tie.After-forward) where
       (above .before .before .climb .ensures) (above .forward .ensures)
 
   -- and the way down from there
-  down : (r : Next) → above .forward .result ≡ r → let x = above .before .before .before .before .before .before .before .before .before .before .args in
+  down : (r : Next) → above .forward .result ≡ r
+      → let read = above .before .before .before .before .before in
+      let x = read .before .before .before .before .before .args in
       loweredFrom (x .s .now) (wordsFor (x .n)) 0 r ≡ forwarded (x .above) (x .s .now) (x .n) (x .self) 0
   down r e =
       let read = above .before .before .before .before .before in
