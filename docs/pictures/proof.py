@@ -12,10 +12,10 @@ FILL = ["#eef1f5", "#d3e2f6", "#cfe8d6", "#fdebc2"]
 ACROSS = [("memOf", "layout"), ("view", "refine_view"), ("Coupled", "theory")]
 DOWN = [("a function", "storing, making .."), ("exec, startOf, stepOf", "model"), ("act, start, step", "theory"), ("uexec", "theory")]
 SQUARE = [("Promise", "answer and memory are the definition's", "each call's own crate"),
-          ("AllKept", "words in order; agrees on what is live", "refine_roots .. refine_start"),
+          ("AllRefine", "words in order; agrees on what is live", "refine_roots .. refine_start"),
           ("Alike", "same answer; invariant kept", "theory")]
 JOINED = "guarantee: the squares side by side, and one below the other along a list of calls, from where an opening leaves off."
-OUTER = "What is left is the outer edge: the answers of the functions are the unbounded heap's. guarantee_case applies it to lists."
+OUTER = "What is left is the outer edge: the answers of the functions are the unbounded heap's. guarantee_cases applies it to lists."
 
 
 def draw(path):

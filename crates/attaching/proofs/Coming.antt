@@ -17,12 +17,12 @@ use Rattle.theory.proofs.Refusals.{require-ok, root-ok}
 use Rattle.model.specs.declared.Answer.{Answer}
 use Rattle.model.specs.declared.Answer.the-variants.{Ok, Refused}
 use Rattle.model.specs.Answers.{ResultOf, among, mayGive}
-use Rattle.model.specs.Rules.{phaseOf}
+use Rattle.model.specs.PhaseNumbers.{phaseOf}
 use Rattle.model.specs.Fields.{phase, absent, inside, state, root}
 use Rattle.model.specs.Mutators.{setEntry, attached}
 use Rattle.model.specs.Calls.{isAttached, isInside, observe, act}
 use Rattle.model.specs.Promise.{Promise}
-use Rattle.laws.proofs.Promised.{refused, done, declined}
+use Rattle.model_laws.proofs.Promised.{refused, done, declined}
 use Rattle.mutators.specs.Inside.{insideThen}
 use Rattle.mutators.specs.Entry.{entryOf}
 use Rattle.attaching.specs.Coming.{Admits, spawnRefusal}

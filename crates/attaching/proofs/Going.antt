@@ -10,7 +10,7 @@ use native.Mathlib.Numerals.{add-one}
 use native.Mathlib.Omega.{arith}
 use lib.ListN.{length, replicate}
 use borrow.Author.Tests.{eq-eqb, ne-eqb}
-use Rattle.rules.specs.Pick.{pick}
+use Rattle.basics.specs.Pick.{pick}
 use Rattle.classes.specs.Class.{firstClass, classCount}
 use Rattle.layout.specs.declared.Geometry.{Geometry}
 use Rattle.layout.specs.Geometry.{wrongSize, mutatorCount, mutatorWords}
@@ -20,16 +20,16 @@ use Rattle.theory.specs.Phases.{inHandshake}
 use Rattle.theory.specs.Calls.{c-detach, unless}
 use Rattle.model.specs.declared.Answer.the-variants.{Ok, Refused}
 use Rattle.model.specs.declared.SegmentState.the-variants.{Part}
-use Rattle.model.specs.Rules.{phaseOf}
+use Rattle.model.specs.PhaseNumbers.{phaseOf}
 use Rattle.model.specs.Fields.{absent, holding, place}
 use Rattle.model.specs.Segments.{setSegmentState, partStack, count, stacked}
 use Rattle.model.specs.Mutators.{setEntry, releasedOne, released, detached}
 use Rattle.model.specs.Calls.{act}
 use Rattle.model.specs.Consistent.{Consistent}
 use Rattle.model.specs.Promise.{Promise}
-use Rattle.laws.proofs.Lengths.{sizes-of}
-use Rattle.laws.proofs.Released.{release-inside, release-room, releasable}
-use Rattle.laws.proofs.Promised.{done, torn-13, declined}
+use Rattle.model_laws.proofs.Lengths.{sizes-of}
+use Rattle.model_laws.proofs.Released.{release-inside, release-room, releasable}
+use Rattle.model_laws.proofs.Promised.{done, torn-13, declined}
 use Rattle.mutators.specs.Inside.{insideThen}
 use Rattle.mutators.specs.Entry.{entryOf}
 use Rattle.mutators.proofs.Inside.{then-known}

@@ -6,9 +6,9 @@ use Prim.Native.Nat.{ℕ, zero, suc, _+_, _-_, _*_, _/_, _%_, _≤_, _<_}
 use native.Mathlib.Omega.{arith}
 use lib.ListN.{length, getD, take, drop}
 use lib.Seq.{getD-drop}
-use Rattle.rules.specs.Decides.{Decides}
-use Rattle.rules.proofs.Deciding.{via}
-use Rattle.rules.proofs.Parts.{tail-part}
+use Rattle.basics.specs.Decides.{Decides}
+use Rattle.basics.proofs.Deciding.{via}
+use Rattle.basics.proofs.Parts.{tail-part}
 use Rattle.words.specs.Bits.{bitOf, bitAt, clearFrom}
 use Rattle.words.specs.Levels.{wordsFor}
 use Rattle.words.specs.Tree.{Level, Sums, Tree}

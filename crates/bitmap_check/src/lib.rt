@@ -4,7 +4,7 @@ use words::clear_from;
 use words::words_for;
 ghost use Prim.Native.Nat.{_+_, _≤_, _<_};
 ghost use lib.ListN.{length, drop};
-ghost use Rattle.rules.specs.Decides.{Decides};
+ghost use Rattle.basics.specs.Decides.{Decides};
 ghost use Rattle.words.specs.Levels.{wordsFor, treeWords};
 ghost use Rattle.words.specs.Tree.{Level, Sums, Tree};
 ghost use Rattle.bitmap_check.specs.Agree.{SummaryAgrees};

@@ -8,7 +8,7 @@ use native.Mathlib.Omega.{arith}
 use lib.Dec.{ltb}
 use lib.ListN.{getD, drop}
 use borrow.Author.Tests.{ltb-true}
-use Rattle.rules.specs.Pick.{pick}
+use Rattle.basics.specs.Pick.{pick}
 use Rattle.words.specs.Bits.{clearFrom}
 use Rattle.words.specs.Levels.{wordsFor}
 use Rattle.bitmap_search.specs.declared.BitPos.{BitPos}

@@ -9,7 +9,7 @@ use lib.Dec.{ltb}
 use lib.ListN.{getD, drop}
 use lib.Seq.{getD-drop}
 use borrow.Author.Tests.{ltb-true, ltb-false, lt-ltb}
-use Rattle.rules.specs.Pick.{pick}
+use Rattle.basics.specs.Pick.{pick}
 use Rattle.words.specs.Bits.{bitAt, clearFrom}
 use Rattle.words.specs.Levels.{wordsFor}
 use Rattle.words.specs.Tree.{Level, Sums, Tree}

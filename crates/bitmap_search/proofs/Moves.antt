@@ -4,7 +4,7 @@ use mathlib.Core.List.{List}
 use Prim.Native.Nat.{ℕ, _+_, _-_, _*_, _^_, _≤_, _<_}
 use lib.ListN.{length, getD, take, drop}
 use borrow.Author.Tests.{lt-ltb, le-ltb}
-use Rattle.rules.proofs.Parts.{tail-part}
+use Rattle.basics.proofs.Parts.{tail-part}
 use Rattle.words.specs.Bits.{clearFrom}
 use Rattle.words.specs.Levels.{wordsFor}
 use Rattle.bitmap_search.specs.declared.BitPos.{BitPos}

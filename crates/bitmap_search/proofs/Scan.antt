@@ -6,8 +6,8 @@ use Prim.Native.Nat.{ℕ, _-_, _≤_, _<_}
 use native.Mathlib.Omega.{arith}
 use lib.Dec.{ltb}
 use borrow.Author.Tests.{lt-ltb, le-ltb, ltb-true, ltb-false}
-use Rattle.rules.specs.Pick.{pick}
-use Rattle.rules.proofs.Order.{le-or-lt}
+use Rattle.basics.specs.Pick.{pick}
+use Rattle.basics.proofs.Order.{le-or-lt}
 use Rattle.words.specs.Bits.{firstZero}
 use Rattle.words.proofs.FirstZero.{NoZero, IsFirst, first-zero, first-one}
 use Rattle.bitmap_search.specs.declared.Found.{Found}

@@ -14,9 +14,9 @@ use Rattle.words.proofs.Word.{bit-zero}
 use Rattle.words.proofs.Lists.{bit-split, bits-same}
 use Rattle.words.proofs.Trees.{words-in}
 use Rattle.bitmap_write.specs.Rebuild.{packed}
-use Rattle.bitmap_write.specs.Ready.{completed, cleared, copied, fresh, adopted}
+use Rattle.bitmap_write.specs.Completed.{completed, cleared, copied, fresh, adopted}
 use Rattle.bitmap_write.proofs.Packed.{word-zeros}
-use Rattle.bitmap_write.proofs.Ready.{completed-tree, completed-bit, length-completed}
+use Rattle.bitmap_write.proofs.Completed.{completed-tree, completed-bit, length-completed}
 
 -- ---- cleared
 

@@ -4,7 +4,7 @@ use mathlib.Core.Logic.{_⊎_, inl, inr}
 use mathlib.Core.List.{List}
 use Prim.Native.Nat.{ℕ, _+_, _-_, _^_, _≤_, _<_}
 use native.Mathlib.Omega.{arith}
-use Rattle.rules.proofs.Order.{le-or-lt, same-or-not}
+use Rattle.basics.proofs.Order.{le-or-lt, same-or-not}
 use Rattle.words.proofs.Word.{one-of-not-zero}
 use Rattle.bitmap_write.specs.Rebuild.{wordFrom, fullBit}
 use Rattle.bitmap_write.proofs.Packed.{full-both, full-past, full-lt, word-alike, word-same, word-ones, word-less}

@@ -9,8 +9,8 @@ use lib.Bits.{bitOr, or-zero-l}
 use lib.ListN.{length, getD, set, take, drop, replicate, length-replicate, getD-replicate}
 use lib.Seq.{ext-getD, getD-set-same, set-split, drop-at, drop-drop}
 use borrow.Author.Tests.{ne-eqb}
-use Rattle.rules.proofs.Order.{le-or-lt, same-or-not}
-use Rattle.rules.proofs.Parts.{tail-part, put-tail}
+use Rattle.basics.proofs.Order.{le-or-lt, same-or-not}
+use Rattle.basics.proofs.Parts.{tail-part, put-tail}
 use Rattle.words.specs.Bits.{bitOf, bitAt}
 use Rattle.words.specs.Levels.{wordsFor, treeWords}
 use Rattle.words.specs.Tree.{allOnes}
@@ -18,10 +18,10 @@ use Rattle.words.proofs.Word.{ones-set}
 use Rattle.words.proofs.Lists.{bit-in}
 use Rattle.words.proofs.Trees.{words-in, part-word}
 use Rattle.bitmap_write.specs.Rebuild.{wordFrom, packed, fullBit, summed, rebuilt}
-use Rattle.bitmap_write.specs.Ready.{padded, completed, cleared, fresh}
+use Rattle.bitmap_write.specs.Completed.{padded, completed, cleared, fresh}
 use Rattle.bitmap_write.proofs.Packed.{full-not, full-past, word-zeros, word-tail, length-packed, packed-at}
 use Rattle.bitmap_write.proofs.Summed.{drop-summed}
-use Rattle.bitmap_write.proofs.Ready.{padded-whole, padded-part, padded-bit, other-word, length-padded}
+use Rattle.bitmap_write.proofs.Completed.{padded-whole, padded-part, padded-bit, other-word, length-padded}
 use Rattle.bitmap_write.proofs.Copied.{length-cleared, cleared-bit}
 use Rattle.bitmap_write.proofs.Local.{padded-append}
 

@@ -11,14 +11,14 @@ use lib.Dec.{ltb}
 use lib.ListN.{length, getD, set, take, drop, length-append, length-drop}
 use lib.Seq.{take-all, getD-drop, length-take-le, getD-append-add, paste, paste-suc}
 use borrow.Author.Tests.{lt-ltb, le-ltb}
-use Rattle.rules.specs.Pick.{pick}
-use Rattle.rules.proofs.Order.{le-or-lt}
+use Rattle.basics.specs.Pick.{pick}
+use Rattle.basics.proofs.Order.{le-or-lt}
 use Rattle.words.specs.Bits.{bitAt}
 use Rattle.words.specs.Levels.{wordsFor}
 use Rattle.words.proofs.Lists.{at-lt, bits-same}
 use Rattle.words.proofs.Word.{zero-of-not-one}
 use Rattle.bitmap_write.specs.Rebuild.{wordFrom, packed}
-use Rattle.bitmap_write.specs.Ready.{copied, gatheredBit, gathered}
+use Rattle.bitmap_write.specs.Completed.{copied, gatheredBit, gathered}
 use Rattle.bitmap_write.proofs.Packed.{length-packed, packed-at, word-alike, word-same, word-zeros, word-less}
 use Rattle.bitmap_write.proofs.Copied.{length-copied}
 

@@ -9,7 +9,7 @@ use native.Mathlib.Nat.{eq-or-lt-of-le, le-of-suc-le-suc, not-suc-le-zero}
 use native.Mathlib.Omega.{arith}
 use lib.Bits.{bitAnd, bitOr, and-step, and-shr}
 use lib.Dec.{T, eqb, eqb→eq}
-use Rattle.rules.specs.Pick.{pick}
+use Rattle.basics.specs.Pick.{pick}
 use Rattle.words.specs.Bits.{bitOf}
 use Rattle.words.proofs.Word.{bit-lt, bit-cases, bit-shift, or-bit}
 

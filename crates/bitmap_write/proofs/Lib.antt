@@ -3,7 +3,7 @@ pub mod Packed
 pub mod Counted
 pub mod Summed
 pub mod Rebuilt
-pub mod Ready
+pub mod Completed
 pub mod Copied
 pub mod Gathered
 pub mod Halves

@@ -8,15 +8,15 @@ use native.Mathlib.Omega.{arith}
 use lib.Bits.{bitOr}
 use lib.ListN.{length, getD, set, take, drop, replicate, List·getD-append}
 use lib.Seq.{take-append-le, drop-append-le, set-append-left}
-use Rattle.rules.proofs.Order.{same-or-not}
+use Rattle.basics.proofs.Order.{same-or-not}
 use Rattle.words.specs.Levels.{wordsFor, treeWords}
 use Rattle.words.proofs.Trees.{words-in, part-word}
 use Rattle.bitmap_write.specs.Rebuild.{packed, fullBit, summed, rebuilt}
-use Rattle.bitmap_write.specs.Ready.{padded, completed, cleared, copied, fresh, adopted}
+use Rattle.bitmap_write.specs.Completed.{padded, completed, cleared, copied, fresh, adopted}
 use Rattle.bitmap_write.proofs.Packed.{full-same, packed-same}
 use Rattle.bitmap_write.proofs.Summed.{length-summed}
 use Rattle.bitmap_write.proofs.Rebuilt.{length-behind}
-use Rattle.bitmap_write.proofs.Ready.{padded-whole, padded-part, length-padded}
+use Rattle.bitmap_write.proofs.Completed.{padded-whole, padded-part, length-padded}
 use Rattle.bitmap_write.proofs.Copied.{length-cleared, length-copied}
 
 module _ (ys : List ℕ) where

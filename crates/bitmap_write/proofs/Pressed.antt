@@ -13,7 +13,7 @@ use Rattle.words.specs.Bits.{bitOf, bitAt}
 use Rattle.words.proofs.Word.{bit-lt, bit-low, bit-half, bit-high}
 use Rattle.words.proofs.Lists.{bit-in}
 use Rattle.bitmap_write.specs.Rebuild.{wordFrom}
-use Rattle.bitmap_write.specs.Ready.{pressed, Pressable, gatheredBit}
+use Rattle.bitmap_write.specs.Completed.{pressed, Pressable, gatheredBit}
 use Rattle.bitmap_write.proofs.Packed.{word-lt, word-bit, word-alike, word-zeros}
 use Rattle.bitmap_write.proofs.Gathered.{gathered-in, gathered-lt}
 use Rattle.bitmap_write.proofs.Halves.{eights, halfOf, half-bit}

@@ -7,7 +7,7 @@ use native.Mathlib.Numerals.{sub-one}
 use native.Mathlib.Omega.{arith}
 use lib.ListN.{length, getD, take, drop, List·getD-append, length-append, length-drop}
 use lib.Seq.{length-take-le, getD-take, drop-at, drop-drop, drop-append-add}
-use Rattle.rules.proofs.Parts.{tail-part, put-tail}
+use Rattle.basics.proofs.Parts.{tail-part, put-tail}
 use Rattle.words.specs.Levels.{wordsFor, treeWords, Height}
 use Rattle.words.specs.Bits.{bitAt}
 use Rattle.words.specs.Tree.{Level, Tree}

@@ -9,7 +9,7 @@ use lib.Bits.{bitAnd, bitOr, and-le-l, and-le-r, or-add-and}
 use lib.Dec.{eqb}
 use lib.ListN.{length, getD, List·getD-eq-default}
 use borrow.Author.Tests.{eqb-true}
-use Rattle.rules.proofs.Order.{le-or-lt, same-or-not}
+use Rattle.basics.proofs.Order.{le-or-lt, same-or-not}
 use Rattle.words.specs.Bits.{bitAt, bitOf}
 use Rattle.words.proofs.Lists.{bit-split}
 use Rattle.words.proofs.Word.{bit-zero}

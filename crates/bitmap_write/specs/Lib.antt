@@ -1,3 +1,3 @@
 -- Upper levels rebuilt, and a level 0 made ready for them.
 pub mod Rebuild
-pub mod Ready
+pub mod Completed

@@ -10,7 +10,7 @@ ghost use lib.ListN.{length, drop};
 ghost use Rattle.words.specs.Bits.{bitAt, onesAmong};
 ghost use Rattle.words.specs.Levels.{wordsFor, treeWords};
 ghost use Rattle.bitmap_write.specs.Rebuild.{fullBit, wordFrom, summed, rebuilt};
-ghost use Rattle.bitmap_write.specs.Ready.{padded, cleared, copied, completed, fresh, gatheredBit, gathered, pressed, Pressable, Ways, adopted};
+ghost use Rattle.bitmap_write.specs.Completed.{padded, cleared, copied, completed, fresh, gatheredBit, gathered, pressed, Pressable, Ways, adopted};
 
 // Bit k of the level above the first m words, one of which word k is.
 fn full_bit(s: &[u32], m: u32, k: u32) -> u32

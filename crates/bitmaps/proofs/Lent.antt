@@ -3,14 +3,14 @@ use mathlib.Core.Path.{_≡_, refl, sym, ap, _∙_}
 use mathlib.Core.Bool.{Bool, true, false}
 use lib.Dec.{ltb}
 use borrow.Author.Tests.{ltb-true}
-use Rattle.rules.specs.Pick.{pick}
+use Rattle.basics.specs.Pick.{pick}
 use Rattle.words.specs.Bits.{bitAt, onesAmong}
 use Rattle.words.proofs.Ones.{among-same}
 use Rattle.classes.proofs.Filling.{two-words}
 use Rattle.bitmap_write.proofs.Packed.{length-packed, packed-same}
 use Rattle.bitmap_write.proofs.Gathered.{bit-inside}
-use Rattle.laws.proofs.Blocks.{even-words, blocks-step, blocks-some}
-use Rattle.laws.proofs.Windows.{window-bit}
+use Rattle.model_laws.proofs.Blocks.{even-words, blocks-step, blocks-some}
+use Rattle.model_laws.proofs.Windows.{window-bit}
 use mathlib.Core.List.{List, [], _∷_, _++_, append-assoc}
 use Prim.Native.Nat.{ℕ, zero, suc, _+_, _-_, _*_, _/_, _^_, _≤_, _<_}
 use native.Mathlib.Nat.{suc-mul, mul-le-mul-right, mul-assoc}
@@ -26,13 +26,13 @@ use Rattle.layout.specs.Geometry.{from, markWords, bitmapWords, blocksIn, mostB
 use Rattle.layout.specs.Mem.{memOf, readRun}
 use Rattle.layout.proofs.Regions.{read-at, part-at}
 use Rattle.layout.proofs.Sizes.{class-fits, marks-are, marks-words, most-small}
-use Rattle.bitmap_write.specs.Ready.{adopted, gatheredBit, gathered}
+use Rattle.bitmap_write.specs.Completed.{adopted, gatheredBit, gathered}
 use Rattle.bitmap_write.proofs.Copied.{length-adopted, adopted-bit}
 use Rattle.bitmap_write.proofs.Local.{adopted-append}
 use Rattle.model.specs.Segments.{above, bitmap, setBitmap, marksIn}
 use Rattle.model.specs.Records.{headerOf, entered}
-use Rattle.laws.proofs.Lengths.{sizes-of}
-use Rattle.laws.proofs.Bitmaps.{tree-room}
+use Rattle.model_laws.proofs.Lengths.{sizes-of}
+use Rattle.model_laws.proofs.Bitmaps.{tree-room}
 use Rattle.bitmaps.specs.Given.{Unmarked}
 use Rattle.layout.specs.Region as Region
 

@@ -13,7 +13,7 @@ use Rattle.layout.specs.declared.Geometry.{Geometry}
 use Rattle.layout.specs.Geometry.{mostBlocks, markWords}
 use Rattle.layout.specs.Mem.{Mem}
 use Rattle.layout.proofs.Sizes.{marks-are}
-use Rattle.laws.proofs.Blocks.{blocks-some}
+use Rattle.model_laws.proofs.Blocks.{blocks-some}
 use Rattle.model.specs.Segments.{bitmap}
 use Rattle.bitmaps.specs.Given.{NearIn}
 use Rattle.bitmap_search.specs.declared.Near.the-variants as near

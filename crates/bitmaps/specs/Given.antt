@@ -3,12 +3,12 @@
 use mathlib.Core.Path.{_≡_}
 use Prim.Native.Nat.{ℕ, _≤_, _<_}
 use lib.Dec.{ltb}
-use Rattle.rules.specs.Pick.{pick}
+use Rattle.basics.specs.Pick.{pick}
 use Rattle.words.specs.Bits.{bitAt}
 use Rattle.words.specs.Tree.{Level}
 use Rattle.bitmap_search.specs.declared.Near.{Near}
 use Rattle.bitmap_search.specs.Twice.{nextTwo}
-use Rattle.bitmap_write.specs.Ready.{adopted}
+use Rattle.bitmap_write.specs.Completed.{adopted}
 use Rattle.classes.specs.Class.{IsClass}
 use Rattle.layout.specs.declared.Geometry.{Geometry}
 use Rattle.layout.specs.Geometry.{blocksIn, mostBlocks}

@@ -55,142 +55,174 @@ pub extern "C" fn borvukhai_open(segments: u32, mem: &mut [u32]) -> u32
 }
 
 #[no_mangle]
-pub extern "C" fn borvukhai_attach(segments: u32, mem: &mut [u32], k: u32) -> u32
-    ensures { λ r. ⌜ Promise (c-attach k) (geometryOf segments) (now (mem .entry)) (unpack r) (now (mem .exit)) ⌝ }
+pub extern "C" fn borvukhai_attach(segments: u32, mem: &mut [u32], mutator: u32) -> u32
+    ensures { λ r. ⌜ Promise (c-attach mutator) (geometryOf segments) (now (mem .entry)) (unpack r) (now (mem .exit)) ⌝ }
 {
-    packing::packed(attaching::attach(packing::geometry(segments), mem, k))
+    packing::packed(attaching::attach(packing::geometry(segments), mem, mutator))
 }
 
 #[no_mangle]
 pub extern "C" fn borvukhai_spawn(
     segments: u32,
     mem: &mut [u32],
-    k: u32,
+    mutator: u32,
     parent: u32,
-    i: u32,
+    root: u32,
 ) -> u32
-    ensures { λ r. ⌜ Promise (c-spawn k parent i) (geometryOf segments) (now (mem .entry)) (unpack r) (now (mem .exit)) ⌝ }
+    ensures { λ r. ⌜ Promise (c-spawn mutator parent root) (geometryOf segments) (now (mem .entry)) (unpack r) (now (mem .exit)) ⌝ }
 {
-    packing::packed(attaching::spawn(packing::geometry(segments), mem, k, parent, i))
+    packing::packed(attaching::spawn(packing::geometry(segments), mem, mutator, parent, root))
 }
 
 #[no_mangle]
-pub extern "C" fn borvukhai_detach(segments: u32, mem: &mut [u32], k: u32) -> u32
-    ensures { λ r. ⌜ Promise (c-detach k) (geometryOf segments) (now (mem .entry)) (unpack r) (now (mem .exit)) ⌝ }
+pub extern "C" fn borvukhai_detach(segments: u32, mem: &mut [u32], mutator: u32) -> u32
+    ensures { λ r. ⌜ Promise (c-detach mutator) (geometryOf segments) (now (mem .entry)) (unpack r) (now (mem .exit)) ⌝ }
 {
-    packing::packed(attaching::detach(packing::geometry(segments), mem, k))
+    packing::packed(attaching::detach(packing::geometry(segments), mem, mutator))
 }
 
 #[no_mangle]
 pub extern "C" fn borvukhai_make(
     segments: u32,
     mem: &mut [u32],
-    k: u32,
-    d: u32,
-    p: u32,
-    n: u32,
+    mutator: u32,
+    to: u32,
+    pointers: u32,
+    values: u32,
 ) -> u32
-    ensures { λ r. ⌜ Promise (c-make k d p n) (geometryOf segments) (now (mem .entry)) (unpack r) (now (mem .exit)) ⌝ }
+    ensures { λ r. ⌜ Promise (c-make mutator to pointers values) (geometryOf segments) (now (mem .entry)) (unpack r) (now (mem .exit)) ⌝ }
 {
-    packing::packed(making::make(packing::geometry(segments), mem, k, d, p, n))
+    packing::packed(making::make(
+        packing::geometry(segments),
+        mem,
+        mutator,
+        to,
+        pointers,
+        values,
+    ))
 }
 
 #[no_mangle]
-pub extern "C" fn borvukhai_copy(segments: u32, mem: &mut [u32], k: u32, to: u32, from: u32) -> u32
-    ensures { λ r. ⌜ Promise (c-copy k to from) (geometryOf segments) (now (mem .entry)) (unpack r) (now (mem .exit)) ⌝ }
+pub extern "C" fn borvukhai_copy(
+    segments: u32,
+    mem: &mut [u32],
+    mutator: u32,
+    to: u32,
+    from: u32,
+) -> u32
+    ensures { λ r. ⌜ Promise (c-copy mutator to from) (geometryOf segments) (now (mem .entry)) (unpack r) (now (mem .exit)) ⌝ }
 {
-    packing::packed(root_calls::copy(packing::geometry(segments), mem, k, to, from))
+    packing::packed(root_calls::copy(packing::geometry(segments), mem, mutator, to, from))
 }
 
 #[no_mangle]
-pub extern "C" fn borvukhai_clear(segments: u32, mem: &mut [u32], k: u32, to: u32) -> u32
-    ensures { λ r. ⌜ Promise (c-clear k to) (geometryOf segments) (now (mem .entry)) (unpack r) (now (mem .exit)) ⌝ }
+pub extern "C" fn borvukhai_clear(segments: u32, mem: &mut [u32], mutator: u32, to: u32) -> u32
+    ensures { λ r. ⌜ Promise (c-clear mutator to) (geometryOf segments) (now (mem .entry)) (unpack r) (now (mem .exit)) ⌝ }
 {
-    packing::packed(root_calls::clear(packing::geometry(segments), mem, k, to))
+    packing::packed(root_calls::clear(packing::geometry(segments), mem, mutator, to))
 }
 
 #[no_mangle]
-pub extern "C" fn borvukhai_same(segments: u32, mem: &[u32], k: u32, i: u32, j: u32) -> u64
-    ensures { λ r. ⌜ Promise (c-same k i j) (geometryOf segments) (now (mem .entry)) (unpackSame r) (now (mem .entry)) ⌝ }
+pub extern "C" fn borvukhai_same(
+    segments: u32,
+    mem: &[u32],
+    mutator: u32,
+    root: u32,
+    other: u32,
+) -> u64
+    ensures { λ r. ⌜ Promise (c-same mutator root other) (geometryOf segments) (now (mem .entry)) (unpackSame r) (now (mem .entry)) ⌝ }
 {
-    packing::packed_value(root_calls::same(packing::geometry(segments), mem, k, i, j))
+    packing::packed_value(root_calls::same(packing::geometry(segments), mem, mutator, root, other))
 }
 
 #[no_mangle]
 pub extern "C" fn borvukhai_load(
     segments: u32,
     mem: &mut [u32],
-    k: u32,
+    mutator: u32,
     to: u32,
-    i: u32,
-    f: u32,
+    root: u32,
+    field: u32,
 ) -> u32
-    ensures { λ r. ⌜ Promise (c-load k to i f) (geometryOf segments) (now (mem .entry)) (unpack r) (now (mem .exit)) ⌝ }
+    ensures { λ r. ⌜ Promise (c-load mutator to root field) (geometryOf segments) (now (mem .entry)) (unpack r) (now (mem .exit)) ⌝ }
 {
-    packing::packed(field_calls::load(packing::geometry(segments), mem, k, to, i, f))
+    packing::packed(field_calls::load(packing::geometry(segments), mem, mutator, to, root, field))
 }
 
 #[no_mangle]
 pub extern "C" fn borvukhai_store(
     segments: u32,
     mem: &mut [u32],
-    k: u32,
-    i: u32,
-    f: u32,
-    j: u32,
+    mutator: u32,
+    root: u32,
+    field: u32,
+    from: u32,
 ) -> u32
-    ensures { λ r. ⌜ Promise (c-store k i f j) (geometryOf segments) (now (mem .entry)) (unpack r) (now (mem .exit)) ⌝ }
+    ensures { λ r. ⌜ Promise (c-store mutator root field from) (geometryOf segments) (now (mem .entry)) (unpack r) (now (mem .exit)) ⌝ }
 {
-    packing::packed(storing::store(packing::geometry(segments), mem, k, i, f, j))
+    packing::packed(storing::store(packing::geometry(segments), mem, mutator, root, field, from))
 }
 
 #[no_mangle]
 pub extern "C" fn borvukhai_put(
     segments: u32,
     mem: &mut [u32],
-    k: u32,
-    i: u32,
-    f: u32,
-    v: u32,
+    mutator: u32,
+    root: u32,
+    field: u32,
+    value: u32,
 ) -> u32
-    ensures { λ r. ⌜ Promise (c-put k i f v) (geometryOf segments) (now (mem .entry)) (unpack r) (now (mem .exit)) ⌝ }
+    ensures { λ r. ⌜ Promise (c-put mutator root field value) (geometryOf segments) (now (mem .entry)) (unpack r) (now (mem .exit)) ⌝ }
 {
-    packing::packed(field_calls::put(packing::geometry(segments), mem, k, i, f, v))
+    packing::packed(field_calls::put(
+        packing::geometry(segments),
+        mem,
+        mutator,
+        root,
+        field,
+        value,
+    ))
 }
 
 #[no_mangle]
-pub extern "C" fn borvukhai_get(segments: u32, mem: &[u32], k: u32, i: u32, f: u32) -> u64
-    ensures { λ r. ⌜ Promise (c-get k i f) (geometryOf segments) (now (mem .entry)) (unpackNumber r) (now (mem .entry)) ⌝ }
+pub extern "C" fn borvukhai_get(
+    segments: u32,
+    mem: &[u32],
+    mutator: u32,
+    root: u32,
+    field: u32,
+) -> u64
+    ensures { λ r. ⌜ Promise (c-get mutator root field) (geometryOf segments) (now (mem .entry)) (unpackNumber r) (now (mem .entry)) ⌝ }
 {
-    packing::packed_value(field_calls::get(packing::geometry(segments), mem, k, i, f))
+    packing::packed_value(field_calls::get(packing::geometry(segments), mem, mutator, root, field))
 }
 
 #[no_mangle]
-pub extern "C" fn borvukhai_check(segments: u32, mem: &mut [u32], k: u32) -> u32
-    ensures { λ r. ⌜ Promise (c-check k) (geometryOf segments) (now (mem .entry)) (unpack r) (now (mem .exit)) ⌝ }
+pub extern "C" fn borvukhai_check(segments: u32, mem: &mut [u32], mutator: u32) -> u32
+    ensures { λ r. ⌜ Promise (c-check mutator) (geometryOf segments) (now (mem .entry)) (unpack r) (now (mem .exit)) ⌝ }
 {
-    packing::packed(handshake_calls::check(packing::geometry(segments), mem, k))
+    packing::packed(handshake_calls::check(packing::geometry(segments), mem, mutator))
 }
 
 #[no_mangle]
-pub extern "C" fn borvukhai_leave(segments: u32, mem: &mut [u32], k: u32) -> u32
-    ensures { λ r. ⌜ Promise (c-leave k) (geometryOf segments) (now (mem .entry)) (unpack r) (now (mem .exit)) ⌝ }
+pub extern "C" fn borvukhai_leave(segments: u32, mem: &mut [u32], mutator: u32) -> u32
+    ensures { λ r. ⌜ Promise (c-leave mutator) (geometryOf segments) (now (mem .entry)) (unpack r) (now (mem .exit)) ⌝ }
 {
-    packing::packed(handshake_calls::leave(packing::geometry(segments), mem, k))
+    packing::packed(handshake_calls::leave(packing::geometry(segments), mem, mutator))
 }
 
 #[no_mangle]
-pub extern "C" fn borvukhai_enter(segments: u32, mem: &mut [u32], k: u32) -> u32
-    ensures { λ r. ⌜ Promise (c-enter k) (geometryOf segments) (now (mem .entry)) (unpack r) (now (mem .exit)) ⌝ }
+pub extern "C" fn borvukhai_enter(segments: u32, mem: &mut [u32], mutator: u32) -> u32
+    ensures { λ r. ⌜ Promise (c-enter mutator) (geometryOf segments) (now (mem .entry)) (unpack r) (now (mem .exit)) ⌝ }
 {
-    packing::packed(handshake_calls::enter(packing::geometry(segments), mem, k))
+    packing::packed(handshake_calls::enter(packing::geometry(segments), mem, mutator))
 }
 
 #[no_mangle]
-pub extern "C" fn borvukhai_shape(segments: u32, mem: &[u32], k: u32, i: u32) -> u64
-    ensures { λ r. ⌜ Promise (c-shape k i) (geometryOf segments) (now (mem .entry)) (unpackShape r) (now (mem .entry)) ⌝ }
+pub extern "C" fn borvukhai_shape(segments: u32, mem: &[u32], mutator: u32, root: u32) -> u64
+    ensures { λ r. ⌜ Promise (c-shape mutator root) (geometryOf segments) (now (mem .entry)) (unpackShape r) (now (mem .entry)) ⌝ }
 {
-    packing::packed_value(field_calls::shape(packing::geometry(segments), mem, k, i))
+    packing::packed_value(field_calls::shape(packing::geometry(segments), mem, mutator, root))
 }
 
 #[no_mangle]

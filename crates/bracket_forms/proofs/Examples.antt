@@ -8,7 +8,7 @@ use lib.Dec.{T, lit<}
 use lib.ListN.{getD}
 use Rattle.bracket_text.specs.Text.{bytes, digitsOf, decimal, fill, text}
 use Rattle.bracket_text.specs.Scan.{digitsOn, numberOf, piece, matched}
-use Rattle.rules.proofs.Table.{Each, every-at}
+use Rattle.basics.proofs.Table.{Each, every-at}
 use Rattle.bracket_text.proofs.Laws.{_also_}
 use Rattle.bracket_forms.specs.Forms.{textOf, FormRead}
 use Rattle.bracket_forms.specs.Kinds.{zeros, forms, formAt, templateAt}

@@ -16,7 +16,7 @@ use borrow.Author.Tests.{eq-eqb, ne-eqb, eqb-true}
 use Rattle.bracket_text.specs.Text.{fill, text, Words}
 use Rattle.bracket_text.specs.Fixed.{lengthFrom, trimmed}
 use Rattle.bracket_text.specs.Scan.{matched, Matches}
-use Rattle.rules.proofs.Table.{Each, each-at}
+use Rattle.basics.proofs.Table.{Each, each-at}
 use Rattle.bracket_text.proofs.Laws.{_also_}
 use Rattle.bracket_text.proofs.Templates.{holes, fill-length, matched-sound, matched-complete, differ-apart}
 use Rattle.bracket_forms.specs.Forms.{spelt, textOf, numbersOf, Fitting, FormRead}

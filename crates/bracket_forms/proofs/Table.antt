@@ -6,7 +6,7 @@ use mathlib.Core.Bool.{Bool, _||_}
 use mathlib.Core.List.{List}
 use lib.Dec.{T, leb, eqb, leb→le}
 use borrow.Author.Tests.{ne-eqb}
-use Rattle.rules.proofs.Table.{every, every-at}
+use Rattle.basics.proofs.Table.{every, every-at}
 use Rattle.bracket_text.proofs.Templates.{holes, apart, most, differ}
 use Rattle.bracket_forms.specs.declared.Form.{Form}
 use Rattle.bracket_forms.specs.declared.Form.the-variants.{Step}

@@ -22,13 +22,13 @@ use Rattle.bracket_forms.proofs.Table.{template-most}
 use Rattle.bracket_forms.proofs.Reader.{kindOf, form-tied}
 
 -- what parts stand for a text of at most limit bytes
-pub record Stands (text : List ℕ) (limit : ℕ) (p : Parts) : Type 0 where
+pub record StandsFor (text : List ℕ) (limit : ℕ) (p : Parts) : Type 0 where
   pub is : fill (trimmed (p .0)) (p .1) ≡ text
   pub short : length (fill (trimmed (p .0)) (p .1)) ≤ limit
 
-pub form-stands : (f : Form) (p : Parts) → p ≡ formParts f → Stands (textOf f) 80 p
-form-stands f p q =
-    subst (Stands (textOf f) 80) (sym q)
+pub form-stands-for : (f : Form) (p : Parts) → p ≡ formParts f → StandsFor (textOf f) 80 p
+form-stands-for f p q =
+    subst (StandsFor (textOf f) 80) (sym q)
     (record {
       is = is;
       short =
@@ -58,21 +58,21 @@ reply-tied (Swept a b) = record { most = lit≤ tt; text = refl }
 reply-tied Done = record { most = lit≤ tt; text = refl }
 reply-tied Idle = record { most = lit≤ tt; text = refl }
 
-pub reply-stands : (r : Reply) (p : Parts) → p ≡ replyParts r → Stands (replyText r) 32 p
-reply-stands r p q =
-    subst (Stands (replyText r) 32) (sym q)
+pub reply-stands-for : (r : Reply) (p : Parts) → p ≡ replyParts r → StandsFor (replyText r) 32 p
+reply-stands-for r p q =
+    subst (StandsFor (replyText r) 32) (sym q)
     (record {
       is = reply-tied r .text;
       short = omega (arith, reply-tied r .most, fill-length (trimmed (replyParts r .0)) (replyParts r .1));
     })
 
-pub stands-written : {text : List ℕ} {limit : ℕ} {p : Parts} → Stands text limit p → (before after : List ℕ) (n : ℕ)
+pub stands-for-written : {text : List ℕ} {limit : ℕ} {p : Parts} → StandsFor text limit p → (before after : List ℕ) (n : ℕ)
     → Written (fill (trimmed (p .0)) (p .1)) before n after → Written text before n after
-stands-written s before after n w = subst (λ (x : List ℕ). Written x before n after) (s .is) w
+stands-for-written s before after n w = subst (λ (x : List ℕ). Written x before n after) (s .is) w
 
 -- the text of a form of any numbers has at most 80 bytes
 pub form-short : (f : Form) → length (textOf f) ≤ 80
-form-short f = let s = form-stands f (formParts f) refl in subst (λ (x : List ℕ). length x ≤ 80) (s .is) (s .short)
+form-short f = let s = form-stands-for f (formParts f) refl in subst (λ (x : List ℕ). length x ≤ 80) (s .is) (s .short)
 
 -- what a writer of text has written is that text
 pub written-text : (text before : List ℕ) (n : ℕ) (after : List ℕ) → Written text before n after → take n after ≡ text

@@ -14,14 +14,14 @@ use Rattle.bracket_text.specs.Text.{Written}
 use Rattle.bracket_forms.specs.Kinds.{replyParts}
 use Rattle.bracket_forms.specs.Replies.{replyText}
 use Rattle.bracket_forms.specs.declared.Reply.{Reply}
-use Rattle.bracket_forms.proofs.Writer.{reply-stands}
+use Rattle.bracket_forms.proofs.Writer.{reply-stands-for}
 use Rattle.bracket_lines.specs.Split.{finished}
 use Rattle.bracket_lines.specs.declared.Found.the-variants.{More, Line, Overlong}
 use Rattle.bracket_run.specs.Printed.{Prints, mostReply}
 
 -- "No reply's text is longer than 32 bytes"
 pub reply-short : (r : Reply) → length (replyText r) ≤ 32
-reply-short r = let s = reply-stands r (replyParts r) refl in rw (← s .is) (s .short)
+reply-short r = let s = reply-stands-for r (replyParts r) refl in rw (← s .is) (s .short)
 
 module _ (text : List ℕ) {before : List ℕ} {n : ℕ} {buf : List ℕ} (w : Written text before n buf) (short : length text ≤ 32) (out : List ℕ) (used : ℕ) (room : used + mostReply ≤ length out) where
   -- the text is the front of its buffer

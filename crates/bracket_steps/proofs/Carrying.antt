@@ -8,7 +8,7 @@ use lib.Dec.{eqb}
 use lib.ListN.{length, take, drop}
 use lib.Seq.{length-take-le, take-append-seam}
 use borrow.Author.Tests.{eqb-true}
-use Rattle.rules.specs.Pick.{pick}
+use Rattle.basics.specs.Pick.{pick}
 use Rattle.layout.specs.Geometry.{total, segmentBytes, wrongSize, maxSegments}
 use Rattle.layout.specs.Mem.{memOf, flat}
 use Rattle.layout.proofs.Regions.{right-size, flat-memOf}
@@ -21,7 +21,7 @@ use Rattle.bracket_forms.specs.Forms.{FormRead}
 use Rattle.bracket_steps.specs.declared.Task.{Task}
 use Rattle.bracket_steps.specs.declared.Task.the-variants.{Open, Call, Start, Step}
 use Rattle.bracket_steps.specs.Said.{State, heap, roomWords, memoryIn, withMemory, taskOf, done, segmentsFor, oneOrTwo, Good, Answers}
-use Rattle.bracket_steps.specs.Ran.{Ready, Ran, Carries}
+use Rattle.bracket_steps.specs.Ran.{TaskReady, Ran, Carries}
 use Rattle.bracket_forms.specs.declared.Reply.the-variants as reply
 
 -- one or two
@@ -41,7 +41,7 @@ unfolding segmentBytes
 fits n e = let k = few n e in omega arith
 
 -- the memory of the task's heap: an opening's is of any content, any other is the one that is open
-ready : (t : Task) (s : State) (n : ℕ) → n ≡ segmentsFor t (s .segments) → oneOrTwo n ≡ true → Good s → Ready t (heap n) (memoryIn (heap n) (s .words))
+ready : (t : Task) (s : State) (n : ℕ) → n ≡ segmentsFor t (s .segments) → oneOrTwo n ≡ true → Good s → TaskReady t (heap n) (memoryIn (heap n) (s .words))
 ready (Open k) s n e f h = tt
 ready (Call q) s n e f h = subst (λ z. Consistent (heap z) (memoryIn (heap z) (s .words))) (sym e) (h (ap oneOrTwo (sym e) ∙ f))
 ready Start s n e f h = subst (λ z. Consistent (heap z) (memoryIn (heap z) (s .words))) (sym e) (h (ap oneOrTwo (sym e) ∙ f))

@@ -14,17 +14,17 @@ use Rattle.bracket_steps.specs.declared.Task.the-variants.{Open, Call, S
 use Rattle.bracket_steps.specs.Said.{State, done, replyOf, answered, Good}
 
 -- an opening "works on memory of any content", every other call on memory that passes the examination
-abbrev pub Ready : Task → Geometry → Mem → Type 0
-Ready (Open n) g m = Unit
-Ready (Call q) g m = Consistent g m
-Ready Start g m = Consistent g m
-Ready Step g m = Consistent g m
+abbrev pub TaskReady : Task → Geometry → Mem → Type 0
+TaskReady (Open n) g m = Unit
+TaskReady (Call q) g m = Consistent g m
+TaskReady Start g m = Consistent g m
+TaskReady Step g m = Consistent g m
 
 -- a task carried out over the words of its heap
 pub record Ran (t : Task) (g : Geometry) (before : List ℕ) (r : Reply) (after : List ℕ) : Type 0 where
-  pub exact : wrongSize g (length before) ≡ false → Ready t g (memOf g before)
+  pub exact : wrongSize g (length before) ≡ false → TaskReady t g (memOf g before)
       → (r ≡ replyOf (done t g (memOf g before) .0)) × (memOf g after ≡ done t g (memOf g before) .1)
-  pub keeps : wrongSize g (length before) ≡ false → Ready t g (memOf g before) → length after ≡ length before → Consistent g (memOf g after)
+  pub keeps : wrongSize g (length before) ≡ false → TaskReady t g (memOf g before) → length after ≡ length before → Consistent g (memOf g after)
 
 -- and among the lent words
 pub record Carries (t : Task) (s : State) (r : Reply) (after : State) : Type 0 where

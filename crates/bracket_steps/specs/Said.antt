@@ -5,7 +5,7 @@ use mathlib.Core.List.{List, _++_}
 use Prim.Native.Nat.{ℕ}
 use lib.Dec.{eqb}
 use lib.ListN.{take, drop}
-use Rattle.rules.specs.Pick.{pick, oneIf}
+use Rattle.basics.specs.Pick.{pick, oneIf}
 use Rattle.classes.specs.Record.{pointerCountOf, valueCountOf}
 use Rattle.layout.specs.declared.Geometry.{Geometry}
 use Rattle.layout.specs.Geometry.{total}

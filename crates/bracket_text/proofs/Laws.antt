@@ -4,7 +4,7 @@ use mathlib.Core.Path.{_≡_, refl, sym, _∙_, ap}
 use mathlib.Core.List.{List, [], _∷_, _++_, append-assoc}
 use mathlib.Core.Bool.{Bool, true, false, _&&_}
 use native.Mathlib.Nat.{add-zero, zero-add}
-use Rattle.rules.proofs.Table.{and-left, and-right}
+use Rattle.basics.proofs.Table.{and-left, and-right}
 use lib.Dec.{T, eqb, eqb→eq}
 use native.Mathlib.Numerals.{add-one}
 use native.Mathlib.Omega.{arith}

@@ -10,7 +10,7 @@ use lib.Dec.{eqb}
 use lib.ListN.{length, getD, drop, set, drop-of-length-le}
 use lib.Arith.{lt-of-le-ne}
 use borrow.Author.Tests.{lt-ltb, le-ltb, eq-eqb, ne-eqb, eqb-true, eqb-false}
-use Rattle.bracket_text.specs.Scan.{digitOf, digitsOn, numberOf, numbered, NumberRead, Reads, Progress, reading, piece, Moves, matched, atEnd, Matches}
+use Rattle.bracket_text.specs.Scan.{digitOf, digitsOn, numberOf, numbered, NumberRead, Reads, Progress, reading, piece, PieceRead, matched, atEnd, Matches}
 use Rattle.bracket_text.proofs.Laws.{drop-step}
 use Rattle.bracket_text.specs.declared.Number.{Number}
 use Rattle.bracket_text.specs.declared.Number.the-variants.{Value, Nothing}
@@ -88,12 +88,12 @@ module _ (b n : ℕ) (ns : List ℕ) where
     unfolding piece
     piece-end k = rw (ne-eqb b 35 h, drop-of-length-le l k)
 
-pub moves-at : (line : List ℕ) (o : Option Progress) (r : Place) (ns : List ℕ) {i n : ℕ} → Moves line o r ns → r ≡ At i n
+pub piece-read-at : (line : List ℕ) (o : Option Progress) (r : Place) (ns : List ℕ) {i n : ℕ} → PieceRead line o r ns → r ≡ At i n
     → (o ≡ reading n ns (drop i line)) × (i ≤ length line) × (n ≤ 5)
-moves-at line o r ns h e = subst (λ (x : Place). Moves line o x ns) e h
+piece-read-at line o r ns h e = subst (λ (x : Place). PieceRead line o x ns) e h
 
-pub moves-astray : (line : List ℕ) (o : Option Progress) (r : Place) (ns : List ℕ) → Moves line o r ns → r ≡ Astray → o ≡ none
-moves-astray line o r ns h e = subst (λ (x : Place). Moves line o x ns) e h
+pub piece-read-astray : (line : List ℕ) (o : Option Progress) (r : Place) (ns : List ℕ) → PieceRead line o r ns → r ≡ Astray → o ≡ none
+piece-read-astray line o r ns h e = subst (λ (x : Place). PieceRead line o x ns) e h
 
 -- the rest of a template at a place
 module _ (t : List ℕ) (i n : ℕ) (ns l : List ℕ) where

@@ -13,9 +13,9 @@ use lib.ListN.{length, getD, take, drop, set, length-set, take-append-drop, leng
 use lib.Seq.{getD-take, getD-set-same, drop-drop, take-take, take-set-le, take-suc, take-suc-set, drop-set-lt}
 use borrow.Author.Tests.{lt-ltb, ltb-true, eq-eqb, eqb-true, eqb-false}
 use Rattle.bracket_text.specs.Text.{decimal, Word, Words, isHole, pieceText, numbersLeft, fill}
-use Rattle.bracket_text.specs.Scan.{digitOf, numberOf, NumberRead, Progress, reading, keepNumber, literal, piece, atEnd, onward, matched}
+use Rattle.bracket_text.specs.Scan.{digitOf, numberOf, NumberRead, Progress, reading, keepNumber, literal, piece, atEnd, thenRead, matched}
 use Rattle.bracket_text.proofs.Laws.{getD-at}
-use Rattle.rules.proofs.Table.{and-left, and-right}
+use Rattle.basics.proofs.Table.{and-left, and-right}
 use Rattle.bracket_text.proofs.Decimal.{decimal-length}
 use Rattle.bracket_text.proofs.Numbers.{Stops, number-sound, number-complete}
 
@@ -92,29 +92,29 @@ matched-sound (b ∷ t) n ns l ms five w e = go (isHole b) refl e (matched-sound
     Rest : Type 0
     Rest = (n′ : ℕ) (ns′ l′ ms′ : List ℕ) → length ns′ ≡ 5 → Words ns′ → matched t n′ ns′ l′ ≡ some ms′ → Shown t n′ ns′ l′ ms′
 
-    number : isHole b ≡ true → (o : Option NumberRead) → numberOf l ≡ o → onward (keepNumber n ns o) (rest-of t) ≡ some ms → Rest
+    number : isHole b ≡ true → (o : Option NumberRead) → numberOf l ≡ o → thenRead (keepNumber n ns o) (rest-of t) ≡ some ms → Rest
         → Shown (b ∷ t) n ns l ms
     number h none q f rec = let z : _≡_ {A = ℕ} 0 1 = cc in absurd (omega arith)
     number h (some r) q f rec = kept (ltb n 5) refl f
       where
         kept : (x : Bool) → ltb n 5 ≡ x
-            → onward (cond x (reading (n + 1) (set ns n (r .value)) (r .rest)) none) (rest-of t) ≡ some ms → Shown (b ∷ t) n ns l ms
+            → thenRead (cond x (reading (n + 1) (set ns n (r .value)) (r .rest)) none) (rest-of t) ≡ some ms → Shown (b ∷ t) n ns l ms
         kept false p g = let z : _≡_ {A = ℕ} 0 1 = cc in absurd (omega arith)
         kept true p g =
             let s = number-sound l (r .value) (r .rest) q in
             shown-number b t n ns l ms (r .value) (r .rest) (subst T (sym h) tt) (ltb-true n 5 p) five (s .is)
             (rec (n + 1) (set ns n (r .value)) (r .rest) ms (length-set ns n (r .value) ∙ five) (words-set ns n (r .value) w (s .word)) g)
 
-    other : isHole b ≡ false → (l′ : List ℕ) → onward (literal b n ns l′) (rest-of t) ≡ some ms → Rest → Shown (b ∷ t) n ns l′ ms
+    other : isHole b ≡ false → (l′ : List ℕ) → thenRead (literal b n ns l′) (rest-of t) ≡ some ms → Rest → Shown (b ∷ t) n ns l′ ms
     other h [] f rec = let z : _≡_ {A = ℕ} 0 1 = cc in absurd (omega arith)
     other h (x ∷ l′) f rec = same (eqb x b) refl f
       where
-        same : (y : Bool) → eqb x b ≡ y → onward (cond y (reading n ns l′) none) (rest-of t) ≡ some ms
+        same : (y : Bool) → eqb x b ≡ y → thenRead (cond y (reading n ns l′) none) (rest-of t) ≡ some ms
             → Shown (b ∷ t) n ns (x ∷ l′) ms
         same false p g = let z : _≡_ {A = ℕ} 0 1 = cc in absurd (omega arith)
         same true p g = shown-literal b t n ns l′ ms x h (eqb-true x b p) (rec n ns l′ ms five w g)
 
-    go : (x : Bool) → isHole b ≡ x → onward (cond x (keepNumber n ns (numberOf l)) (literal b n ns l)) (rest-of t) ≡ some ms → Rest
+    go : (x : Bool) → isHole b ≡ x → thenRead (cond x (keepNumber n ns (numberOf l)) (literal b n ns l)) (rest-of t) ≡ some ms → Rest
         → Shown (b ∷ t) n ns l ms
     go true h f rec = number h (numberOf l) refl f rec
     go false h f rec = other h l f rec
@@ -175,7 +175,7 @@ matched-complete (b ∷ t) n ns ms a five w h k p q =
 
     go : (x : Bool) → T (if-hole x (stops-next t)) → T (apart t) → n + (one-if x + holes t) ≤ 5
         → drop (n + (one-if x + holes t)) ms ≡ drop (n + (one-if x + holes t)) ns → Rest
-        → onward
+        → thenRead
         (cond x (keepNumber n ns (numberOf (pieceText x b (drop n ms) ++ fill t (numbersLeft x (drop n ms)))))
         (literal b n ns (pieceText x b (drop n ms) ++ fill t (numbersLeft x (drop n ms)))))
         (rest-of t)

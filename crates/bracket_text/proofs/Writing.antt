@@ -8,7 +8,7 @@ use native.Mathlib.Nat.{add-zero}
 use lib.ListN.{length, getD, drop, set, length-append, drop-of-length-le}
 use lib.Seq.{drop-drop, length-take-le}
 use borrow.Author.Tests.{eq-eqb, ne-eqb}
-use Rattle.bracket_text.specs.Text.{decimal, Word, isHole, pieceText, numbersLeft, taken, fill, placed, Written}
+use Rattle.bracket_text.specs.Text.{decimal, Word, isHole, pieceText, numbersLeft, numbersTaken, fill, placed, Written}
 use Rattle.bracket_text.specs.Pen.{Put}
 use Rattle.bracket_text.specs.declared.Pen.{Pen}
 use Rattle.bracket_text.proofs.Laws.{drop-step, getD-at, placed-nil, placed-one, placed-front, placed-append, length-placed}
@@ -45,16 +45,16 @@ module _ (b n : ℕ) (ns : List ℕ) where
   pub byte-text : (b ≡ 35 → ⊥) → pieceText (isHole b) b (drop n ns) ≡ b ∷ []
   byte-text h = rw (ne-eqb b 35 h)
 
-  pub hole-taken : b ≡ 35 → taken (isHole b) ≡ 1
+  pub hole-taken : b ≡ 35 → numbersTaken (isHole b) ≡ 1
   hole-taken h = rw (eq-eqb b 35 h)
 
-  pub byte-taken : (b ≡ 35 → ⊥) → taken (isHole b) ≡ 0
+  pub byte-taken : (b ≡ 35 → ⊥) → numbersTaken (isHole b) ≡ 0
   byte-taken h = rw (ne-eqb b 35 h)
 
 module _ (l ns : List ℕ) (p : Pen) (b : ℕ) where
   pub put-hole : (v r : ℕ) (m : List ℕ) → b ≡ 35 → v ≡ getD ns (p .count) 0 → r ≡ p .at + length (decimal v)
       → m ≡ placed l (p .at) (decimal v)
-      → Put l (pieceText (isHole b) b (drop (p .count) ns)) (taken (isHole b)) p (record { at = r; count = p .count + 1 }) m
+      → Put l (pieceText (isHole b) b (drop (p .count) ns)) (numbersTaken (isHole b)) p (record { at = r; count = p .count + 1 }) m
   put-hole v r m h e f g =
       let t : pieceText (isHole b) b (drop (p .count) ns) ≡ decimal v = hole-text b (p .count) ns h ∙ ap decimal (sym e) in
       record {
@@ -64,7 +64,7 @@ module _ (l ns : List ℕ) (p : Pen) (b : ℕ) where
       }
 
   pub put-byte : (b ≡ 35 → ⊥) → p .at < length l
-      → Put l (pieceText (isHole b) b (drop (p .count) ns)) (taken (isHole b)) p (record {
+      → Put l (pieceText (isHole b) b (drop (p .count) ns)) (numbersTaken (isHole b)) p (record {
         at =
             p .at + 1;
         count = p .count;
@@ -78,12 +78,12 @@ module _ (l ns : List ℕ) (p : Pen) (b : ℕ) where
       }
 
 -- the rest of a template's text, at a place: the text of the byte there, and of the rest after it
-left-drop : (x : Bool) (n : ℕ) (ns : List ℕ) → numbersLeft x (drop n ns) ≡ drop (n + taken x) ns
+left-drop : (x : Bool) (n : ℕ) (ns : List ℕ) → numbersLeft x (drop n ns) ≡ drop (n + numbersTaken x) ns
 left-drop true n ns = drop-drop 1 n ns
 left-drop false n ns = ap (λ (k : ℕ). drop k ns) (sym (add-zero n))
 
 pub fill-step : (t ns : List ℕ) (i n : ℕ) → i < length t
-    → fill (drop i t) (drop n ns) ≡ pieceText (isHole (getD t i 0)) (getD t i 0) (drop n ns) ++ fill (drop (i + 1) t) (drop (n + taken (isHole (getD t i 0))) ns)
+    → fill (drop i t) (drop n ns) ≡ pieceText (isHole (getD t i 0)) (getD t i 0) (drop n ns) ++ fill (drop (i + 1) t) (drop (n + numbersTaken (isHole (getD t i 0))) ns)
 unfolding fill
 fill-step t ns i n h = rw (drop-step t i h, left-drop (isHole (getD t i 0)) n ns)
 
@@ -110,15 +110,15 @@ module _ (t ns l m : List ℕ) (p : Pen) (i : ℕ) (w : Writes t ns l m p i) (fi
         w .room,
         w .same,
         ap length (fill-step t ns i (p .count) h)
-            ∙ length-append (pieceText (isHole (getD t i 0)) (getD t i 0) (drop (p .count) ns)) (fill (drop (i + 1) t) (drop (p .count + taken (isHole (getD t i 0))) ns)),
+            ∙ length-append (pieceText (isHole (getD t i 0)) (getD t i 0) (drop (p .count) ns)) (fill (drop (i + 1) t) (drop (p .count + numbersTaken (isHole (getD t i 0))) ns)),
       )
 
   pub writes-more : i < length t → (r : Pen) (m′ : List ℕ) → length m′ ≡ length m
-      → Put m (pieceText (isHole (getD t i 0)) (getD t i 0) (drop (p .count) ns)) (taken (isHole (getD t i 0))) p r m′ → Writes t ns l m′ r (i + 1)
+      → Put m (pieceText (isHole (getD t i 0)) (getD t i 0) (drop (p .count) ns)) (numbersTaken (isHole (getD t i 0))) p r m′ → Writes t ns l m′ r (i + 1)
   writes-more h r m′ e u =
       let b = getD t i 0 in
       let x = pieceText (isHole b) b (drop (p .count) ns) in
-      let y = fill (drop (i + 1) t) (drop (p .count + taken (isHole b)) ns) in
+      let y = fill (drop (i + 1) t) (drop (p .count + numbersTaken (isHole b)) ns) in
       let s : fill (drop i t) (drop (p .count) ns) ≡ x ++ y = fill-step t ns i (p .count) h in
       let z : fill (drop (i + 1) t) (drop (r .count) ns) ≡ y = ap (λ (k : ℕ). fill (drop (i + 1) t) (drop k ns)) (u .count) in
       record {
@@ -135,7 +135,7 @@ module _ (t ns l m : List ℕ) (p : Pen) (i : ℕ) (w : Writes t ns l m p i) (fi
             ∙ w .rest;
       }
     where
-      taken-one : (q : Bool) → taken q ≤ 1
+      taken-one : (q : Bool) → numbersTaken q ≤ 1
       taken-one true = omega arith
       taken-one false = omega arith
 

@@ -68,23 +68,23 @@ unfoldable pub piece : ℕ → ℕ → List ℕ → List ℕ → Option Progress
 piece b n ns l = cond (isHole b) (keepNumber n ns (numberOf l)) (literal b n ns l)
 
 -- the answer of `piece_at` over a line, and the numbers after it
-abbrev pub Moves : List ℕ → Option Progress → Place → List ℕ → Type 0
-Moves line o (At next n) ns = (o ≡ reading n ns (drop next line)) × (next ≤ length line) × (n ≤ 5)
-Moves line o Astray ns = o ≡ none
+abbrev pub PieceRead : List ℕ → Option Progress → Place → List ℕ → Type 0
+PieceRead line o (At next n) ns = (o ≡ reading n ns (drop next line)) × (next ≤ length line) × (n ≤ 5)
+PieceRead line o Astray ns = o ≡ none
 
 -- the line is whole
 abbrev pub atEnd : List ℕ → List ℕ → Option (List ℕ)
 atEnd ns [] = some ns
 atEnd ns (x ∷ l) = none
 
-abbrev pub onward : Option Progress → (Progress → Option (List ℕ)) → Option (List ℕ)
-onward none f = none
-onward (some r) f = f r
+abbrev pub thenRead : Option Progress → (Progress → Option (List ℕ)) → Option (List ℕ)
+thenRead none f = none
+thenRead (some r) f = f r
 
 -- reading the rest of a line by the rest of a template: the numbers, if the line is the template's text
 unfoldable pub matched : List ℕ → ℕ → List ℕ → List ℕ → Option (List ℕ)
 matched [] n ns l = atEnd ns l
-matched (b ∷ t) n ns l = onward (piece b n ns l) (λ r. matched t (r .count) (r .numbers) (r .rest))
+matched (b ∷ t) n ns l = thenRead (piece b n ns l) (λ r. matched t (r .count) (r .numbers) (r .rest))
 
 -- the answer of `match_template`, and the numbers after it
 abbrev pub Matches : Option (List ℕ) → Bool → List ℕ → Type 0

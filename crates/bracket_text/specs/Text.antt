@@ -45,9 +45,9 @@ numbersLeft true ns = drop 1 ns
 numbersLeft false ns = ns
 
 -- how many numbers it takes
-abbrev pub taken : Bool → ℕ
-taken true = 1
-taken false = 0
+abbrev pub numbersTaken : Bool → ℕ
+numbersTaken true = 1
+numbersTaken false = 0
 
 -- the text of a template with the numbers ns for its `#`s, in order
 unfoldable pub fill : List ℕ → List ℕ → List ℕ

@@ -4,10 +4,10 @@
 ghost use mathlib.Core.Path.{_≡_};
 ghost use Prim.Native.Nat.{_+_, _^_, _≤_, _<_};
 ghost use lib.ListN.{length, getD, drop};
-ghost use Rattle.bracket_text.specs.Text.{decimal, isHole, pieceText, taken, fill, placed, Written};
+ghost use Rattle.bracket_text.specs.Text.{decimal, isHole, pieceText, numbersTaken, fill, placed, Written};
 ghost use Rattle.bracket_text.specs.Fixed.{lengthFrom, trimmed};
 ghost use Rattle.bracket_text.specs.Pen.{Put};
-ghost use Rattle.bracket_text.specs.Scan.{digitOf, digitsOn, numberOf, piece, matched, Reads, Moves, Matches};
+ghost use Rattle.bracket_text.specs.Scan.{digitOf, digitsOn, numberOf, piece, matched, Reads, PieceRead, Matches};
 
 // The largest number.
 const MOST: u64 = 4294967295;
@@ -96,7 +96,7 @@ fn number_at(line: &[u8], at: usize) -> Number
 // One byte of a template: a number for `#`, which goes to the next of the five places, or the byte itself.
 fn piece_at(line: &[u8], at: usize, byte: u8, count: usize, numbers: &mut [u32; 5]) -> Place
     requires { ⌜ (at ≤ length (now line)) × (count ≤ 5) ⌝ }
-    ensures { λ r. ⌜ Moves (now (line .entry)) (piece byte count (now (numbers .entry)) (drop at (now (line .entry)))) r (now (numbers .exit)) ⌝ }
+    ensures { λ r. ⌜ PieceRead (now (line .entry)) (piece byte count (now (numbers .entry)) (drop at (now (line .entry)))) r (now (numbers .exit)) ⌝ }
 {
     if byte == b'#' {
         match number_at(line, at) {
@@ -181,7 +181,7 @@ fn number_or_zero(numbers: &[u32], i: usize) -> u32
 // Writes one byte of a template: the next number's decimal for `#`, or the byte itself.
 fn put_piece(buf: &mut [u8], pen: Pen, byte: u8, numbers: &[u32]) -> Pen
     requires { ⌜ (pen .at + length (pieceText (isHole byte) byte (drop (pen .count) (now numbers))) ≤ length (now buf)) × (pen .count + 1 < 2 ^ 64) ⌝ }
-    ensures { λ r. ⌜ Put (now (buf .entry)) (pieceText (isHole byte) byte (drop (pen .count) (now (numbers .entry)))) (taken (isHole byte)) pen r (now (buf .exit)) ⌝ }
+    ensures { λ r. ⌜ Put (now (buf .entry)) (pieceText (isHole byte) byte (drop (pen .count) (now (numbers .entry)))) (numbersTaken (isHole byte)) pen r (now (buf .exit)) ⌝ }
 {
     let at = pen.at;
     let count = pen.count;

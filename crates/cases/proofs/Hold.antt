@@ -15,8 +15,8 @@ use Rattle.classes.proofs.Shapes.{blocks-most, shape-height}
 use Rattle.bitmap_search.specs.Scan.{nextFree}
 use Rattle.bitmap_search.specs.Search.{lowered, forwarded, searched}
 use Rattle.bitmap_write.specs.Rebuild.{rebuilt}
-use Rattle.bitmap_write.specs.Ready.{completed, padded}
-use Rattle.bitmap_write.proofs.Ready.{completed-tree}
+use Rattle.bitmap_write.specs.Completed.{completed, padded}
+use Rattle.bitmap_write.proofs.Completed.{completed-tree}
 use Rattle.cases.specs.Rows.{rows, above, treeOf, BlockHolds, All}
 
 -- a block row from what is computed

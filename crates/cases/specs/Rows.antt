@@ -12,7 +12,7 @@ use Rattle.bitmap_search.specs.declared.Found.{Found}
 use Rattle.bitmap_search.specs.declared.Found.the-variants.{Block, Nothing}
 use Rattle.bitmap_search.specs.Scan.{nextFree}
 use Rattle.bitmap_search.specs.Search.{searched}
-use Rattle.bitmap_write.specs.Ready.{completed}
+use Rattle.bitmap_write.specs.Completed.{completed}
 
 -- a row: a number of fields and the class finder's answer; or a class, the bits of its blocks in words, a place, and what is found
 pub data Row : Type 0 where

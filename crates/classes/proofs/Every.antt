@@ -7,8 +7,8 @@ use native.Mathlib.Omega.{arith}
 use lib.Dec.{T, ltb}
 use lib.ListN.{replicate}
 use borrow.Author.Tests.{lt-ltb, le-ltb, ltb-true, ltb-false}
-use Rattle.rules.specs.Pick.{pick}
-use Rattle.rules.proofs.Table.{every, every-at}
+use Rattle.basics.specs.Pick.{pick}
+use Rattle.basics.proofs.Table.{every, every-at}
 use Rattle.classes.specs.Class.{firstClass, classCount, IsClass, classTest}
 
 -- an entry for each class

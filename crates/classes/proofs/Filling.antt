@@ -6,7 +6,7 @@ use native.Mathlib.Nat.{mul-assoc, mul-div-cancel, mul-le-mul-left, le-div-iff-m
 use native.Mathlib.Omega.{arith}
 use lib.Dec.{T, eqb, leb, eqb→eq, leb→le}
 use lib.Pow.{pow-mono, pow-pos}
-use Rattle.rules.proofs.Table.{and-left, and-right}
+use Rattle.basics.proofs.Table.{and-left, and-right}
 use Rattle.classes.specs.Class.{firstClass, wordBytes, blockWords, IsClass}
 use Rattle.classes.specs.Shape.{blocksOf}
 use Rattle.classes.proofs.Every.{everyClass, at-class}

@@ -6,7 +6,7 @@ use Prim.Native.Nat.{ℕ, _-_, _^_, _≤_}
 use native.Mathlib.Nat.{le-trans, div-le-self}
 use native.Mathlib.Omega.{arith}
 use lib.Dec.{T, leb, leb→le}
-use Rattle.rules.specs.Pick.{pick}
+use Rattle.basics.specs.Pick.{pick}
 use Rattle.words.specs.Levels.{Height, treeWords}
 use Rattle.words.proofs.Trees.{levels-pos, levels-le, levels-end}
 use Rattle.classes.specs.declared.SegmentShape.{SegmentShape}

@@ -10,8 +10,8 @@ use lib.Dec.{leb}
 use lib.Pow.{pow-mono}
 use borrow.Author.Tests.{lt-leb, leb-true, leb-false}
 use Rattle.classes.specs.declared.SizeClass.the-variants.{Class, TooBig}
-use Rattle.rules.specs.Pick.{pick}
-use Rattle.rules.proofs.Order.{le-or-lt}
+use Rattle.basics.specs.Pick.{pick}
+use Rattle.basics.proofs.Order.{le-or-lt}
 use Rattle.classes.specs.Class.{firstClass, classCount, IsClass, blockWords, maxFields, recordBytes, smallestFrom, classOf}
 
 pub none-holds : (n c b : ℕ) → ((k : ℕ) → c ≤ k → k < c + n → 2 ^ k < b) → smallestFrom n c b ≡ TooBig

@@ -2,7 +2,7 @@
 -- "Class c, 3 to 12, has blocks of 2^c bytes", and the table of blocks and bitmap levels.
 use Prim.Native.Nat.{ℕ, _-_, _/_, _^_}
 use lib.ListN.{getD}
-use Rattle.rules.specs.Pick.{pick}
+use Rattle.basics.specs.Pick.{pick}
 use Rattle.words.specs.Levels.{levelCount, levelWords, treeWords}
 use Rattle.classes.specs.Class.{firstClass, classTest}
 use Rattle.classes.specs.declared.SegmentShape.{SegmentShape}

@@ -4,7 +4,7 @@ use Prim.Native.Nat.{ℕ, zero, suc, _≤_}
 use native.Mathlib.Omega.{arith}
 use Rattle.layout.specs.Mem.{Mem, setControl}
 use Rattle.theory.specs.Phases.{sweep}
-use Rattle.model.specs.Rules.{phaseOf, phaseNumber}
+use Rattle.model.specs.PhaseNumbers.{phaseOf, phaseNumber}
 use Rattle.model.specs.Fields.{setPhase}
 
 -- a number of a phase is its phase's

@@ -8,7 +8,7 @@ ghost use lib.ListN.{length};
 ghost use Rattle.layout.specs.Geometry.{Sized};
 ghost use Rattle.layout.specs.Mem.{memOf, controlWord};
 ghost use Rattle.theory.specs.Phases.{sweep};
-ghost use Rattle.model.specs.Rules.{phaseOf, phaseNumber};
+ghost use Rattle.model.specs.PhaseNumbers.{phaseOf, phaseNumber};
 ghost use Rattle.model.specs.Fields.{setPhase, traceCount, setTraceCount, cursor, setCursor};
 
 // Where each word stands.

@@ -12,7 +12,7 @@ use Rattle.words.proofs.Lists.{bits-same}
 use Rattle.layout.specs.declared.Geometry.{Geometry}
 use Rattle.layout.specs.Geometry.{len, mostBlocks}
 use Rattle.layout.proofs.Sizes.{marks-are}
-use Rattle.searching.specs.Scratch.{searchWords, Lent}
+use Rattle.examine_search.specs.Scratch.{searchWords, Lent}
 use Rattle.examine_colours.specs.Coloured.{Room}
 use Rattle.layout.specs.Region as Region
 

@@ -6,8 +6,8 @@ use mathlib.Core.List.{List}
 use Prim.Native.Nat.{ℕ, suc, _+_, _*_, _≤_, _<_}
 use native.Mathlib.Omega.{arith}
 use lib.ListN.{length, take, drop}
-use Rattle.rules.specs.Decides.{Decides}
-use Rattle.rules.proofs.Deciding.{holds, fails, via, refuted}
+use Rattle.basics.specs.Decides.{Decides}
+use Rattle.basics.proofs.Deciding.{holds, fails, via, refuted}
 use Rattle.words.specs.Bits.{bitAt}
 use Rattle.classes.specs.Class.{IsClass}
 use Rattle.layout.specs.declared.Geometry.{Geometry}
@@ -20,12 +20,12 @@ use Rattle.model.specs.Fields.{tag, class}
 use Rattle.model.specs.Records.{entered, blockOf, headerOf}
 use Rattle.model.specs.Reaching.{IsRoot, PointsTo, Live, Reached, Covered}
 use Rattle.model.specs.Consistent.{RecordOk}
-use Rattle.laws.proofs.Apart.{class-of}
-use Rattle.laws.proofs.Blocks.{of-block, is-header, header-segment}
-use Rattle.searching.specs.Found.{BitsOf, Finds, ByEntries}
-use Rattle.searching.specs.Graph.{ByEntry}
-use Rattle.searching.proofs.Steps.{placed}
-use Rattle.searching.proofs.Covering.{covered-bits, bits-covered, edges-bits, bits-edges}
+use Rattle.model_laws.proofs.Apart.{class-of}
+use Rattle.model_laws.proofs.Blocks.{of-block, is-header, header-segment}
+use Rattle.examine_search.specs.Found.{BitsOf, Finds, ByEntries}
+use Rattle.examine_search.specs.Graph.{ByEntry}
+use Rattle.examine_search.proofs.Steps.{placed}
+use Rattle.examine_search.proofs.Covering.{covered-bits, bits-covered, edges-bits, bits-edges}
 use Rattle.examine_cycle.specs.declared.Asked.{Asked}
 use Rattle.examine_cycle.specs.declared.Asked.the-variants.{Pointers, Marks}
 use Rattle.examine_cycle.specs.Judged.{Known, Fine, RootsFine, RecordFine, Judged}

@@ -5,11 +5,11 @@ use layout::Geometry;
 ghost use mathlib.Core.Path.{_≡_};
 ghost use Prim.Native.Nat.{ℕ, _+_, _≤_, _<_};
 ghost use lib.ListN.{length, take, drop};
-ghost use Rattle.rules.specs.Decides.{Decides};
+ghost use Rattle.basics.specs.Decides.{Decides};
 ghost use Rattle.layout.specs.Geometry.{Sized, len, scratchWords, maxSegments, mutatorCount};
 ghost use Rattle.layout.specs.Mem.{memOf};
 ghost use Rattle.model.specs.Reaching.{Live, Reached};
-ghost use Rattle.searching.specs.Found.{BitsOf, Finds, ByEntries};
+ghost use Rattle.examine_search.specs.Found.{BitsOf, Finds, ByEntries};
 ghost use Rattle.examine_cycle.specs.declared.Asked.the-variants.{Pointers, Marks};
 ghost use Rattle.examine_cycle.specs.Judged.{Known, RootsFine, Judged};
 ghost use Rattle.examine_colours.specs.Coloured.{Room, LiveOk, Coloured, SweptOk};
@@ -28,7 +28,7 @@ fn live_behind(g: Geometry, mem: &[u32], n: usize, scratch: &mut [u32]) -> bool
     requires { ⌜ Room g (now mem) n (now scratch) ⌝ }
     ensures { λ r. ⌜ Finds g (memOf g (now (mem .entry))) (Live (memOf g (now (mem .entry)))) r (drop n (now (scratch .exit))) ⌝ }
 {
-    searching::live(g, mem, &mut scratch[n..])
+    examine_search::live(g, mem, &mut scratch[n..])
 }
 
 // The search of what roots lead to.
@@ -36,7 +36,7 @@ fn reached_behind(g: Geometry, mem: &[u32], n: usize, scratch: &mut [u32]) -> bo
     requires { ⌜ Room g (now mem) n (now scratch) ⌝ }
     ensures { λ r. ⌜ Finds g (memOf g (now (mem .entry))) (Reached (memOf g (now (mem .entry)))) r (drop n (now (scratch .exit))) ⌝ }
 {
-    searching::reached(g, mem, &mut scratch[n..])
+    examine_search::reached(g, mem, &mut scratch[n..])
 }
 
 // The search of what entries of the trace stack lead to through unmarked records; the first n words stay.
@@ -44,11 +44,11 @@ fn entries_behind(g: Geometry, mem: &[u32], n: usize, scratch: &mut [u32]) -> bo
     requires { ⌜ Room g (now mem) n (now scratch) ⌝ }
     ensures { λ r. ⌜ Finds g (memOf g (now (mem .entry))) (ByEntries g (memOf g (now (mem .entry)))) r (drop n (now (scratch .exit))) × (take n (now (scratch .exit)) ≡ take n (now (scratch .entry))) ⌝ }
 {
-    searching::by_entries(g, mem, &mut scratch[n..])
+    examine_search::by_entries(g, mem, &mut scratch[n..])
 }
 
 // The n words behind the first n are copied to the front.
-fn keep(n: usize, scratch: &mut [u32])
+fn copy_to_front(n: usize, scratch: &mut [u32])
     requires { ⌜ n + n ≤ length (now scratch) ⌝ }
     ensures { λ _. ⌜ take n (now (scratch .exit)) ≡ take n (drop n (now (scratch .entry))) ⌝ }
 {
@@ -119,7 +119,7 @@ pub fn tricolour(g: Geometry, mem: &[u32], scratch: &mut [u32]) -> bool
     if !ok {
         return false;
     }
-    keep(n, scratch);
+    copy_to_front(n, scratch);
     covered(g, mem, n, scratch)
 }
 

@@ -10,9 +10,9 @@ use native.Mathlib.Omega.{arith}
 use lib.Dec.{eqb}
 use lib.ListN.{length, getD}
 use borrow.Author.Tests.{eq-eqb, eqb-true}
-use Rattle.rules.specs.Decides.{Decides}
-use Rattle.rules.proofs.Deciding.{holds, fails, via}
-use Rattle.rules.proofs.Order.{same-or-not}
+use Rattle.basics.specs.Decides.{Decides}
+use Rattle.basics.proofs.Deciding.{holds, fails, via}
+use Rattle.basics.proofs.Order.{same-or-not}
 use Rattle.words.specs.Bits.{bitAt}
 use Rattle.words.proofs.Counts.{lt-of}
 use Rattle.classes.specs.Class.{IsClass, blockWords, classTest}
@@ -23,11 +23,11 @@ use Rattle.layout.proofs.Sizes.{marks-words, mark-word}
 use Rattle.model.specs.Fields.{class}
 use Rattle.model.specs.Records.{entered, headerOf, pointerCount}
 use Rattle.model.specs.Consistent.{RecordOk}
-use Rattle.laws.proofs.Apart.{class-of, field-inside}
-use Rattle.laws.proofs.Blocks.{header-inside, header-is-class, header-head, same-bit}
+use Rattle.model_laws.proofs.Apart.{class-of, field-inside}
+use Rattle.model_laws.proofs.Blocks.{header-inside, header-is-class, header-head, same-bit}
 use Rattle.classes.proofs.Filling.{two-words}
 use Rattle.classes.proofs.Every.{class-passes}
-use Rattle.searching.specs.Graph.{InRun}
+use Rattle.examine_search.specs.Graph.{InRun}
 use Rattle.examine_cycle.specs.declared.Asked.{Asked}
 use Rattle.examine_cycle.specs.Judged.{Known, Fine, FineRun, RecordFine, BlockJudged, SegmentJudged}
 use Rattle.layout.specs.Region as Region

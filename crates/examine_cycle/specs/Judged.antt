@@ -12,8 +12,8 @@ use Rattle.layout.specs.Mem.{Mem}
 use Rattle.model.specs.Fields.{absent, state, acks, tag, class}
 use Rattle.model.specs.Records.{entered, headerOf, pointerCount}
 use Rattle.model.specs.Consistent.{RecordOk}
-use Rattle.walk.specs.Walk.{At}
-use Rattle.searching.specs.Graph.{recordsOf, InRun}
+use Rattle.graph_search.specs.Walk.{At}
+use Rattle.examine_search.specs.Graph.{recordsOf, InRun}
 use Rattle.examine_cycle.specs.declared.Asked.{Asked}
 use Rattle.examine_cycle.specs.declared.Asked.the-variants.{Pointers, Marks}
 use Rattle.layout.specs.Region as Region

@@ -1,21 +1,21 @@
 // The examination's parts on the cycle that need a search, over memory of any content: the tricolour invariant, and in sweep the marks of what is
 // reached. Bits of live or reached records, each of which passes the test, and cover bits lie beside each other in a lent scratch.
+use examine_search::Edges;
+use examine_search::Source;
 use layout::Geometry;
 use marks::Bit;
 use model::Segment;
-use searching::Edges;
-use searching::Source;
 ghost use mathlib.Core.Path.{_≡_};
 ghost use mathlib.Core.Logic.{_⊎_};
 ghost use Prim.Native.Nat.{ℕ, suc, _+_, _*_, _≤_, _<_};
 ghost use lib.ListN.{length};
-ghost use Rattle.rules.specs.Decides.{Decides};
+ghost use Rattle.basics.specs.Decides.{Decides};
 ghost use Rattle.words.specs.Bits.{bitAt};
 ghost use Rattle.layout.specs.Geometry.{Sized, len, mostBlocks, blocksIn, markBit, mutatorCount};
 ghost use Rattle.layout.specs.Mem.{memOf};
 ghost use Rattle.model.specs.Records.{headerOf, pointerCount};
 ghost use Rattle.model.specs.Consistent.{RecordOk};
-ghost use Rattle.searching.specs.Graph.{wordsOf, lengthOf};
+ghost use Rattle.examine_search.specs.Graph.{wordsOf, lengthOf};
 ghost use Rattle.examine_cycle.specs.Judged.{Known, OfClass, Fine, FineRun, RootsFine, RecordFine, BlockJudged, SegmentJudged, Judged};
 ghost use Rattle.layout.specs.Region as Region;
 
@@ -45,7 +45,7 @@ fn fine(g: Geometry, mem: &[u32], cover: &[u32], w: u32) -> bool
         return true;
     }
     let at = (w - 1) as usize;
-    match record_test::test(g, mem, at) {
+    match examine_record::test(g, mem, at) {
         Bit::Torn => false,
         Bit::At(k) => fine_bit(g, mem, cover, k),
     }
@@ -65,7 +65,7 @@ fn fine_run(
 {
     let mut f: usize = 0;
     while f < count {
-        let w = searching::word(g, mem, source, from + f);
+        let w = examine_search::word(g, mem, source, from + f);
         let ok = fine(g, mem, cover, w);
         if !ok {
             return false;
@@ -111,7 +111,7 @@ fn pointers_fine(g: Geometry, mem: &[u32], cover: &[u32], at: usize) -> bool
     requires { ⌜ (Sized g (length (now mem))) × (len g Region.marks ≤ length (now cover)) × RecordOk g (memOf g (now mem)) at ⌝ }
     ensures { λ r. ⌜ Decides r (FineRun g (memOf g (now (mem .entry))) (now (cover .entry)) (memOf g (now (mem .entry)) .heap) (at + 1) (pointerCount (memOf g (now (mem .entry))) at)) ⌝ }
 {
-    let count = searching::pointers(g, mem, Edges::All, at);
+    let count = examine_search::pointers(g, mem, Edges::All, at);
     fine_run(g, mem, cover, Source::Pointers, at + 1, count)
 }
 

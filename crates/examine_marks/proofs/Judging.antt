@@ -6,10 +6,10 @@ use Prim.Native.Nat.{ℕ, zero, suc, _+_, _-_, _*_, _/_, _%_, _≤_, _<_}
 use native.Mathlib.Omega.{arith}
 use lib.Dec.{eqb}
 use borrow.Author.Tests.{eq-eqb, ne-eqb, eqb-true}
-use Rattle.rules.specs.Decides.{Decides}
-use Rattle.rules.specs.Pick.{pick}
-use Rattle.rules.proofs.Deciding.{holds, fails, via, refuted}
-use Rattle.rules.proofs.Order.{same-or-not}
+use Rattle.basics.specs.Decides.{Decides}
+use Rattle.basics.specs.Pick.{pick}
+use Rattle.basics.proofs.Deciding.{holds, fails, via, refuted}
+use Rattle.basics.proofs.Order.{same-or-not}
 use Rattle.words.specs.Bits.{bitAt, onesAmong}
 use Rattle.words.proofs.Word.{zero-of-not-one}
 use Rattle.words.proofs.Lists.{at-lt}
@@ -24,9 +24,9 @@ use Rattle.model.specs.Segments.{usedBit}
 use Rattle.model.specs.Records.{blockOf}
 use Rattle.model.specs.Reaching.{IsEntry}
 use Rattle.model.specs.Consistent.{RecordOk, HeadInUse, bitWord}
-use Rattle.laws.proofs.Blocks.{head-word, bit-below}
-use Rattle.laws.proofs.Apart.{class-of}
-use Rattle.record_test.specs.Tests.{Classed}
+use Rattle.model_laws.proofs.Blocks.{head-word, bit-below}
+use Rattle.model_laws.proofs.Apart.{class-of}
+use Rattle.examine_record.specs.Tests.{Classed}
 use Rattle.examine_trace.specs.Traced.{Traced, entryAt, entryBit}
 use Rattle.examine_marks.specs.Heads.{Classes, Asked, BitFine, OnlyEntries}
 use Rattle.layout.specs.Region as Region

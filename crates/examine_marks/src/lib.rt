@@ -5,11 +5,11 @@ use model::Segment;
 ghost use mathlib.Core.Path.{_≡_};
 ghost use Prim.Native.Nat.{ℕ, _+_, _*_, _<_};
 ghost use lib.ListN.{length};
-ghost use Rattle.rules.specs.Decides.{Decides};
+ghost use Rattle.basics.specs.Decides.{Decides};
 ghost use Rattle.layout.specs.Geometry.{Sized, len, segmentOf, mostBlocks};
 ghost use Rattle.layout.specs.Mem.{memOf};
 ghost use Rattle.model.specs.Consistent.{HeadInUse};
-ghost use Rattle.record_test.specs.Tests.{Classed};
+ghost use Rattle.examine_record.specs.Tests.{Classed};
 ghost use Rattle.examine_trace.specs.Traced.{Traced};
 ghost use Rattle.examine_marks.specs.Heads.{Classes, Asked, BitFine, MarksIn, OnlyEntries};
 ghost use Rattle.layout.specs.Region as Region;
@@ -24,7 +24,7 @@ fn head_in(g: Geometry, mem: &[u32], at: usize, s: usize, class: u32) -> bool
     if offset % words != 0 {
         return false;
     }
-    record_test::is_used(g, mem, s, offset / words)
+    examine_record::is_used(g, mem, s, offset / words)
 }
 
 // Whether a word in a segment that may be free is the head of a block in use.

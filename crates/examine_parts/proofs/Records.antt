@@ -6,10 +6,10 @@ use Prim.Native.Nat.{ℕ, _+_, _≤_, _<_}
 use native.Mathlib.Omega.{arith}
 use lib.Dec.{eqb}
 use borrow.Author.Tests.{lt-ltb, le-ltb}
-use Rattle.rules.specs.Decides.{Decides}
-use Rattle.rules.specs.Pick.{pick}
-use Rattle.rules.proofs.Deciding.{fails, via, refuted}
-use Rattle.rules.proofs.Order.{le-or-lt, same-or-not}
+use Rattle.basics.specs.Decides.{Decides}
+use Rattle.basics.specs.Pick.{pick}
+use Rattle.basics.proofs.Deciding.{fails, via, refuted}
+use Rattle.basics.proofs.Order.{le-or-lt, same-or-not}
 use Rattle.words.specs.Bits.{bitAt, onesAmong}
 use Rattle.words.proofs.Counts.{zero-less, one-missing, one-there, none-one}
 use Rattle.classes.specs.Class.{firstClass, classCount}
@@ -19,7 +19,7 @@ use Rattle.layout.specs.Mem.{Mem}
 use Rattle.model.specs.Fields.{absent, state, holding, tag, class, place, owner}
 use Rattle.model.specs.Segments.{bitmap, usedBit}
 use Rattle.model.specs.Consistent.{SegmentOk, Occupied}
-use Rattle.laws.proofs.Segments.{used-small}
+use Rattle.model_laws.proofs.Segments.{used-small}
 use Rattle.bitmaps.specs.Given.{usedBits}
 use Rattle.examine_parts.specs.Parts.{Cleared, Open, Owned, Used, SegmentParts}
 use Rattle.examine_parts.proofs.Tests.{eq-decides, ne-decides}

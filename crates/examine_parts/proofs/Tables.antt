@@ -4,14 +4,14 @@ use mathlib.Core.Bool.{Bool, true, false}
 use Prim.Native.Nat.{ℕ, zero, suc, _+_, _-_, _≤_, _<_}
 use native.Mathlib.Omega.{arith}
 use lib.Dec.{eqb, leb}
-use Rattle.rules.specs.Decides.{Decides}
-use Rattle.rules.proofs.Deciding.{holds, fails, via, refuted}
+use Rattle.basics.specs.Decides.{Decides}
+use Rattle.basics.proofs.Deciding.{holds, fails, via, refuted}
 use Rattle.classes.specs.Class.{firstClass, classCount}
 use Rattle.layout.specs.declared.Geometry.{Geometry}
 use Rattle.layout.specs.Geometry.{mutatorCount}
 use Rattle.layout.specs.Mem.{Mem, controlWord}
 use Rattle.theory.specs.Phases.{sweep}
-use Rattle.model.specs.Rules.{phaseOf, phaseNumber}
+use Rattle.model.specs.PhaseNumbers.{phaseOf, phaseNumber}
 use Rattle.model.specs.Fields.{absent, outside, state, acks, holding, tag, class, owner, cursor}
 use Rattle.model.specs.Consistent.{AcksIn, Behind}
 use Rattle.examine_parts.specs.Parts.{Parts, SegmentParts, Gone, HeldBy, Holds, Entry, Acknowledged, MutatorParts}

@@ -4,8 +4,8 @@ use mathlib.Core.Bool.{not}
 use Prim.Native.Nat.{ℕ, _≤_}
 use lib.Dec.{eqb, leb}
 use borrow.Author.Tests.{eqb-true, eq-eqb, leb-true, le-leb}
-use Rattle.laws.proofs.Bools.{not-eq, ne-not}
-use Rattle.rules.specs.Decides.{Decides}
+use Rattle.model_laws.proofs.Bools.{not-eq, ne-not}
+use Rattle.basics.specs.Decides.{Decides}
 
 pub eq-decides : (a b : ℕ) → Decides (eqb a b) (a ≡ b)
 eq-decides a b = record { sound = eqb-true a b; complete = eq-eqb a b }

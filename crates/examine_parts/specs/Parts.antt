@@ -6,7 +6,7 @@ use Rattle.layout.specs.declared.Geometry.{Geometry}
 use Rattle.layout.specs.Geometry.{mutatorCount, mutatorWords, entryWords, blocksIn}
 use Rattle.layout.specs.Mem.{Mem, controlWord, mutatorWord}
 use Rattle.theory.specs.Phases.{sweep}
-use Rattle.model.specs.Rules.{phaseNumber}
+use Rattle.model.specs.PhaseNumbers.{phaseNumber}
 use Rattle.model.specs.Fields.{phase, absent, outside, state, acks, holding, tag, class, place, owner}
 use Rattle.model.specs.Segments.{bitmap, usedBit}
 use Rattle.model.specs.Consistent.{SegmentOk, Occupied, Behind, MutatorOk, AcksIn}

@@ -4,19 +4,19 @@ use mathlib.Core.Logic.{_⊎_, inl, inr}
 use mathlib.Core.Bool.{Bool, false}
 use Prim.Native.Nat.{ℕ, zero, suc, _≤_, _<_}
 use native.Mathlib.Omega.{arith}
-use Rattle.rules.specs.Decides.{Decides}
-use Rattle.rules.proofs.Deciding.{holds, fails, via, refuted}
+use Rattle.basics.specs.Decides.{Decides}
+use Rattle.basics.proofs.Deciding.{holds, fails, via, refuted}
 use Rattle.layout.specs.declared.Geometry.{Geometry}
 use Rattle.layout.specs.Mem.{Mem, controlWord}
 use Rattle.theory.specs.Phases.{Phase, idle, sync1, sync2, mark, sweep}
 use Rattle.theory.specs.Reach.{root}
 use Rattle.theory.proofs.Graph.{reach-map}
-use Rattle.model.specs.Rules.{phaseOf, phaseNumber}
+use Rattle.model.specs.PhaseNumbers.{phaseOf, phaseNumber}
 use Rattle.model.specs.Fields.{phase, traceCount}
 use Rattle.model.specs.Records.{entered, marked}
 use Rattle.model.specs.Reaching.{IsRoot, IsEntry, Live, Reached}
 use Rattle.model.specs.Consistent.{Sound}
-use Rattle.laws.proofs.Marked.{entered-as, marked-entered}
+use Rattle.model_laws.proofs.Marked.{entered-as, marked-entered}
 use Rattle.examine_parts.specs.Parts.{Parts}
 use Rattle.examine_trace.specs.Traced.{Traced}
 use Rattle.examine_marks.specs.Heads.{Classes}

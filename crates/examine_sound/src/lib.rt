@@ -5,11 +5,11 @@ use model::Phase;
 ghost use mathlib.Core.Path.{_≡_};
 ghost use Prim.Native.Nat.{ℕ, _≤_};
 ghost use lib.ListN.{length, replicate};
-ghost use Rattle.rules.specs.Decides.{Decides};
+ghost use Rattle.basics.specs.Decides.{Decides};
 ghost use Rattle.layout.specs.Geometry.{Sized, scratchWords};
 ghost use Rattle.layout.specs.Mem.{memOf, controlWord};
 ghost use Rattle.theory.specs.Phases.{sweep};
-ghost use Rattle.model.specs.Rules.{phaseNumber};
+ghost use Rattle.model.specs.PhaseNumbers.{phaseNumber};
 ghost use Rattle.model.specs.Fields.{phase};
 ghost use Rattle.model.specs.Consistent.{Sound};
 ghost use Rattle.examine_parts.specs.Parts.{Parts};
@@ -114,6 +114,6 @@ pub fn sound(g: Geometry, mem: &[u32], scratch: &mut [u32]) -> bool
     ensures { λ r. ⌜ Decides r (Sound g (memOf g (now (mem .entry)))) × (now (scratch .exit) ≡ replicate (scratchWords g) 0) ⌝ }
 {
     let ok = all_ok(g, mem, scratch);
-    searching::clear_all(scratch);
+    examine_search::clear_all(scratch);
     ok
 }

@@ -9,8 +9,8 @@ use lib.Dec.{eqb}
 use lib.ListN.{length, getD, set, length-set}
 use lib.Seq.{getD-set-same, getD-set-other}
 use borrow.Author.Tests.{eq-eqb}
-use Rattle.rules.specs.Pick.{oneIf}
-use Rattle.rules.proofs.Order.{same-or-not}
+use Rattle.basics.specs.Pick.{oneIf}
+use Rattle.basics.proofs.Order.{same-or-not}
 use Rattle.words.specs.Bits.{onesAmong}
 use Rattle.words.proofs.Ones.{among-le}
 use Rattle.layout.specs.declared.Geometry.{Geometry}
@@ -18,8 +18,8 @@ use Rattle.layout.specs.Geometry.{maxSegments}
 use Rattle.layout.specs.Mem.{Mem}
 use Rattle.model.specs.Fields.{tag, class}
 use Rattle.model.specs.Segments.{count, entry}
-use Rattle.laws.proofs.Bools.{one-less}
-use Rattle.laws.proofs.Segments.{not-part}
+use Rattle.model_laws.proofs.Bools.{one-less}
+use Rattle.model_laws.proofs.Segments.{not-part}
 use Rattle.examine_summed.specs.Stacked.{onStack, OrderedStack, Enters, Seen, EntersAll}
 use Rattle.model.specs.Tag as Tag
 

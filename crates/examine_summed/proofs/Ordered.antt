@@ -6,10 +6,10 @@ use mathlib.Core.List.{List}
 use Prim.Native.Nat.{ℕ, zero, suc, _+_, _-_, _≤_, _<_}
 use native.Mathlib.Omega.{arith}
 use lib.ListN.{getD, replicate}
-use Rattle.rules.specs.Decides.{Decides}
-use Rattle.rules.specs.Pick.{oneIf}
-use Rattle.rules.proofs.Deciding.{fails, refuted}
-use Rattle.rules.proofs.Order.{same-or-not}
+use Rattle.basics.specs.Decides.{Decides}
+use Rattle.basics.specs.Pick.{oneIf}
+use Rattle.basics.proofs.Deciding.{fails, refuted}
+use Rattle.basics.proofs.Order.{same-or-not}
 use Rattle.words.specs.Bits.{onesAmong}
 use Rattle.words.proofs.Ones.{among-le}
 use Rattle.words.proofs.Counts.{places-all}
@@ -19,7 +19,7 @@ use Rattle.layout.specs.Geometry.{stackCount}
 use Rattle.layout.specs.Mem.{Mem}
 use Rattle.model.specs.Segments.{partStack, count, entry}
 use Rattle.model.specs.Consistent.{StackOk, TreeOk, Summed, isPart}
-use Rattle.laws.proofs.Bools.{one-less}
+use Rattle.model_laws.proofs.Bools.{one-less}
 use Rattle.examine_summed.specs.Stacked.{onStack, OrderedStack, Seen, EntersAll}
 
 -- a fresh table

@@ -8,8 +8,8 @@ use native.Mathlib.Omega.{arith}
 use lib.ListN.{length}
 use borrow.Author.Tests.{le-leb}
 use borrow.Rule.Slice.PartMut.{midOf}
-use Rattle.rules.specs.Decides.{Decides}
-use Rattle.rules.proofs.Deciding.{holds, fails, via}
+use Rattle.basics.specs.Decides.{Decides}
+use Rattle.basics.proofs.Deciding.{holds, fails, via}
 use Rattle.words.specs.Levels.{wordsFor, treeWords}
 use Rattle.words.specs.Tree.{Tree}
 use Rattle.words.proofs.Trees.{tree-level}
@@ -22,8 +22,8 @@ use Rattle.layout.proofs.Sizes.{bytes-are}
 use Rattle.model.specs.Fields.{tag, class}
 use Rattle.model.specs.Segments.{above, bitmap}
 use Rattle.model.specs.Consistent.{TreeOk}
-use Rattle.laws.proofs.Bitmaps.{length-bitmap}
-use Rattle.laws.proofs.Lengths.{sizes-of}
+use Rattle.model_laws.proofs.Bitmaps.{length-bitmap}
+use Rattle.model_laws.proofs.Lengths.{sizes-of}
 use Rattle.bitmaps.proofs.Lent.{TreePart}
 use Rattle.model.specs.Tag as Tag
 

@@ -10,9 +10,9 @@ use lib.ListN.{length, getD, take, drop, replicate}
 use lib.Seq.{take-all}
 use borrow.Author.Tests.{eq-eqb, eqb-true}
 use borrow.Rule.Slice.PartMut.{midOf}
-use Rattle.rules.specs.Decides.{Decides}
-use Rattle.rules.proofs.Deciding.{holds, fails}
-use Rattle.rules.proofs.Order.{same-or-not}
+use Rattle.basics.specs.Decides.{Decides}
+use Rattle.basics.proofs.Deciding.{holds, fails}
+use Rattle.basics.proofs.Order.{same-or-not}
 use Rattle.words.specs.Bits.{bitOf, bitAt, setBit, onesAmong}
 use Rattle.words.specs.Levels.{wordsFor}
 use Rattle.words.proofs.Word.{zero-of-not-one}
@@ -24,11 +24,11 @@ use Rattle.layout.specs.Geometry.{Sized, len, from, markWords, mostBlocks, mark
 use Rattle.layout.specs.Mem.{Mem, memOf, traceWord, readRun}
 use Rattle.layout.proofs.Regions.{read-at}
 use Rattle.layout.proofs.Sizes.{mark-word, marks-are}
-use Rattle.laws.proofs.Lengths.{sizes-of}
+use Rattle.model_laws.proofs.Lengths.{sizes-of}
 use Rattle.model.specs.Fields.{traceCount}
 use Rattle.model.specs.Reaching.{IsEntry}
 use Rattle.model.specs.Consistent.{RecordOk, TraceOk}
-use Rattle.searching.proofs.Steps.{placed}
+use Rattle.examine_search.proofs.Steps.{placed}
 use Rattle.examine_trace.specs.Traced.{Traced, entryAt, entryBit, EntryOk, BitEnters, Enters, Seen, EntersAll}
 use Rattle.layout.specs.Region as Region
 

@@ -5,7 +5,7 @@ use marks::Bit;
 ghost use mathlib.Core.Path.{_≡_};
 ghost use Prim.Native.Nat.{ℕ, _*_, _≤_, _<_};
 ghost use lib.ListN.{length};
-ghost use Rattle.rules.specs.Decides.{Decides};
+ghost use Rattle.basics.specs.Decides.{Decides};
 ghost use Rattle.words.specs.Bits.{bitAt};
 ghost use Rattle.layout.specs.Geometry.{Sized, len, mostBlocks};
 ghost use Rattle.layout.specs.Mem.{memOf};
@@ -40,7 +40,7 @@ fn enter(g: Geometry, mem: &[u32], i: usize, scratch: &mut [u32]) -> bool
         return false;
     }
     let at = (w - 1) as usize;
-    match record_test::test(g, mem, at) {
+    match examine_record::test(g, mem, at) {
         Bit::Torn => false,
         Bit::At(k) => enter_bit(g, mem, k, scratch),
     }
@@ -73,6 +73,6 @@ pub fn trace_ok(g: Geometry, mem: &[u32], scratch: &mut [u32]) -> bool
     if ones < n {
         return false;
     }
-    searching::clear_all(scratch);
+    examine_search::clear_all(scratch);
     enter_all(g, mem, n as usize, scratch)
 }

@@ -5,7 +5,7 @@ use model::Examined;
 ghost use mathlib.Core.Path.{_≡_};
 ghost use Prim.Native.Nat.{ℕ, _≤_};
 ghost use lib.ListN.{length, replicate};
-ghost use Rattle.rules.specs.Decides.{Decides};
+ghost use Rattle.basics.specs.Decides.{Decides};
 ghost use Rattle.layout.specs.Geometry.{Sized, scratchWords, maxSegments};
 ghost use Rattle.layout.specs.Mem.{memOf};
 ghost use Rattle.model.specs.Consistent.{Consistent};

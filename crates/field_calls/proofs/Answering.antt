@@ -15,8 +15,8 @@ use Rattle.model.specs.Fields.{setRoot}
 use Rattle.model.specs.Records.{InHalves, pointer, value, setValue, shapeOf}
 use Rattle.model.specs.Calls.{act}
 use Rattle.model.specs.Promise.{Promise}
-use Rattle.laws.proofs.Promised.{done}
-use Rattle.laws.proofs.Reaching.{Names, Reaches, by-test}
+use Rattle.model_laws.proofs.Promised.{done}
+use Rattle.model_laws.proofs.Reaching.{Names, Reaches, by-test}
 use Rattle.mutators.specs.Inside.{insideThen}
 use Rattle.mutators.proofs.Inside.{refused-at, reaches-at, refused-with, reaches-with}
 use Rattle.records.specs.declared.FieldAt.the-variants.{Word}

@@ -5,7 +5,7 @@ use mathlib.Core.Bool.{Bool, true}
 use mathlib.Core.List.{List}
 use Prim.Native.Nat.{ℕ}
 use lib.ListN.{length}
-use Rattle.rules.specs.Pick.{pick}
+use Rattle.basics.specs.Pick.{pick}
 use Rattle.layout.specs.declared.Geometry.{Geometry}
 use Rattle.layout.specs.Geometry.{Sized}
 use Rattle.layout.specs.Mem.{Mem, memOf}
@@ -17,7 +17,7 @@ use Rattle.model.specs.Answers.{answerOf}
 use Rattle.model.specs.Fields.{phase}
 use Rattle.model.specs.Collector.{started, startOf}
 use Rattle.model.specs.Consistent.{Consistent}
-use Rattle.model.specs.Lists.{Event, mutatorCall, startCall, stepCall, openingCall, lookCall, Element, Promised, Meets, KeepsLength, IsOpening, Gets, wrongSized, onward}
+use Rattle.model.specs.Lists.{Event, mutatorCall, startCall, stepCall, openingCall, lookCall, Element, Promised, Meets, KeepsLength, IsOpening, Gets, wrongSized, nextWords}
 use Rattle.refine_run.proofs.Elements.{size-number, is-over, ahead}
 use Rattle.guarantee.specs.Elements.{Acts, wrong, looks, calls, starts, startRefused, steps}
 use Rattle.guarantee.proofs.Numbers.{to-number, refused-as, is-ok}
@@ -35,9 +35,9 @@ start-acts g m m′ r e h = go (start-either g m)
 
 module _ (g : Geometry) (words : List ℕ) (z : Sized g (length words)) where
   -- what it leaves has the list's length again
-  pub sized-on : (e : Element) → Meets e → KeepsLength e → (wrongSized e ≡ true) ⊎ Gets g words e → Sized g (length (onward words e))
+  pub sized-on : (e : Element) → Meets e → KeepsLength e → (wrongSized e ≡ true) ⊎ Gets g words e → Sized g (length (nextWords words e))
   sized-on e q l (inl h) = subst (λ b. Sized g (length (pick b words (e .after)))) (sym h) z
-  sized-on e q l (inr h) = resized g (length words) (length (onward words e)) z (ap length (ahead g words e q h) ∙ l ∙ ap length (h .memory))
+  sized-on e q l (inr h) = resized g (length words) (length (nextWords words e)) z (ap length (ahead g words e q h) ∙ l ∙ ap length (h .memory))
 
   module _ (c : Consistent g (memOf g words)) where
     event-acts : (v : Event) (after : List ℕ) → Promised v g words after → (IsOpening v → ⊥) → Acts g (memOf g words) (memOf g after) v
@@ -47,6 +47,6 @@ module _ (g : Geometry) (words : List ℕ) (z : Sized g (length words)) where
     event-acts (openingCall r) after q f = absurd (f tt)
     event-acts (lookCall l) after q f = looks (ap (memOf g) (q .1))
 
-    pub acts-of : (e : Element) → Meets e → (wrongSized e ≡ true) ⊎ Gets g words e → Acts g (memOf g words) (memOf g (onward words e)) (e .event)
+    pub acts-of : (e : Element) → Meets e → (wrongSized e ≡ true) ⊎ Gets g words e → Acts g (memOf g words) (memOf g (nextWords words e)) (e .event)
     acts-of e q (inl h) = wrong (size-number e q h) (ap (λ (b : Bool). memOf g (pick b words (e .after))) h)
     acts-of e q (inr h) = subst (λ x. Acts g (memOf g words) (memOf g x) (e .event)) (sym (ahead g words e q h)) (event-acts (e .event) (e .after) (subst Meets (is-over g words e h) q) (h .opening))

@@ -8,7 +8,7 @@ use Rattle.layout.specs.Mem.{memOf}
 use Rattle.layout.proofs.Regions.{sized, resized}
 use Rattle.model.specs.Consistent.{Consistent}
 use Rattle.model.specs.Lists.{Ghost, Opened, ghostStart, Begins, byOpening}
-use Rattle.laws.proofs.Lengths.{sizes-of}
+use Rattle.model_laws.proofs.Lengths.{sizes-of}
 use Rattle.refine_start.proofs.Opened.{opened-consistent, opened-good}
 use Rattle.guarantee.proofs.Coupling.{Couples, Any}
 use Rattle.guarantee.proofs.Elements.{Point}

@@ -21,17 +21,17 @@ use Rattle.model.specs.declared.Step.{Step}
 use Rattle.model.specs.Answers.{stepAnswerOf}
 use Rattle.model.specs.Fields.{phase, traceCount, tag}
 use Rattle.model.specs.Calls.{observe, act, exec}
-use Rattle.model.specs.Collector.{isFull, started, stepOf, stepIn, moves, traces, sweeps, lowest, waiting, outsideAnswered}
+use Rattle.model.specs.Collector.{isFull, started, stepOf, stepIn, movedOrWaiting, traces, sweeps, lowest, waiting, outsideAnswered}
 use Rattle.model.proofs.Collecting.{collects-full}
 use Rattle.model.specs.Consistent.{Consistent}
 use Rattle.model.specs.Lists.{Event, startCall, stepCall}
 use Rattle.model.specs.Run.{declaredStep}
 use Rattle.refine_view.specs.View.{view}
-use Rattle.refine_view.specs.Kept.{refusedOut, agrees, CallKept}
-use Rattle.laws.proofs.Lowest.{none-condemned}
+use Rattle.refine_view.specs.Refines.{refusedOut, agrees, CallRefines}
+use Rattle.model_laws.proofs.Lowest.{none-condemned}
 use Rattle.guarantee.specs.Demand3.{struckOut}
 use Rattle.guarantee.specs.Elements.{Acts, wrong, looks, calls, starts, startRefused, steps}
-use Rattle.guarantee.proofs.Kept.{all-kept}
+use Rattle.guarantee.proofs.AllRefine.{all-refine}
 use Rattle.guarantee.proofs.Cycle.{swept-by}
 use Rattle.model.specs.declared.Step.the-variants as stepAnswer
 use Rattle.theory.specs.MachineCalls as machine
@@ -55,19 +55,19 @@ module _ (g : Geometry) (m : Mem) (z : Sizes g m) (k : Consistent g m) (s : ℕ)
   unfolding exec
   call-same c = go (refusal (observe m) c) refl
     where
-      acted : CallKept struckOut g m c → isCondemned (act g m c .1) s ≡ isCondemned m s
+      acted : CallRefines struckOut g m c → isCondemned (act g m c .1) s ≡ isCondemned m s
       acted (refusedOut n t y) = ap (λ r. isCondemned (r .1) s) y
       acted (agrees q) = q .moves .agree .condemned s ∙ ap (λ f. f s) (act-condemned (q .block) (view g (q .ready)) c) ∙ q .prepared .condemned s
 
       go : (n : ℕ) → refusal (observe m) c ≡ n → isCondemned (refuse n m (act g m c) .1) s ≡ isCondemned m s
-      go zero x = acted (all-kept .calls g m z k c x)
+      go zero x = acted (all-refine .calls g m z k c x)
       go (suc n) x = refl
 
   -- ---- a step
 
   -- as on the machine
   stepped-as : (p : Phase) → phase m ≡ p → isCondemned (stepOf g m .1) s ≡ stepBy (segmentOf g) (λ _. lowest m (g .segments)) p (view g m) .condemned s
-  stepped-as p e = all-kept .steps g m z k .moves .agree .condemned s ∙ ap (λ p. stepBy (segmentOf g) (λ _. lowest m (g .segments)) p (view g m) .condemned s) e
+  stepped-as p e = all-refine .steps g m z k .moves .agree .condemned s ∙ ap (λ p. stepBy (segmentOf g) (λ _. lowest m (g .segments)) p (view g m) .condemned s) e
 
   step-same : ((f : ℕ) → stepOf g m .0 ≡ a-swept s f → ⊥) → isCondemned (stepOf g m .1) s ≡ isCondemned m s
   unfolding stepOf
@@ -97,14 +97,14 @@ module _ (g : Geometry) (m : Mem) (z : Sizes g m) (k : Consistent g m) (s : ℕ)
 
   -- one that is swept was condemned
   swept-was : (f : ℕ) → a-swept s f ≡ stepOf g m .0 → isCondemned m s ≡ true
-  swept-was f e = all-kept .steps g m z k .picked .condemned s (swept-by g m s f e .is-lowest)
+  swept-was f e = all-refine .steps g m z k .picked .condemned s (swept-by g m s f e .is-lowest)
 
   -- done: none is condemned
   done-none : s < g .segments → a-done ≡ stepOf g m .0 → isCondemned m s ≡ false
   unfolding stepOf
   done-none i e = go (phase m) e
     where
-      moved : (n : ℕ) (m₁ : Mem) (p : Phase) → a-done ≡ moves n m₁ p .0 → ⊥
+      moved : (n : ℕ) (m₁ : Mem) (p : Phase) → a-done ≡ movedOrWaiting n m₁ p .0 → ⊥
       moved zero m₁ p h = let y : _≡_ {A = ℕ} 0 1 = cc in omega arith
       moved (suc n) m₁ p h = let y : _≡_ {A = ℕ} 0 1 = cc in omega arith
 
@@ -144,4 +144,4 @@ module _ (g : Geometry) (m : Mem) (z : Sizes g m) (k : Consistent g m) (s : ℕ)
 
   -- at a start the condemned segments are the full ones
   pub start-condemned : phase m ≡ idle → isCondemned (started g m) s ≡ isFull m s
-  start-condemned q = all-kept .starts g m z k q .agree .condemned s ∙ collects-full m s
+  start-condemned q = all-refine .starts g m z k q .agree .condemned s ∙ collects-full m s

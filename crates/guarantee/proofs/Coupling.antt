@@ -5,7 +5,7 @@ use mathlib.Core.Bool.{true}
 use mathlib.Core.Option.{Option, none, some, Option·none-ne-some, Option·some-injective}
 use mathlib.Core.List.{List}
 use Prim.Native.Nat.{ℕ, zero, suc, _<_}
-use Rattle.rules.specs.Pick.{pick}
+use Rattle.basics.specs.Pick.{pick}
 use Rattle.layout.specs.declared.Geometry.{Geometry}
 use Rattle.layout.specs.Geometry.{segmentOf}
 use Rattle.layout.specs.Mem.{Mem, memOf, Sizes}
@@ -26,12 +26,12 @@ use Rattle.model.specs.Collector.{started, stepOf, lowest, collects}
 use Rattle.model.specs.Consistent.{Consistent, Behind}
 use Rattle.model.specs.Lists.{Event, mutatorCall, startCall, stepCall, openingCall, lookCall, eventNumber, Ghost, putUnless, blockIn, fed, struck, remainingCall}
 use Rattle.refine_view.specs.View.{view}
-use Rattle.refine_view.specs.Kept.{refusedOut, agrees, ActKept, CallKept, EachOccupied, Steady, Structure}
+use Rattle.refine_view.specs.Refines.{refusedOut, agrees, ActRefines, CallRefines, EachOccupied, Steady, Structure}
 use Rattle.refine_view.proofs.Invariants.{consistent-ordered, structure-of, consistent-of}
-use Rattle.refine_view.proofs.Keeping.{face-same, self, selfPut, self-good}
+use Rattle.refine_view.proofs.SelfSimulation.{face-same, self, selfPut, self-good}
 use Rattle.guarantee.specs.Demand3.{struckOut}
 use Rattle.guarantee.specs.Elements.{Acts, wrong, looks, calls, starts, startRefused, steps}
-use Rattle.guarantee.proofs.Kept.{all-kept}
+use Rattle.guarantee.proofs.AllRefine.{all-refine}
 use Rattle.guarantee.proofs.Numbers.{to-number, not-struck-out}
 use Rattle.guarantee.proofs.Putting.{put-same}
 use Rattle.theory.specs.Machine as machine
@@ -107,7 +107,7 @@ module _ (g : Geometry) (m : Mem) (z : Sizes g m) (k : Consistent g m) (w : Ghos
         (told a) h
 
     -- as on the machine
-    matched-leads : refusal (observe m) c ≡ 0 → (k : ActKept g m c) → answerOf r ≡ act g m c .0 → memOf g after ≡ act g m c .1 → Leads (mutatorCall c r) after
+    matched-leads : refusal (observe m) c ≡ 0 → (k : ActRefines g m c) → answerOf r ≡ act g m c .0 → memOf g after ≡ act g m c .1 → Leads (mutatorCall c r) after
     matched-leads x k e h =
         let st = view g (k .ready) in
         let y : refusal (machineCalls.observe st) c ≡ 0 = ap (λ F. refusal F c) (k .shows ∙ face-same g m) ∙ x in
@@ -124,7 +124,7 @@ module _ (g : Geometry) (m : Mem) (z : Sizes g m) (k : Consistent g m) (w : Ghos
           answer = told a;
         })
 
-    acted-leads : refusal (observe m) c ≡ 0 → CallKept struckOut g m c → answerOf r ≡ act g m c .0 → memOf g after ≡ act g m c .1 → Leads (mutatorCall c r) after
+    acted-leads : refusal (observe m) c ≡ 0 → CallRefines struckOut g m c → answerOf r ≡ act g m c .0 → memOf g after ≡ act g m c .1 → Leads (mutatorCall c r) after
     acted-leads x (refusedOut n t y) e h =
         stays (mutatorCall c r) after
         (ap (λ o. pick (struck struckOut o) none (some (c, r))) (to-number r n (e ∙ ap (λ z. z .0) y)) ∙ ap (λ b. pick b none (some (c, r))) t)
@@ -136,12 +136,12 @@ module _ (g : Geometry) (m : Mem) (z : Sizes g m) (k : Consistent g m) (w : Ghos
     call-leads = go (refusal (observe m) c) refl
       where
         go : (n : ℕ) → refusal (observe m) c ≡ n → answerOf r ≡ refuse n m (act g m c) .0 → memOf g after ≡ refuse n m (act g m c) .1 → Leads (mutatorCall c r) after
-        go zero x e h = acted-leads x (all-kept .calls g m z k c x) e h
+        go zero x e h = acted-leads x (all-refine .calls g m z k c x) e h
         go (suc n) x e h = refused-leads n x e h
 
   pub begun : (m′ : Mem) → phase m ≡ idle → m′ ≡ started g m → Begun m′
   begun m′ i h =
-      let q = all-kept .starts g m z k i in
+      let q = all-refine .starts g m z k i in
       subst Begun (sym h) (record {
         quiet = i;
         couples = agree-ok (segmentOf g) (machine.Live (view g m)) (w .put) _ (view g (started g m)) (w .heap) (q .agree) (start-ok (segmentOf g) (collects m) P (w .put) (view g m) (w .heap) o);
@@ -155,7 +155,7 @@ module _ (g : Geometry) (m : Mem) (z : Sizes g m) (k : Consistent g m) (w : Ghos
   leads v after (starts i o h) = begins refl (begun (memOf g after) i h)
   leads v after (startRefused e h) = stays _ after refl h
   leads v after (steps e h) =
-      let q = all-kept .steps g m z k in
+      let q = all-refine .steps g m z k in
       goes (record {
         couples = subst (λ x. Couples g x w P) (sym h) (model-step (segmentOf g) P (w .put) (view g m) (view g (stepOf g m .1)) (w .heap) (lowest m (g .segments)) (q .picked) o (q .moves .agree));
         steady = subst (Steady g m) (sym h) (q .moves .steady);
@@ -172,7 +172,7 @@ module _ (g : Geometry) (m : Mem) (z : Sizes g m) (k : Consistent g m) where
   unmoved-structure : (m′ : Mem) → m′ ≡ m → Ordering g m m′
   unmoved-structure m′ h = subst (Ordering g m) (sym h) (structure-of g m (consistent-ordered g m k), λ u. u, λ u. u)
 
-  acted : (m′ : Mem) (c : Call) → CallKept struckOut g m c → m′ ≡ act g m c .1 → Ordering g m m′
+  acted : (m′ : Mem) (c : Call) → CallRefines struckOut g m c → m′ ≡ act g m c .1 → Ordering g m m′
   acted m′ c (refusedOut n t y) h = unmoved-structure m′ (h ∙ ap (λ z. z .1) y)
   acted m′ c (agrees q) h = subst (Ordering g m) (sym h) (q .moves .structure, q .moves .occupied, q .moves .behind)
 
@@ -181,16 +181,16 @@ module _ (g : Geometry) (m : Mem) (z : Sizes g m) (k : Consistent g m) where
   called m′ c = go (refusal (observe m) c) refl
     where
       go : (n : ℕ) → refusal (observe m) c ≡ n → m′ ≡ refuse n m (act g m c) .1 → Ordering g m m′
-      go zero x h = acted m′ c (all-kept .calls g m z k c x) h
+      go zero x h = acted m′ c (all-refine .calls g m z k c x) h
       go (suc n) x h = unmoved-structure m′ h
 
   structured : (v : Event) (m′ : Mem) → Acts g m m′ v → Ordering g m m′
   structured v m′ (wrong n h) = unmoved-structure m′ h
   structured v m′ (looks h) = unmoved-structure m′ h
   structured v m′ (calls {c = c} e h) = called m′ c h
-  structured v m′ (starts i o h) = let q = all-kept .starts g m z k i in subst (Ordering g m) (sym h) (q .structure, q .occupied, λ _. q .behind)
+  structured v m′ (starts i o h) = let q = all-refine .starts g m z k i in subst (Ordering g m) (sym h) (q .structure, q .occupied, λ _. q .behind)
   structured v m′ (startRefused e h) = unmoved-structure m′ h
-  structured v m′ (steps e h) = let q = all-kept .steps g m z k .moves in subst (Ordering g m) (sym h) (q .structure, q .occupied, q .behind)
+  structured v m′ (steps e h) = let q = all-refine .steps g m z k .moves in subst (Ordering g m) (sym h) (q .structure, q .occupied, q .behind)
 
   abbrev pub alone : Ghost
   alone = record { heap = self g m; put = selfPut g m }

@@ -14,11 +14,11 @@ use Rattle.theory.specs.Calls.{a-swept}
 use Rattle.theory.proofs.Invariant.{none-some}
 use Rattle.model.specs.declared.Answer.the-variants.{Ok}
 use Rattle.model.specs.Fields.{phase, traceCount, tag, class}
-use Rattle.model.specs.Collector.{collects, stepOf, stepIn, moves, traces, sweeps, swept, lowest, waiting, outsideAnswered}
-use Rattle.model.specs.Lists.{startCall, stepCall, Element, startElement, stepElement, Meets, KeepsLength, Gets, wrongSized, eventNumber, onward}
+use Rattle.model.specs.Collector.{collects, stepOf, stepIn, movedOrWaiting, traces, sweeps, swept, lowest, waiting, outsideAnswered}
+use Rattle.model.specs.Lists.{startCall, stepCall, Element, startElement, stepElement, Meets, KeepsLength, Gets, wrongSized, eventNumber, nextWords}
 use Rattle.model.specs.Lists.{Chain, wordsAfter, Ghost, Begins, ghostStep, ghostAfter}
 use Rattle.refine_view.specs.View.{view}
-use Rattle.laws.proofs.Lengths.{sizes-of}
+use Rattle.model_laws.proofs.Lengths.{sizes-of}
 use Rattle.refine_run.proofs.Elements.{over, is-over, ahead}
 use Rattle.guarantee.specs.Demand3.{struckOut, SweptIn}
 use Rattle.guarantee.specs.Elements.{Acts, wrong, starts, steps}
@@ -42,7 +42,7 @@ pub swept-by : (g : Geometry) (m : Mem) (s f : ℕ) → a-swept s f ≡ stepOf g
 unfolding stepOf
 swept-by g m s f e = go (phase m) refl e
   where
-    moved : (n : ℕ) (m₁ : Mem) (p : Phase) → a-swept s f ≡ moves n m₁ p .0 → ⊥
+    moved : (n : ℕ) (m₁ : Mem) (p : Phase) → a-swept s f ≡ movedOrWaiting n m₁ p .0 → ⊥
     moved zero m₁ p h = let z : _≡_ {A = ℕ} 0 1 = cc in omega arith
     moved (suc n) m₁ p h = let z : _≡_ {A = ℕ} 0 1 = cc in omega arith
 
@@ -77,10 +77,11 @@ module _ (g : Geometry) (m₀ : Mem) where
 
   during-on : (words : List ℕ) (w : Ghost) (P : ℕ → Type 0) (e : Element) → During words w P
       → ((after : List ℕ) → e ≡ startElement g words Ok after → ⊥) → Meets e → KeepsLength e → (wrongSized e ≡ true) ⊎ Gets g words e
-      → During (onward words e) (ghostStep struckOut w e) P
+      → During (nextWords words e) (ghostStep struckOut w e) P
   during-on words w P e d f q l h = go (leads-on g words w e q l h P (d .point))
     where
-      go : Leads g (memOf g words) (sizes-of g words (d .point .long)) (d .point .consistent) w P (d .point .couples) (e .event) (onward words e) → During (onward words e) (ghostStep struckOut w e) P
+      go : Leads g (memOf g words) (sizes-of g words (d .point .long)) (d .point .consistent) w P (d .point .couples) (e .event) (nextWords words e) → During (nextWords words e)
+          (ghostStep struckOut w e) P
       go (goes n) = record { point = goes-on g words w e q l h P (d .point) (n .couples); collected = λ s k i. let y = n .steady s k i in let x = d .collected s k (y .0) in (x .0, y .1 ∙ x .1) }
       go (begins i b) = absurd (f (e .after) (is-over g words e (not-refused g words e q (ap eventNumber i) h) ∙ ap (λ v. over g words v (e .after)) i))
 
@@ -88,7 +89,7 @@ module _ (g : Geometry) (m₀ : Mem) where
       → During (wordsAfter words ds) (ghostAfter struckOut w ds) P × Chain g (wordsAfter words ds) ys
   walk-during [] ys words w P d n c = (d, c)
   walk-during (e ∷ ds) ys words w P d n c =
-      walk-during ds ys (onward words e) (ghostStep struckOut w e) P
+      walk-during ds ys (nextWords words e) (ghostStep struckOut w e) P
       (during-on words w P e d (λ after i. n [] ds words after (ap (λ x. x ∷ ds) i)) (c .0) (c .1) (c .2))
       (λ xs zs u v i. n (e ∷ xs) zs u v (ap (λ (l : List Element). e ∷ l) i)) (c .3)
 
@@ -152,10 +153,10 @@ module _ (g : Geometry) (words : List ℕ) (w : Ghost) (es : List Element) (c : 
   at-start p ch =
       let a = accepted g (memOf g (c .startBefore)) _ (acts-on g (c .startBefore) heapThen cycleStart (ch .0) (ch .1) (ch .2) Any p) in
       let b = begun g (memOf g (c .startBefore)) (sizes-of g (c .startBefore) (p .long)) (p .consistent) heapThen Any (p .couples) _ (a .0) (a .1) in
-      let d : During g (memOf g (c .startBefore)) (onward (c .startBefore) cycleStart) heapThen Then =
+      let d : During g (memOf g (c .startBefore)) (nextWords (c .startBefore) cycleStart) heapThen Then =
       record { point = point-on g (c .startBefore) heapThen cycleStart (ch .0) (ch .1) (ch .2) Any p heapThen Then (b .couples); collected = b .collected } in
-      let y = walk-during g (memOf g (c .startBefore)) (c .during) (cycleSweep ∷ c .rest) (onward (c .startBefore) cycleStart) heapThen Then d (c .oneStart) (ch .3) in
-      before-sweep p (a .0) (wordsAfter (onward (c .startBefore) cycleStart) (c .during)) (y .0) (y .1)
+      let y = walk-during g (memOf g (c .startBefore)) (c .during) (cycleSweep ∷ c .rest) (nextWords (c .startBefore) cycleStart) heapThen Then d (c .oneStart) (ch .3) in
+      before-sweep p (a .0) (wordsAfter (nextWords (c .startBefore) cycleStart) (c .during)) (y .0) (y .1)
 
   before-start : (u : List ℕ) → Point g u heapThen Any → Chain g u (cycleStart ∷ (c .during ++ (cycleSweep ∷ c .rest))) → Cycle
   before-start u p ch =

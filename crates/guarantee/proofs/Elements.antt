@@ -13,8 +13,8 @@ use Rattle.layout.specs.Mem.{memOf}
 use Rattle.layout.proofs.Regions.{sized, right-size}
 use Rattle.theory.proofs.Invariant.{none-some}
 use Rattle.model.specs.Consistent.{Consistent}
-use Rattle.model.specs.Lists.{Element, Meets, KeepsLength, Gets, wrongSized, numberOf, onward, Ghost, fed, remainingCall, ghostStep}
-use Rattle.laws.proofs.Lengths.{sizes-of}
+use Rattle.model.specs.Lists.{Element, Meets, KeepsLength, Gets, wrongSized, numberOf, nextWords, Ghost, fed, remainingCall, ghostStep}
+use Rattle.model_laws.proofs.Lengths.{sizes-of}
 use Rattle.refine_run.proofs.Elements.{size-number, ahead}
 use Rattle.guarantee.specs.Demand3.{struckOut}
 use Rattle.guarantee.specs.Elements.{Acts, EveryElement}
@@ -27,8 +27,8 @@ every-element g words e right c q l h =
     let y = sized-on g words z e q l h in
     let a = acts-of g words z c e q h in
     record {
-      sized = right-size g (length (onward words e)) y;
-      consistent = acts-consistent g (memOf g words) (sizes-of g words z) c (e .event) (onward words e) (sizes-of g (onward words e) y) a;
+      sized = right-size g (length (nextWords words e)) y;
+      consistent = acts-consistent g (memOf g words) (sizes-of g words z) c (e .event) (nextWords words e) (sizes-of g (nextWords words e) y) a;
       acts = a;
     }
 
@@ -47,26 +47,26 @@ point-any g words w P p = record { long = p .long; consistent = p .consistent; c
 
 module _ (g : Geometry) (words : List ℕ) (w : Ghost) (e : Element) (q : Meets e) (l : KeepsLength e) (h : (wrongSized e ≡ true) ⊎ Gets g words e) where
   -- what remains of an element is a call over the list's memory
-  beside : (x : (wrongSized e ≡ true) ⊎ Gets g words e) → fed w (remainingCall struckOut (e .event)) g (onward words e) ≡ ghostStep struckOut w e
-  beside (inl h) = let n = unfed (e .event) (size-number e q h) in ap (λ o. fed w o g (onward words e)) n ∙ sym (ap (λ o. fed w o (e .geometry) (e .after)) n)
+  beside : (x : (wrongSized e ≡ true) ⊎ Gets g words e) → fed w (remainingCall struckOut (e .event)) g (nextWords words e) ≡ ghostStep struckOut w e
+  beside (inl h) = let n = unfed (e .event) (size-number e q h) in ap (λ o. fed w o g (nextWords words e)) n ∙ sym (ap (λ o. fed w o (e .geometry) (e .after)) n)
   beside (inr h) = λ i. fed w (remainingCall struckOut (e .event)) (sym (h .geometry) i) (ahead g words e q h i)
 
   module _ (P : ℕ → Type 0) (p : Point g words w P) where
-    pub acts-on : Acts g (memOf g words) (memOf g (onward words e)) (e .event)
+    pub acts-on : Acts g (memOf g words) (memOf g (nextWords words e)) (e .event)
     acts-on = acts-of g words (p .long) (p .consistent) e q h
 
-    pub leads-on : Leads g (memOf g words) (sizes-of g words (p .long)) (p .consistent) w P (p .couples) (e .event) (onward words e)
-    leads-on = leads g (memOf g words) (sizes-of g words (p .long)) (p .consistent) w P (p .couples) (e .event) (onward words e) acts-on
+    pub leads-on : Leads g (memOf g words) (sizes-of g words (p .long)) (p .consistent) w P (p .couples) (e .event) (nextWords words e)
+    leads-on = leads g (memOf g words) (sizes-of g words (p .long)) (p .consistent) w P (p .couples) (e .event) (nextWords words e) acts-on
 
-    pub point-on : (w′ : Ghost) (Q : ℕ → Type 0) → Couples g (memOf g (onward words e)) w′ Q → Point g (onward words e) w′ Q
+    pub point-on : (w′ : Ghost) (Q : ℕ → Type 0) → Couples g (memOf g (nextWords words e)) w′ Q → Point g (nextWords words e) w′ Q
     point-on w′ Q o =
         let y = sized-on g words (p .long) e q l h in
         record {
           long = y;
           consistent =
-              acts-consistent g (memOf g words) (sizes-of g words (p .long)) (p .consistent) (e .event) (onward words e) (sizes-of g (onward words e) y) acts-on;
+              acts-consistent g (memOf g words) (sizes-of g words (p .long)) (p .consistent) (e .event) (nextWords words e) (sizes-of g (nextWords words e) y) acts-on;
           couples = o;
         }
 
-    pub goes-on : Couples g (memOf g (onward words e)) (fed w (remainingCall struckOut (e .event)) g (onward words e)) P → Point g (onward words e) (ghostStep struckOut w e) P
-    goes-on o = point-on (ghostStep struckOut w e) P (subst (λ x. Couples g (memOf g (onward words e)) x P) (beside h) o)
+    pub goes-on : Couples g (memOf g (nextWords words e)) (fed w (remainingCall struckOut (e .event)) g (nextWords words e)) P → Point g (nextWords words e) (ghostStep struckOut w e) P
+    goes-on o = point-on (ghostStep struckOut w e) P (subst (λ x. Couples g (memOf g (nextWords words e)) x P) (beside h) o)

@@ -9,7 +9,7 @@ use native.Mathlib.Omega.{arith}
 use lib.Dec.{eqb}
 use lib.ListN.{length}
 use borrow.Author.Tests.{eqb-true, eq-eqb}
-use Rattle.rules.specs.Pick.{pick}
+use Rattle.basics.specs.Pick.{pick}
 use Rattle.layout.specs.declared.Geometry.{Geometry}
 use Rattle.layout.specs.Geometry.{wrongSize, mutatorCount}
 use Rattle.layout.specs.Mem.{Mem, memOf, Sizes, traceWord}
@@ -23,27 +23,27 @@ use Rattle.model.specs.declared.Step.the-variants.{Waiting, Moved, Traced, Swep
 use Rattle.model.specs.Answers.{answerOf, refusalOf}
 use Rattle.model.specs.Fields.{phase, traceCount, tag}
 use Rattle.model.specs.Calls.{exec}
-use Rattle.model.specs.Collector.{isFull, started, startIn, startOf, outsideAnswered, waiting, moves, traces, lowest, sweeps, stepIn, stepOf}
+use Rattle.model.specs.Collector.{isFull, started, startIn, startOf, outsideAnswered, waiting, movedOrWaiting, traces, lowest, sweeps, stepIn, stepOf}
 use Rattle.model.specs.Consistent.{Consistent}
 use Rattle.model.specs.Lists.{Event, mutatorCall, startCall, stepCall, openingCall, lookCall, Element, startElement, Promised, Meets, KeepsLength}
-use Rattle.model.specs.Lists.{Gets, wrongSized, eventNumber, onward, Chain, wordsAfter, keep, struck, remainingCall, remainingCalls, remainingAnswers}
+use Rattle.model.specs.Lists.{Gets, wrongSized, eventNumber, nextWords, Chain, wordsAfter, prepend, struck, remainingCall, remainingCalls, remainingAnswers}
 use Rattle.model.specs.Run.{declaredStep}
 use Rattle.model.proofs.Collecting.{collects-full}
-use Rattle.laws.proofs.Lengths.{sizes-of}
-use Rattle.laws.proofs.Lowest.{found-condemned}
-use Rattle.laws.proofs.Segments.{in-range}
+use Rattle.model_laws.proofs.Lengths.{sizes-of}
+use Rattle.model_laws.proofs.Lowest.{found-condemned}
+use Rattle.model_laws.proofs.Segments.{in-range}
 use Rattle.refine_run.proofs.Collecting.{sizes-answered}
 use Rattle.refine_run.proofs.Elements.{size-number, is-over, ahead}
-use Rattle.same_heap.specs.SameHeap.{SameHeap, AsInIdle, notNow, same}
-use Rattle.same_heap.proofs.Same.{same-self, same-then, same-back}
-use Rattle.same_heap.proofs.Calls.{every-call}
-use Rattle.same_heap.proofs.Cycle.{leaves-started, leaves-step}
-use Rattle.same_heap.proofs.Phase.{phase-stays, phase-outside, phase-traced, phase-set}
+use Rattle.idle_twin.specs.SameHeap.{SameHeap, AsInIdle, notNow, same}
+use Rattle.idle_twin.proofs.Same.{same-self, same-then, same-back}
+use Rattle.idle_twin.proofs.Calls.{every-call}
+use Rattle.idle_twin.proofs.Cycle.{leaves-started, leaves-step}
+use Rattle.idle_twin.proofs.Phase.{phase-stays, phase-outside, phase-traced, phase-set}
 use Rattle.guarantee.specs.Elements.{Acts, wrong, looks, calls, starts, startRefused, steps}
 use Rattle.guarantee.specs.Keeping.{NeverSwept}
 use Rattle.guarantee.specs.EmptyCycle.{heapAnswers, leftOut, OverNothing, StepsIn, following, steppedTo, phaseBy, phaseAfter, EveryEmptyCycle, IdleAccepts}
 use Rattle.theory.proofs.Invariant.{none-some}
-use Rattle.guarantee.proofs.Kept.{all-kept}
+use Rattle.guarantee.proofs.AllRefine.{all-refine}
 use Rattle.guarantee.proofs.Numbers.{to-number, of-number, is-ok}
 use Rattle.guarantee.proofs.Refused.{exec-same}
 use Rattle.guarantee.proofs.NotNow.{handshakes-only}
@@ -157,7 +157,7 @@ module _ (g : Geometry) where
         answered : Mem
         answered = outsideAnswered g m mutatorCount
 
-        handshake : (p : Phase) → phase m ≡ p → (n : ℕ) → phase (moves n answered (following p) .1) ≡ steppedTo p (declaredStep (moves n answered (following p) .0))
+        handshake : (p : Phase) → phase m ≡ p → (n : ℕ) → phase (movedOrWaiting n answered (following p) .1) ≡ steppedTo p (declaredStep (movedOrWaiting n answered (following p) .0))
         handshake p q zero = phase-set g answered (sizes-answered g m z mutatorCount) (following p)
         handshake p q (suc n) = phase-outside g m mutatorCount ∙ q
 
@@ -203,29 +203,29 @@ module _ (g : Geometry) where
   -- ---- one element
 
   record Passes (words : List ℕ) (h : Mem) (e : Element) : Type 0 where
-    quiet : Quiet (onward words e) (after? h (remainingCall leftOut (e .event)))
+    quiet : Quiet (nextWords words e) (after? h (remainingCall leftOut (e .event)))
     answer : (x : Call × Answer) → remainingCall leftOut (e .event) ≡ some x → answerOf (x .1) ≡ exec g h (x .0) .0
-    grows : Grows g (memOf g words) (memOf g (onward words e))
+    grows : Grows g (memOf g words) (memOf g (nextWords words e))
     unswept : (s : ℕ) → IsSweep s e → ⊥
-    next : phase (memOf g (onward words e)) ≡ phaseBy (phase (memOf g words)) (e .event)
+    next : phase (memOf g (nextWords words e)) ≡ phaseBy (phase (memOf g words)) (e .event)
 
   pass : (words : List ℕ) (h : Mem) (e : Element) → Quiet words h → Meets e → KeepsLength e → (wrongSized e ≡ true) ⊎ Gets g words e → (e .event ≡ startCall Ok → ⊥) → Passes words h e
   pass words h e q a l x f =
       let o = every-element g words e (q .right) (q .consistent) a l x in
       let z = sizes words (q .right) in
-      let w = follows (memOf g words) h z (q .consistent) (q .uncondemned) (q .heap) (q .phase) (memOf g (onward words e)) (e .event) (o .acts) f in
+      let w = follows (memOf g words) h z (q .consistent) (q .uncondemned) (q .heap) (q .phase) (memOf g (nextWords words e)) (e .event) (o .acts) f in
       record {
         quiet = record {
           right = o .sized;
           consistent = o .consistent;
-          uncondemned = still-none (memOf g words) h z (q .consistent) (q .uncondemned) (q .heap) (q .phase) (memOf g (onward words e)) (e .event) (o .acts) f;
+          uncondemned = still-none (memOf g words) h z (q .consistent) (q .uncondemned) (q .heap) (q .phase) (memOf g (nextWords words e)) (e .event) (o .acts) f;
           heap = w .heap;
           phase = w .phase;
         };
         answer = w .answer;
         grows = w .grows;
-        unswept = λ s y. never-sweep (memOf g words) h z (q .consistent) (q .uncondemned) (q .heap) (q .phase) (memOf g (onward words e)) (e .event) (o .acts) s (y .0) (y .1);
-        next = next-phase (memOf g words) h z (q .consistent) (q .uncondemned) (q .heap) (q .phase) (memOf g (onward words e)) (e .event) (o .acts) f;
+        unswept = λ s y. never-sweep (memOf g words) h z (q .consistent) (q .uncondemned) (q .heap) (q .phase) (memOf g (nextWords words e)) (e .event) (o .acts) s (y .0) (y .1);
+        next = next-phase (memOf g words) h z (q .consistent) (q .uncondemned) (q .heap) (q .phase) (memOf g (nextWords words e)) (e .event) (o .acts) f;
       }
 
   -- ---- along a list
@@ -246,12 +246,12 @@ module _ (g : Geometry) where
   walk-quiet [] ys words h q n c = record { quiet = q; chain = c; noStart = n; grows = grows-self g (memOf g words); phases = refl }
   walk-quiet (e ∷ xs) ys words h q n c =
       let p = pass words h e q (c .0) (c .1) (c .2) (no-start g words e (xs ++ ys) n (c .0) (c .2)) in
-      let w = walk-quiet xs ys (onward words e) (after? h (remainingCall leftOut (e .event))) (p .quiet) (no-later g e (xs ++ ys) n) (c .3) in
+      let w = walk-quiet xs ys (nextWords words e) (after? h (remainingCall leftOut (e .event))) (p .quiet) (no-later g e (xs ++ ys) n) (c .3) in
       record {
         quiet = w .quiet;
         chain = w .chain;
         noStart = w .noStart;
-        grows = grows-then g (memOf g words) (memOf g (onward words e)) (memOf g (wordsAfter (onward words e) xs)) (p .grows) (w .grows);
+        grows = grows-then g (memOf g words) (memOf g (nextWords words e)) (memOf g (wordsAfter (nextWords words e) xs)) (p .grows) (w .grows);
         phases = w .phases ∙ ap (λ p. phaseAfter p xs) (p .next);
       }
 
@@ -259,11 +259,11 @@ module _ (g : Geometry) where
   answers-quiet [] words h q n c = refl
   answers-quiet (e ∷ ds) words h q n c =
       let p = pass words h e q (c .0) (c .1) (c .2) (no-start g words e ds n (c .0) (c .2)) in
-      one (remainingCall leftOut (e .event)) (p .answer) (answers-quiet ds (onward words e) (after? h (remainingCall leftOut (e .event))) (p .quiet) (no-later g e ds n) (c .3))
+      one (remainingCall leftOut (e .event)) (p .answer) (answers-quiet ds (nextWords words e) (after? h (remainingCall leftOut (e .event))) (p .quiet) (no-later g e ds n) (c .3))
     where
       one : (o : Option (Call × Answer)) → ((x : Call × Answer) → o ≡ some x → answerOf (x .1) ≡ exec g h (x .0) .0)
           → remainingAnswers leftOut ds ≡ heapAnswers g (after? h o) (remainingCalls leftOut ds)
-          → keep (Option·map (λ x. answerOf (x .1)) o) (remainingAnswers leftOut ds) ≡ heapAnswers g h (keep (Option·map (λ x. x .0) o) (remainingCalls leftOut ds))
+          → prepend (Option·map (λ x. answerOf (x .1)) o) (remainingAnswers leftOut ds) ≡ heapAnswers g h (prepend (Option·map (λ x. x .0) o) (remainingCalls leftOut ds))
       one none f ih = ih
       one (some x) f ih = λ j. f x refl j ∷ ih j
 
@@ -271,7 +271,7 @@ module _ (g : Geometry) where
   never-quiet s [] words h q n c = never-none s
   never-quiet s (e ∷ ds) words h q n c =
       let p = pass words h e q (c .0) (c .1) (c .2) (no-start g words e ds n (c .0) (c .2)) in
-      never-more s e ds (p .unswept s) (never-quiet s ds (onward words e) (after? h (remainingCall leftOut (e .event))) (p .quiet) (no-later g e ds n) (c .3))
+      never-more s e ds (p .unswept s) (never-quiet s ds (nextWords words e) (after? h (remainingCall leftOut (e .event))) (p .quiet) (no-later g e ds n) (c .3))
 
   -- ---- the start
 
@@ -281,14 +281,14 @@ module _ (g : Geometry) where
     quiet : Quiet after (memOf g words)
     chain : Chain g after ds
     grows : Grows g (memOf g words) (memOf g after)
-    onward-is : onward words (startElement g words Ok after) ≡ after
+    next-words-is : nextWords words (startElement g words Ok after) ≡ after
 
   begun : (words after : List ℕ) (ds : List Element) → OverNothing g words after ds → Started words after ds
   begun words after ds p =
       let m : Mem = memOf g words in
       let e : Element = startElement g words Ok after in
       let c = p .chain in
-      let w : onward words e ≡ after = ahead g words e (c .0) (not-refused g words e (c .0) refl (c .2)) in
+      let w : nextWords words e ≡ after = ahead g words e (c .0) (not-refused g words e (c .0) refl (c .2)) in
       let o = every-element g words e (p .sized) (p .consistent) (c .0) (c .1) (c .2) in
       let z = sizes words (p .sized) in
       let a = accepted g m _ (o .acts) in
@@ -296,7 +296,7 @@ module _ (g : Geometry) where
       let q : SameHeap m (memOf g after) = subst (SameHeap m) (sym y) (leaves-started g m (p .nothing)) in
       record {
         memory = y;
-        first = ap phase y ∙ all-kept .starts g m z (p .consistent) (a .0) .agree .phase;
+        first = ap phase y ∙ all-refine .starts g m z (p .consistent) (a .0) .agree .phase;
         quiet = record {
           right = subst (λ x. wrongSize g (length x) ≡ false) w (o .sized);
           consistent = subst (λ x. Consistent g (memOf g x)) w (o .consistent);
@@ -306,7 +306,7 @@ module _ (g : Geometry) where
         };
         chain = subst (λ x. Chain g x ds) w (c .3);
         grows = grows-same g m (memOf g after) q;
-        onward-is = w;
+        next-words-is = w;
       }
     where
       none-full : (s : ℕ) → isFull (memOf g words) s ≡ true → ⊥
@@ -371,13 +371,13 @@ module _ (g : Geometry) where
         let a : startElement g words Ok after ≡ y = cc in
         let b : ds ≡ ys ++ zs = cc in
         let o = begun words after ds p in
-        let t : onward words y ≡ after = ap (onward words) (sym a) ∙ o .onward-is in
+        let t : nextWords words y ≡ after = ap (nextWords words) (sym a) ∙ o .next-words-is in
         subst (λ u. Grows g (memOf g words) (memOf g (wordsAfter u ys))) (sym t) (grows-then g (memOf g words) (memOf g after) (memOf g (wordsAfter after ys)) (o .grows) (at-point ys zs b .grows))
     grows-between (x ∷ xs) ys zs i =
         let a : startElement g words Ok after ≡ x = cc in
         let b : ds ≡ xs ++ (ys ++ zs) = cc in
         let w = at-point xs (ys ++ zs) b in
-        let t : onward words x ≡ after = ap (onward words) (sym a) ∙ begun words after ds p .onward-is in
+        let t : nextWords words x ≡ after = ap (nextWords words) (sym a) ∙ begun words after ds p .next-words-is in
         subst (λ u. Grows g (memOf g (wordsAfter u xs)) (memOf g (wordsAfter (wordsAfter u xs) ys))) (sym t)
         (walk-quiet ys zs (wordsAfter after xs) (idleAfter (memOf g words) xs) (w .quiet) (w .noStart) (w .chain) .grows)
 

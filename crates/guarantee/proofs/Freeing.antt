@@ -6,7 +6,7 @@ use mathlib.Core.List.{List}
 use Prim.Native.Nat.{ℕ, _%_, _<_}
 use native.Mathlib.Omega.{arith}
 use borrow.Author.Tests.{eq-eqb}
-use Rattle.rules.proofs.Order.{same-or-not}
+use Rattle.basics.proofs.Order.{same-or-not}
 use Rattle.words.proofs.Word.{one-of-not-zero}
 use Rattle.words.proofs.Lists.{at-lt}
 use Rattle.layout.specs.declared.Geometry.{Geometry}
@@ -25,10 +25,10 @@ use Rattle.classes.specs.Class.{IsClass, blockWords}
 use Rattle.model.specs.Lists.{Element, Ghost, BlockReached}
 use Rattle.refine_view.specs.View.{view, isHead}
 use Rattle.refine_view.proofs.Invariants.{consistent-ordered}
-use Rattle.laws.proofs.Bools.{and-both}
-use Rattle.laws.proofs.Blocks.{header-segment, header-aligned}
-use Rattle.laws.proofs.Marked.{all-marked}
-use Rattle.laws.proofs.Lengths.{sizes-of}
+use Rattle.model_laws.proofs.Bools.{and-both}
+use Rattle.model_laws.proofs.Blocks.{header-segment, header-aligned}
+use Rattle.model_laws.proofs.Marked.{all-marked}
+use Rattle.model_laws.proofs.Lengths.{sizes-of}
 use Rattle.refine_sweep.proofs.Sweeping.{swept-free, lowest-condemned}
 use Rattle.guarantee.specs.Demand3.{SweptIn, BlockFree, Unreached, GarbageFreed}
 use Rattle.guarantee.proofs.Cycle.{swept-by, Then, heapThen, Cycle, cycle-of}

@@ -9,8 +9,8 @@ use native.Mathlib.Omega.{arith}
 use lib.Dec.{eqb}
 use lib.ListN.{getD}
 use borrow.Author.Tests.{eqb-true, eqb-false, ne-eqb}
-use Rattle.rules.specs.Pick.{pick}
-use Rattle.rules.proofs.Order.{same-or-not}
+use Rattle.basics.specs.Pick.{pick}
+use Rattle.basics.proofs.Order.{same-or-not}
 use Rattle.classes.specs.Class.{classCount}
 use Rattle.classes.specs.Record.{ofCounts, classOfRecord}
 use Rattle.classes.specs.declared.SizeClass.{SizeClass}
@@ -28,40 +28,40 @@ use Rattle.model.specs.Segments.{setSegmentState, freeStack, partStack, count, 
 use Rattle.model.specs.Records.{record?, pointer}
 use Rattle.model.specs.Tracing.{barrier}
 use Rattle.model.specs.Mutators.{acknowledged, attached, released, detached}
-use Rattle.model.specs.Making.{held, part, unused, noRoom, sourceOf, takes, freshened, handedOut, inBlock, inSegment, fromSource, made}
+use Rattle.model.specs.Making.{held, part, unused, noRoom, sourceOf, setHeld, freshened, handedOut, inBlock, inSegment, fromSource, made}
 use Rattle.model.specs.Calls.{isAttached, observe, ofClass, act, exec}
 use Rattle.model.specs.Consistent.{Consistent, StackOk, isPart}
-use Rattle.refine_view.specs.Kept.{Ordered}
+use Rattle.refine_view.specs.Refines.{Ordered}
 use Rattle.refine_view.proofs.Invariants.{consistent-ordered}
-use Rattle.laws.proofs.Words.{Recorded, Untouched, untouched-as}
-use Rattle.laws.proofs.Segments.{used-same}
-use Rattle.laws.proofs.Bitmaps.{bitmap-by}
-use Rattle.laws.proofs.Windows.{window-other}
-use Rattle.laws.proofs.Takes.{takes-there, takes-other}
-use Rattle.laws.proofs.Topmost.{top-part, part-class, top-free, free-tag, clean, long-clean}
-use Rattle.laws.proofs.Releasing.{Gone, gone?, Releasing}
-use Rattle.laws.proofs.Released.{releasing, releasable}
-use Rattle.refine_taking.proofs.Taken.{Taken}
-use Rattle.refine_taking.proofs.TakePart.{taken-part}
-use Rattle.refine_taking.proofs.TakeFree.{taken-free}
+use Rattle.model_laws.proofs.Words.{Recorded, Untouched, untouched-as}
+use Rattle.model_laws.proofs.Segments.{used-same}
+use Rattle.model_laws.proofs.Bitmaps.{bitmap-by}
+use Rattle.model_laws.proofs.Windows.{window-other}
+use Rattle.model_laws.proofs.SetHeld.{set-held-there, set-held-other}
+use Rattle.model_laws.proofs.Topmost.{top-part, part-class, top-free, free-tag, clean, long-clean}
+use Rattle.model_laws.proofs.Releasing.{Gone, gone?, Releasing}
+use Rattle.model_laws.proofs.Released.{releasing, releasable}
+use Rattle.refine_take_detach.proofs.SegmentTaken.{SegmentTaken}
+use Rattle.refine_take_detach.proofs.TakePart.{taken-part}
+use Rattle.refine_take_detach.proofs.TakeFree.{taken-free}
 use Rattle.refine_making.proofs.Request.{requested}
 use Rattle.refine_making.proofs.Blackened.{result}
-use Rattle.same_heap.specs.SameHeap.{SameHeap}
-use Rattle.same_heap.proofs.Same.{leaves-acknowledged}
-use Rattle.same_heap.proofs.Calls.{leaves-barrier}
+use Rattle.idle_twin.specs.SameHeap.{SameHeap}
+use Rattle.idle_twin.proofs.Same.{leaves-acknowledged}
+use Rattle.idle_twin.proofs.Calls.{leaves-barrier}
 use Rattle.guarantee.specs.EmptyCycle.{FreesNothing}
-use Rattle.guarantee.proofs.Kept.{some-of, in-order, own-taken}
+use Rattle.guarantee.proofs.AllRefine.{some-of, in-order, own-taken}
 use Rattle.refine_making.proofs.Standing as standing
 use Rattle.model.specs.Tag as Tag
 
 -- segment s is not free, has its class, and its blocks in use are in use
-pub record Stands (g : Geometry) (m m′ : Mem) (s : ℕ) : Type 0 where
+pub record StaysInUse (g : Geometry) (m m′ : Mem) (s : ℕ) : Type 0 where
   used : tag m′ s ≡ Tag.free → ⊥
   class : class m′ s ≡ class m s
   block : (b : ℕ) → usedBit g m s b ≡ 1 → usedBit g m′ s b ≡ 1
 
 abbrev pub Grows : Geometry → Mem → Mem → Type 0
-Grows g m m′ = (s : ℕ) → (tag m s ≡ Tag.free → ⊥) → Stands g m m′ s
+Grows g m m′ = (s : ℕ) → (tag m s ≡ Tag.free → ⊥) → StaysInUse g m m′ s
 
 pub grows-self : (g : Geometry) (m : Mem) → Grows g m m
 grows-self g m s u = record { used = u; class = refl; block = λ b e. e }
@@ -76,7 +76,7 @@ grows-frees g m m′ h = record {
 }
 
 -- a segment whose record is the same but for its tag and its mutator, with its bitmap
-stands-by : (g : Geometry) (m m′ : Mem) (s : ℕ) → (tag m′ s ≡ Tag.free → ⊥) → class m′ s ≡ class m s → place m′ s ≡ place m s → bitmap g m′ s ≡ bitmap g m s → Stands g m m′ s
+stands-by : (g : Geometry) (m m′ : Mem) (s : ℕ) → (tag m′ s ≡ Tag.free → ⊥) → class m′ s ≡ class m s → place m′ s ≡ place m s → bitmap g m′ s ≡ bitmap g m s → StaysInUse g m m′ s
 stands-by g m m′ s u c p e = record { used = u; class = c; block = λ b q. used-same g m m′ s b p e ∙ q }
 
 -- the segments' records and the bitmaps stay
@@ -93,7 +93,7 @@ grows-same g m m′ e = grows-still g m m′ (e .segments) (e .bitmaps)
 module _ (g : Geometry) (m : Mem) (s : Sizes g m) (c : Ordered g m) (k d cl p n : ℕ) (l : k < mutatorCount)
     (a : isAttached m k ≡ true) (h : d < rootCount) (e : classOfRecord (ofCounts p n) ≡ Class cl) where
   -- out of a segment that the mutator holds
-  grows-handed : (m₁ : Mem) (r : ℕ) → Taken g m m₁ k cl r → Grows g m m₁ → Grows g m (inSegment g m m₁ k d cl r (ofCounts p n) .1)
+  grows-handed : (m₁ : Mem) (r : ℕ) → SegmentTaken g m m₁ k cl r → Grows g m m₁ → Grows g m (inSegment g m m₁ k d cl r (ofCounts p n) .1)
   grows-handed m₁ r t w =
       let q = requested g m₁ (in-order g m s c k d cl p n l a h e m₁ r t) k d cl r (ofCounts p n) l (t .known) h e (t .holds) in
       let b : ℕ = q .0 in
@@ -112,7 +112,7 @@ module _ (g : Geometry) (m : Mem) (s : Sizes g m) (c : Ordered g m) (k d cl p n 
     x = top g m (partStack cl)
 
     abbrev withPart : Mem
-    withPart = takes g (pop g m (partStack cl)) k cl x (place m x)
+    withPart = setHeld g (pop g m (partStack cl)) k cl x (place m x)
 
     part-bitmaps : withPart .bitmaps ≡ m .bitmaps
     unfolding setMutator setSegmentState setSegment setStack
@@ -125,14 +125,14 @@ module _ (g : Geometry) (m : Mem) (s : Sizes g m) (c : Ordered g m) (k d cl p n 
         stack = c .summed .partSegments cl (class-found (p + n) cl e)
 
         there : Recorded withPart x 2 cl (place m x) k
-        there = takes-there g m s (partStack cl * (1 + g .segments)) (count g m (partStack cl) - 1) k cl x (place m x) (top-part g m cl stack some .0)
+        there = set-held-there g m s (partStack cl * (1 + g .segments)) (count g m (partStack cl) - 1) k cl x (place m x) (top-part g m cl stack some .0)
 
-        go : (i ≡ x) ⊎ (i ≡ x → ⊥) → Stands g m withPart i
+        go : (i ≡ x) ⊎ (i ≡ x → ⊥) → StaysInUse g m withPart i
         go (inl q) =
-            subst (Stands g m withPart) (sym q)
+            subst (StaysInUse g m withPart) (sym q)
             (stands-by g m withPart x (λ z. let y = there .tag in omega arith) (there .class ∙ sym (part-class g m cl stack some)) (there .place) (bitmap-by g m withPart part-bitmaps x))
         go (inr f) =
-            let y = takes-other g m s (partStack cl * (1 + g .segments)) (count g m (partStack cl) - 1) k cl x (place m x) i f in
+            let y = set-held-other g m s (partStack cl * (1 + g .segments)) (count g m (partStack cl) - 1) k cl x (place m x) i f in
             stands-by g m withPart i (λ z. u (sym (y .tag) ∙ z)) (y .class) (y .place) (bitmap-by g m withPart part-bitmaps i)
 
   -- a free one, of which nothing is asked
@@ -141,7 +141,7 @@ module _ (g : Geometry) (m : Mem) (s : Sizes g m) (c : Ordered g m) (k d cl p n 
     y = top g m freeStack
 
     abbrev withFree : Mem
-    withFree = freshened g (takes g (pop g m freeStack) k cl y 0) y cl
+    withFree = freshened g (setHeld g (pop g m freeStack) k cl y 0) y cl
 
     free-bitmap : (i : ℕ) → (i ≡ y → ⊥) → bitmap g withFree i ≡ bitmap g m i
     unfolding setMutator setSegmentState setSegment setStack setRun
@@ -152,12 +152,12 @@ module _ (g : Geometry) (m : Mem) (s : Sizes g m) (c : Ordered g m) (k d cl p n 
 
     free-other : (i : ℕ) → (i ≡ y → ⊥) → Untouched m withFree i
     unfolding setRun
-    free-other i f = untouched-as refl (takes-other g m s (freeStack * (1 + g .segments)) (count g m freeStack - 1) k cl y 0 i f)
+    free-other i f = untouched-as refl (set-held-other g m s (freeStack * (1 + g .segments)) (count g m freeStack - 1) k cl y 0 i f)
 
     grows-free : Grows g m withFree
     grows-free i u = go (same-or-not i y)
       where
-        go : (i ≡ y) ⊎ (i ≡ y → ⊥) → Stands g m withFree i
+        go : (i ≡ y) ⊎ (i ≡ y → ⊥) → StaysInUse g m withFree i
         go (inl q) = absurd (u (ap (tag m) q ∙ free-tag g m (c .summed .freeSegments) some))
         go (inr f) = let o = free-other i f in stands-by g m withFree i (λ z. u (sym (o .tag) ∙ z)) (o .class) (o .place) (free-bitmap i f)
 
@@ -197,7 +197,7 @@ grows-detached g m s c k few = grows-then g m parted (detached g m k) grows-part
         same : bitmap g parted i ≡ bitmap g m i
         same = bitmap-by g m parted (ap (λ (x : Mem). x .bitmaps) (parts .frame)) i
 
-        go : Gone m k classCount i ⊎ (Gone m k classCount i → ⊥) → Stands g m parted i
+        go : Gone m k classCount i ⊎ (Gone m k classCount i → ⊥) → StaysInUse g m parted i
         go (inl z) = let x = parts .gone i z in stands-by g m parted i (λ q. let y = x .tag in omega arith) (x .class) (x .place) same
         go (inr f) = let x = parts .stay i f in stands-by g m parted i (λ q. u (sym (x .tag) ∙ q)) (x .class) (x .place) same
 

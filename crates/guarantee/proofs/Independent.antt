@@ -6,7 +6,7 @@ use mathlib.Core.List.{List}
 use Prim.Native.Nat.{ℕ, _<_}
 use native.Mathlib.Omega.{arith}
 use lib.Dec.{ltb}
-use Rattle.rules.specs.Pick.{pick}
+use Rattle.basics.specs.Pick.{pick}
 use Rattle.layout.specs.declared.Geometry.{Geometry}
 use Rattle.layout.specs.Geometry.{blocksIn, segmentOf}
 use Rattle.layout.specs.Mem.{Mem}
@@ -20,9 +20,9 @@ use Rattle.model.specs.Segments.{usedBit, bitmap}
 use Rattle.model.specs.Records.{blockOf}
 use Rattle.model.specs.Reaching.{IsRoot, IsEntry, PointsTo, Live, Reached, Covered, isMarked}
 use Rattle.model.specs.Consistent.{SegmentOk, Occupied, MutatorOk, RecordOk, TraceOk, MarksOf, bitWord, Tricolour, InPhase, Sound}
-use Rattle.laws.proofs.Blocks.{of-block}
-use Rattle.laws.proofs.Words.{Recorded}
-use Rattle.laws.proofs.Segments.{segment-by}
+use Rattle.model_laws.proofs.Blocks.{of-block}
+use Rattle.model_laws.proofs.Words.{Recorded}
+use Rattle.model_laws.proofs.Segments.{segment-by}
 use Rattle.refine_view.proofs.Seeing.{entry-was, edge-was, live-was}
 use Rattle.refine_view.proofs.Carried.{record-by, use-by}
 use Rattle.guarantee.specs.Independent.{SameBlocks, SameButSummaries, SoundTogether}

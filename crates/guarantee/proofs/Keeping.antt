@@ -7,7 +7,7 @@ use mathlib.Core.List.{List}
 use Prim.Native.Nat.{ℕ, _+_, _≤_, _<_}
 use native.Mathlib.Omega.{arith}
 use lib.ListN.{length}
-use Rattle.rules.specs.Pick.{pick}
+use Rattle.basics.specs.Pick.{pick}
 use Rattle.classes.proofs.Smallest.{class-found}
 use Rattle.layout.specs.declared.Geometry.{Geometry}
 use Rattle.layout.specs.Geometry.{mutatorCount, Sized, total}
@@ -24,16 +24,16 @@ use Rattle.model.specs.Run.{Command, answered}
 use Rattle.model.specs.Consistent.{Consistent}
 use Rattle.model.specs.Looks.{Look, LookPromise, lookSized, lookNumber}
 use Rattle.model.specs.Lists.{Event, Element, Promised, Meets, eventNumber, struck, remainingCall}
-use Rattle.laws.proofs.Lengths.{sizes-of}
+use Rattle.model_laws.proofs.Lengths.{sizes-of}
 use Rattle.refine_view.proofs.Invariants.{consistent-ordered}
-use Rattle.refine_view.proofs.Keeping.{self, self-good}
-use Rattle.refine_taking.proofs.Rooms.{room-source, source-room}
+use Rattle.refine_view.proofs.SelfSimulation.{self, self-good}
+use Rattle.refine_take_detach.proofs.Rooms.{room-source, source-room}
 use Rattle.refine_start.proofs.Opened.{sizes-opened, opened-consistent}
 use Rattle.refine_run.proofs.Answering.{step-answers}
 use Rattle.refine_run.proofs.Elements.{look-size, look-answers, size-unchanged, is-over, ahead}
 use Rattle.refine_run.proofs.Own.{fine, own-run}
 use Rattle.guarantee.specs.Demand3.{struckOut}
-use Rattle.guarantee.specs.Elements.{Acts, wrong, looks, calls, starts, startRefused, steps, Onward}
+use Rattle.guarantee.specs.Elements.{Acts, wrong, looks, calls, starts, startRefused, steps, Continues}
 use Rattle.guarantee.specs.Keeping.{OpeningEstablishes, Applied, EveryCallKeeps, NeverTorn, AlwaysConsistent, RefusedUnchanged, RunsItself, NoRoomExactly}
 use Rattle.guarantee.proofs.Numbers.{to-number, of-number, unbounded-number}
 use Rattle.guarantee.proofs.Refused.{exec-same, start-number, roomless-of, roomless-is}
@@ -50,7 +50,7 @@ always-consistent g words w xs ys b c = walk g xs ys words w (first-point g word
 
 -- ---- a single call over memory that passes the examination
 
-law : (g : Geometry) (words : List ℕ) (e : Element) → Applied g words e → Onward g words e
+law : (g : Geometry) (words : List ℕ) (e : Element) → Applied g words e → Continues g words e
 law g words e a = every-element g words e (a .sized) (a .consistent) (a .meets) (a .long) (inr (a .gets))
 
 pub every-call-keeps : EveryCallKeeps

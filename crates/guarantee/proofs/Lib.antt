@@ -1,5 +1,5 @@
 -- The proof of the guarantee.
-pub mod Kept
+pub mod AllRefine
 pub mod Numbers
 pub mod Putting
 pub mod Refused

@@ -20,7 +20,7 @@ use Rattle.model.specs.Answers.{answerOf, refusalIn, refusalOf}
 use Rattle.model.specs.Fields.{root}
 use Rattle.model.specs.Lists.{putUnless, blockIn}
 use Rattle.refine_view.specs.View.{view}
-use Rattle.laws.proofs.Rooted.{named}
+use Rattle.model_laws.proofs.Rooted.{named}
 
 module _ (g : Geometry) (after : List ℕ) (n : ℕ) (put : ℕ → Option ℕ) (r : Answer) (b : ℕ) (st : State) where
   -- a call that puts no record

@@ -21,7 +21,7 @@ use Rattle.theory.proofs.Invariant.{none-some}
 use Rattle.model.specs.Fields.{phase, place, root}
 use Rattle.model.specs.Segments.{free, freeStack, partStack, pop}
 use Rattle.model.specs.Records.{record?}
-use Rattle.model.specs.Making.{Source, held, part, unused, noRoom, sourceOf, takes, freshened, inBlock, fromSource, made}
+use Rattle.model.specs.Making.{Source, held, part, unused, noRoom, sourceOf, setHeld, freshened, inBlock, fromSource, made}
 use Rattle.model.specs.Calls.{observe, act, exec, ofClass}
 use Rattle.model.specs.Collector.{startIn, startOf, started}
 use Rattle.model.specs.Answers.{refusalIn}
@@ -47,12 +47,12 @@ block-same g m m₁ Torn k d c s shape n e = refl
 source-same : (g : Geometry) (m : Mem) (k d c : ℕ) (shape : RecordShape) (o : Source) (n : ℕ) → fromSource g m k d c shape o .0 ≡ a-no n → fromSource g m k d c shape o .1 ≡ m
 source-same g m k d c shape (held s) n e = block-same g m m (free g m s c (place m s)) k d c s shape n e
 source-same g m k d c shape (part s) n e =
-    block-same g m (takes g (pop g m (partStack c)) k c s (place m s))
-    (free g (takes g (pop g m (partStack c)) k c s (place m s)) s c (place (takes g (pop g m (partStack c)) k c s (place m s)) s)) k d
+    block-same g m (setHeld g (pop g m (partStack c)) k c s (place m s))
+    (free g (setHeld g (pop g m (partStack c)) k c s (place m s)) s c (place (setHeld g (pop g m (partStack c)) k c s (place m s)) s)) k d
     c s shape n e
 source-same g m k d c shape (unused s) n e =
-    block-same g m (freshened g (takes g (pop g m freeStack) k c s 0) s c)
-    (free g (freshened g (takes g (pop g m freeStack) k c s 0) s c) s c (place (freshened g (takes g (pop g m freeStack) k c s 0) s c) s))
+    block-same g m (freshened g (setHeld g (pop g m freeStack) k c s 0) s c)
+    (free g (freshened g (setHeld g (pop g m freeStack) k c s 0) s c) s c (place (freshened g (setHeld g (pop g m freeStack) k c s 0) s c) s))
     k d c s shape n e
 source-same g m k d c shape noRoom n e = refl
 
@@ -131,13 +131,13 @@ roomless-of g m k d p q e = go (refusal (observe m) (c-make k d p q)) refl (refu
     from z c h (held s) i e = absurd (block m (free g m s c (place m s)) c s e)
     from z c h (part s) i e =
         absurd
-        (block (takes g (pop g m (partStack c)) k c s (place m s))
-        (free g (takes g (pop g m (partStack c)) k c s (place m s)) s c (place (takes g (pop g m (partStack c)) k c s (place m s)) s)) c s
+        (block (setHeld g (pop g m (partStack c)) k c s (place m s))
+        (free g (setHeld g (pop g m (partStack c)) k c s (place m s)) s c (place (setHeld g (pop g m (partStack c)) k c s (place m s)) s)) c s
         e)
     from z c h (unused s) i e =
         absurd
-        (block (freshened g (takes g (pop g m freeStack) k c s 0) s c)
-        (free g (freshened g (takes g (pop g m freeStack) k c s 0) s c) s c (place (freshened g (takes g (pop g m freeStack) k c s 0) s c) s))
+        (block (freshened g (setHeld g (pop g m freeStack) k c s 0) s c)
+        (free g (freshened g (setHeld g (pop g m freeStack) k c s 0) s c) s c (place (freshened g (setHeld g (pop g m freeStack) k c s 0) s c) s))
         c s e)
     from z c h noRoom i e = record { lower = z; class = c; sized = h; source = i }
 

@@ -7,8 +7,8 @@ use Prim.Native.Nat.{ℕ, zero, suc, _+_, _*_, _≤_, _<_}
 use native.Mathlib.Omega.{arith}
 use lib.Dec.{eqb}
 use borrow.Author.Tests.{eqb-true}
-use Rattle.rules.specs.Pick.{pick, oneIf}
-use Rattle.rules.proofs.Order.{same-or-not}
+use Rattle.basics.specs.Pick.{pick, oneIf}
+use Rattle.basics.proofs.Order.{same-or-not}
 use Rattle.layout.specs.declared.Geometry.{Geometry}
 use Rattle.layout.specs.Geometry.{mutatorCount, mutatorWords}
 use Rattle.layout.specs.Mem.{Mem, Sizes, mutatorWord}
@@ -16,14 +16,14 @@ use Rattle.theory.specs.Phases.{Phase, idle, sync1, sync2, mark, sweep, inHands
 use Rattle.model.specs.Fields.{phase, traceCount, inside, outside, stateAt, acksAt, state, acks}
 use Rattle.model.specs.Mutators.{acknowledged}
 use Rattle.model.specs.Calls.{isInside}
-use Rattle.model.specs.Collector.{outsideAnswered, waiting, moves, traces, lowest, sweeps, stepIn, stepOf}
+use Rattle.model.specs.Collector.{outsideAnswered, waiting, movedOrWaiting, traces, lowest, sweeps, stepIn, stepOf}
 use Rattle.model.specs.Run.{declaredStep}
-use Rattle.laws.proofs.Bools.{and-not}
-use Rattle.laws.proofs.Acknowledgements.{acknowledged-word}
+use Rattle.model_laws.proofs.Bools.{and-not}
+use Rattle.model_laws.proofs.Acknowledgements.{acknowledged-word}
 use Rattle.words.proofs.Counts.{lt-of}
 use Rattle.refine_run.proofs.Collecting.{sizes-answered}
-use Rattle.same_heap.proofs.Cycle.{leaves-outside}
-use Rattle.same_heap.proofs.Phase.{phase-outside}
+use Rattle.idle_twin.proofs.Cycle.{leaves-outside}
+use Rattle.idle_twin.proofs.Phase.{phase-outside}
 use Rattle.guarantee.specs.EmptyCycle.{StepsIn, waits, empties, ends, rests}
 use Rattle.guarantee.specs.EmptyCycle as cycle
 
@@ -87,7 +87,7 @@ module _ (g : Geometry) (m : Mem) (z : Sizes g m) where
   unfolding stepOf
   step-fits h = go (phase m) refl
     where
-      handshake : (p q : Phase) → phase m ≡ p → inHandshake p ≡ true → (n : ℕ) → waiting answered mutatorCount ≡ n → StepsIn m p (declaredStep (moves n answered q .0))
+      handshake : (p q : Phase) → phase m ≡ p → inHandshake p ≡ true → (n : ℕ) → waiting answered mutatorCount ≡ n → StepsIn m p (declaredStep (movedOrWaiting n answered q .0))
       handshake p q i t zero e = cycle.moves t (λ k l u. ap (λ x. owes x (acks m k)) (sym i) ∙ nobody-owes e k l u)
       handshake p q i t (suc n) e = waits t (sym e ∙ waiting-same mutatorCount) (λ x. omega arith)
 

@@ -8,7 +8,7 @@ use Prim.Native.Nat.{ℕ, _<_}
 use native.Mathlib.Omega.{arith}
 use lib.ListN.{length}
 use borrow.Author.Tests.{eqb-true}
-use Rattle.rules.proofs.Order.{same-or-not}
+use Rattle.basics.proofs.Order.{same-or-not}
 use Rattle.layout.specs.declared.Geometry.{Geometry}
 use Rattle.layout.specs.Geometry.{wrongSize}
 use Rattle.layout.specs.Mem.{memOf, Sizes}
@@ -19,9 +19,9 @@ use Rattle.model.specs.Collector.{isFull}
 use Rattle.model.specs.Fields.{tag}
 use Rattle.model.specs.Consistent.{Consistent}
 use Rattle.model.specs.Lists.{Event, mutatorCall, startCall, stepCall, openingCall, lookCall, Element, startElement, stepElement, Meets, KeepsLength}
-use Rattle.model.specs.Lists.{Gets, wrongSized, eventNumber, onward, Chain, wordsAfter}
-use Rattle.laws.proofs.Lengths.{sizes-of}
-use Rattle.laws.proofs.Segments.{in-range}
+use Rattle.model.specs.Lists.{Gets, wrongSized, eventNumber, nextWords, Chain, wordsAfter}
+use Rattle.model_laws.proofs.Lengths.{sizes-of}
+use Rattle.model_laws.proofs.Segments.{in-range}
 use Rattle.refine_run.proofs.Elements.{over, is-over}
 use Rattle.guarantee.specs.Elements.{Acts}
 use Rattle.guarantee.specs.Keeping.{NeverSwept, OnceSwept, SweptOnce}
@@ -73,12 +73,12 @@ module _ (g : Geometry) where
     consistent : Consistent g (memOf g words)
 
   next : (words : List ℕ) (e : Element) → ConsistentWords words → Meets e → KeepsLength e → (wrongSized e ≡ true) ⊎ Gets g words e
-      → ConsistentWords (onward words e) × Acts g (memOf g words) (memOf g (onward words e)) (e .event)
+      → ConsistentWords (nextWords words e) × Acts g (memOf g words) (memOf g (nextWords words e)) (e .event)
   next words e a q l h = let o = every-element g words e (a .right) (a .consistent) q l h in (record { right = o .sized; consistent = o .consistent }, o .acts)
 
   walk-consistent : (xs ys : List Element) (words : List ℕ) → ConsistentWords words → Chain g words (xs ++ ys) → ConsistentWords (wordsAfter words xs) × Chain g (wordsAfter words xs) ys
   walk-consistent [] ys words a c = (a, c)
-  walk-consistent (e ∷ xs) ys words a c = walk-consistent xs ys (onward words e) (next words e a (c .0) (c .1) (c .2) .0) (c .3)
+  walk-consistent (e ∷ xs) ys words a c = walk-consistent xs ys (nextWords words e) (next words e a (c .0) (c .1) (c .2) .0) (c .3)
 
   -- no start that is not refused
   abbrev pub NoStart : List Element → Type 0
@@ -99,7 +99,7 @@ module _ (g : Geometry) where
         let z = sizes-of g words (sized g (length words) (a .right)) in
         let m : IsSweep s e → ⊥ = λ x. true≢false (sym (swept-condemned g (memOf g words) z (a .consistent) s _ (x .0) (subst (Acts g (memOf g words) _) (x .1) (o .1)) .0) ∙ f) in
         let k = stays-condemned g (memOf g words) z (a .consistent) s _ (e .event) (o .1) (no-start words e ds n (c .0) (c .2)) (λ x i. m (x, i)) in
-        never-more s e ds m (never-swept ds ys (onward words e) (o .0) (no-later e ds n) (c .3) (k ∙ f))
+        never-more s e ds m (never-swept ds ys (nextWords words e) (o .0) (no-later e ds n) (c .3) (k ∙ f))
 
     -- one that is condemned is swept before done, once
     once-swept : s < g .segments → (ds rest : List Element) (u v words : List ℕ) → ConsistentWords words → NoStart ds
@@ -108,9 +108,9 @@ module _ (g : Geometry) where
         let o = next words (stepElement g u Done v) a (c .0) (c .1) (c .2) in
         let z = sizes-of g words (sized g (length words) (a .right)) in
         absurd (true≢false (sym t ∙ done-condemned g (memOf g words) z (a .consistent) s l _ (o .1)))
-    once-swept l (e ∷ ds) rest u v words a n c t = go (is-sweep s e) (λ k. once-swept l ds rest u v (onward words e) (o .0) (no-later e ds n) (c .3) k)
+    once-swept l (e ∷ ds) rest u v words a n c t = go (is-sweep s e) (λ k. once-swept l ds rest u v (nextWords words e) (o .0) (no-later e ds n) (c .3) k)
       where
-        o : ConsistentWords (onward words e) × Acts g (memOf g words) (memOf g (onward words e)) (e .event)
+        o : ConsistentWords (nextWords words e) × Acts g (memOf g words) (memOf g (nextWords words e)) (e .event)
         o = next words e a (c .0) (c .1) (c .2)
 
         z : Sizes g (memOf g words)
@@ -126,7 +126,7 @@ module _ (g : Geometry) where
           whole = ap (λ y. y ∷ ds) (is-over g words e (not-refused g words e (c .0) (ap eventNumber (x .1)) (c .2)) ∙ ap (λ w. over g words w (e .after)) (x .1));
           notEarlier = never-none s;
           notLater =
-              never-swept ds (stepElement g u Done v ∷ rest) (onward words e) (o .0) (no-later e ds n) (c .3)
+              never-swept ds (stepElement g u Done v ∷ rest) (nextWords words e) (o .0) (no-later e ds n) (c .3)
               (swept-condemned g (memOf g words) z (a .consistent) s _ (x .0) (subst (Acts g (memOf g words) _) (x .1) (o .1)) .1);
         }
 
@@ -142,7 +142,7 @@ module _ (g : Geometry) where
           notLater = y .notLater;
         }
 
-        go : IsSweep s e ⊎ (IsSweep s e → ⊥) → (isCondemned (memOf g (onward words e)) s ≡ true → OnceSwept g s ds) → OnceSwept g s (e ∷ ds)
+        go : IsSweep s e ⊎ (IsSweep s e → ⊥) → (isCondemned (memOf g (nextWords words e)) s ≡ true → OnceSwept g s ds) → OnceSwept g s (e ∷ ds)
         go (inl x) ih = here x
         go (inr f) ih = later f (ih (stays-condemned g (memOf g words) z (a .consistent) s _ (e .event) (o .1) (no-start words e ds n (c .0) (c .2)) (λ x i. f (x, i)) ∙ t))
 
@@ -157,5 +157,5 @@ swept-once g words es right k ch c s f =
     let a = accepted g (memOf g u) _ (o .1) in
     let full : isFull (memOf g u) s ≡ true = subst (λ x. isFull (memOf g x) s ≡ true) (h .memory) f in
     let t : tag (memOf g u) s ≡ Tag.full = eqb-true _ _ full in
-    once-swept g s (in-range g (memOf g u) z s (λ i. omega arith)) (c .during) (c .rest) (c .stepBefore) (c .stepAfter) (onward u e) (o .0) (c .oneStart) (w .1 .3)
+    once-swept g s (in-range g (memOf g u) z s (λ i. omega arith)) (c .during) (c .rest) (c .stepBefore) (c .stepAfter) (nextWords u e) (o .0) (c .oneStart) (w .1 .3)
     (ap (λ x. isCondemned x s) (a .1) ∙ start-condemned g (memOf g u) z (w .0 .consistent) s (a .0) ∙ full)

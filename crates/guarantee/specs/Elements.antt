@@ -21,7 +21,7 @@ use Rattle.model.specs.Calls.{exec}
 use Rattle.model.specs.Collector.{started, startOf, stepOf}
 use Rattle.model.specs.Consistent.{Consistent}
 use Rattle.model.specs.Looks.{Look}
-use Rattle.model.specs.Lists.{Event, mutatorCall, startCall, stepCall, lookCall, Element, Meets, KeepsLength, Gets, wrongSized, eventNumber, onward}
+use Rattle.model.specs.Lists.{Event, mutatorCall, startCall, stepCall, lookCall, Element, Meets, KeepsLength, Gets, wrongSized, eventNumber, nextWords}
 
 -- from memory m to memory m′: the memory as it was, or what the definition of the call makes of it, with that answer
 pub data Acts (g : Geometry) (m m′ : Mem) : Event → Type 0 where
@@ -32,12 +32,12 @@ pub data Acts (g : Geometry) (m m′ : Mem) : Event → Type 0 where
   startRefused : {n : ℕ} → startOf g m .0 ≡ a-no n → m′ ≡ m → Acts g m m′ (startCall (Refused n))
   steps : {r : Step} → stepAnswerOf r ≡ stepOf g m .0 → m′ ≡ stepOf g m .1 → Acts g m m′ (stepCall r)
 
-pub record Onward (g : Geometry) (words : List ℕ) (e : Element) : Type 0 where
-  pub sized : wrongSize g (length (onward words e)) ≡ false
-  pub consistent : Consistent g (memOf g (onward words e))
-  pub acts : Acts g (memOf g words) (memOf g (onward words e)) (e .event)
+pub record Continues (g : Geometry) (words : List ℕ) (e : Element) : Type 0 where
+  pub sized : wrongSize g (length (nextWords words e)) ≡ false
+  pub consistent : Consistent g (memOf g (nextWords words e))
+  pub acts : Acts g (memOf g words) (memOf g (nextWords words e)) (e .event)
 
 abbrev pub EveryElement : Type 0
 EveryElement =
     (g : Geometry) (words : List ℕ) (e : Element) → wrongSize g (length words) ≡ false → Consistent g (memOf g words) → Meets e → KeepsLength e
-    → (wrongSized e ≡ true) ⊎ Gets g words e → Onward g words e
+    → (wrongSized e ≡ true) ⊎ Gets g words e → Continues g words e

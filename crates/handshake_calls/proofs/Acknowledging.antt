@@ -13,16 +13,16 @@ use Rattle.theory.specs.Phases.{owes}
 use Rattle.theory.specs.Calls.{Call, c-check, c-leave}
 use Rattle.theory.proofs.Refusals.{by-ok}
 use Rattle.model.specs.declared.Answer.the-variants.{Ok, Refused}
-use Rattle.model.specs.Rules.{phaseOf}
+use Rattle.model.specs.PhaseNumbers.{phaseOf}
 use Rattle.model.specs.Fields.{phase, outside, setMutatorState, acks, setAcks, root}
 use Rattle.model.specs.Tracing.{pushRoots}
 use Rattle.model.specs.Mutators.{acknowledged}
 use Rattle.model.specs.Calls.{observe, act}
 use Rattle.model.specs.Promise.{Promise}
-use Rattle.laws.proofs.Bools.{not-eq}
-use Rattle.laws.proofs.Lengths.{sizes-of}
-use Rattle.laws.proofs.Acknowledgements.{root-acks, roots-acks, roots-ready}
-use Rattle.laws.proofs.Promised.{done, torn-13}
+use Rattle.model_laws.proofs.Bools.{not-eq}
+use Rattle.model_laws.proofs.Lengths.{sizes-of}
+use Rattle.model_laws.proofs.Acknowledgements.{root-acks, roots-acks, roots-ready}
+use Rattle.model_laws.proofs.Promised.{done, torn-13}
 use Rattle.mutators.specs.Inside.{insideThen}
 use Rattle.tracing.specs.Pushing.{PushFails}
 use Rattle.tracing.specs.Roots.{RootFails, PushesRoots}

@@ -14,7 +14,7 @@ use Rattle.model.specs.declared.Answer.the-variants.{Ok, Refused}
 use Rattle.model.specs.Fields.{absent, inside, state, setMutatorState}
 use Rattle.model.specs.Calls.{observe, act}
 use Rattle.model.specs.Promise.{Promise}
-use Rattle.laws.proofs.Promised.{refused, done}
+use Rattle.model_laws.proofs.Promised.{refused, done}
 
 module _ (m : Mem) (k : ℕ) where
   unknown : mutatorCount ≤ k → 2 ≡ refusal (observe m) (c-enter k)

@@ -6,7 +6,7 @@ use mathlib.Core.Bool.{Bool, true, not}
 use mathlib.Core.List.{List, [], _∷_}
 use lib.Dec.{eqb, ltb}
 use lib.ListN.{getD}
-use Rattle.rules.specs.Pick.{pick}
+use Rattle.basics.specs.Pick.{pick}
 use Rattle.words.specs.Levels.{wordsFor}
 use Rattle.classes.specs.Class.{firstClass, classCount, wordBytes, blockWords}
 use Rattle.classes.specs.Shape.{segmentSize, blocksOf, longestOf}

@@ -6,8 +6,8 @@ use mathlib.Core.List.{List}
 use Prim.Native.Nat.{ℕ, _≤_, _<_}
 use native.Mathlib.Omega.{arith}
 use lib.ListN.{length}
-use Rattle.rules.specs.Decides.{Decides}
-use Rattle.rules.proofs.Deciding.{fails, refuted}
+use Rattle.basics.specs.Decides.{Decides}
+use Rattle.basics.proofs.Deciding.{fails, refuted}
 use Rattle.classes.specs.Class.{classTest}
 use Rattle.classes.proofs.Every.{class-passes, class-passed}
 use Rattle.layout.specs.declared.Geometry.{Geometry}
@@ -19,7 +19,7 @@ use Rattle.model.specs.Answers.{phaseAnswerOf, IsPhase, lookMayGive}
 use Rattle.model.specs.Fields.{tag, class}
 use Rattle.model.specs.Consistent.{Consistent}
 use Rattle.model.specs.Promise.{PhasePromise, StatesPromise}
-use Rattle.laws.proofs.PromisedSteps.{keeps-1, keeps-refused, keeps-done}
+use Rattle.model_laws.proofs.PromisedSteps.{promise-1, promise-refused, promise-done}
 use Rattle.looks.specs.Plausible.{Plausible}
 use Rattle.layout.specs.Region as Region
 use Rattle.model.specs.Tag as Tag
@@ -29,18 +29,18 @@ use Rattle.model.specs.declared.PhaseLook.the-variants as look
 
 module _ (g : Geometry) (xs : List ℕ) where
   pub phase-1 : wrongSize g (length xs) ≡ true → PhasePromise g xs (look.Refused 1)
-  phase-1 = keeps-1 phaseAnswerOf (λ g. IsPhase) lookMayGive (λ g m. (a-num (controlWord m 0), m)) g xs (look.Refused 1) refl refl
+  phase-1 = promise-1 phaseAnswerOf (λ g. IsPhase) lookMayGive (λ g m. (a-num (controlWord m 0), m)) g xs (look.Refused 1) refl refl
 
   module _ (e : wrongSize g (length xs) ≡ false) (n : ℕ) (p : n ≡ controlWord (memOf g xs) 0) where
     -- a number over sweep's is no phase's
     pub phase-13 : 4 < n → PhasePromise g xs (look.Refused 13)
     phase-13 l =
-        keeps-refused phaseAnswerOf (λ g. IsPhase) lookMayGive (λ g m. (a-num (controlWord m 0), m)) g xs (look.Refused 13) e 13 refl refl (λ z. omega arith) xs
+        promise-refused phaseAnswerOf (λ g. IsPhase) lookMayGive (λ g m. (a-num (controlWord m 0), m)) g xs (look.Refused 13) e 13 refl refl (λ z. omega arith) xs
         (λ c. let h = c .sound .phases in absurd (omega arith))
 
     pub phase-is : n ≤ 4 → PhasePromise g xs (look.Phase n)
     phase-is l =
-        keeps-done phaseAnswerOf (λ g. IsPhase) lookMayGive (λ g m. (a-num (controlWord m 0), m)) g xs (look.Phase n) e refl (n, refl, l) xs
+        promise-done phaseAnswerOf (λ g. IsPhase) lookMayGive (λ g m. (a-num (controlWord m 0), m)) g xs (look.Phase n) e refl (n, refl, l) xs
         (λ c. ap (λ z. (a-num z, memOf g xs)) p)
 
 -- ---- one record

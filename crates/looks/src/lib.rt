@@ -8,7 +8,7 @@ use model::Segment;
 ghost use mathlib.Core.Path.{_≡_};
 ghost use Prim.Native.Nat.{ℕ, _≤_, _<_};
 ghost use lib.ListN.{length};
-ghost use Rattle.rules.specs.Decides.{Decides};
+ghost use Rattle.basics.specs.Decides.{Decides};
 ghost use Rattle.layout.specs.Geometry.{Sized, len, maxSegments};
 ghost use Rattle.layout.specs.Mem.{memOf};
 ghost use Rattle.model.specs.Promise.{PhasePromise, StatesPromise};

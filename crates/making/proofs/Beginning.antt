@@ -13,7 +13,7 @@ use Rattle.layout.specs.Geometry.{Sized, mutatorCount, rootCount, wrongSize}
 use Rattle.layout.specs.Mem.{memOf}
 use Rattle.theory.specs.Calls.{ifRoot}
 use Rattle.model.specs.Fields.{holding}
-use Rattle.laws.proofs.Lengths.{sizes-of}
+use Rattle.model_laws.proofs.Lengths.{sizes-of}
 use Rattle.mutators.specs.Inside.{insideThen}
 use Rattle.model.specs.declared.Answer.{Answer}
 use Rattle.model.specs.declared.Answer.the-variants.{Ok, Refused}

@@ -9,7 +9,7 @@ use Prim.Native.Nat.{ℕ, suc, _+_, _%_, _≤_, _<_}
 use native.Mathlib.Nat.{mod-eq-of-lt}
 use native.Mathlib.Omega.{arith}
 use lib.ListN.{length}
-use Rattle.rules.specs.Pick.{pick}
+use Rattle.basics.specs.Pick.{pick}
 use Rattle.words.specs.Bits.{bitAt, setBit}
 use Rattle.words.proofs.Trees.{tree-level}
 use Rattle.classes.specs.Class.{IsClass}
@@ -31,21 +31,21 @@ use Rattle.model.specs.declared.Answer.{Answer}
 use Rattle.model.specs.declared.Answer.the-variants.{Ok, Refused}
 use Rattle.model.specs.declared.SegmentState.the-variants.{Held, Full}
 use Rattle.model.specs.Answers.{answerOf}
-use Rattle.model.specs.Rules.{phaseOf}
+use Rattle.model.specs.PhaseNumbers.{phaseOf}
 use Rattle.model.specs.Fields.{phase, acks, setHolding, setRoot, class, place, setPlace, ownerAt}
 use Rattle.model.specs.Segments.{setSegmentState, above, bitmap, free}
 use Rattle.model.specs.Records.{headerOf, written, setEntered}
 use Rattle.model.specs.Making.{Source, held, part, unused, noRoom, sourceOf, advanced, blackened, handedOut, inBlock, inSegment, fromSource, made}
 use Rattle.model.specs.Consistent.{Consistent}
-use Rattle.laws.proofs.Blocks.{blocks-most}
-use Rattle.laws.proofs.Words.{Recorded, recorded-as, state-there}
+use Rattle.model_laws.proofs.Blocks.{blocks-most}
+use Rattle.model_laws.proofs.Words.{Recorded, recorded-as, state-there}
 use Rattle.segments.proofs.Records.{place-alone}
 use Rattle.bitmaps.specs.Given.{NearIn}
 use Rattle.marks.specs.Bits.{withMark}
 use Rattle.making.specs.declared.Taken.{Taken}
 use Rattle.making.specs.declared.Handed.{Handed}
 use Rattle.making.specs.Taking.{segmentIn, takenFrom, Takes}
-use Rattle.making.specs.HandingOut.{Ready, Advances, filledAs, HandsOut, Makes}
+use Rattle.making.specs.HandingOut.{SegmentReady, Advances, filledAs, HandsOut, Makes}
 use Rattle.making.proofs.Readying.{ready}
 use Rattle.making.specs.declared.Taken.the-variants as taken
 use Rattle.making.specs.declared.Handed.the-variants as handed
@@ -60,7 +60,7 @@ pub near-at : (g : Geometry) (m : Mem) (s p b : ℕ) (r : Near) → NearIn g m s
 near-at g m s p b r q e = subst (NearIn g m s p) e q
 
 -- the words of its record
-held-record : (g : Geometry) (m : Mem) (k c s : ℕ) → Ready g m k c s → Recorded m s Tag.held c (place m s) k
+held-record : (g : Geometry) (m : Mem) (k c s : ℕ) → SegmentReady g m k c s → Recorded m s Tag.held c (place m s) k
 held-record g m k c s y = record { tag = y .tag; class = y .class; place = refl; owner = y .owner }
 
 -- ---- the block: r is what the search answers from the place p
@@ -69,10 +69,10 @@ module _ (g : Geometry) (m : Mem) (k c s : ℕ) (p : ℕ) (ep : p ≡ place m s)
   abbrev scan : ℕ → Found
   scan = nextFree (bitAt (bitmap g m s)) (blocksIn g c)
 
-  scans : Ready g m k c s → (x : Two) → r ≡ x → Says scan scan p x
+  scans : SegmentReady g m k c s → (x : Two) → r ≡ x → Says scan scan p x
   scans y x e = two-says scan scan p x (sym e ∙ q .scan (y .tree))
 
-  one-block : (b : ℕ) (after : Mem) → b < blocksIn g c → (Ready g m k c s → (free g m s c (place m s) ≡ Block b) × (after ≡ advanced g m k c s (b + 1) (free g m s c (b + 1))))
+  one-block : (b : ℕ) (after : Mem) → b < blocksIn g c → (SegmentReady g m k c s → (free g m s c (place m s) ≡ Block b) × (after ≡ advanced g m k c s (b + 1) (free g m s c (b + 1))))
       → Advances g m k c s (handed.Block b) after
   one-block b after l f = record {
     below = λ d u. let z : b ≡ d = cc in omega arith;
@@ -91,7 +91,7 @@ module _ (g : Geometry) (m : Mem) (k c s : ℕ) (p : ℕ) (ep : p ≡ place m s)
       let v = scans y (two.Last b) e in
       (ap scan (sym ep) ∙ v .0, h ∙ ap (λ z. setHolding z k c 0) f ∙ ap (advanced g m k c s (b + 1)) (sym (v .1))))
 
-  no-block : (Ready g m k c s → ⊥) → Advances g m k c s handed.Torn m
+  no-block : (SegmentReady g m k c s → ⊥) → Advances g m k c s handed.Torn m
   no-block f = record { below = λ d u. absurd (let z : _≡_ {A = ℕ} 0 1 = cc in omega arith); exact = λ y. absurd (f y) }
 
   pub advanced-none : r ≡ two.Nothing → Advances g m k c s handed.Torn m
@@ -184,7 +184,7 @@ module _ (g : Geometry) (m : Mem) (k d c : ℕ) (shape : RecordShape) where
       either = ⊎-elim inl (λ v. inr (inr v)) (h .either);
       exact = λ x.
           let y = q .segment s e in
-          let o = h .exact (subst (λ v. Ready g v k c s) (sym (y .2)) (ready g m z x k c few i s (y .1))) in
+          let o = h .exact (subst (λ v. SegmentReady g v k c s) (sym (y .2)) (ready g m z x k c few i s (y .1))) in
           let w : fromSource g m k d c shape (sourceOf g m k c) ≡ (a-ok, handedOut g m₁ k d c s (o .0) shape) =
           by-segment (sourceOf g m k c) s (y .1) ∙ ap (λ v. inSegment g m v k d c s shape) (sym (y .2)) ∙ ap (λ v. inBlock g m m₁ v k d c s shape) (o .2) in
           (ap answerOf (o .1) ∙ sym (ap (λ v. v .0) w), o .3 ∙ sym (ap (λ v. v .1) w));

@@ -23,7 +23,7 @@ use Rattle.model.specs.declared.Answer.the-variants.{Ok, Refused}
 use Rattle.model.specs.Answers.{answerOf, refusalOf, ResultOf, among, mayGive}
 use Rattle.model.specs.Calls.{observe, act}
 use Rattle.model.specs.Promise.{Promise}
-use Rattle.laws.proofs.Promised.{refused, acted}
+use Rattle.model_laws.proofs.Promised.{refused, acted}
 use Rattle.mutators.specs.Inside.{insideThen}
 use Rattle.making.specs.HandingOut.{Makes}
 

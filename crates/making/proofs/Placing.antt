@@ -13,7 +13,7 @@ use Rattle.layout.specs.declared.Geometry.{Geometry}
 use Rattle.layout.specs.Geometry.{maxSegments, segmentWords, mostBlocks, blocksIn, len}
 use Rattle.layout.proofs.Sizes.{heap-most, marks-words, most-small}
 use Rattle.model.specs.Records.{headerOf}
-use Rattle.laws.proofs.Blocks.{blocks-words, block-within, blocks-most, blocks-some, header-inside}
+use Rattle.model_laws.proofs.Blocks.{blocks-words, block-within, blocks-most, blocks-some, header-inside}
 use Rattle.layout.specs.Region as Region
 
 pub of-class : (shape : RecordShape) (c : ℕ) → classOfRecord shape ≡ Class c → IsClass c

@@ -8,7 +8,7 @@ use native.Mathlib.Nat.{pos-of-ne-zero}
 use native.Mathlib.Omega.{arith}
 use lib.Dec.{eqb}
 use borrow.Author.Tests.{eqb-false}
-use Rattle.rules.specs.Pick.{pick}
+use Rattle.basics.specs.Pick.{pick}
 use Rattle.words.specs.Tree.{Tree}
 use Rattle.classes.specs.Class.{IsClass}
 use Rattle.layout.specs.declared.Geometry.{Geometry}
@@ -16,22 +16,22 @@ use Rattle.layout.specs.Geometry.{mutatorCount, blocksIn}
 use Rattle.layout.specs.Mem.{Mem, setStack, setSegment, setMutator, setRun, Sizes}
 use Rattle.model.specs.Fields.{holding, place}
 use Rattle.model.specs.Segments.{setSegmentState, freeStack, partStack, count, top, pop, above, bitmap}
-use Rattle.model.specs.Making.{Source, held, part, unused, noRoom, sourceOf, takes, freshened}
+use Rattle.model.specs.Making.{Source, held, part, unused, noRoom, sourceOf, setHeld, freshened}
 use Rattle.model.specs.Consistent.{Consistent}
-use Rattle.laws.proofs.Words.{Recorded, recorded-as}
-use Rattle.laws.proofs.Bitmaps.{bitmap-by}
-use Rattle.laws.proofs.Takes.{takes-there}
-use Rattle.laws.proofs.Topmost.{FreeFrom, top-part, part-tree, part-remains, top-free, clean-tree, clean-free}
+use Rattle.model_laws.proofs.Words.{Recorded, recorded-as}
+use Rattle.model_laws.proofs.Bitmaps.{bitmap-by}
+use Rattle.model_laws.proofs.SetHeld.{set-held-there}
+use Rattle.model_laws.proofs.Topmost.{FreeFrom, top-part, part-tree, part-remains, top-free, clean-tree, clean-free}
 use Rattle.making.specs.Taking.{segmentIn, takenFrom}
-use Rattle.making.specs.HandingOut.{Ready}
+use Rattle.making.specs.HandingOut.{SegmentReady}
 use Rattle.model.specs.Tag as Tag
 
 module _ (g : Geometry) (m : Mem) (z : Sizes g m) (x : Consistent g m) (k c : ℕ) (few : k < mutatorCount) (i : IsClass c) where
   -- by the words of its record
-  ready-by : (m₁ : Mem) (s p : ℕ) → Recorded m₁ s Tag.held c p k → Tree (above g c) (blocksIn g c) (bitmap g m₁ s) → FreeFrom g (bitmap g m₁ s) c p → Ready g m₁ k c s
+  ready-by : (m₁ : Mem) (s p : ℕ) → Recorded m₁ s Tag.held c p k → Tree (above g c) (blocksIn g c) (bitmap g m₁ s) → FreeFrom g (bitmap g m₁ s) c p → SegmentReady g m₁ k c s
   ready-by m₁ s p r t f = record { tag = r .tag; class = r .class; owner = r .owner; tree = t; remains = subst (FreeFrom g (bitmap g m₁ s) c) (sym (r .place)) f }
 
-  ready-held : (s : ℕ) → holding m k c ≡ suc s → Ready g m k c s
+  ready-held : (s : ℕ) → holding m k c ≡ suc s → SegmentReady g m k c s
   ready-held s e =
       let h = x .sound .mutators k few .holds c s i e in
       let t = h .1 in
@@ -44,40 +44,40 @@ module _ (g : Geometry) (m : Mem) (z : Sizes g m) (x : Consistent g m) (k c : �
         remains = (y .0, y .1, subst (λ w. y .0 < blocksIn g w) (h .2) (y .2), y .3);
       }
 
-  bitmaps-kept : (t s p : ℕ) → bitmap g (takes g (pop g m t) k c s p) s ≡ bitmap g m s
+  bitmaps-kept : (t s p : ℕ) → bitmap g (setHeld g (pop g m t) k c s p) s ≡ bitmap g m s
   unfolding setStack setSegmentState setSegment setMutator
-  bitmaps-kept t s p = bitmap-by g m (takes g (pop g m t) k c s p) refl s
+  bitmaps-kept t s p = bitmap-by g m (setHeld g (pop g m t) k c s p) refl s
 
-  ready-part : 1 ≤ count g m (partStack c) → Ready g (takenFrom g m k c (part (top g m (partStack c)))) k c (top g m (partStack c))
+  ready-part : 1 ≤ count g m (partStack c) → SegmentReady g (takenFrom g m k c (part (top g m (partStack c)))) k c (top g m (partStack c))
   ready-part there =
       let o = x .summed .partSegments c i in
       let s = top g m (partStack c) in
       let l = top-part g m c o there .0 in
-      let e : bitmap g (takes g (pop g m (partStack c)) k c s (place m s)) s ≡ bitmap g m s = bitmaps-kept (partStack c) s (place m s) in
-      ready-by _ s (place m s) (takes-there g m z (partStack c * (1 + g .segments)) (count g m (partStack c) - 1) k c s (place m s) l)
+      let e : bitmap g (setHeld g (pop g m (partStack c)) k c s (place m s)) s ≡ bitmap g m s = bitmaps-kept (partStack c) s (place m s) in
+      ready-by _ s (place m s) (set-held-there g m z (partStack c * (1 + g .segments)) (count g m (partStack c) - 1) k c s (place m s) l)
       (subst (Tree (above g c) (blocksIn g c)) (sym e) (part-tree g m c o there (x .summed .trees s l)))
       (subst (λ w. FreeFrom g w c (place m s)) (sym e) (part-remains g m c o there (x .sound .segments s l)))
 
-  ready-free : 1 ≤ count g m freeStack → Ready g (takenFrom g m k c (unused (top g m freeStack))) k c (top g m freeStack)
+  ready-free : 1 ≤ count g m freeStack → SegmentReady g (takenFrom g m k c (unused (top g m freeStack))) k c (top g m freeStack)
   unfolding setStack setSegmentState setSegment setMutator setRun
   ready-free there =
       let o = x .summed .freeSegments in
       let s = top g m freeStack in
       let l = top-free g m o there .0 in
       let m₁ : Mem = takenFrom g m k c (unused s) in
-      ready-by m₁ s 0 (recorded-as (takes g (pop g m freeStack) k c s 0) m₁ s Tag.held c 0 k refl (takes-there g m z (freeStack * (1 + g .segments)) (count g m freeStack - 1) k c s 0 l))
+      ready-by m₁ s 0 (recorded-as (setHeld g (pop g m freeStack) k c s 0) m₁ s Tag.held c 0 k refl (set-held-there g m z (freeStack * (1 + g .segments)) (count g m freeStack - 1) k c s 0 l))
       (clean-tree g m z s l c i m₁ refl) (clean-free g m z s l c i m₁ refl)
 
-  pub ready : (s : ℕ) → segmentIn (sourceOf g m k c) ≡ some s → Ready g (takenFrom g m k c (sourceOf g m k c)) k c s
+  pub ready : (s : ℕ) → segmentIn (sourceOf g m k c) ≡ some s → SegmentReady g (takenFrom g m k c (sourceOf g m k c)) k c s
   ready s e = go (eqb (holding m k c) 0) (eqb (count g m (partStack c)) 0) (eqb (count g m freeStack) 0) refl refl refl e
     where
       go : (a b d : Bool) → eqb (holding m k c) 0 ≡ a → eqb (count g m (partStack c)) 0 ≡ b → eqb (count g m freeStack) 0 ≡ d
           → segmentIn (pick a (pick b (pick d noRoom (unused (top g m freeStack))) (part (top g m (partStack c)))) (held (holding m k c - 1))) ≡ some s
-          → Ready g (takenFrom g m k c (pick a (pick b (pick d noRoom (unused (top g m freeStack))) (part (top g m (partStack c)))) (held (holding m k c - 1)))) k c s
+          → SegmentReady g (takenFrom g m k c (pick a (pick b (pick d noRoom (unused (top g m freeStack))) (part (top g m (partStack c)))) (held (holding m k c - 1)))) k c s
       go false b d p q r e =
           let y : 0 < holding m k c = pos-of-ne-zero (eqb-false _ _ p) in
           let v : holding m k c ≡ suc (holding m k c - 1) = omega arith in
-          subst (Ready g m k c) (Option·some-injective _ _ e) (ready-held (holding m k c - 1) v)
-      go true false d p q r e = subst (Ready g _ k c) (Option·some-injective _ _ e) (ready-part (pos-of-ne-zero (eqb-false _ _ q)))
-      go true true false p q r e = subst (Ready g _ k c) (Option·some-injective _ _ e) (ready-free (pos-of-ne-zero (eqb-false _ _ r)))
+          subst (SegmentReady g m k c) (Option·some-injective _ _ e) (ready-held (holding m k c - 1) v)
+      go true false d p q r e = subst (SegmentReady g _ k c) (Option·some-injective _ _ e) (ready-part (pos-of-ne-zero (eqb-false _ _ q)))
+      go true true false p q r e = subst (SegmentReady g _ k c) (Option·some-injective _ _ e) (ready-free (pos-of-ne-zero (eqb-false _ _ r)))
       go true true true p q r e = absurd (Option·none-ne-some s e)

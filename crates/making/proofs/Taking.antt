@@ -11,7 +11,7 @@ use Rattle.layout.specs.Geometry.{mutatorCount}
 use Rattle.layout.specs.Mem.{Mem}
 use Rattle.model.specs.Fields.{holding, place}
 use Rattle.model.specs.Segments.{freeStack, partStack, count, top, pop}
-use Rattle.model.specs.Making.{Source, held, part, unused, noRoom, sourceOf, takes, freshened}
+use Rattle.model.specs.Making.{Source, held, part, unused, noRoom, sourceOf, setHeld, freshened}
 use Rattle.model.specs.Consistent.{Consistent, isFree, isPart}
 use Rattle.stacks.specs.declared.Topmost.{Topmost}
 use Rattle.stacks.specs.Stacking.{Tops}
@@ -59,7 +59,7 @@ module _ (g : Geometry) (m : Mem) (k c : ℕ) where
     free-torn e = astray (freeSource g m) g m k c m (λ x. top-ordered g m freeStack (isFree m) (x .summed .freeSegments) (subst (Tops g m freeStack) e on-free))
 
     module _ (s : ℕ) (e : r ≡ topmost.Segment s) where
-      pub free-taken : (m₁ m₂ m₃ : Mem) → m₁ ≡ pop g m t → m₂ ≡ takes g m₁ k c s 0 → m₃ ≡ freshened g m₂ s c → TakesFree g m k c (Segment s) m₃
+      pub free-taken : (m₁ m₂ m₃ : Mem) → m₁ ≡ pop g m t → m₂ ≡ setHeld g m₁ k c s 0 → m₃ ≡ freshened g m₂ s c → TakesFree g m k c (Segment s) m₃
       free-taken m₁ m₂ m₃ e₁ e₂ e₃ =
           let q = on-free .segment s e in
           let some-there = q .2 in
@@ -81,7 +81,7 @@ module _ (g : Geometry) (m : Mem) (k c : ℕ) where
     part-torn i e = astray (newSource g m c) g m k c m (λ x. top-ordered g m (partStack c) (isPart m c) (x .summed .partSegments c i) (subst (Tops g m (partStack c)) e on-part))
 
     module _ (s : ℕ) (e : r ≡ topmost.Segment s) where
-      pub part-taken : (p : ℕ) → p ≡ place m s → (m₁ m₂ : Mem) → m₁ ≡ pop g m t → m₂ ≡ takes g m₁ k c s p → TakesNew g m k c (Segment s) m₂
+      pub part-taken : (p : ℕ) → p ≡ place m s → (m₁ m₂ : Mem) → m₁ ≡ pop g m t → m₂ ≡ setHeld g m₁ k c s p → TakesNew g m k c (Segment s) m₂
       part-taken p ep m₁ m₂ e₁ e₂ =
           let q = on-part .segment s e in
           let some-there = q .2 in

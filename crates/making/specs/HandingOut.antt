@@ -23,7 +23,7 @@ use Rattle.making.specs.declared.Handed.the-variants as handed
 use Rattle.model.specs.Tag as Tag
 
 -- segment s is held by mutator k and of class c, its bitmap is a tree, and a free block remains at or after the place
-pub record Ready (g : Geometry) (m : Mem) (k c s : ℕ) : Type 0 where
+pub record SegmentReady (g : Geometry) (m : Mem) (k c s : ℕ) : Type 0 where
   pub tag : tag m s ≡ Tag.held
   pub class : class m s ≡ c
   pub owner : owner m s ≡ k
@@ -33,7 +33,7 @@ pub record Ready (g : Geometry) (m : Mem) (k c s : ℕ) : Type 0 where
 -- the block, one of the segment's, and the memory with the place just past it; a segment that is ready has one
 pub record Advances (g : Geometry) (m : Mem) (k c s : ℕ) (r : Handed) (after : Mem) : Type 0 where
   pub below : (b : ℕ) → r ≡ handed.Block b → b < blocksIn g c
-  pub exact : Ready g m k c s
+  pub exact : SegmentReady g m k c s
       → (b : ℕ) × (r ≡ handed.Block b) × (free g m s c (place m s) ≡ Block b) × (after ≡ advanced g m k c s (b + 1) (free g m s c (b + 1)))
 
 -- the record of a shape in block b of segment s, born marked or not, into root d
@@ -43,7 +43,7 @@ filledAs g m k d c s b shape = setRoot (blackened g (written m (headerOf g s c b
 -- Ok and the memory with the record, or 13; where the segment is ready, the first, and as the model has it
 pub record HandsOut (g : Geometry) (m : Mem) (k d c s : ℕ) (shape : RecordShape) (r : Answer) (after : Mem) : Type 0 where
   pub either : (r ≡ Ok) ⊎ (r ≡ Refused 13)
-  pub exact : Ready g m k c s → (b : ℕ) × (r ≡ Ok) × (free g m s c (place m s) ≡ Block b) × (after ≡ handedOut g m k d c s b shape)
+  pub exact : SegmentReady g m k c s → (b : ℕ) × (r ≡ Ok) × (free g m s c (place m s) ≡ Block b) × (after ≡ handedOut g m k d c s b shape)
 
 -- a make of class c: the model's over memory that passes the examination; Ok, 10 or 13 over any
 pub record Makes (g : Geometry) (m : Mem) (k d c : ℕ) (shape : RecordShape) (r : Answer) (after : Mem) : Type 0 where

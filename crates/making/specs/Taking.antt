@@ -5,12 +5,12 @@ use mathlib.Core.Path.{_≡_}
 use mathlib.Core.Option.{Option, none, some}
 use Prim.Native.Nat.{ℕ, _<_}
 use lib.Dec.{eqb}
-use Rattle.rules.specs.Pick.{pick}
+use Rattle.basics.specs.Pick.{pick}
 use Rattle.layout.specs.declared.Geometry.{Geometry}
 use Rattle.layout.specs.Mem.{Mem}
 use Rattle.model.specs.Fields.{place}
 use Rattle.model.specs.Segments.{freeStack, partStack, count, top, pop}
-use Rattle.model.specs.Making.{Source, held, part, unused, noRoom, sourceOf, takes, freshened}
+use Rattle.model.specs.Making.{Source, held, part, unused, noRoom, sourceOf, setHeld, freshened}
 use Rattle.model.specs.Consistent.{Consistent}
 use Rattle.making.specs.declared.Taken.{Taken}
 use Rattle.making.specs.declared.Taken.the-variants.{Segment, NoRoom, Torn}
@@ -25,8 +25,8 @@ segmentIn noRoom = none
 -- the memory in which mutator k holds it
 abbrev pub takenFrom : Geometry → Mem → ℕ → ℕ → Source → Mem
 takenFrom g m k c (held s) = m
-takenFrom g m k c (part s) = takes g (pop g m (partStack c)) k c s (place m s)
-takenFrom g m k c (unused s) = freshened g (takes g (pop g m freeStack) k c s 0) s c
+takenFrom g m k c (part s) = setHeld g (pop g m (partStack c)) k c s (place m s)
+takenFrom g m k c (unused s) = freshened g (setHeld g (pop g m freeStack) k c s 0) s c
 takenFrom g m k c noRoom = m
 
 -- the source where no segment of the class is held, and where no part one is there either

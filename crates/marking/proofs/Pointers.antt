@@ -9,7 +9,7 @@ use Rattle.layout.specs.declared.Geometry.{Geometry}
 use Rattle.layout.specs.Mem.{Mem}
 use Rattle.model.specs.Records.{record?, pointer}
 use Rattle.model.specs.Tracing.{push, pushPointers}
-use Rattle.laws.proofs.Pushes.{fold-untouched, pointers-none, pointers-next}
+use Rattle.model_laws.proofs.Pushes.{fold-untouched, pointers-none, pointers-next}
 use Rattle.tracing.specs.Pushing.{PushFails, Pushes}
 use Rattle.marking.specs.Visiting.{PushesPointers}
 

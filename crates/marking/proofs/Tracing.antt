@@ -8,7 +8,7 @@ use Rattle.layout.specs.declared.Geometry.{Geometry}
 use Rattle.layout.specs.Geometry.{len}
 use Rattle.layout.specs.Mem.{Mem, Sizes, traceWord, setControl}
 use Rattle.theory.specs.Phases.{sweep}
-use Rattle.model.specs.Rules.{phaseNumber}
+use Rattle.model.specs.PhaseNumbers.{phaseNumber}
 use Rattle.model.specs.declared.Step.{Step}
 use Rattle.model.specs.declared.Step.the-variants.{Moved, Traced, Refused}
 use Rattle.model.specs.Answers.{isMoved, isTraced}
@@ -18,9 +18,9 @@ use Rattle.model.specs.Tracing.{pushPointers, popped, traced}
 use Rattle.model.specs.Collector.{traces}
 use Rattle.model.specs.Consistent.{RecordOk, Consistent}
 use Rattle.model.specs.StepParts.{StepsAs}
-use Rattle.laws.proofs.Pushes.{Ready, pointers-none, pointers-next}
-use Rattle.laws.proofs.Popped.{entries-few, last-ok, last-inside, pointed-ok, ready-popped}
-use Rattle.laws.proofs.StepParts.{steps-done, steps-13}
+use Rattle.model_laws.proofs.Pushes.{PushReady, pointers-none, pointers-next}
+use Rattle.model_laws.proofs.Popped.{entries-few, last-ok, last-inside, pointed-ok, ready-popped}
+use Rattle.model_laws.proofs.StepParts.{steps-done, steps-13}
 use Rattle.tracing.proofs.Succeeds.{fold-succeeds}
 use Rattle.marking.specs.Visiting.{PointerFails, Visits}
 use Rattle.theory.specs.Calls as theory
@@ -40,7 +40,7 @@ module _ (g : Geometry) (m : Mem) (s : Sizes g m) (c : Consistent g m) (n at : �
   pointers-succeed f =
       let l = f .within in
       fold-succeeds g (pushPointers g (popped g m at) at) (pointer (popped g m at) at) (pointers-next g (popped g m at) at)
-      (subst (Ready g) (sym (pointers-none g (popped g m at) at)) (ready-popped g m c n at is names s)) (f .index)
+      (subst (PushReady g) (sym (pointers-none g (popped g m at) at)) (ready-popped g m c n at is names s)) (f .index)
       (λ i x q e. subst (λ y. RecordOk g y x) (sym (pointers-none g (popped g m at) at)) (pointed-ok g m c n at is names i x (omega arith) (sym (same-pointer i) ∙ e))) (f .why)
 
   visit-succeeds : (len g Region.heap ≤ at + pointerCount m at) ⊎ PointerFails g (popped g m at) at (pointerCount m at) → ⊥

@@ -10,8 +10,8 @@ use lib.Pow.{pow-pos}
 use lib.Seq.{take-all}
 use borrow.Author.Tests.{eq-eqb, eqb-true}
 use borrow.Rule.Slice.PartMut.{midOf}
-use Rattle.rules.specs.Decides.{Decides}
-use Rattle.rules.proofs.Order.{same-or-not}
+use Rattle.basics.specs.Decides.{Decides}
+use Rattle.basics.proofs.Order.{same-or-not}
 use Rattle.words.specs.Bits.{bitOf, bitAt, withBit, setBit, onesAmong}
 use Rattle.words.specs.Levels.{wordsFor}
 use Rattle.words.proofs.Word.{bit-lt, zero-of-not-one}
@@ -21,7 +21,7 @@ use Rattle.layout.specs.Geometry.{Sized, len, from, markWords, mostBlocks}
 use Rattle.layout.specs.Mem.{Mem, memOf, markWord, setMarkWord}
 use Rattle.layout.proofs.Regions.{read-at}
 use Rattle.layout.proofs.Sizes.{marks-are}
-use Rattle.laws.proofs.Lengths.{sizes-of}
+use Rattle.model_laws.proofs.Lengths.{sizes-of}
 use Rattle.marks.specs.Bits.{withMark}
 use Rattle.layout.specs.Region as Region
 

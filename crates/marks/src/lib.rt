@@ -4,7 +4,7 @@ use layout::Geometry;
 ghost use mathlib.Core.Path.{_≡_};
 ghost use Prim.Native.Nat.{_*_, _≤_, _<_};
 ghost use lib.ListN.{length};
-ghost use Rattle.rules.specs.Decides.{Decides};
+ghost use Rattle.basics.specs.Decides.{Decides};
 ghost use Rattle.words.specs.Bits.{bitAt, onesAmong};
 ghost use Rattle.layout.specs.Geometry.{Sized, maxSegments, mostBlocks};
 ghost use Rattle.layout.specs.Mem.{memOf};

@@ -6,8 +6,8 @@ use mathlib.Core.Logic.{⊎-elim}
 use Prim.Native.Nat.{ℕ, _≤_, _<_}
 use native.Mathlib.Omega.{arith}
 use borrow.Author.Tests.{lt-ltb, le-ltb}
-use Rattle.rules.specs.Pick.{pick}
-use Rattle.rules.proofs.Order.{same-or-not}
+use Rattle.basics.specs.Pick.{pick}
+use Rattle.basics.proofs.Order.{same-or-not}
 use Rattle.words.specs.Bits.{bitAt}
 use Rattle.layout.specs.declared.Geometry.{Geometry}
 use Rattle.layout.specs.Geometry.{blocksIn}

@@ -9,8 +9,8 @@ use native.Mathlib.Omega.{arith}
 use lib.Dec.{T, eqb, leb, leb→le}
 use borrow.Author.Tests.{eqb-true}
 use Rattle.classes.specs.declared.RecordShape.{RecordShape}
-use Rattle.rules.specs.Pick.{pick}
-use Rattle.rules.proofs.Table.{and-left, and-right}
+use Rattle.basics.specs.Pick.{pick}
+use Rattle.basics.proofs.Table.{and-left, and-right}
 use Rattle.theory.specs.Calls.{Call, c-attach, c-detach, c-check, c-leave, c-enter, c-spawn, c-make, c-load, c-store, c-copy, c-clear, c-put, c-get}
 use Rattle.theory.specs.Calls.{c-same, c-shape, Observation, require, ifRecord, ifInside, ifRoot, refusal}
 use Rattle.model.specs.Answers.{among, lastNumber, ownNumbers, mayGive}

@@ -7,7 +7,7 @@ use lib.Dec.{eqb, leb, ltb}
 use borrow.Author.Tests.{le-leb, lt-ltb, le-ltb, ne-eqb}
 use Rattle.theory.specs.Phases.{duty, owes, black, twice, inHandshake, newcomer}
 use Rattle.model.specs.declared.Duty.the-variants.{Nothing, Both}
-use Rattle.model.specs.Rules.{phaseOf, dutyOf}
+use Rattle.model.specs.PhaseNumbers.{phaseOf, dutyOf}
 
 pub duty-none : (p acks : ℕ) → (p ≡ 3 → ⊥) → (1 ≤ p → p ≤ 2 → acks ≡ 0) → Nothing ≡ dutyOf (duty (phaseOf p) acks)
 duty-none zero acks f h = refl

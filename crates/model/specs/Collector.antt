@@ -4,12 +4,12 @@ use mathlib.Core.Option.{Option, none, some}
 use Prim.Native.Nat.{ℕ, zero, suc, _+_, _-_}
 use lib.Dec.{eqb}
 use lib.ListN.{length, replicate}
-use Rattle.rules.specs.Pick.{pick, oneIf}
+use Rattle.basics.specs.Pick.{pick, oneIf}
 use Rattle.words.specs.Bits.{bitAt, onesAmong}
 use Rattle.layout.specs.declared.Geometry.{Geometry}
 use Rattle.layout.specs.Geometry.{mutatorCount, blocksIn}
 use Rattle.layout.specs.Mem.{Mem, traceWord, withRegion}
-use Rattle.bitmap_write.specs.Ready.{adopted}
+use Rattle.bitmap_write.specs.Completed.{adopted}
 use Rattle.theory.specs.Phases.{Phase, idle, sync1, sync2, mark, sweep, owes}
 use Rattle.theory.specs.Calls.{Answer, a-ok, a-moved, a-traced, a-done, a-idle, a-no, a-waiting, a-swept}
 use Rattle.model.specs.Fields.{phase, setPhase, setCursor, traceCount, inside, outside, state, acks, setAcks, tag, setTag, class}
@@ -69,9 +69,9 @@ waiting m zero = 0
 waiting m (suc k) = oneIf (eqb (state m k) inside && owes (phase m) (acks m k)) + waiting m k
 
 -- "it answers waiting and how many; else the next phase, and moved"
-abbrev pub moves : ℕ → Mem → Phase → Answer × Mem
-moves zero m p = (a-moved, setPhase m p)
-moves (suc n) m p = (a-waiting (suc n), m)
+abbrev pub movedOrWaiting : ℕ → Mem → Phase → Answer × Mem
+movedOrWaiting zero m p = (a-moved, setPhase m p)
+movedOrWaiting (suc n) m p = (a-waiting (suc n), m)
 
 -- ---- step, in mark: "takes the last entered record .. With an empty stack: sweep, and moved."
 
@@ -91,8 +91,8 @@ lowest m zero = none
 lowest m (suc s) = orThen (lowest m s) (pick (eqb (tag m s) Tag.condemned) (some s) none)
 
 -- how many blocks of a segment are marked
-abbrev pub keptBy : Geometry → Mem → ℕ → ℕ
-keptBy g m s = onesAmong (bitAt (marksOf g m s)) (blocksIn g (class m s))
+abbrev pub markedBlocks : Geometry → Mem → ℕ → ℕ
+markedBlocks g m s = onesAmong (bitAt (marksOf g m s)) (blocksIn g (class m s))
 
 -- "its level 0 becomes the marks, upper levels rebuilt"
 abbrev pub rebuiltBy : Geometry → Mem → ℕ → Mem
@@ -101,8 +101,8 @@ rebuiltBy g m s = setBitmap g m s (adopted (above g (class m s)) (blocksIn g (cl
 -- "place 0 unless it becomes full. No mark: free. All blocks marked: full. Else part."
 unfoldable pub settledBy : Geometry → Mem → ℕ → Mem
 settledBy g m s =
-    pick (eqb (keptBy g m s) 0) (stacked g (setSegmentState g (rebuiltBy g m s) s segment.Free) freeStack s)
-    (pick (eqb (keptBy g m s) (blocksIn g (class m s))) (setSegmentState g (rebuiltBy g m s) s (segment.Full (class m s)))
+    pick (eqb (markedBlocks g m s) 0) (stacked g (setSegmentState g (rebuiltBy g m s) s segment.Free) freeStack s)
+    (pick (eqb (markedBlocks g m s) (blocksIn g (class m s))) (setSegmentState g (rebuiltBy g m s) s (segment.Full (class m s)))
     (stacked g (setSegmentState g (rebuiltBy g m s) s (segment.Part (class m s) 0)) (partStack (class m s)) s))
 
 -- and the cursor passes it
@@ -116,8 +116,8 @@ sweeps g (some s) m = (a-swept s (inUse g m s - inUse g (swept g m s) s), swept 
 
 abbrev pub stepIn : Phase → Geometry → Mem → Answer × Mem
 stepIn idle g m = (a-idle, m)
-stepIn sync1 g m = moves (waiting (outsideAnswered g m mutatorCount) mutatorCount) (outsideAnswered g m mutatorCount) sync2
-stepIn sync2 g m = moves (waiting (outsideAnswered g m mutatorCount) mutatorCount) (outsideAnswered g m mutatorCount) mark
+stepIn sync1 g m = movedOrWaiting (waiting (outsideAnswered g m mutatorCount) mutatorCount) (outsideAnswered g m mutatorCount) sync2
+stepIn sync2 g m = movedOrWaiting (waiting (outsideAnswered g m mutatorCount) mutatorCount) (outsideAnswered g m mutatorCount) mark
 stepIn mark g m = traces g (traceCount m) m
 stepIn sweep g m = sweeps g (lowest m (g .segments)) m
 

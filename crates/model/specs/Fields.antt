@@ -4,7 +4,7 @@ use Rattle.classes.specs.Class.{firstClass}
 use Rattle.layout.specs.Geometry.{mutatorWords, rootCount, segmentRecordWords}
 use Rattle.layout.specs.Mem.{Mem, controlWord, mutatorWord, segmentRecordWord, setControl, setMutator, setSegment}
 use Rattle.theory.specs.Phases.{Phase}
-use Rattle.model.specs.Rules.{phaseOf, phaseNumber}
+use Rattle.model.specs.PhaseNumbers.{phaseOf, phaseNumber}
 
 -- ---- control
 

@@ -1,5 +1,5 @@
 -- Document 01 as definitions over the memory.
-pub mod Rules
+pub mod PhaseNumbers
 pub mod Tag
 pub mod Fields
 pub mod Segments

@@ -7,7 +7,7 @@ use mathlib.Core.Option.{Option, none, some, Option·map}
 use mathlib.Core.List.{List, [], _∷_}
 use Prim.Native.Nat.{ℕ, _-_}
 use lib.ListN.{length}
-use Rattle.rules.specs.Pick.{pick}
+use Rattle.basics.specs.Pick.{pick}
 use Rattle.layout.specs.declared.Geometry.{Geometry}
 use Rattle.layout.specs.Geometry.{wrongSize}
 use Rattle.layout.specs.Mem.{memOf}
@@ -103,17 +103,17 @@ pub record Gets (g : Geometry) (words : List ℕ) (e : Element) : Type 0 where
   pub opening : IsOpening (e .event) → ⊥
 
 -- the memory after an element
-abbrev pub onward : List ℕ → Element → List ℕ
-onward words e = pick (wrongSized e) words (e .after)
+abbrev pub nextWords : List ℕ → Element → List ℕ
+nextWords words e = pick (wrongSized e) words (e .after)
 
 abbrev pub Chain : Geometry → List ℕ → List Element → Type 0
 Chain g words [] = Unit
-Chain g words (e ∷ es) = Meets e × KeepsLength e × ((wrongSized e ≡ true) ⊎ Gets g words e) × Chain g (onward words e) es
+Chain g words (e ∷ es) = Meets e × KeepsLength e × ((wrongSized e ≡ true) ⊎ Gets g words e) × Chain g (nextWords words e) es
 
 -- the memory after a list of calls
 abbrev pub wordsAfter : List ℕ → List Element → List ℕ
 wordsAfter words [] = words
-wordsAfter words (e ∷ es) = wordsAfter (onward words e) es
+wordsAfter words (e ∷ es) = wordsAfter (nextWords words e) es
 
 -- ---- the unbounded heap beside the list, and the record last put into each block, by the word of its header: a word that is no header now may
 -- keep a record of an earlier class, which no root or pointer leads to any more
@@ -163,9 +163,9 @@ pub data Begins (g : Geometry) : List ℕ → Ghost → Type 0 where
 
 -- ---- "Strike out the collector's calls, the looks, and every call refused ..": the numbers are the guarantee's
 
-abbrev pub keep : {A : Type 0} → Option A → List A → List A
-keep none l = l
-keep (some a) l = a ∷ l
+abbrev pub prepend : {A : Type 0} → Option A → List A → List A
+prepend none l = l
+prepend (some a) l = a ∷ l
 
 module _ (out : ℕ → Bool) where
   abbrev pub struck : Option ℕ → Bool
@@ -182,11 +182,11 @@ module _ (out : ℕ → Bool) where
 
   abbrev pub remainingCalls : List Element → List Call
   remainingCalls [] = []
-  remainingCalls (e ∷ es) = keep (Option·map (λ x. x .0) (remainingCall (e .event))) (remainingCalls es)
+  remainingCalls (e ∷ es) = prepend (Option·map (λ x. x .0) (remainingCall (e .event))) (remainingCalls es)
 
   abbrev pub remainingAnswers : List Element → List theory.Answer
   remainingAnswers [] = []
-  remainingAnswers (e ∷ es) = keep (Option·map (λ x. answerOf (x .1)) (remainingCall (e .event))) (remainingAnswers es)
+  remainingAnswers (e ∷ es) = prepend (Option·map (λ x. answerOf (x .1)) (remainingCall (e .event))) (remainingAnswers es)
 
   -- the unbounded heap "is fed the arguments of the script calls that remain"
   abbrev pub ghostStep : Ghost → Element → Ghost

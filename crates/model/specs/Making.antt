@@ -3,14 +3,14 @@
 use mathlib.Core.Path.{_≡_}
 use Prim.Native.Nat.{ℕ, suc, _+_, _-_, _<_}
 use lib.Dec.{eqb}
-use Rattle.rules.specs.Pick.{pick}
+use Rattle.basics.specs.Pick.{pick}
 use Rattle.classes.specs.declared.RecordShape.{RecordShape}
 use Rattle.layout.specs.Geometry.{blocksIn}
 use Rattle.layout.specs.declared.Geometry.{Geometry}
 use Rattle.layout.specs.Mem.{Mem}
 use Rattle.bitmap_search.specs.declared.Found.{Found}
 use Rattle.bitmap_search.specs.declared.Found.the-variants.{Block, Nothing, Torn}
-use Rattle.bitmap_write.specs.Ready.{fresh}
+use Rattle.bitmap_write.specs.Completed.{fresh}
 use Rattle.theory.specs.Phases.{black}
 use Rattle.theory.specs.Calls.{Answer, a-ok, a-no}
 use Rattle.model.specs.declared.SegmentState.the-variants.{Held, Full}
@@ -38,8 +38,8 @@ pub record NoRoom (g : Geometry) (m : Mem) (k c : ℕ) : Type 0 where
   pub noFree : (s : ℕ) → s < g .segments → tag m s ≡ Tag.free → ⊥
 
 -- mutator k holds segment s of class c from a place on
-abbrev pub takes : Geometry → Mem → ℕ → ℕ → ℕ → ℕ → Mem
-takes g m k c s p = setHolding (setSegmentState g m s (Held c p k)) k c (suc s)
+abbrev pub setHeld : Geometry → Mem → ℕ → ℕ → ℕ → ℕ → Mem
+setHeld g m k c s p = setHolding (setSegmentState g m s (Held c p k)) k c (suc s)
 
 -- "a free one, whose place is then 0 and whose blocks' bits are all 0"
 abbrev pub freshened : Geometry → Mem → ℕ → ℕ → Mem
@@ -71,8 +71,8 @@ inSegment g m taken k d c s shape = inBlock g m taken (free g taken s c (place t
 
 abbrev pub fromSource : Geometry → Mem → ℕ → ℕ → ℕ → RecordShape → Source → Answer × Mem
 fromSource g m k d c shape (held s) = inSegment g m m k d c s shape
-fromSource g m k d c shape (part s) = inSegment g m (takes g (pop g m (partStack c)) k c s (place m s)) k d c s shape
-fromSource g m k d c shape (unused s) = inSegment g m (freshened g (takes g (pop g m freeStack) k c s 0) s c) k d c s shape
+fromSource g m k d c shape (part s) = inSegment g m (setHeld g (pop g m (partStack c)) k c s (place m s)) k d c s shape
+fromSource g m k d c shape (unused s) = inSegment g m (freshened g (setHeld g (pop g m freeStack) k c s 0) s c) k d c s shape
 fromSource g m k d c shape noRoom = (a-no 10, m)
 
 -- a make of class c by mutator k into root d

@@ -25,7 +25,7 @@ use Rattle.layout.specs.Region as Region
 -- a call that answers and leaves the memory as a definition says, gives results of its own kind, may refuse with some numbers only, and gives 1
 -- exactly where a size is wrong; `value` is its enum's answer as document 01 has it
 module _ {A : Type 0} (value : A → theory.Answer) (Result : Geometry → theory.Answer → Type 0) (mayRefuse : List ℕ) (does : Geometry → Mem → theory.Answer × Mem) where
-  pub record Keeps (g : Geometry) (before : List ℕ) (r : A) (after : List ℕ) : Type 0 where
+  pub record PromiseOf (g : Geometry) (before : List ℕ) (r : A) (after : List ℕ) : Type 0 where
     -- "1, size: .. (any call)"; not a word is changed
     pub sizes : wrongSize g (length before) ≡ true → (value r ≡ a-no 1) × (after ≡ before)
     -- over memory that passes the examination, answer and memory are the definition's
@@ -38,13 +38,13 @@ module _ {A : Type 0} (value : A → theory.Answer) (Result : Geometry → theor
 
 -- a mutator's call
 abbrev pub Promise : Call → Geometry → List ℕ → Answer → List ℕ → Type 0
-Promise c = Keeps answerOf (λ g. ResultOf c) (mayGive c) (λ g m. exec g m c)
+Promise c = PromiseOf answerOf (λ g. ResultOf c) (mayGive c) (λ g m. exec g m c)
 
 abbrev pub StartPromise : Geometry → List ℕ → Answer → List ℕ → Type 0
-StartPromise = Keeps answerOf (λ g. IsOk) startMayGive startOf
+StartPromise = PromiseOf answerOf (λ g. IsOk) startMayGive startOf
 
 abbrev pub StepPromise : Geometry → List ℕ → Step → List ℕ → Type 0
-StepPromise = Keeps stepAnswerOf StepResult stepMayGive stepOf
+StepPromise = PromiseOf stepAnswerOf StepResult stepMayGive stepOf
 
 -- an opening is exact over memory of any content: "an opening .. only with 1"
 pub record OpenPromise (g : Geometry) (before : List ℕ) (r : Answer) (after : List ℕ) : Type 0 where
@@ -53,7 +53,7 @@ pub record OpenPromise (g : Geometry) (before : List ℕ) (r : Answer) (after : 
 
 -- the look at the phase: its number; nothing changes
 abbrev pub PhasePromise : Geometry → List ℕ → PhaseLook → Type 0
-PhasePromise g mem r = Keeps phaseAnswerOf (λ g. IsPhase) lookMayGive (λ g m. (a-num (controlWord m 0), m)) g mem r mem
+PhasePromise g mem r = PromiseOf phaseAnswerOf (λ g. IsPhase) lookMayGive (λ g m. (a-num (controlWord m 0), m)) g mem r mem
 
 -- the look at the segments' states: the output, of as many words as the segment records, gets their words; "Refused, it leaves the output
 -- unchanged"

@@ -6,7 +6,7 @@ use mathlib.Core.Option.{Option, none, some}
 use Prim.Native.Nat.{ℕ, zero, suc, _+_, _*_, _/_, _%_, _<_}
 use lib.Dec.{eqb}
 use lib.ListN.{getD, replicate}
-use Rattle.rules.specs.Pick.{pick}
+use Rattle.basics.specs.Pick.{pick}
 use Rattle.words.specs.Bits.{bitAt, setBit}
 use Rattle.classes.specs.Class.{blockWords}
 use Rattle.classes.specs.Record.{ofCounts, pointerCountOf, valueCountOf, fieldCountOf}

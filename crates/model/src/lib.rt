@@ -3,7 +3,7 @@
 use classes::RecordShape;
 ghost use mathlib.Core.Path.{_≡_};
 ghost use Rattle.theory.specs.Phases.{duty, owes, black, inHandshake, newcomer};
-ghost use Rattle.model.specs.Rules.{phaseOf, dutyOf};
+ghost use Rattle.model.specs.PhaseNumbers.{phaseOf, dutyOf};
 
 // What a root or a pointer field holds: nil, or a record by the index of its header word in the heap.
 pub enum Held {

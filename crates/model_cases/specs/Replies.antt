@@ -4,14 +4,14 @@ use mathlib.Core.List.{List, [], _∷_, _++_}
 use Prim.Native.Nat.{ℕ, zero, suc}
 use lib.Dec.{ltb}
 use lib.ListN.{take, drop, replicate}
-use Rattle.rules.specs.Pick.{pick}
+use Rattle.basics.specs.Pick.{pick}
 use Rattle.words.specs.Bits.{bitOf, bitAt, withBit, setBit, onesAmong}
 use Rattle.layout.specs.declared.Geometry.{Geometry}
 use Rattle.layout.specs.Geometry.{len, blocksIn, segmentBytes}
 use Rattle.layout.specs.Mem.{Mem, setControl, setMutator, setSegment, setStack, setTrace, setHeap, setRun, spliced}
 use Rattle.bitmap_search.specs.Scan.{nextFree}
 use Rattle.bitmap_write.specs.Rebuild.{wordFrom, packed, fullBit, summed, rebuilt}
-use Rattle.bitmap_write.specs.Ready.{padded, completed, cleared, copied, fresh, adopted}
+use Rattle.bitmap_write.specs.Completed.{padded, completed, cleared, copied, fresh, adopted}
 use Rattle.theory.specs.Phases.{Phase}
 use Rattle.theory.specs.Calls.{Call, Answer, a-ok, a-no, require, ifRecord}
 use Rattle.model.specs.declared.Step.{Step}

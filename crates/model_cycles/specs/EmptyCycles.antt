@@ -5,13 +5,13 @@ use mathlib.Core.Option.{Option, none, some}
 use mathlib.Core.List.{List, [], _∷_}
 use Prim.Native.Nat.{ℕ}
 use lib.Dec.{eqb}
-use Rattle.rules.specs.Pick.{pick}
+use Rattle.basics.specs.Pick.{pick}
 use Rattle.theory.specs.Phases.{idle, sync1, sync2, mark, sweep}
 use Rattle.theory.specs.Calls.{c-attach, c-detach, c-check, c-leave, c-enter, c-make, c-load, c-store, c-clear, c-put, c-get, c-same, a-num, a-flag}
 use Rattle.model.specs.declared.Step.the-variants.{Waiting, Moved, Traced, Swept, Done, Idle}
 use Rattle.model.specs.declared.SegmentState.the-variants.{Free, Part, Held, Full, Condemned}
 use Rattle.model.specs.Answers.{refusalIn}
-use Rattle.model.specs.Lists.{keep, struck}
+use Rattle.model.specs.Lists.{prepend, struck}
 use Rattle.model_cases.specs.Replies.{Line, _⇒_, Input, opening, start, step, look, call, acknowledgements, marks, enteredIn, bits, heap, Reply, answer, seen, words, stepped, ok, no}
 
 -- one segment, no mutator: four steps from the start to done, and a start in each phase
@@ -185,4 +185,4 @@ lineInIdle (heap i n) r = none
 -- a case without its other lines: no start, so its phase is idle throughout
 abbrev pub inIdle : List Line → List Line
 inIdle [] = []
-inIdle ((e ⇒ r) ∷ ls) = keep (lineInIdle e r) (inIdle ls)
+inIdle ((e ⇒ r) ∷ ls) = prepend (lineInIdle e r) (inIdle ls)

@@ -8,8 +8,8 @@ use native.Mathlib.Omega.{arith}
 use lib.Dec.{eqb}
 use lib.ListN.{length}
 use borrow.Author.Tests.{lt-ltb, le-ltb, eq-eqb, ne-eqb, eqb-true}
-use Rattle.rules.specs.Decides.{Decides}
-use Rattle.rules.proofs.Deciding.{fails}
+use Rattle.basics.specs.Decides.{Decides}
+use Rattle.basics.proofs.Deciding.{fails}
 use Rattle.classes.specs.declared.RecordShape.{RecordShape}
 use Rattle.layout.specs.declared.Geometry.{Geometry}
 use Rattle.layout.specs.Geometry.{mutatorCount, rootCount, wrongSize}
@@ -20,8 +20,8 @@ use Rattle.model.specs.declared.Answer.the-variants.{Refused}
 use Rattle.model.specs.Fields.{absent, inside, state}
 use Rattle.model.specs.Calls.{observe}
 use Rattle.model.specs.Promise.{Promise}
-use Rattle.laws.proofs.Promised.{refused}
-use Rattle.laws.proofs.Reaching.{Reaches}
+use Rattle.model_laws.proofs.Promised.{refused}
+use Rattle.model_laws.proofs.Reaching.{Reaches}
 use Rattle.mutators.specs.Inside.{insideThen}
 use Rattle.theory.proofs.Refusals as refusals
 

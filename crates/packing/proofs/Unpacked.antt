@@ -16,9 +16,9 @@ use Rattle.model.specs.declared.Answer.{Answer}
 use Rattle.model.specs.declared.Answer.the-variants.{Ok, Number, Same, Shape, Refused}
 use Rattle.model.specs.Records.{halfWord, headerWord, headerShape}
 use Rattle.model.specs.Answers.{answerOf, refusalIn, refusalOf, IsOk, IsNumber, IsFlag, IsRecordShape, ResultOf, among, startMayGive}
-use Rattle.model.specs.Promise.{Keeps, Promise, OpenPromise, StartPromise}
+use Rattle.model.specs.Promise.{PromiseOf, Promise, OpenPromise, StartPromise}
 use Rattle.model.proofs.Numbers.{OfTable, among-table, may-table}
-use Rattle.laws.proofs.Headers.{shape-halves}
+use Rattle.model_laws.proofs.Headers.{shape-halves}
 use Rattle.theory.specs.Calls as theory
 use Rattle.packing.specs.Packed.{upper, pack, packValue, flagged, unpack, unpackNumber, unpackSame, unpackShape}
 use Rattle.packing.proofs.Halves.{value-back, refused-back}
@@ -72,15 +72,15 @@ unpacked-shape (Refused n) k = refused-back Refused (λ v. Shape (headerShape v)
 -- ---- the promise of what is unpacked
 
 module _ {Result : Geometry → theory.Answer → Type 0} {may : List ℕ} {does : Geometry → Mem → theory.Answer × Mem} (g′ g : Geometry) (xs ys : List ℕ) (a : Answer) (same : g′ ≡ g)
-    (p : Keeps answerOf Result may does g′ xs a ys) (table : (n : ℕ) → among n may ≡ true → OfTable n) where
+    (p : PromiseOf answerOf Result may does g′ xs a ys) (table : (n : ℕ) → among n may ≡ true → OfTable n) where
   kind-of : (Sort : theory.Answer → Type 0) → (Result g′ (answerOf a) → Sort (answerOf a)) → Kind Sort a
   kind-of Sort f = record { kind = λ n. f (p .kind n); number = λ n i. table n (p .allowed n i) }
 
-  carried : (r : Answer) → r ≡ a → Keeps answerOf Result may does g xs r ys
-  carried r e = subst (λ z. Keeps answerOf Result may does z xs r ys) same (subst (λ z. Keeps answerOf Result may does g′ xs z ys) (sym e) p)
+  carried : (r : Answer) → r ≡ a → PromiseOf answerOf Result may does g xs r ys
+  carried r e = subst (λ z. PromiseOf answerOf Result may does z xs r ys) same (subst (λ z. PromiseOf answerOf Result may does g′ xs z ys) (sym e) p)
 
   exports-by : (Sort : theory.Answer → Type 0) (unpacks : ℕ → Answer) (packs : Answer → ℕ) → (Kind Sort a → unpacks (packs a) ≡ a)
-      → (Result g′ (answerOf a) → Sort (answerOf a)) → (n : ℕ) → n ≡ packs a → Keeps answerOf Result may does g xs (unpacks n) ys
+      → (Result g′ (answerOf a) → Sort (answerOf a)) → (n : ℕ) → n ≡ packs a → PromiseOf answerOf Result may does g xs (unpacks n) ys
   exports-by Sort unpacks packs back k n e = carried (unpacks n) (ap unpacks e ∙ back (kind-of Sort k))
 
 module _ (c : Call) (g′ g : Geometry) (xs ys : List ℕ) (a : Answer) (same : g′ ≡ g) (p : Promise c g′ xs a ys) where

@@ -7,7 +7,7 @@ use native.Mathlib.Omega.{arith}
 use lib.Dec.{eqb}
 use lib.ListN.{replicate}
 use borrow.Author.Tests.{eqb-true, eqb-false}
-use Rattle.rules.specs.Pick.{pick}
+use Rattle.basics.specs.Pick.{pick}
 use Rattle.layout.specs.Mem.{Mem, setHeap, setRun}
 use Rattle.layout.proofs.Spliced.{run-sets, runs-meet}
 use Rattle.layout.specs.Region as Region

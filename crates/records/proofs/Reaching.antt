@@ -16,7 +16,7 @@ use Rattle.model.specs.Fields.{root}
 use Rattle.model.specs.Records.{pointerCount, valueCount, shapeOf}
 use Rattle.model.specs.Calls.{observe}
 use Rattle.model.specs.Promise.{Promise}
-use Rattle.laws.proofs.Reaching.{Names, Reaches, nil-7, off-13, header-13, has-0, field-8}
+use Rattle.model_laws.proofs.Reaching.{Names, Reaches, nil-7, off-13, header-13, has-0, field-8}
 use Rattle.records.specs.declared.FieldAt.the-variants.{Word}
 use Rattle.records.specs.FieldWords.{heldOf, pointerAt, valueAt}
 use Rattle.records.proofs.Found.{FieldMissing, no-field, off, beyond, pointer-found, pointer-missing, value-found, value-missing}

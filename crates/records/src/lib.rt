@@ -7,7 +7,7 @@ ghost use mathlib.Core.Path.{_≡_};
 ghost use Prim.Native.Nat.{_+_, _<_, _≤_};
 ghost use lib.Dec.{eqb};
 ghost use lib.ListN.{length, replicate};
-ghost use Rattle.rules.specs.Pick.{pick};
+ghost use Rattle.basics.specs.Pick.{pick};
 ghost use Rattle.classes.specs.Record.{fieldCountOf};
 ghost use Rattle.layout.specs.Geometry.{Sized, len};
 ghost use Rattle.layout.specs.Mem.{memOf, heapWord, setHeap, setRun};

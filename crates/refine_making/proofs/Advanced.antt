@@ -18,9 +18,9 @@ use Rattle.model.specs.declared.SegmentState.the-variants.{Held, Full}
 use Rattle.model.specs.Fields.{heldFrom, setHolding, ownerAt}
 use Rattle.model.specs.Segments.{setSegmentState, bitmap, free}
 use Rattle.model.specs.Making.{advanced}
-use Rattle.laws.proofs.Words.{untouched-as, recorded-as, state-others, state-there, state-other}
-use Rattle.laws.proofs.Entries.{table-there, table-other}
-use Rattle.laws.proofs.Lengths.{sizes-state, sizes-mutator}
+use Rattle.model_laws.proofs.Words.{untouched-as, recorded-as, state-others, state-there, state-other}
+use Rattle.model_laws.proofs.Entries.{table-there, table-other}
+use Rattle.model_laws.proofs.Lengths.{sizes-state, sizes-mutator}
 use Rattle.refine_making.proofs.Request.{Request}
 use Rattle.refine_making.proofs.Result.{Moved}
 

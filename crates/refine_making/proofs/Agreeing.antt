@@ -23,12 +23,12 @@ use Rattle.model.specs.Records.{record?, pointerCount, pointer, blockOf, header
 use Rattle.model.specs.Reaching.{Live, isMarked}
 use Rattle.classes.specs.Class.{IsClass}
 use Rattle.model.specs.Consistent.{RecordOk}
-use Rattle.refine_view.specs.Kept.{Ordered}
+use Rattle.refine_view.specs.Refines.{Ordered}
 use Rattle.refine_view.specs.View.{view, valuesOf, isHead, isUsed}
-use Rattle.laws.proofs.Bools.{and-both, ne-not}
+use Rattle.model_laws.proofs.Bools.{and-both, ne-not}
 use Rattle.layout.proofs.Sizes.{segment-below}
-use Rattle.laws.proofs.Blocks.{header-segment, header-is-class, header-head, same-bit}
-use Rattle.laws.proofs.Segments.{in-range}
+use Rattle.model_laws.proofs.Blocks.{header-segment, header-is-class, header-head, same-bit}
+use Rattle.model_laws.proofs.Segments.{in-range}
 use Rattle.theory.proofs.Updates.{upd2-by}
 use Rattle.refine_view.proofs.Invariants.{to-live, to-inv, used-of}
 use Rattle.refine_making.proofs.Request.{Request}

@@ -3,7 +3,7 @@ use mathlib.Core.Path.{_≡_, sym, _∙_, ap, subst}
 use mathlib.Core.Logic.{_⊎_, inl, inr}
 use Prim.Native.Nat.{ℕ, _+_, _-_, _≤_, _<_}
 use native.Mathlib.Omega.{arith}
-use Rattle.rules.proofs.Order.{le-or-lt}
+use Rattle.basics.proofs.Order.{le-or-lt}
 use Rattle.classes.specs.declared.RecordShape.{RecordShape}
 use Rattle.classes.specs.Record.{fieldCountOf}
 use Rattle.layout.specs.Geometry.{segmentOf}
@@ -14,9 +14,9 @@ use Rattle.model.specs.Records.{pointerCount, valueCount, pointer, headerOf}
 use Rattle.classes.specs.Class.{IsClass, blockWords}
 use Rattle.model.specs.Consistent.{RecordOk}
 use Rattle.refine_view.specs.View.{valuesOf}
-use Rattle.laws.proofs.Blocks.{header-class, header-is-class, header-head}
+use Rattle.model_laws.proofs.Blocks.{header-class, header-is-class, header-head}
 use Rattle.classes.proofs.Smallest.{class-holds}
-use Rattle.laws.proofs.Apart.{heads-apart}
+use Rattle.model_laws.proofs.Apart.{heads-apart}
 use Rattle.refine_view.proofs.Contents.{pointers-by, pointer-by, fields-by}
 use Rattle.refine_making.proofs.Request.{Request}
 use Rattle.refine_making.proofs.Result.{Result}

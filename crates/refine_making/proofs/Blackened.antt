@@ -6,7 +6,7 @@ use mathlib.Core.List.{List}
 use Prim.Native.Nat.{ℕ, suc, _+_, _-_, _*_, _/_, _<_}
 use native.Mathlib.Omega.{arith}
 use lib.ListN.{length, getD}
-use Rattle.rules.specs.Pick.{pick}
+use Rattle.basics.specs.Pick.{pick}
 use Rattle.words.specs.Bits.{bitAt, setBit}
 use Rattle.words.proofs.Lists.{set-there, set-elsewhere}
 use Rattle.classes.specs.Class.{firstClass}
@@ -20,10 +20,10 @@ use Rattle.model.specs.Records.{headerOf, written, setEntered}
 use Rattle.model.specs.Making.{blackened, handedOut}
 use Rattle.layout.proofs.Sizes.{marks-are, marks-words}
 use Rattle.classes.proofs.Filling.{two-words}
-use Rattle.laws.proofs.Words.{Recorded, Untouched, untouched-as, recorded-as}
-use Rattle.laws.proofs.Blocks.{header-inside}
+use Rattle.model_laws.proofs.Words.{Recorded, Untouched, untouched-as, recorded-as}
+use Rattle.model_laws.proofs.Blocks.{header-inside}
 use Rattle.refine_view.proofs.Frames.{beside}
-use Rattle.laws.proofs.Lengths.{sizes-mutator, sizes-heap, sizes-heap-run, sizes-entered}
+use Rattle.model_laws.proofs.Lengths.{sizes-mutator, sizes-heap, sizes-heap-run, sizes-entered}
 use Rattle.refine_making.proofs.Request.{Request}
 use Rattle.refine_making.proofs.Result.{Moved, StillHeld, NowFull, Result}
 use Rattle.refine_making.proofs.Advanced.{moved}

@@ -22,13 +22,13 @@ use Rattle.model.specs.Making.{handedOut}
 use Rattle.model.specs.Calls.{isAttached}
 use Rattle.model.specs.Consistent.{Occupied, Behind}
 use Rattle.refine_view.specs.View.{view}
-use Rattle.refine_view.specs.Kept.{Ordered, EachOccupied, Structure, Steady}
+use Rattle.refine_view.specs.Refines.{Ordered, EachOccupied, Structure, Steady}
 use Rattle.refine_making.proofs.Request.{Request, requested}
 use Rattle.refine_making.proofs.Blackened.{result}
 use Rattle.refine_making.proofs.Agreeing.{agree}
 use Rattle.refine_making.proofs.Segments.{occupied-ok}
 use Rattle.refine_making.proofs.Structured.{structure}
-use Rattle.refine_view.proofs.Keeping.{behind-by}
+use Rattle.refine_view.proofs.SelfSimulation.{behind-by}
 use Rattle.refine_making.proofs.Unused as unused
 use Rattle.refine_making.proofs.Standing as standing
 

@@ -18,15 +18,15 @@ use Rattle.model.specs.Segments.{usedBit}
 use Rattle.classes.specs.Class.{blockWords}
 use Rattle.model.specs.Records.{headerShape, shapeOf, pointerCount, valueCount, pointer, value, marked, blockOf, headerOf}
 use Rattle.model.specs.Reaching.{IsEntry, isMarked}
-use Rattle.laws.proofs.Marked.{stacked?, off-stack, unentered}
+use Rattle.model_laws.proofs.Marked.{stacked?, off-stack, unentered}
 use Rattle.refine_view.proofs.Seeing.{entry-was}
 use mathlib.Core.Logic.{⊎-elim}
-use Rattle.refine_view.specs.Kept.{Ordered}
+use Rattle.refine_view.specs.Refines.{Ordered}
 use Rattle.refine_view.specs.View.{valuesOf, isHead, isUsed}
-use Rattle.laws.proofs.Bools.{and-both, ne-not}
-use Rattle.laws.proofs.Headers.{shape-written}
-use Rattle.laws.proofs.Blocks.{header-segment, header-block, header-class, header-head}
-use Rattle.laws.proofs.Tables.{tab-zeros}
+use Rattle.model_laws.proofs.Bools.{and-both, ne-not}
+use Rattle.model_laws.proofs.Headers.{shape-written}
+use Rattle.model_laws.proofs.Blocks.{header-segment, header-block, header-class, header-head}
+use Rattle.model_laws.proofs.Tables.{tab-zeros}
 use Rattle.refine_making.proofs.Request.{Request}
 use Rattle.refine_making.proofs.Result.{Result}
 use Rattle.refine_making.proofs.Standing as standing

@@ -18,8 +18,8 @@ use Rattle.bitmap_search.proofs.Scan.{IsNext, next-is}
 use Rattle.model.specs.Fields.{absent, state, holding, tag, class, place, owner}
 use Rattle.model.specs.Segments.{bitmap, free}
 use Rattle.model.specs.Calls.{isAttached}
-use Rattle.refine_view.specs.Kept.{Ordered}
-use Rattle.laws.proofs.Bools.{not-eq}
+use Rattle.refine_view.specs.Refines.{Ordered}
+use Rattle.model_laws.proofs.Bools.{not-eq}
 use Rattle.model.specs.Tag as Tag
 
 -- mutator k makes a record of a shape into its root d, out of block b of its segment r of class cl

@@ -14,7 +14,7 @@ use Rattle.theory.specs.Phases.{black}
 use Rattle.model.specs.Fields.{phase, heldFrom, acks, root, holding}
 use Rattle.model.specs.Segments.{bitmap}
 use Rattle.model.specs.Records.{headerOf, headerWord, entered}
-use Rattle.laws.proofs.Words.{Recorded, Untouched}
+use Rattle.model_laws.proofs.Words.{Recorded, Untouched}
 
 -- the segment is still held, with a free block at or after its place
 pub record StillHeld (g : Geometry) (m m′ : Mem) (k cl r b : ℕ) : Type 0 where

@@ -4,7 +4,7 @@ use mathlib.Core.Logic.{_⊎_, inl, inr, ⊎-elim}
 use mathlib.Core.List.{List}
 use Prim.Native.Nat.{ℕ, suc, _≤_, _<_}
 use native.Mathlib.Omega.{arith}
-use Rattle.rules.proofs.Order.{same-or-not}
+use Rattle.basics.proofs.Order.{same-or-not}
 use Rattle.words.specs.Bits.{bitAt}
 use Rattle.classes.specs.declared.RecordShape.{RecordShape}
 use Rattle.layout.specs.declared.Geometry.{Geometry}
@@ -13,8 +13,8 @@ use Rattle.layout.specs.Mem.{Mem}
 use Rattle.model.specs.Fields.{state, holding, tag, class, owner}
 use Rattle.classes.specs.Class.{IsClass}
 use Rattle.model.specs.Consistent.{SegmentOk, Occupied, TreeOk}
-use Rattle.refine_view.specs.Kept.{Ordered, EachOccupied}
-use Rattle.laws.proofs.Segments.{segment-same, tree-same, occupied-by}
+use Rattle.refine_view.specs.Refines.{Ordered, EachOccupied}
+use Rattle.model_laws.proofs.Segments.{segment-same, tree-same, occupied-by}
 use Rattle.refine_making.proofs.Request.{Request}
 use Rattle.refine_making.proofs.Result.{StillHeld, NowFull, Result}
 use Rattle.refine_making.proofs.Standing as standing

@@ -8,8 +8,8 @@ use native.Mathlib.Omega.{arith}
 use lib.Dec.{eqb, ltb}
 use lib.ListN.{getD}
 use borrow.Author.Tests.{lt-ltb, ltb-true, ne-eqb}
-use Rattle.rules.specs.Pick.{pick}
-use Rattle.rules.proofs.Order.{same-or-not}
+use Rattle.basics.specs.Pick.{pick}
+use Rattle.basics.proofs.Order.{same-or-not}
 use Rattle.words.specs.Bits.{bitAt}
 use Rattle.classes.specs.Class.{firstClass, IsClass, blockWords}
 use Rattle.classes.specs.declared.RecordShape.{RecordShape}
@@ -20,12 +20,12 @@ use Rattle.model.specs.Fields.{phase, traceCount, stateAt, acksAt, heldFrom, st
 use Rattle.model.specs.Segments.{bitmap, usedBit}
 use Rattle.model.specs.Records.{blockOf, headerOf}
 use Rattle.model.specs.Reaching.{isMarked}
-use Rattle.model.specs.Rules.{phaseOf}
+use Rattle.model.specs.PhaseNumbers.{phaseOf}
 use Rattle.refine_view.specs.View.{stackOf, isHead}
-use Rattle.laws.proofs.Bitmaps.{bitmap-by}
+use Rattle.model_laws.proofs.Bitmaps.{bitmap-by}
 use Rattle.refine_view.proofs.Seeing.{entries-same}
-use Rattle.laws.proofs.Entries.{holding-by, table-below}
-use Rattle.laws.proofs.Segments.{used-same}
+use Rattle.model_laws.proofs.Entries.{holding-by, table-below}
+use Rattle.model_laws.proofs.Segments.{used-same}
 use Rattle.refine_making.proofs.Request.{Request}
 use Rattle.refine_making.proofs.Result.{StillHeld, NowFull, Result}
 use Rattle.model.specs.Tag as Tag

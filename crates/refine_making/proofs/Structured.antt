@@ -3,7 +3,7 @@ use mathlib.Core.Path.{_≡_, refl, sym, _∙_, ap, subst}
 use mathlib.Core.Logic.{_⊎_, inl, inr, _≢_}
 use Prim.Native.Nat.{ℕ, suc, _*_, _≤_, _<_}
 use native.Mathlib.Omega.{arith}
-use Rattle.rules.proofs.Order.{same-or-not}
+use Rattle.basics.proofs.Order.{same-or-not}
 use Rattle.words.specs.Bits.{bitAt}
 use Rattle.classes.specs.Class.{IsClass}
 use Rattle.classes.specs.declared.SizeClass.the-variants.{Class}
@@ -20,15 +20,15 @@ use Rattle.model.specs.Records.{blockOf, headerOf, entered}
 use Rattle.model.specs.Reaching.{IsEntry, Live}
 use Rattle.model.specs.Consistent.{MutatorOk, StackOk, isFree, isPart, RecordOk, HeadInUse, MarksOf, bitWord}
 use Rattle.refine_view.specs.View.{view}
-use Rattle.refine_view.specs.Kept.{Ordered, EntriesOk, MarksIn, Structure}
-use Rattle.laws.proofs.Blocks.{header-inside, bit-below, head-word}
-use Rattle.laws.proofs.Apart.{class-of}
+use Rattle.refine_view.specs.Refines.{Ordered, EntriesOk, MarksIn, Structure}
+use Rattle.model_laws.proofs.Blocks.{header-inside, bit-below, head-word}
+use Rattle.model_laws.proofs.Apart.{class-of}
 use Rattle.words.proofs.Counts.{among-change}
 use Rattle.words.proofs.Lists.{at-lt}
 use mathlib.Core.Bool.{Bool, true, false}
-use Rattle.laws.proofs.Entries.{mutators-table}
-use Rattle.laws.proofs.OtherStacks.{stack-by}
-use Rattle.laws.proofs.Segments.{part-same}
+use Rattle.model_laws.proofs.Entries.{mutators-table}
+use Rattle.model_laws.proofs.OtherStacks.{stack-by}
+use Rattle.model_laws.proofs.Segments.{part-same}
 use Rattle.refine_view.proofs.Carried.{record-by, use-by, marks-by}
 use Rattle.refine_view.proofs.Seeing.{live-on, entry-was}
 use Rattle.refine_view.proofs.Invariants.{structure-of}

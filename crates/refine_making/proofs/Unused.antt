@@ -6,7 +6,7 @@ use Prim.Native.Nat.{ℕ, _-_, _*_, _<_}
 use native.Mathlib.Omega.{arith}
 use lib.Dec.{eqb}
 use borrow.Author.Tests.{ne-eqb, le-ltb}
-use Rattle.rules.proofs.Order.{same-or-not}
+use Rattle.basics.proofs.Order.{same-or-not}
 use Rattle.words.proofs.Word.{one-of-not-zero}
 use Rattle.words.proofs.Lists.{at-lt}
 use Rattle.classes.specs.declared.RecordShape.{RecordShape}
@@ -21,9 +21,9 @@ use Rattle.model.specs.Records.{blockOf, headerOf, entered}
 use Rattle.model.specs.Consistent.{HeadInUse, MarksOf, bitWord}
 use Rattle.theory.specs.Reach.{root}
 use Rattle.refine_view.specs.View.{isUsed}
-use Rattle.refine_view.specs.Kept.{Ordered, MarksIn}
-use Rattle.laws.proofs.Bools.{and-false}
-use Rattle.laws.proofs.Blocks.{header-segment, header-block, header-inside, header-is-class, header-head, head-word, bit-below}
+use Rattle.refine_view.specs.Refines.{Ordered, MarksIn}
+use Rattle.model_laws.proofs.Bools.{and-false}
+use Rattle.model_laws.proofs.Blocks.{header-segment, header-block, header-inside, header-is-class, header-head, head-word, bit-below}
 use Rattle.classes.proofs.Filling.{two-words}
 use Rattle.refine_view.proofs.Invariants.{structure-of}
 use Rattle.refine_making.proofs.Request.{Request}

@@ -15,9 +15,9 @@ use Rattle.layout.specs.Mem.{Mem, mutatorWord, heapWord, spliced}
 use Rattle.theory.specs.Phases.{black}
 use Rattle.model.specs.Fields.{phase, acksAt, heldFrom, acks, holding}
 use Rattle.model.specs.Records.{headerOf, written, headerWord}
-use Rattle.model.specs.Rules.{phaseOf}
-use Rattle.laws.proofs.Windows.{spliced-in, spliced-out}
-use Rattle.laws.proofs.Blocks.{header-inside}
+use Rattle.model.specs.PhaseNumbers.{phaseOf}
+use Rattle.model_laws.proofs.Windows.{spliced-in, spliced-out}
+use Rattle.model_laws.proofs.Blocks.{header-inside}
 use Rattle.refine_making.proofs.Request.{Request}
 use Rattle.refine_making.proofs.Result.{Moved}
 

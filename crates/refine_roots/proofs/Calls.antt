@@ -16,19 +16,19 @@ use Rattle.model.specs.Fields.{setRoot}
 use Rattle.model.specs.Records.{record?, pointerCount, valueCount, pointer, value, shapeOf}
 use Rattle.model.specs.Calls.{observe, act}
 use Rattle.refine_view.specs.View.{view, valuesOf}
-use Rattle.refine_view.specs.Kept.{Ordered, ActKept}
-use Rattle.laws.proofs.Rooted.{named}
-use Rattle.laws.proofs.Tables.{getD-tab, length-tab}
-use Rattle.refine_view.proofs.Keeping.{matches-by, moves-self, wanted-in, on-record}
-use Rattle.laws.proofs.Rooted.{is-root}
+use Rattle.refine_view.specs.Refines.{Ordered, ActRefines}
+use Rattle.model_laws.proofs.Rooted.{named}
+use Rattle.model_laws.proofs.Tables.{getD-tab, length-tab}
+use Rattle.refine_view.proofs.SelfSimulation.{matches-by, moves-self, wanted-in, on-record}
+use Rattle.model_laws.proofs.Rooted.{is-root}
 use Rattle.refine_roots.proofs.Roots.{root-moves}
 use Rattle.theory.specs.Machine as machine
 use Rattle.model.specs.Fields as fields
 
 module _ (g : Geometry) (m : Mem) (s : Sizes g m) (c : Ordered g m) where
-  pub load-kept : (k d i f : ℕ) → refusal (observe m) (c-load k d i f) ≡ 0 → ActKept g m (c-load k d i f)
+  pub load-refines : (k d i f : ℕ) → refusal (observe m) (c-load k d i f) ≡ 0 → ActRefines g m (c-load k d i f)
   unfolding act
-  load-kept k d i f e =
+  load-refines k d i f e =
       let p = by-ok (observe m) k _ e in
       let q = root-ok d _ (p .3) in
       let r = root-ok i _ (q .1) in
@@ -39,26 +39,26 @@ module _ (g : Geometry) (m : Mem) (s : Sizes g m) (c : Ordered g m) where
       (root-moves g m s c k d (pointer m (w .at) f) (p .0) (p .1) (q .0) (λ b y. next (root (is-root m k i (w .at) (p .0) (r .0) (p .1) n)) (record { field = f; within = x; names = y }))) in
       matches-by g m _ _ tt (h .0) (h .1)
 
-  pub copy-kept : (k d i : ℕ) → refusal (observe m) (c-copy k d i) ≡ 0 → ActKept g m (c-copy k d i)
+  pub copy-refines : (k d i : ℕ) → refusal (observe m) (c-copy k d i) ≡ 0 → ActRefines g m (c-copy k d i)
   unfolding act
-  copy-kept k d i e =
+  copy-refines k d i e =
       let p = by-ok (observe m) k _ e in
       let q = root-ok d _ (p .3) in
       let r = root-ok i _ (q .1) in
       matches-by g m _ _ tt refl (root-moves g m s c k d (fields.root m k i) (p .0) (p .1) (q .0) (λ b y. root (is-root m k i b (p .0) (r .0) (p .1) y)))
 
-  pub clear-kept : (k d : ℕ) → refusal (observe m) (c-clear k d) ≡ 0 → ActKept g m (c-clear k d)
+  pub clear-refines : (k d : ℕ) → refusal (observe m) (c-clear k d) ≡ 0 → ActRefines g m (c-clear k d)
   unfolding act
-  clear-kept k d e =
+  clear-refines k d e =
       let p = by-ok (observe m) k _ e in
       let q = root-ok d _ (p .3) in
       matches-by g m _ _ tt refl (root-moves g m s c k d 0 (p .0) (p .1) (q .0) (λ b y. absurd (omega arith)))
 
   -- ---- calls that change nothing
 
-  pub get-kept : (k i f : ℕ) → refusal (observe m) (c-get k i f) ≡ 0 → ActKept g m (c-get k i f)
+  pub get-refines : (k i f : ℕ) → refusal (observe m) (c-get k i f) ≡ 0 → ActRefines g m (c-get k i f)
   unfolding act
-  get-kept k i f e =
+  get-refines k i f e =
       let p = by-ok (observe m) k _ e in
       let r = root-ok i _ (p .3) in
       let w = wanted-in g m k i (value? f) (p .1) (r .0) (r .1) in
@@ -68,13 +68,13 @@ module _ (g : Geometry) (m : Mem) (s : Sizes g m) (c : Ordered g m) where
       (moves-self g m c) in
       matches-by g m _ _ tt (h .0) (h .1)
 
-  pub same-kept : (k i j : ℕ) → refusal (observe m) (c-same k i j) ≡ 0 → ActKept g m (c-same k i j)
+  pub same-refines : (k i j : ℕ) → refusal (observe m) (c-same k i j) ≡ 0 → ActRefines g m (c-same k i j)
   unfolding act
-  same-kept k i j e = matches-by g m _ _ tt refl (moves-self g m c)
+  same-refines k i j e = matches-by g m _ _ tt refl (moves-self g m c)
 
-  pub shape-kept : (k i : ℕ) → refusal (observe m) (c-shape k i) ≡ 0 → ActKept g m (c-shape k i)
+  pub shape-refines : (k i : ℕ) → refusal (observe m) (c-shape k i) ≡ 0 → ActRefines g m (c-shape k i)
   unfolding act
-  shape-kept k i e =
+  shape-refines k i e =
       let p = by-ok (observe m) k _ e in
       let r = root-ok i _ (p .3) in
       let w = wanted-in g m k i (λ _. 0) (p .1) (r .0) (r .1) in

@@ -10,7 +10,7 @@ use lib.Dec.{eqb, ltb}
 use lib.ListN.{length, getD, replicate, getD-replicate, List·getD-append}
 use lib.Seq.{getD-append-add}
 use borrow.Author.Tests.{eqb-true, not-true, not-false, ltb-true}
-use Rattle.rules.proofs.Order.{same-or-not}
+use Rattle.basics.proofs.Order.{same-or-not}
 use Rattle.classes.specs.Class.{firstClass, IsClass}
 use Rattle.layout.specs.declared.Geometry.{Geometry}
 use Rattle.layout.specs.Geometry.{mutatorCount, mutatorWords, rootCount, segmentOf}
@@ -28,14 +28,14 @@ use Rattle.model.specs.Calls.{isAttached, isInside, observe, act}
 use Rattle.model.specs.Reaching.{IsRoot}
 use Rattle.model.specs.Consistent.{MutatorOk}
 use Rattle.refine_view.specs.View.{view}
-use Rattle.refine_view.specs.Kept.{Ordered, Moves, CallKept}
+use Rattle.refine_view.specs.Refines.{Ordered, Moves, CallRefines}
 use Rattle.refine_view.proofs.Seeing.{root-on}
-use Rattle.laws.proofs.Rooted.{named}
+use Rattle.model_laws.proofs.Rooted.{named}
 use Rattle.refine_view.proofs.Invariants.{to-inv, structure-of}
-use Rattle.refine_view.proofs.Keeping.{matches-by, unless-kept}
-use Rattle.laws.proofs.Rooted.{is-root}
+use Rattle.refine_view.proofs.SelfSimulation.{matches-by, unless-refines}
+use Rattle.model_laws.proofs.Rooted.{is-root}
 use Rattle.theory.proofs.Updates.{upd-by}
-use Rattle.laws.proofs.Entries.{holding-word, holding-by, table-below, entry-in, entry-out}
+use Rattle.model_laws.proofs.Entries.{holding-word, holding-by, table-below, entry-in, entry-out}
 use Rattle.refine_view.proofs.EntriesOnly.{entries-moves}
 use Rattle.theory.specs.Machine as machine
 use Rattle.model.specs.Fields as fields
@@ -160,23 +160,23 @@ module _ (out : ℕ → Bool) (late : out 11 ≡ true) (g : Geometry) (m : Mem) 
   not-there : (k : ℕ) → not (isAttached m k) ≡ true → state m k ≡ absent
   not-there k e = eqb-true _ _ (not-false _ (not-true _ e))
 
-  pub attach-kept : (k : ℕ) → refusal (observe m) (c-attach k) ≡ 0 → CallKept out g m (c-attach k)
+  pub attach-refines : (k : ℕ) → refusal (observe m) (c-attach k) ≡ 0 → CallRefines out g m (c-attach k)
   unfolding act
-  attach-kept k e =
+  attach-refines k e =
       let p = require-ok (ltb k mutatorCount) 2 _ (omega arith) e in
       let q = require-ok (not (isAttached m k)) 3 _ (omega arith) (p .1) in
-      unless-kept out g m (attached m k 0) (c-attach k) 11 late (inHandshake (phase m))
+      unless-refines out g m (attached m k 0) (c-attach k) 11 late (inHandshake (phase m))
       (λ x. matches-by g m (c-attach k) _ x refl (coming-moves g m s c k 0 (ltb-true _ _ (p .0)) (not-there k (q .0)) (λ b y. absurd (omega arith)) x))
 
-  pub spawn-kept : (k p i : ℕ) → refusal (observe m) (c-spawn k p i) ≡ 0 → CallKept out g m (c-spawn k p i)
+  pub spawn-refines : (k p i : ℕ) → refusal (observe m) (c-spawn k p i) ≡ 0 → CallRefines out g m (c-spawn k p i)
   unfolding act
-  spawn-kept k p i e =
+  spawn-refines k p i e =
       let a = require-ok (ltb k mutatorCount) 2 _ (omega arith) e in
       let b = require-ok (ltb p mutatorCount) 2 _ (omega arith) (a .1) in
       let d = require-ok (not (isAttached m k)) 3 _ (omega arith) (b .1) in
       let f = require-ok (isAttached m p) 4 _ (omega arith) (d .1) in
       let n = require-ok (isInside m p) 5 _ (omega arith) (f .1) in
       let q = root-ok i _ (n .1) in
-      unless-kept out g m (attached m k (fields.root m p i)) (c-spawn k p i) 11 late (inHandshake (phase m))
+      unless-refines out g m (attached m k (fields.root m p i)) (c-spawn k p i) 11 late (inHandshake (phase m))
       (λ x. matches-by g m (c-spawn k p i) _ x refl
       (coming-moves g m s c k (fields.root m p i) (ltb-true _ _ (a .0)) (not-there k (d .0)) (λ at y. is-root m p i at (ltb-true _ _ (b .0)) (q .0) (f .0) y) x))

@@ -21,18 +21,18 @@ use Rattle.model.specs.Calls.{observe, act}
 use Rattle.model.specs.Reaching.{Live}
 use Rattle.model.specs.Consistent.{RecordOk}
 use Rattle.refine_view.specs.View.{view, valuesOf}
-use Rattle.refine_view.specs.Kept.{Ordered, Structure, Moves, ActKept}
+use Rattle.refine_view.specs.Refines.{Ordered, Structure, Moves, ActRefines}
 use Rattle.refine_view.proofs.Seeing.{entries-same, live-on}
-use Rattle.laws.proofs.Rooted.{named}
+use Rattle.model_laws.proofs.Rooted.{named}
 use Rattle.refine_view.proofs.Carried.{entries-by}
 use Rattle.refine_view.proofs.Frames.{held-self, mutator-beside, marks-beside, structure-beside}
-use Rattle.laws.proofs.Tables.{tab-set}
+use Rattle.model_laws.proofs.Tables.{tab-set}
 use Rattle.theory.proofs.Updates.{upd-by}
 use Rattle.refine_view.proofs.Contents.{pointers-by, values-by, pointer-by, value-by, fields-by}
 use Rattle.refine_view.proofs.Invariants.{to-live, to-record, structure-of}
-use Rattle.refine_view.proofs.Keeping.{matches-by, wanted-in, on-record}
-use Rattle.laws.proofs.Rooted.{live-root}
-use Rattle.laws.proofs.Apart.{fields-apart, field-inside}
+use Rattle.refine_view.proofs.SelfSimulation.{matches-by, wanted-in, on-record}
+use Rattle.model_laws.proofs.Rooted.{live-root}
+use Rattle.model_laws.proofs.Apart.{fields-apart, field-inside}
 use Rattle.theory.proofs.Agree as agreeing
 use Rattle.theory.specs.Machine as machine
 use Rattle.model.specs.Fields as fields
@@ -124,9 +124,9 @@ module _ (g : Geometry) (m : Mem) (s : Sizes g m) (c : Ordered g m) (at : ℕ) (
   value-moves =
       record { structure = heap-structure g m place v (structure-of g m c) (λ x p. header x (c .records x p)) live; occupied = λ u. u; behind = λ u. u; agree = agree; steady = λ x q e. (e, refl) }
 
-pub put-kept : (g : Geometry) (m : Mem) → Sizes g m → Ordered g m → (k i f v : ℕ) → refusal (observe m) (c-put k i f v) ≡ 0 → ActKept g m (c-put k i f v)
+pub put-refines : (g : Geometry) (m : Mem) → Sizes g m → Ordered g m → (k i f v : ℕ) → refusal (observe m) (c-put k i f v) ≡ 0 → ActRefines g m (c-put k i f v)
 unfolding act
-put-kept g m s c k i f v e =
+put-refines g m s c k i f v e =
     let p = by-ok (observe m) k _ e in
     let r = root-ok i _ (p .3) in
     let w = wanted-in g m k i (value? f) (p .1) (r .0) (r .1) in

@@ -14,14 +14,14 @@ use Rattle.model.specs.Records.{record?}
 use Rattle.model.specs.Calls.{isAttached}
 use Rattle.model.specs.Reaching.{Reached}
 use Rattle.refine_view.specs.View.{view}
-use Rattle.refine_view.specs.Kept.{Ordered, Moves}
-use Rattle.laws.proofs.Bools.{not-eq}
+use Rattle.refine_view.specs.Refines.{Ordered, Moves}
+use Rattle.model_laws.proofs.Bools.{not-eq}
 use Rattle.refine_view.proofs.Seeing.{reached-on}
-use Rattle.laws.proofs.Rooted.{named}
+use Rattle.model_laws.proofs.Rooted.{named}
 use Rattle.refine_view.proofs.Invariants.{to-inv, structure-of}
-use Rattle.laws.proofs.Words.{mutator-there}
+use Rattle.model_laws.proofs.Words.{mutator-there}
 use Rattle.theory.proofs.Updates.{upd2-by}
-use Rattle.laws.proofs.Entries.{state-set, acks-set, root-set, mutators-set, held-set}
+use Rattle.model_laws.proofs.Entries.{state-set, acks-set, root-set, mutators-set, held-set}
 use Rattle.refine_view.proofs.EntriesOnly.{entries-moves}
 use Rattle.theory.specs.Machine as machine
 

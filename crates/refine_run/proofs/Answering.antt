@@ -23,17 +23,17 @@ use Rattle.model.specs.Answers.{answerOf, stepAnswerOf, refusalIn, IsOk, Result
 use Rattle.model.specs.Fields.{phase, inside, state, acks, place, root, class, traceCount}
 use Rattle.model.specs.Segments.{freeStack, partStack, pop, free, inUse}
 use Rattle.model.specs.Records.{record?, value, shapeOf}
-use Rattle.model.specs.Making.{Source, held, part, unused, noRoom, sourceOf, takes, freshened, inBlock, fromSource, made}
+use Rattle.model.specs.Making.{Source, held, part, unused, noRoom, sourceOf, setHeld, freshened, inBlock, fromSource, made}
 use Rattle.model.specs.Calls.{observe, ofClass, act}
-use Rattle.model.specs.Collector.{startIn, startOf, moves, traces, lowest, swept, sweeps, waiting, outsideAnswered, stepIn, stepOf}
+use Rattle.model.specs.Collector.{startIn, startOf, movedOrWaiting, traces, lowest, swept, sweeps, waiting, outsideAnswered, stepIn, stepOf}
 use Rattle.model.specs.Consistent.{Consistent, SegmentOk}
 use Rattle.model.specs.Run.{declared, declaredStep}
 use Rattle.theory.proofs.Refusals.{by-ok, root-ok}
-use Rattle.laws.proofs.Headers.{class-halves}
-use Rattle.laws.proofs.Rooted.{named, rooted}
-use Rattle.laws.proofs.Bools.{one-less}
-use Rattle.laws.proofs.Segments.{in-use-le}
-use Rattle.laws.proofs.Lowest.{found-condemned}
+use Rattle.model_laws.proofs.Headers.{class-halves}
+use Rattle.model_laws.proofs.Rooted.{named, rooted}
+use Rattle.model_laws.proofs.Bools.{one-less}
+use Rattle.model_laws.proofs.Segments.{in-use-le}
+use Rattle.model_laws.proofs.Lowest.{found-condemned}
 use Rattle.theory.specs.Calls as theory
 
 -- an answer of a definition that the declared enum has, of the kind `Result` or among the refusals ns
@@ -85,10 +85,10 @@ module _ (g : Geometry) (m : Mem) (k d p n : ℕ) where
   source-answers : (c : ℕ) (x : Source) → Fine (fromSource g m k d c (ofCounts p n) x .0)
   source-answers c (held s) = block-answers m (free g m s c (place m s)) c s
   source-answers c (part s) =
-      let taken : Mem = takes g (pop g m (partStack c)) k c s (place m s) in
+      let taken : Mem = setHeld g (pop g m (partStack c)) k c s (place m s) in
       block-answers taken (free g taken s c (place taken s)) c s
   source-answers c (unused s) =
-      let taken : Mem = freshened g (takes g (pop g m freeStack) k c s 0) s c in
+      let taken : Mem = freshened g (setHeld g (pop g m freeStack) k c s 0) s c in
       block-answers taken (free g taken s c (place taken s)) c s
   source-answers c noRoom = refuses _ _ 10 refl (λ q. omega arith)
 
@@ -146,7 +146,7 @@ start-answers g m = start-in (phase m) g m
 
 -- ---- step: it never refuses
 
-moves-answers : (n : ℕ) (m : Mem) (p : Phase) → refusalIn (moves n m p .0) ≡ none
+moves-answers : (n : ℕ) (m : Mem) (p : Phase) → refusalIn (movedOrWaiting n m p .0) ≡ none
 moves-answers zero m p = refl
 moves-answers (suc n) m p = refl
 
@@ -176,7 +176,7 @@ unfolding waiting
 waiting-le m zero = omega arith
 waiting-le m (suc n) = let h = waiting-le m n in let o = one-less (eqb (state m n) inside && owes (phase m) (acks m n)) in omega arith
 
-moves-result : (g : Geometry) (n : ℕ) (m : Mem) (p : Phase) → n ≤ mutatorCount → StepResult g (moves n m p .0)
+moves-result : (g : Geometry) (n : ℕ) (m : Mem) (p : Phase) → n ≤ mutatorCount → StepResult g (movedOrWaiting n m p .0)
 moves-result g zero m p l = isMoved
 moves-result g (suc n) m p l = isWaiting (suc n) (omega arith) l
 

@@ -2,19 +2,19 @@
 use mathlib.Core.Option.{Option, none, some}
 use Prim.Native.Nat.{ℕ, zero, suc, _-_, _*_}
 use lib.Dec.{eqb}
-use Rattle.rules.specs.Pick.{pick}
+use Rattle.basics.specs.Pick.{pick}
 use Rattle.layout.specs.declared.Geometry.{Geometry}
 use Rattle.layout.specs.Geometry.{mutatorCount, blocksIn, bitmapWords}
 use Rattle.layout.specs.Mem.{Mem, traceWord, Sizes}
-use Rattle.bitmap_write.specs.Ready.{adopted}
+use Rattle.bitmap_write.specs.Completed.{adopted}
 use Rattle.theory.specs.Phases.{Phase, idle, sync1, sync2, mark, sweep}
-use Rattle.model.specs.Rules.{phaseNumber}
+use Rattle.model.specs.PhaseNumbers.{phaseNumber}
 use Rattle.model.specs.Fields.{phase, traceCount, outside, state, class}
 use Rattle.model.specs.Segments.{setSegmentState, freeStack, partStack, stacked, above, bitmap, marksOf}
 use Rattle.model.specs.Mutators.{acknowledged}
-use Rattle.model.specs.Collector.{startIn, startOf, outsideAnswered, waiting, moves, traces, lowest, keptBy, rebuiltBy, swept, sweeps, stepIn, stepOf, settledBy}
-use Rattle.laws.proofs.Lengths.{sizes-control, sizes-bitmap, sizes-state}
-use Rattle.laws.proofs.Operations.{sizes-pick, sizes-traced, sizes-acknowledged, sizes-stacked, sizes-started}
+use Rattle.model.specs.Collector.{startIn, startOf, outsideAnswered, waiting, movedOrWaiting, traces, lowest, markedBlocks, rebuiltBy, swept, sweeps, stepIn, stepOf, settledBy}
+use Rattle.model_laws.proofs.Lengths.{sizes-control, sizes-bitmap, sizes-state}
+use Rattle.model_laws.proofs.Operations.{sizes-pick, sizes-traced, sizes-acknowledged, sizes-stacked, sizes-started}
 use Rattle.model.specs.declared.SegmentState.the-variants as segment
 
 module _ (g : Geometry) where
@@ -40,7 +40,7 @@ module _ (g : Geometry) where
       let y : Sizes g (outsideAnswered g m k) = sizes-answered m z k in
       sizes-pick g (eqb (state m k) outside) (acknowledged g (outsideAnswered g m k) k) (outsideAnswered g m k) (sizes-acknowledged g (outsideAnswered g m k) y k) y
 
-  sizes-moves : (n : ℕ) (m : Mem) → Sizes g m → (p : Phase) → Sizes g (moves n m p .1)
+  sizes-moves : (n : ℕ) (m : Mem) → Sizes g m → (p : Phase) → Sizes g (movedOrWaiting n m p .1)
   sizes-moves zero m z p = sizes-control g m z 0 (phaseNumber p)
   sizes-moves (suc n) m z p = z
 
@@ -57,9 +57,9 @@ module _ (g : Geometry) where
       let unused : Mem = stacked g (setSegmentState g m₁ s segment.Free) freeStack s in
       let full : Mem = setSegmentState g m₁ s (segment.Full c) in
       let part : Mem = stacked g (setSegmentState g m₁ s (segment.Part c 0)) (partStack c) s in
-      sizes-pick g (eqb (keptBy g m s) 0) unused (pick (eqb (keptBy g m s) (blocksIn g c)) full part)
+      sizes-pick g (eqb (markedBlocks g m s) 0) unused (pick (eqb (markedBlocks g m s) (blocksIn g c)) full part)
       (sizes-stacked g (setSegmentState g m₁ s segment.Free) (sizes-state g m₁ z₁ s segment.Free) freeStack s)
-      (sizes-pick g (eqb (keptBy g m s) (blocksIn g c)) full part (sizes-state g m₁ z₁ s (segment.Full c))
+      (sizes-pick g (eqb (markedBlocks g m s) (blocksIn g c)) full part (sizes-state g m₁ z₁ s (segment.Full c))
       (sizes-stacked g (setSegmentState g m₁ s (segment.Part c 0)) (sizes-state g m₁ z₁ s (segment.Part c 0)) (partStack c) s))
 
   sizes-swept : (m : Mem) → Sizes g m → (s : ℕ) → Sizes g (swept g m s)

@@ -8,14 +8,14 @@ use mathlib.Core.List.{List}
 use Prim.Native.Nat.{ℕ}
 use lib.ListN.{length}
 use borrow.Author.Tests.{eqb-true, eqb-false}
-use Rattle.rules.specs.Pick.{pick}
+use Rattle.basics.specs.Pick.{pick}
 use Rattle.layout.specs.declared.Geometry.{Geometry}
 use Rattle.layout.specs.Geometry.{wrongSize}
 use Rattle.layout.specs.Mem.{memOf}
 use Rattle.model.specs.Answers.{refusalIn}
 use Rattle.model.specs.Consistent.{Consistent}
 use Rattle.model.specs.Looks.{Look, sawPhase, sawStates, examinedBy, LookPromise, lookSized, lookNumber}
-use Rattle.model.specs.Lists.{Event, mutatorCall, startCall, stepCall, openingCall, lookCall, Element, Promised, Meets, Gets, wrongSizes, wrongSized, eventNumber, numberOf, onward}
+use Rattle.model.specs.Lists.{Event, mutatorCall, startCall, stepCall, openingCall, lookCall, Element, Promised, Meets, Gets, wrongSizes, wrongSized, eventNumber, numberOf, nextWords}
 
 -- ---- looks
 
@@ -73,7 +73,7 @@ module _ (g : Geometry) (words : List ℕ) where
   is-over e h = λ i. record { geometry = h .geometry i; before = h .memory i; event = e .event; after = e .after }
 
   -- what it leaves is the memory after it
-  pub ahead : (e : Element) → Meets e → Gets g words e → onward words e ≡ e .after
+  pub ahead : (e : Element) → Meets e → Gets g words e → nextWords words e ≡ e .after
   ahead e q h = go (wrongSized e) refl
     where
       go : (b : Bool) → wrongSized e ≡ b → pick b words (e .after) ≡ e .after

@@ -14,13 +14,13 @@ use Rattle.layout.proofs.Regions.{right-size, memOf-flat}
 use Rattle.theory.specs.Calls.{Call, refusal, refuse}
 use Rattle.model.specs.declared.Answer.the-variants.{Refused}
 use Rattle.model.specs.Answers.{answerOf, refusalIn, IsOk, ResultOf, StepResult, mayGive, startMayGive}
-use Rattle.model.specs.Promise.{Keeps, Promise, StartPromise, StepPromise}
+use Rattle.model.specs.Promise.{PromiseOf, Promise, StartPromise, StepPromise}
 use Rattle.model.specs.Calls.{observe, act, exec}
 use Rattle.model.specs.Collector.{startOf, stepOf}
 use Rattle.model.specs.Consistent.{Consistent}
 use Rattle.model.specs.Run.{declared, declaredStep}
-use Rattle.laws.proofs.Promised.{refused}
-use Rattle.laws.proofs.Lengths.{sizes-of}
+use Rattle.model_laws.proofs.Promised.{refused}
+use Rattle.model_laws.proofs.Lengths.{sizes-of}
 use Rattle.refine_run.proofs.Sizing.{sizes-exec}
 use Rattle.refine_run.proofs.Collecting.{sizes-start, sizes-step}
 use Rattle.refine_run.proofs.Answering.{Answers, refuses, act-answers, start-answers, step-answers, step-result, result-declared}
@@ -36,7 +36,7 @@ module _ (g : Geometry) (words : List ℕ) (z : Sized g (length words)) where
   -- a call whose answers are fine and whose memory has its lengths keeps its promise
   keeps : (Result : Geometry → theory.Answer → Type 0) (ns : List ℕ) (does : Geometry → Mem → theory.Answer × Mem)
       → Answers (Result g) ns (does g (memOf g words) .0) → Sizes g (does g (memOf g words) .1)
-      → Keeps answerOf Result ns does g words (declared (does g (memOf g words) .0)) (flat (does g (memOf g words) .1))
+      → PromiseOf answerOf Result ns does g words (declared (does g (memOf g words) .0)) (flat (does g (memOf g words) .1))
   keeps Result ns does a y = record {
     sizes = λ e. absurd (not-wrong e);
     exact = λ _ _. (a .same, memOf-flat g (does g (memOf g words) .1) y);

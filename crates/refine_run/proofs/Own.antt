@@ -17,7 +17,7 @@ use Rattle.model.specs.Consistent.{Consistent}
 use Rattle.model.specs.Looks.{LookPromise}
 use Rattle.model.specs.Lists.{Element, Meets, Gets, Chain}
 use Rattle.model.specs.Run.{Query, ofPhase, ofStates, ofExamination, Command, call, start, step, look, shownStates, examined, lookOf, answerTo, answered, run}
-use Rattle.laws.proofs.Lengths.{sizes-of}
+use Rattle.model_laws.proofs.Lengths.{sizes-of}
 use Rattle.refine_run.proofs.Sizing.{sizes-exec}
 use Rattle.refine_run.proofs.Collecting.{sizes-start, sizes-step}
 use Rattle.refine_run.proofs.Meeting.{meets-call, meets-start, meets-step}

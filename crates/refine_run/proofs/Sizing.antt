@@ -15,7 +15,7 @@ use Rattle.layout.specs.Geometry.{mutatorWords, rootCount, blocksIn, bitmapWord
 use Rattle.layout.specs.Mem.{Mem, setHeap, Sizes}
 use Rattle.bitmap_search.specs.declared.Found.{Found}
 use Rattle.bitmap_search.specs.declared.Found.the-variants.{Block, Nothing, Torn}
-use Rattle.bitmap_write.specs.Ready.{fresh}
+use Rattle.bitmap_write.specs.Completed.{fresh}
 use Rattle.theory.specs.Phases.{newcomer, duty, black, inHandshake}
 use Rattle.theory.specs.Calls.{Call, c-attach, c-detach, c-check, c-leave, c-enter, c-spawn, c-make, c-load, c-store, c-copy, c-clear, c-put, c-get}
 use Rattle.theory.specs.Calls.{c-same, c-shape, Answer, unless, refuse, refusal, onRecord}
@@ -24,10 +24,10 @@ use Rattle.model.specs.Fields.{phase, acks, inside, outside, holding, place, ro
 use Rattle.model.specs.Segments.{partStack, freeStack, stacked, count, pop, bitmap, above, free}
 use Rattle.model.specs.Records.{record?, pointerCount, pointer, headerOf, written, headerWord}
 use Rattle.model.specs.Mutators.{acknowledged, attached, detached, released, releasedOne}
-use Rattle.model.specs.Making.{Source, held, part, unused, noRoom, sourceOf, takes, freshened, advanced, blackened, handedOut, inBlock, fromSource, made}
+use Rattle.model.specs.Making.{Source, held, part, unused, noRoom, sourceOf, setHeld, freshened, advanced, blackened, handedOut, inBlock, fromSource, made}
 use Rattle.model.specs.Calls.{observe, ofClass, act, exec}
-use Rattle.laws.proofs.Lengths.{sizes-mutator, sizes-entry, sizes-stack, sizes-bitmap, sizes-entered, sizes-heap, sizes-heap-run, sizes-state}
-use Rattle.laws.proofs.Operations.{sizes-pick, sizes-barrier, sizes-acknowledged, sizes-stacked}
+use Rattle.model_laws.proofs.Lengths.{sizes-mutator, sizes-entry, sizes-stack, sizes-bitmap, sizes-entered, sizes-heap, sizes-heap-run, sizes-state}
+use Rattle.model_laws.proofs.Operations.{sizes-pick, sizes-barrier, sizes-acknowledged, sizes-stacked}
 use Rattle.model.specs.Segments as segments
 
 module _ (g : Geometry) where
@@ -54,8 +54,8 @@ module _ (g : Geometry) where
 
   -- ---- make
 
-  sizes-takes : (m : Mem) → Sizes g m → (k c s p : ℕ) → Sizes g (takes g m k c s p)
-  sizes-takes m z k c s p = sizes-mutator g (segments.setSegmentState g m s (Held c p k)) (sizes-state g m z s (Held c p k)) (k * mutatorWords + heldFrom + (c - firstClass)) (suc s)
+  sizes-set-held : (m : Mem) → Sizes g m → (k c s p : ℕ) → Sizes g (setHeld g m k c s p)
+  sizes-set-held m z k c s p = sizes-mutator g (segments.setSegmentState g m s (Held c p k)) (sizes-state g m z s (Held c p k)) (k * mutatorWords + heldFrom + (c - firstClass)) (suc s)
 
   sizes-advanced : (m : Mem) → Sizes g m → (k c s p : ℕ) (f : Found) → Sizes g (advanced g m k c s p f)
   sizes-advanced m z k c s p (Block b) = sizes-state g m z s (Held c p k)
@@ -88,15 +88,15 @@ module _ (g : Geometry) where
   sizes-source m z k d c shape (part s) =
       let popped : Mem = pop g m (partStack c) in
       let y : Sizes g popped = sizes-stack g m z (partStack c * (1 + g .segments)) (count g m (partStack c) - 1) in
-      let taken : Mem = takes g popped k c s (place m s) in
-      sizes-block m taken z (sizes-takes popped y k c s (place m s)) (free g taken s c (place taken s)) k d c s shape
+      let taken : Mem = setHeld g popped k c s (place m s) in
+      sizes-block m taken z (sizes-set-held popped y k c s (place m s)) (free g taken s c (place taken s)) k d c s shape
   sizes-source m z k d c shape (unused s) =
       let popped : Mem = pop g m freeStack in
       let y : Sizes g popped = sizes-stack g m z (freeStack * (1 + g .segments)) (count g m freeStack - 1) in
-      let owned : Mem = takes g popped k c s 0 in
+      let owned : Mem = setHeld g popped k c s 0 in
       let taken : Mem = freshened g owned s c in
       sizes-block m taken z
-      (sizes-bitmap g owned (sizes-takes popped y k c s 0) (s * bitmapWords g) (fresh (above g c) (blocksIn g c) (bitmap g owned s)))
+      (sizes-bitmap g owned (sizes-set-held popped y k c s 0) (s * bitmapWords g) (fresh (above g c) (blocksIn g c) (bitmap g owned s)))
       (free g taken s c (place taken s)) k d c s shape
   sizes-source m z k d c shape noRoom = z
 

@@ -4,15 +4,15 @@ use mathlib.Core.Logic.{_⊎_, inl, inr}
 use Prim.Native.Nat.{ℕ, zero, suc, _+_, _*_, _≤_, _<_}
 use native.Mathlib.Omega.{arith}
 use lib.ListN.{List·getD-eq-default}
-use Rattle.rules.proofs.Order.{le-or-lt, same-or-not}
+use Rattle.basics.proofs.Order.{le-or-lt, same-or-not}
 use Rattle.layout.specs.declared.Geometry.{Geometry}
 use Rattle.layout.specs.Geometry.{mutatorCount, mutatorWords}
 use Rattle.layout.specs.Mem.{Mem, mutatorWord, setMutator, Sizes}
 use Rattle.model.specs.Fields.{acksAt, acks, setAcks}
 use Rattle.model.specs.Collector.{acksReset}
-use Rattle.laws.proofs.Words.{mutator-there, mutator-other}
+use Rattle.model_laws.proofs.Words.{mutator-there, mutator-other}
 use Rattle.words.proofs.Counts.{lt-of}
-use Rattle.laws.proofs.Operations.{sizes-reset}
+use Rattle.model_laws.proofs.Operations.{sizes-reset}
 
 -- ---- the other regions
 

@@ -10,8 +10,8 @@ use Rattle.layout.specs.Geometry.{mutatorCount, mutatorWords}
 use Rattle.layout.specs.Mem.{Mem, controlWord, mutatorWord, setControl, Sizes}
 use Rattle.model.specs.Fields.{traceCount, acksAt, acks, cursor}
 use Rattle.model.specs.Collector.{condemned, acksReset, started}
-use Rattle.laws.proofs.Words.{untouched-as, OtherRegions}
-use Rattle.laws.proofs.Operations.{sizes-condemned, sizes-reset}
+use Rattle.model_laws.proofs.Words.{untouched-as, OtherRegions}
+use Rattle.model_laws.proofs.Operations.{sizes-condemned, sizes-reset}
 use Rattle.words.proofs.Zeros.{zeros-bit}
 use Rattle.refine_start.proofs.Condemned.{After, others-condemned, segments-condemned}
 use Rattle.refine_start.proofs.Acknowledgements.{BesideMutators, beside-reset, reset-kept, reset-acks}

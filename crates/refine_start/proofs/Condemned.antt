@@ -6,16 +6,16 @@ use Prim.Native.Nat.{ℕ, zero, suc, _≤_, _<_}
 use native.Mathlib.Omega.{arith}
 use lib.ListN.{List·getD-eq-default}
 use borrow.Author.Tests.{ne-eqb}
-use Rattle.rules.specs.Pick.{pick}
-use Rattle.rules.proofs.Order.{le-or-lt, same-or-not}
+use Rattle.basics.specs.Pick.{pick}
+use Rattle.basics.proofs.Order.{le-or-lt, same-or-not}
 use Rattle.layout.specs.declared.Geometry.{Geometry}
 use Rattle.layout.specs.Mem.{Mem, Sizes}
 use Rattle.model.specs.Fields.{tag, setTag}
 use Rattle.model.specs.Collector.{collects, condemned}
 use Rattle.model.proofs.Collecting.{collects-full}
-use Rattle.laws.proofs.Words.{Retagged, Untouched, untouched-same, untouched-then, retagged-then, retagged-to, OtherRegions, tag-others, tag-there, tag-other}
+use Rattle.model_laws.proofs.Words.{Retagged, Untouched, untouched-same, untouched-then, retagged-then, retagged-to, OtherRegions, tag-others, tag-there, tag-other}
 use Rattle.words.proofs.Counts.{lt-of}
-use Rattle.laws.proofs.Operations.{sizes-condemned}
+use Rattle.model_laws.proofs.Operations.{sizes-condemned}
 use Rattle.model.specs.Tag as Tag
 
 -- ---- the other regions

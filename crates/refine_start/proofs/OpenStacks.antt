@@ -6,7 +6,7 @@ use native.Mathlib.Nat.{suc-mul}
 use native.Mathlib.Omega.{arith}
 use lib.ListN.{length, getD, replicate, length-append, length-replicate, List·getD-append}
 use lib.Seq.{getD-append-add}
-use Rattle.rules.specs.Pick.{oneIf}
+use Rattle.basics.specs.Pick.{oneIf}
 use Rattle.layout.specs.declared.Geometry.{Geometry}
 use Rattle.layout.specs.Geometry.{len}
 use Rattle.layout.specs.Mem.{Mem, stackWord}

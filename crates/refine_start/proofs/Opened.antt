@@ -18,7 +18,7 @@ use Rattle.theory.specs.Unbounded.{empty}
 use Rattle.theory.proofs.Graph.{reach-empty}
 use Rattle.theory.proofs.Invariant.{none-some}
 use Rattle.theory.proofs.CallKeeps.{Coupled}
-use Rattle.model.specs.Rules.{phaseOf}
+use Rattle.model.specs.PhaseNumbers.{phaseOf}
 use Rattle.model.specs.Fields.{phase, traceCount, stateAt, acksAt, heldFrom, state, tagAt, classAt, placeAt, ownerAt, tag}
 use Rattle.model.specs.Calls.{isAttached}
 use Rattle.model.specs.Opening.{openStacks, opened}

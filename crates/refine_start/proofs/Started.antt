@@ -7,15 +7,15 @@ use native.Mathlib.Omega.{arith}
 use lib.Dec.{eqb}
 use lib.ListN.{getD}
 use borrow.Author.Tests.{ne-eqb, eq-eqb, eqb-true, eqb-false}
-use Rattle.rules.proofs.Order.{same-or-not}
-use Rattle.rules.specs.Pick.{pick}
+use Rattle.basics.proofs.Order.{same-or-not}
+use Rattle.basics.specs.Pick.{pick}
 use Rattle.layout.specs.declared.Geometry.{Geometry}
 use Rattle.layout.specs.Geometry.{mutatorWords, entryWords, rootCount, blocksIn, segmentOf, markBit}
 use Rattle.layout.specs.Mem.{Mem, mutatorWord, heapWord, Sizes}
 use Rattle.theory.specs.Phases.{idle, sync1}
 use Rattle.theory.specs.Machine.{start}
 use Rattle.theory.proofs.Agree.{Agree}
-use Rattle.model.specs.Rules.{phaseOf}
+use Rattle.model.specs.PhaseNumbers.{phaseOf}
 use Rattle.model.specs.Fields.{phase, traceCount, absent, stateAt, acksAt, state, tag, class, owner, root, holding}
 use Rattle.model.specs.Segments.{freeStack, partStack, usedBit}
 use Rattle.model.specs.Records.{record?, blockOf}
@@ -25,17 +25,17 @@ use Rattle.model.specs.Reaching.{Live, isMarked}
 use Rattle.classes.specs.Class.{IsClass}
 use Rattle.model.specs.Consistent.{InPhase, SegmentOk, Occupied, MutatorOk, Summed, RecordOk, isFree, isPart}
 use Rattle.refine_view.specs.View.{view, stackOf, isHead, isUsed}
-use Rattle.refine_view.specs.Kept.{Ordered, EachOccupied, EntriesOk, MarksIn, Structure, StartKept}
-use Rattle.laws.proofs.Bools.{and-false, test-same}
+use Rattle.refine_view.specs.Refines.{Ordered, EachOccupied, EntriesOk, MarksIn, Structure, StartRefines}
+use Rattle.model_laws.proofs.Bools.{and-false, test-same}
 use Rattle.refine_view.proofs.Contents.{pointers-by, fields-by}
 use Rattle.refine_view.proofs.Seeing.{root-was, edge-was, live-was}
-use Rattle.laws.proofs.OtherStacks.{stack-by}
+use Rattle.model_laws.proofs.OtherStacks.{stack-by}
 use Rattle.refine_view.proofs.Carried.{block-by, record-by}
-use Rattle.laws.proofs.Marked.{unentered}
-use Rattle.laws.proofs.Entries.{holding-by, table-below}
-use Rattle.laws.proofs.Segments.{segment-same, tree-same, occupied-same, part-same, used-same, in-range}
-use Rattle.laws.proofs.Bitmaps.{bitmap-by}
-use Rattle.laws.proofs.Words.{retagged-to}
+use Rattle.model_laws.proofs.Marked.{unentered}
+use Rattle.model_laws.proofs.Entries.{holding-by, table-below}
+use Rattle.model_laws.proofs.Segments.{segment-same, tree-same, occupied-same, part-same, used-same, in-range}
+use Rattle.model_laws.proofs.Bitmaps.{bitmap-by}
+use Rattle.model_laws.proofs.Words.{retagged-to}
 use Rattle.refine_start.proofs.Beginning.{Begun, begun}
 use Rattle.model.specs.Tag as Tag
 
@@ -229,8 +229,8 @@ module _ (g : Geometry) (m m′ : Mem) (z : Sizes g m) (ok : Ordered g m) (quiet
     used = λ at l. used-test at;
   }
 
-pub start-kept : (g : Geometry) (m : Mem) → Sizes g m → Ordered g m → phase m ≡ idle → StartKept g m
-start-kept g m z ok quiet =
+pub start-refines : (g : Geometry) (m : Mem) → Sizes g m → Ordered g m → phase m ≡ idle → StartRefines g m
+start-refines g m z ok quiet =
     let b = begun g m z in
     record {
       structure = structure g m (started g m) z ok quiet b;

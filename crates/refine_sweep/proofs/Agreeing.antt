@@ -19,9 +19,9 @@ use Rattle.classes.specs.Class.{blockWords}
 use Rattle.model.specs.Records.{record?}
 use Rattle.model.specs.Reaching.{Live, isMarked}
 use Rattle.refine_view.specs.View.{view, stackOf, isHead, isUsed}
-use Rattle.refine_view.specs.Kept.{Ordered, Moves}
-use Rattle.laws.proofs.Bools.{and-both}
-use Rattle.laws.proofs.Marked.{marked-by}
+use Rattle.refine_view.specs.Refines.{Ordered, Moves}
+use Rattle.model_laws.proofs.Bools.{and-both}
+use Rattle.model_laws.proofs.Marked.{marked-by}
 use Rattle.refine_view.proofs.Seeing.{head-of}
 use Rattle.refine_view.proofs.Contents.{pointers-by, fields-by}
 use Rattle.refine_view.proofs.Invariants.{to-live, used-of, used-record}
@@ -29,7 +29,7 @@ use Rattle.refine_sweep.proofs.Frames.{mutator-same, heap-same}
 use Rattle.refine_sweep.proofs.Outcome.{Outcome}
 use Rattle.refine_sweep.proofs.Survivors.{empty, empty-after, phase-after, live-marked, control-same}
 use Rattle.refine_sweep.proofs.Structured.{record-after, structure-after, occupied-after, steady-after}
-use Rattle.refine_view.proofs.Keeping.{behind-by}
+use Rattle.refine_view.proofs.SelfSimulation.{behind-by}
 use Rattle.theory.specs.Machine as machine
 use Rattle.model.specs.Tag as Tag
 

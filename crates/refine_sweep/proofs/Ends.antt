@@ -4,7 +4,7 @@ use Prim.Native.Nat.{ℕ, _≤_, _<_}
 use native.Mathlib.Omega.{arith}
 use lib.Dec.{ltb}
 use borrow.Author.Tests.{lt-ltb, le-ltb}
-use Rattle.rules.specs.Pick.{pick}
+use Rattle.basics.specs.Pick.{pick}
 use Rattle.words.specs.Bits.{bitAt}
 use Rattle.words.specs.Tree.{Tree}
 use Rattle.words.proofs.Lists.{at-lt}
@@ -14,13 +14,13 @@ use Rattle.layout.specs.Mem.{Mem, Sizes}
 use Rattle.model.specs.declared.SegmentState.{SegmentState}
 use Rattle.model.specs.Fields.{tag, class, place, owner}
 use Rattle.model.specs.Segments.{above, bitmap, usedBit, marksOf}
-use Rattle.model.specs.Collector.{keptBy}
+use Rattle.model.specs.Collector.{markedBlocks}
 use Rattle.model.specs.Records.{headerOf, entered}
 use Rattle.classes.specs.Class.{IsClass}
-use Rattle.laws.proofs.Words.{tagOf, classIn, placeIn, ownerIn}
-use Rattle.laws.proofs.Parted.{Stacks}
+use Rattle.model_laws.proofs.Words.{tagOf, classIn, placeIn, ownerIn}
+use Rattle.model_laws.proofs.Parted.{Stacks}
 use Rattle.words.proofs.Counts.{none-one, all-one, one-missing, one-there}
-use Rattle.laws.proofs.Rebuilding.{mark-bit}
+use Rattle.model_laws.proofs.Rebuilding.{mark-bit}
 use Rattle.refine_sweep.proofs.Settled.{Settled}
 use Rattle.refine_sweep.proofs.Outcome.{Outcome}
 use Rattle.model.specs.declared.SegmentState.the-variants as segment
@@ -31,7 +31,7 @@ module _ (g : Geometry) (m : Mem) (s : Sizes g m) (r : ℕ) (l : r < g .segments
   to-mark : (b : ℕ) → b < blocksIn g (class m r) → bitAt (marksOf g m r) b ≡ entered g m (headerOf g r (class m r) b)
   to-mark b h = mark-bit g m s r l k b h
 
-  pub free-end : Settled g m m′ r segment.Free → keptBy g m r ≡ 0 → Stacks g m′ → Outcome g m m′ r
+  pub free-end : Settled g m m′ r segment.Free → markedBlocks g m r ≡ 0 → Stacks g m′ → Outcome g m m′ r
   free-end q e p =
       let z : tag m′ r ≡ Tag.free = q .there .tag in
       record {
@@ -89,12 +89,12 @@ module _ (g : Geometry) (m : Mem) (s : Sizes g m) (r : ℕ) (l : r < g .segments
         stacks = p;
       }
 
-  pub full-end : Settled g m m′ r (segment.Full (class m r)) → keptBy g m r ≡ blocksIn g (class m r) → Stacks g m′ → Outcome g m m′ r
+  pub full-end : Settled g m m′ r (segment.Full (class m r)) → markedBlocks g m r ≡ blocksIn g (class m r) → Stacks g m′ → Outcome g m m′ r
   full-end q e p = kept-end (segment.Full (class m r)) q refl refl (omega arith) (λ a. omega arith) (omega arith) (λ a. absurd (omega arith)) (λ a. refl) (λ a. absurd (omega arith))
       (λ b h. ap (λ y. pick y 1 (bitAt (bitmap g m′ r) b)) (lt-ltb b (blocksIn g (class m r)) h)
       ∙ sym (all-one (bitAt (marksOf g m r)) (at-lt (marksOf g m r)) (blocksIn g (class m r)) e b h) ∙ to-mark b h) p
 
-  pub part-end : Settled g m m′ r (segment.Part (class m r) 0) → (keptBy g m r ≡ 0 → ⊥) → (keptBy g m r ≡ blocksIn g (class m r) → ⊥) → Stacks g m′ → Outcome g m m′ r
+  pub part-end : Settled g m m′ r (segment.Part (class m r) 0) → (markedBlocks g m r ≡ 0 → ⊥) → (markedBlocks g m r ≡ blocksIn g (class m r) → ⊥) → Stacks g m′ → Outcome g m m′ r
   part-end q n e p =
       let y = one-missing (bitAt (marksOf g m r)) (at-lt (marksOf g m r)) (blocksIn g (class m r)) e in
       let x = one-there (bitAt (marksOf g m r)) (at-lt (marksOf g m r)) (blocksIn g (class m r)) n in

@@ -6,8 +6,8 @@ use Rattle.layout.specs.Mem.{Mem, Sizes}
 use Rattle.theory.specs.Phases.{idle}
 use Rattle.model.specs.Fields.{setPhase, tag}
 use Rattle.refine_view.specs.View.{view}
-use Rattle.refine_view.specs.Kept.{Ordered, Moves}
-use Rattle.refine_view.proofs.Keeping.{moves-self}
+use Rattle.refine_view.specs.Refines.{Ordered, Moves}
+use Rattle.refine_view.proofs.SelfSimulation.{moves-self}
 use Rattle.refine_view.proofs.Phasing.{phase-moves}
 use Rattle.theory.specs.Machine as machine
 use Rattle.model.specs.Tag as Tag

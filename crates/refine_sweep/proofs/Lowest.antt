@@ -6,8 +6,8 @@ use Rattle.layout.specs.Mem.{Mem, Sizes}
 use Rattle.theory.proofs.CollectorKeeps.{Pick}
 use Rattle.model.specs.Collector.{lowest}
 use Rattle.refine_view.specs.View.{view}
-use Rattle.laws.proofs.Segments.{in-range}
-use Rattle.laws.proofs.Lowest.{found-condemned, none-condemned}
+use Rattle.model_laws.proofs.Segments.{in-range}
+use Rattle.model_laws.proofs.Lowest.{found-condemned, none-condemned}
 
 module _ (g : Geometry) (m : Mem) (s : Sizes g m) where
   pub pick-lowest : Pick (λ _. lowest m (g .segments)) (view g m)

@@ -9,8 +9,8 @@ use Rattle.model.specs.Fields.{tag, class}
 use Rattle.model.specs.Segments.{bitmap, usedBit}
 use Rattle.model.specs.Records.{headerOf, entered}
 use Rattle.model.specs.Consistent.{SegmentOk, Occupied, TreeOk}
-use Rattle.laws.proofs.Words.{Untouched}
-use Rattle.laws.proofs.Parted.{Stacks}
+use Rattle.model_laws.proofs.Words.{Untouched}
+use Rattle.model_laws.proofs.Parted.{Stacks}
 use Rattle.model.specs.Tag as Tag
 
 -- what the sweep of segment r leaves alone: other regions, and other segments

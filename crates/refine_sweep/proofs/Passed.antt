@@ -8,20 +8,20 @@ use native.Mathlib.Omega.{arith}
 use lib.Dec.{eqb}
 use lib.ListN.{length, getD, set}
 use lib.Seq.{getD-set-same, getD-set-other}
-use Rattle.rules.proofs.Order.{same-or-not}
+use Rattle.basics.proofs.Order.{same-or-not}
 use Rattle.layout.specs.declared.Geometry.{Geometry}
 use Rattle.layout.specs.Geometry.{segmentOf}
 use Rattle.layout.specs.Mem.{Mem, Sizes, controlWord, setControl}
 use Rattle.theory.specs.Phases.{sweep}
 use Rattle.theory.specs.Machine.{State}
 use Rattle.theory.proofs.Agree.{Agree}
-use Rattle.model.specs.Rules.{phaseOf}
+use Rattle.model.specs.PhaseNumbers.{phaseOf}
 use Rattle.model.specs.Fields.{phase, traceCount, setCursor, cursor, tag}
 use Rattle.model.specs.Reaching.{Live}
 use Rattle.model.specs.Consistent.{Behind}
-use Rattle.laws.proofs.Marked.{marked-by}
+use Rattle.model_laws.proofs.Marked.{marked-by}
 use Rattle.refine_view.specs.View.{view, stackOf, isHead}
-use Rattle.refine_view.specs.Kept.{Ordered, Structure, MarksIn, Moves}
+use Rattle.refine_view.specs.Refines.{Ordered, Structure, MarksIn, Moves}
 use Rattle.refine_view.proofs.Seeing.{entries-same, root-was, entry-was, edge-was, live-was}
 use Rattle.refine_view.proofs.Carried.{entries-by}
 use Rattle.refine_view.proofs.Frames.{beside, held-self, mutator-beside, marks-beside, structure-beside}

@@ -14,11 +14,11 @@ use Rattle.model.specs.Segments.{setSegmentState, above, bitmap, stacked}
 use Rattle.model.specs.Collector.{rebuiltBy}
 use Rattle.model.specs.Records.{headerOf, entered}
 use Rattle.classes.specs.Class.{IsClass}
-use Rattle.laws.proofs.Words.{Recorded, recorded-as, untouched-same, untouched-then, untouched-as, tagOf, classIn, placeIn, ownerIn, OtherRegions, state-others, state-there, state-other}
-use Rattle.laws.proofs.Bitmaps.{bitmap-by}
-use Rattle.laws.proofs.Lengths.{sizes-bitmap, sizes-state}
+use Rattle.model_laws.proofs.Words.{Recorded, recorded-as, untouched-same, untouched-then, untouched-as, tagOf, classIn, placeIn, ownerIn, OtherRegions, state-others, state-there, state-other}
+use Rattle.model_laws.proofs.Bitmaps.{bitmap-by}
+use Rattle.model_laws.proofs.Lengths.{sizes-bitmap, sizes-state}
 use Rattle.refine_sweep.proofs.Outcome.{Left}
-use Rattle.laws.proofs.Rebuilding.{rebuilt-other, rebuilt-bit, rebuilt-tree}
+use Rattle.model_laws.proofs.Rebuilding.{rebuilt-other, rebuilt-bit, rebuilt-tree}
 
 pub record Settled (g : Geometry) (m m′ : Mem) (r : ℕ) (x : SegmentState) : Type 0 where
   pub left : Left g m m′ r

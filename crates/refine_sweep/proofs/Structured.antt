@@ -5,7 +5,7 @@ use mathlib.Core.List.{List}
 use Prim.Native.Nat.{ℕ, _≤_, _<_}
 use native.Mathlib.Omega.{arith}
 use lib.ListN.{getD}
-use Rattle.rules.proofs.Order.{same-or-not}
+use Rattle.basics.proofs.Order.{same-or-not}
 use Rattle.words.specs.Bits.{bitAt}
 use Rattle.layout.specs.declared.Geometry.{Geometry}
 use Rattle.layout.specs.Geometry.{mutatorCount, segmentOf}
@@ -15,8 +15,8 @@ use Rattle.model.specs.Fields.{phase, tag}
 use Rattle.model.specs.Reaching.{Live}
 use Rattle.model.specs.Records.{blockOf}
 use Rattle.model.specs.Consistent.{InPhase, SegmentOk, Occupied, TreeOk, MutatorOk, RecordOk, HeadInUse, bitWord}
-use Rattle.refine_view.specs.Kept.{Ordered, EachOccupied, Structure, MarksIn, Steady}
-use Rattle.laws.proofs.Segments.{segment-same, tree-same, occupied-by}
+use Rattle.refine_view.specs.Refines.{Ordered, EachOccupied, Structure, MarksIn, Steady}
+use Rattle.model_laws.proofs.Segments.{segment-same, tree-same, occupied-by}
 use Rattle.refine_view.proofs.Carried.{record-by, use-by, entries-by}
 use Rattle.refine_view.proofs.Invariants.{structure-of}
 use Rattle.refine_sweep.proofs.Frames.{mutator-same, heap-same}

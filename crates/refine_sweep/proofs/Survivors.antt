@@ -5,22 +5,22 @@ use mathlib.Core.List.{List}
 use Prim.Native.Nat.{ℕ, _<_}
 use native.Mathlib.Omega.{arith}
 use lib.ListN.{getD}
-use Rattle.rules.proofs.Order.{same-or-not}
+use Rattle.basics.proofs.Order.{same-or-not}
 use Rattle.layout.specs.Geometry.{blocksIn, segmentOf}
 use Rattle.layout.specs.declared.Geometry.{Geometry}
 use Rattle.layout.specs.Mem.{Mem, controlWord, Sizes}
 use Rattle.theory.specs.Phases.{sweep}
-use Rattle.model.specs.Rules.{phaseOf}
+use Rattle.model.specs.PhaseNumbers.{phaseOf}
 use Rattle.model.specs.Fields.{phase, traceCount, tag, class}
 use Rattle.model.specs.Segments.{usedBit}
 use Rattle.model.specs.Records.{blockOf, headerOf, entered, marked}
 use Rattle.model.specs.Reaching.{Live}
 use Rattle.classes.specs.Class.{IsClass}
 use Rattle.model.specs.Consistent.{InPhase}
-use Rattle.refine_view.specs.Kept.{Ordered}
-use Rattle.laws.proofs.Blocks.{of-block, is-header}
-use Rattle.laws.proofs.Marked.{marked-entered}
-use Rattle.laws.proofs.Segments.{used-same}
+use Rattle.refine_view.specs.Refines.{Ordered}
+use Rattle.model_laws.proofs.Blocks.{of-block, is-header}
+use Rattle.model_laws.proofs.Marked.{marked-entered}
+use Rattle.model_laws.proofs.Segments.{used-same}
 use Rattle.refine_sweep.proofs.Frames.{live-reached, live-before}
 use Rattle.refine_sweep.proofs.Outcome.{Outcome}
 use Rattle.model.specs.Tag as Tag

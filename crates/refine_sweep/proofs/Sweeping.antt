@@ -4,7 +4,7 @@ use mathlib.Core.Path.{_≡_, refl, _∙_}
 use mathlib.Core.Logic.{_⊎_, inl, inr}
 use mathlib.Core.Option.{Option, none, some}
 use Prim.Native.Nat.{ℕ, _<_}
-use Rattle.rules.proofs.Order.{same-or-not}
+use Rattle.basics.proofs.Order.{same-or-not}
 use Rattle.layout.specs.Geometry.{blocksIn, segmentOf}
 use Rattle.layout.specs.declared.Geometry.{Geometry}
 use Rattle.layout.specs.Mem.{Mem, Sizes, setControl}
@@ -16,8 +16,8 @@ use Rattle.model.specs.Segments.{usedBit}
 use Rattle.model.specs.Records.{headerOf, entered}
 use Rattle.model.specs.Collector.{lowest, settledBy, swept, sweeps, stepIn}
 use Rattle.refine_view.specs.View.{view}
-use Rattle.refine_view.specs.Kept.{Ordered, Moves}
-use Rattle.laws.proofs.Lowest.{found-condemned, lower-other, none-condemned}
+use Rattle.refine_view.specs.Refines.{Ordered, Moves}
+use Rattle.model_laws.proofs.Lowest.{found-condemned, lower-other, none-condemned}
 use Rattle.refine_sweep.proofs.Lowest.{pick-lowest}
 use Rattle.refine_sweep.proofs.SweepStep.{settled-outcome}
 use Rattle.refine_sweep.proofs.Passed.{swept-moves}

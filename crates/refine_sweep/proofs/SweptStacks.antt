@@ -11,11 +11,11 @@ use Rattle.model.specs.Fields.{tag, class}
 use Rattle.model.specs.Segments.{freeStack, partStack, stacked}
 use Rattle.classes.specs.Class.{IsClass}
 use Rattle.model.specs.Consistent.{StackOk, isFree, isPart}
-use Rattle.refine_view.specs.Kept.{Ordered}
-use Rattle.laws.proofs.Stacks.{push-ok}
-use Rattle.laws.proofs.Parted.{Stacks, parted}
-use Rattle.laws.proofs.OtherStacks.{stack-by, push-left}
-use Rattle.laws.proofs.Segments.{not-free, free-other, free-left, part-left}
+use Rattle.refine_view.specs.Refines.{Ordered}
+use Rattle.model_laws.proofs.Stacks.{push-ok}
+use Rattle.model_laws.proofs.Parted.{Stacks, parted}
+use Rattle.model_laws.proofs.OtherStacks.{stack-by, push-left}
+use Rattle.model_laws.proofs.Segments.{not-free, free-other, free-left, part-left}
 use Rattle.refine_sweep.proofs.Settled.{Settled, settledMem, settled-sizes, settled-stacks, settled-state, settled-stacked}
 use Rattle.model.specs.declared.SegmentState.the-variants as segment
 use Rattle.model.specs.Tag as Tag

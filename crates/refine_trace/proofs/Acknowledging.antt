@@ -8,7 +8,7 @@ use Prim.Native.Nat.{ℕ, zero, suc, _≤_, _<_}
 use native.Mathlib.Omega.{arith}
 use lib.Dec.{eqb}
 use lib.ListN.{getD}
-use Rattle.rules.specs.Pick.{pick}
+use Rattle.basics.specs.Pick.{pick}
 use Rattle.layout.specs.declared.Geometry.{Geometry}
 use Rattle.layout.specs.Geometry.{mutatorCount, rootCount, segmentOf}
 use Rattle.layout.specs.Mem.{Mem, setMutator, Sizes}
@@ -19,7 +19,7 @@ use Rattle.theory.specs.Machine.{State, Root, Grey, LiveRoot, acknowledge, chec
 use Rattle.theory.proofs.Agree.{Agree}
 use Rattle.theory.proofs.Graph.{reach-map}
 use Rattle.theory.proofs.CycleKeeps.{acknowledge-back}
-use Rattle.model.specs.Rules.{phaseOf}
+use Rattle.model.specs.PhaseNumbers.{phaseOf}
 use Rattle.model.specs.Fields.{phase, absent, acksAt, state, acks, setAcks}
 use Rattle.model.specs.Records.{record?}
 use Rattle.model.specs.Tracing.{pushRoots}
@@ -27,16 +27,16 @@ use Rattle.model.specs.Mutators.{given, acknowledged}
 use Rattle.model.specs.Reaching.{Live}
 use Rattle.model.specs.Consistent.{RecordOk}
 use Rattle.refine_view.specs.View.{view, stackOf}
-use Rattle.refine_view.specs.Kept.{Ordered, Structure, Moves}
-use Rattle.laws.proofs.Bools.{ne-not}
-use Rattle.laws.proofs.Words.{mutator-there}
+use Rattle.refine_view.specs.Refines.{Ordered, Structure, Moves}
+use Rattle.model_laws.proofs.Bools.{ne-not}
+use Rattle.model_laws.proofs.Words.{mutator-there}
 use Rattle.theory.proofs.Updates.{upd-by}
-use Rattle.laws.proofs.Entries.{state-set, acks-set, root-set, mutators-set, held-set}
+use Rattle.model_laws.proofs.Entries.{state-set, acks-set, root-set, mutators-set, held-set}
 use Rattle.refine_view.proofs.Seeing.{entries-same, live-on, live-back}
 use Rattle.refine_view.proofs.Frames.{mutator-beside}
 use Rattle.refine_view.proofs.Invariants.{to-record, structure-of}
-use Rattle.refine_view.proofs.Keeping.{moves-self}
-use Rattle.laws.proofs.Apart.{class-of}
+use Rattle.refine_view.proofs.SelfSimulation.{moves-self}
+use Rattle.model_laws.proofs.Apart.{class-of}
 use Rattle.refine_trace.proofs.Over.{over, condemned-class, mutator-over}
 use Rattle.refine_trace.proofs.Entered.{Entered, structure-entered}
 use Rattle.refine_trace.proofs.Push.{Pushed}

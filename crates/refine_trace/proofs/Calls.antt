@@ -16,10 +16,10 @@ use Rattle.model.specs.Records.{record?, pointerCount, pointer, setPointer}
 use Rattle.model.specs.Calls.{observe, act, isAttached}
 use Rattle.model.specs.Mutators.{acknowledged}
 use Rattle.refine_view.specs.View.{view}
-use Rattle.refine_view.specs.Kept.{Ordered, ActKept}
-use Rattle.laws.proofs.Bools.{not-eq}
-use Rattle.refine_view.proofs.Keeping.{matches-by, wanted-in, on-record}
-use Rattle.laws.proofs.Operations.{sizes-acknowledged}
+use Rattle.refine_view.specs.Refines.{Ordered, ActRefines}
+use Rattle.model_laws.proofs.Bools.{not-eq}
+use Rattle.refine_view.proofs.SelfSimulation.{matches-by, wanted-in, on-record}
+use Rattle.model_laws.proofs.Operations.{sizes-acknowledged}
 use Rattle.refine_trace.proofs.Acknowledging.{acknowledged-moves}
 use Rattle.refine_trace.proofs.Leaving.{check-attached, left-moves}
 use Rattle.refine_trace.proofs.Storing.{store-moves}
@@ -27,15 +27,15 @@ use Rattle.model.specs.Fields as fields
 use Rattle.model.specs.Tracing as tracing
 
 module _ (g : Geometry) (m : Mem) (s : Sizes g m) (c : Ordered g m) where
-  pub check-kept : (k : ℕ) → refusal (observe m) (c-check k) ≡ 0 → ActKept g m (c-check k)
+  pub check-refines : (k : ℕ) → refusal (observe m) (c-check k) ≡ 0 → ActRefines g m (c-check k)
   unfolding act
-  check-kept k e =
+  check-refines k e =
       let a = by-ok (observe m) k 0 e in
       matches-by g m (c-check k) _ tt refl (acknowledged-moves g m s c k (a .0) (not-eq _ _ (a .1)))
 
-  pub leave-kept : (k : ℕ) → refusal (observe m) (c-leave k) ≡ 0 → ActKept g m (c-leave k)
+  pub leave-refines : (k : ℕ) → refusal (observe m) (c-leave k) ≡ 0 → ActRefines g m (c-leave k)
   unfolding act
-  leave-kept k e =
+  leave-refines k e =
       let a = by-ok (observe m) k 0 e in
       let v = acknowledged-moves g m s c k (a .0) (not-eq _ _ (a .1)) in
       let h : isAttached (acknowledged g m k) k ≡ true = v .agree .attached k ∙ check-attached (phase m) (acks m k) (view g m) k k ∙ a .1 in
@@ -44,9 +44,9 @@ module _ (g : Geometry) (m : Mem) (s : Sizes g m) (c : Ordered g m) where
   abbrev stored : ℕ → ℕ → ℕ → ℕ → Answer × Mem
   stored k f w at = (a-ok, setPointer (tracing.barrier g (duty (phase m) (acks m k)) m (record? w) (record? (pointer m at f))) at f w)
 
-  pub store-kept : (k i f j : ℕ) → refusal (observe m) (c-store k i f j) ≡ 0 → ActKept g m (c-store k i f j)
+  pub store-refines : (k i f j : ℕ) → refusal (observe m) (c-store k i f j) ≡ 0 → ActRefines g m (c-store k i f j)
   unfolding act
-  store-kept k i f j e =
+  store-refines k i f j e =
       let a = by-ok (observe m) k _ e in
       let b = root-ok i _ (a .3) in
       let d = root-ok j _ (b .1) in

@@ -7,11 +7,11 @@ use Prim.Native.Nat.{ℕ, suc, _+_, _-_, _*_, _/_, _≤_, _<_}
 use native.Mathlib.Omega.{arith}
 use lib.Dec.{eqb}
 use borrow.Author.Tests.{eqb-true}
-use Rattle.rules.specs.Pick.{pick}
+use Rattle.basics.specs.Pick.{pick}
 use Rattle.classes.specs.Class.{IsClass}
 use lib.ListN.{length, getD, set, length-set}
 use lib.Seq.{getD-set-same, getD-set-other}
-use Rattle.rules.proofs.Order.{le-or-lt, same-or-not}
+use Rattle.basics.proofs.Order.{le-or-lt, same-or-not}
 use Rattle.words.specs.Bits.{bitAt, setBit, onesAmong}
 use Rattle.words.proofs.Word.{zero-of-not-one}
 use Rattle.words.proofs.Lists.{at-lt, set-there, set-elsewhere, length-setBit}
@@ -19,19 +19,19 @@ use Rattle.words.proofs.Ones.{among-words-le}
 use Rattle.layout.specs.declared.Geometry.{Geometry}
 use Rattle.layout.specs.Geometry.{len, mutatorCount, mostBlocks, segmentOf, markBit}
 use Rattle.layout.specs.Mem.{Mem, controlWord, heapWord}
-use Rattle.model.specs.Rules.{phaseOf}
+use Rattle.model.specs.PhaseNumbers.{phaseOf}
 use Rattle.model.specs.Fields.{phase, cursor, class}
 use Rattle.model.specs.Records.{onStack, marked}
 use Rattle.model.specs.Reaching.{IsEntry, Live}
 use Rattle.model.specs.Consistent.{MutatorOk, RecordOk, HeadInUse, MarksOf, bitWord}
 use Rattle.refine_view.specs.View.{view, stackOf, isHead}
-use Rattle.refine_view.specs.Kept.{EntriesOk, MarksIn, Structure}
+use Rattle.refine_view.specs.Refines.{EntriesOk, MarksIn, Structure}
 use Rattle.layout.proofs.Sizes.{marks-are}
-use Rattle.laws.proofs.Blocks.{bit-below, same-bit, head-word}
-use Rattle.laws.proofs.Marked.{stack-same, stack-other, entry-unmarked, unentered}
+use Rattle.model_laws.proofs.Blocks.{bit-below, same-bit, head-word}
+use Rattle.model_laws.proofs.Marked.{stack-same, stack-other, entry-unmarked, unentered}
 use Rattle.words.proofs.Counts.{set-count}
 use Rattle.refine_view.proofs.Seeing.{entry-of, entries-same}
-use Rattle.laws.proofs.Apart.{class-of}
+use Rattle.model_laws.proofs.Apart.{class-of}
 use Rattle.refine_view.proofs.Carried.{marks-by}
 use Rattle.refine_view.proofs.Frames.{beside, Held, structure-beside, marks-beside, use-beside}
 use Rattle.refine_trace.proofs.Over.{over, Segments}

@@ -12,7 +12,7 @@ use Rattle.model.specs.Fields.{root}
 use Rattle.model.specs.Records.{record?, pointer}
 use Rattle.model.specs.Tracing.{pushRoots, pushPointers}
 use Rattle.model.specs.Consistent.{RecordOk}
-use Rattle.laws.proofs.Pushes.{roots-none, roots-next, pointers-none, pointers-next}
+use Rattle.model_laws.proofs.Pushes.{roots-none, roots-next, pointers-none, pointers-next}
 use Rattle.refine_view.specs.View.{view}
 use Rattle.refine_trace.proofs.Over.{Segments}
 use Rattle.refine_trace.proofs.Push.{Pushed, push-pushed}

@@ -6,8 +6,8 @@ use Prim.Native.Nat.{ℕ, zero, suc, _≤_, _<_}
 use native.Mathlib.Omega.{arith}
 use lib.Dec.{eqb}
 use borrow.Author.Tests.{ne-eqb}
-use Rattle.rules.specs.Pick.{pick, oneIf}
-use Rattle.rules.proofs.Order.{same-or-not}
+use Rattle.basics.specs.Pick.{pick, oneIf}
+use Rattle.basics.proofs.Order.{same-or-not}
 use Rattle.layout.specs.declared.Geometry.{Geometry}
 use Rattle.layout.specs.Geometry.{mutatorCount, segmentOf}
 use Rattle.layout.specs.Mem.{Mem, Sizes}
@@ -20,14 +20,14 @@ use Rattle.theory.proofs.CycleKeeps.{check-inv}
 use Rattle.model.specs.Fields.{phase, state, acks}
 use Rattle.model.specs.Calls.{isAttached}
 use Rattle.model.specs.Mutators.{acknowledged}
-use Rattle.model.specs.Collector.{outsideAnswered, waiting, moves}
+use Rattle.model.specs.Collector.{outsideAnswered, waiting, movedOrWaiting}
 use Rattle.refine_view.specs.View.{view}
-use Rattle.refine_view.specs.Kept.{Ordered, EachOccupied, Moves, MarksIn, Steady}
-use Rattle.laws.proofs.Bools.{not-eq, and-false}
+use Rattle.refine_view.specs.Refines.{Ordered, EachOccupied, Moves, MarksIn, Steady}
+use Rattle.model_laws.proofs.Bools.{not-eq, and-false}
 use Rattle.model.specs.Consistent.{bitWord}
 use Rattle.refine_view.proofs.Invariants.{to-inv, ordered-of, structure-of}
-use Rattle.refine_view.proofs.Keeping.{agree-self}
-use Rattle.laws.proofs.Operations.{sizes-acknowledged}
+use Rattle.refine_view.proofs.SelfSimulation.{agree-self}
+use Rattle.model_laws.proofs.Operations.{sizes-acknowledged}
 use Rattle.refine_view.proofs.Phasing.{phase-moves}
 use Rattle.refine_trace.proofs.Acknowledging.{acknowledged-moves}
 use Rattle.theory.proofs.Agree.{agree-trans}
@@ -124,12 +124,12 @@ module _ (g : Geometry) (m m′ : Mem) (st : State) (w : Answered g m m′ st) (
   now : Moves g m m′ st
   now = record { structure = structure-of g m′ (w .ordered); occupied = w .occupied; behind = w .behind; agree = w .agree; steady = w .steady }
 
-  by-waiting : (n : ℕ) → Moves g m (moves n m′ p .1) (move n st p)
+  by-waiting : (n : ℕ) → Moves g m (movedOrWaiting n m′ p .1) (move n st p)
   by-waiting zero = phase-moves g m m′ st now (w .sizes) p tracing marks
   by-waiting (suc n) = now
 
-  stepped : (n : ℕ) → Moves g m (moves (waiting m′ n) m′ p .1) (move (machine.waiting n st) st p)
-  stepped n = subst (λ z. Moves g m (moves (waiting m′ n) m′ p .1) (move z st p)) (waiting-same g m′ st (w .agree) n) (by-waiting (waiting m′ n))
+  stepped : (n : ℕ) → Moves g m (movedOrWaiting (waiting m′ n) m′ p .1) (move (machine.waiting n st) st p)
+  stepped n = subst (λ z. Moves g m (movedOrWaiting (waiting m′ n) m′ p .1) (move z st p)) (waiting-same g m′ st (w .agree) n) (by-waiting (waiting m′ n))
 
 module _ (g : Geometry) (m : Mem) (s : Sizes g m) (c : Ordered g m) where
   -- the phase after the answers
@@ -147,13 +147,13 @@ module _ (g : Geometry) (m : Mem) (s : Sizes g m) (c : Ordered g m) where
   blank m′ o h = λ k l u e. let r = o .records (bitWord k) (reach.root (inr (h k l e))) in record { used = r .used; aligned = r .aligned; block = r .block }
 
   pub first-by : (n : ℕ) → n ≤ mutatorCount → phase m ≡ sync1
-      → Moves g m (moves (waiting (outsideAnswered g m n) n) (outsideAnswered g m n) sync2 .1)
+      → Moves g m (movedOrWaiting (waiting (outsideAnswered g m n) n) (outsideAnswered g m n) sync2 .1)
       (move (machine.waiting n (answerOutside n (view g m))) (answerOutside n (view g m)) sync2)
   first-by n h e =
       stepped g m (outsideAnswered g m n) (answerOutside n (view g m)) (all-answered g m s c n h) sync2 (λ t. tracing-kept n sync1 e tt)
       (blank (outsideAnswered g m n) (all-answered g m s c n h .ordered) (marks-kept n h sync1 e)) n
 
   pub second-by : (n : ℕ) → n ≤ mutatorCount → phase m ≡ sync2
-      → Moves g m (moves (waiting (outsideAnswered g m n) n) (outsideAnswered g m n) mark .1)
+      → Moves g m (movedOrWaiting (waiting (outsideAnswered g m n) n) (outsideAnswered g m n) mark .1)
       (move (machine.waiting n (answerOutside n (view g m))) (answerOutside n (view g m)) mark)
   second-by n h e = stepped g m (outsideAnswered g m n) (answerOutside n (view g m)) (all-answered g m s c n h) mark (λ t. tracing-kept n sync2 e tt) (marks-kept n h sync2 e) n

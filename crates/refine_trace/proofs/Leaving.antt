@@ -10,7 +10,7 @@ use Rattle.theory.specs.Phases.{Phase, idle, sync1, sync2, mark, sweep}
 use Rattle.theory.specs.Machine.{State, setInside, acknowledge}
 use Rattle.model.specs.Fields.{absent, outside, state, setMutatorState}
 use Rattle.refine_view.specs.View.{view}
-use Rattle.refine_view.specs.Kept.{Moves}
+use Rattle.refine_view.specs.Refines.{Moves}
 use Rattle.refine_view.proofs.Following.{moves-then}
 use Rattle.refine_view.proofs.Sides.{side-moves}
 use Rattle.theory.proofs.AgreeKeeps.{inside-agree}

@@ -6,14 +6,14 @@ use borrow.Author.Tests.{eqb-true}
 use Rattle.classes.specs.Class.{IsClass}
 use Rattle.layout.specs.Geometry.{segmentOf, markBit}
 use Rattle.model.specs.Fields.{tag, class}
-use Rattle.laws.proofs.Segments.{in-range}
+use Rattle.model_laws.proofs.Segments.{in-range}
 use Rattle.model.specs.Tag as Tag
 use mathlib.Core.List.{List}
 use mathlib.Core.Option.{some}
 use Prim.Native.Nat.{ℕ, suc, _+_, _<_}
 use lib.Dec.{eqb}
 use lib.ListN.{getD, set}
-use Rattle.rules.specs.Pick.{pick}
+use Rattle.basics.specs.Pick.{pick}
 use Rattle.words.specs.Bits.{bitAt, setBit}
 use Rattle.layout.specs.declared.Geometry.{Geometry}
 use Rattle.layout.specs.Mem.{Mem, Sizes, setControl, setTrace, setMutator, setHeap}

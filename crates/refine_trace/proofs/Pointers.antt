@@ -11,7 +11,7 @@ use Rattle.model.specs.Consistent.{RecordOk}
 use Rattle.refine_view.specs.View.{valuesOf}
 use Rattle.theory.proofs.Updates.{upd2-by}
 use Rattle.refine_view.proofs.Contents.{pointers-by, fields-by}
-use Rattle.laws.proofs.Apart.{fields-apart, field-inside}
+use Rattle.model_laws.proofs.Apart.{fields-apart, field-inside}
 use Rattle.refine_trace.proofs.Over.{Segments}
 
 module _ (g : Geometry) (m : Mem) (s : Sizes g m) (f : Segments g m) (at p v : ℕ) (r : RecordOk g m at) (few : p < pointerCount m at) where

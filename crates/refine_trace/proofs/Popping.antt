@@ -8,13 +8,13 @@ use lib.Dec.{eqb}
 use lib.ListN.{getD, set, length-set}
 use lib.Seq.{getD-set-same, getD-set-other}
 use borrow.Author.Tests.{eq-eqb}
-use Rattle.rules.specs.Pick.{pick}
+use Rattle.basics.specs.Pick.{pick}
 use Rattle.layout.specs.declared.Geometry.{Geometry}
 use Rattle.layout.specs.Mem.{Mem, Sizes, traceWord, controlWord, setControl}
 use mathlib.Core.List.{List}
 use Rattle.theory.specs.Phases.{mark}
 use Rattle.theory.specs.Reach.{root}
-use Rattle.model.specs.Rules.{phaseOf}
+use Rattle.model.specs.PhaseNumbers.{phaseOf}
 use Rattle.theory.specs.Update.{upd}
 use Rattle.theory.proofs.Updates.{upd-cases}
 use Rattle.model.specs.Fields.{phase, cursor, traceCount}
@@ -23,10 +23,10 @@ use Rattle.model.specs.Reaching.{IsEntry}
 use Rattle.model.specs.Tracing.{popped}
 use Rattle.model.specs.Consistent.{RecordOk, bitWord}
 use Rattle.refine_view.specs.View.{view, isHead}
-use Rattle.refine_view.specs.Kept.{Ordered, MarksIn}
+use Rattle.refine_view.specs.Refines.{Ordered, MarksIn}
 use Rattle.refine_view.proofs.Frames.{use-beside, record-beside, segment-beside, held-self}
 use Rattle.refine_view.proofs.Invariants.{structure-of}
-use Rattle.laws.proofs.Marked.{stack-other, stacked?, off-stack}
+use Rattle.model_laws.proofs.Marked.{stack-other, stacked?, off-stack}
 use Rattle.refine_trace.proofs.Over.{over, Segments}
 use Rattle.refine_trace.proofs.Entered.{Entered}
 use Rattle.refine_trace.proofs.Self.{entry-at}

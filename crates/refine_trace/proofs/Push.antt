@@ -9,15 +9,15 @@ use lib.Dec.{eqb}
 use lib.ListN.{getD, set}
 use borrow.Author.Tests.{eq-eqb, eqb-true, eqb-false}
 use Rattle.layout.specs.Geometry.{markBit}
-use Rattle.rules.specs.Pick.{pick}
+use Rattle.basics.specs.Pick.{pick}
 use Rattle.words.specs.Bits.{bitAt, setBit}
 use Rattle.layout.specs.declared.Geometry.{Geometry}
 use Rattle.layout.specs.Mem.{Mem}
 use Rattle.theory.specs.TraceStack.{mem?, pushIf, push}
 use Rattle.model.specs.Records.{entered, marked}
 use Rattle.model.specs.Reaching.{IsEntry, isMarked}
-use Rattle.laws.proofs.Marked.{unentered, entered-as}
-use Rattle.laws.proofs.Apart.{class-of}
+use Rattle.model_laws.proofs.Marked.{unentered, entered-as}
+use Rattle.model_laws.proofs.Apart.{class-of}
 use Rattle.words.proofs.Word.{zero-of-not-one}
 use Rattle.words.proofs.Lists.{at-lt}
 use Rattle.refine_view.proofs.Seeing.{entry-in}

@@ -8,7 +8,7 @@ use Rattle.layout.specs.Mem.{Mem, traceWord, Sizes}
 use Rattle.theory.specs.Reach.{root}
 use Rattle.model.specs.Fields.{traceCount}
 use Rattle.model.specs.Reaching.{IsEntry}
-use Rattle.refine_view.specs.Kept.{Ordered}
+use Rattle.refine_view.specs.Refines.{Ordered}
 use Rattle.refine_view.specs.View.{stackOf}
 use Rattle.refine_view.proofs.Invariants.{structure-of}
 use Rattle.refine_trace.proofs.Over.{over-self}

@@ -11,7 +11,7 @@ use Rattle.theory.specs.MachineCalls.{stepBy}
 use Rattle.model.specs.Fields.{phase, traceCount}
 use Rattle.model.specs.Collector.{stepIn}
 use Rattle.refine_view.specs.View.{view}
-use Rattle.refine_view.specs.Kept.{Ordered, Moves}
+use Rattle.refine_view.specs.Refines.{Ordered, Moves}
 use Rattle.refine_trace.proofs.TraceStep.{trace-by}
 use Rattle.refine_trace.proofs.Handshakes.{first-by, second-by}
 

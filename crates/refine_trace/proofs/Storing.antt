@@ -12,16 +12,16 @@ use Rattle.theory.specs.Phases.{Duty, nothing, both, old, duty}
 use Rattle.theory.specs.Reach.{root, next}
 use Rattle.theory.specs.Machine.{State, Holds, store}
 use Rattle.theory.proofs.Agree.{Agree}
-use Rattle.model.specs.Rules.{phaseOf}
+use Rattle.model.specs.PhaseNumbers.{phaseOf}
 use Rattle.model.specs.Fields.{phase, acks}
 use Rattle.model.specs.Records.{record?, pointerCount, pointer, setPointer}
 use Rattle.model.specs.Consistent.{RecordOk}
 use Rattle.refine_view.specs.View.{view, stackOf}
-use Rattle.refine_view.specs.Kept.{Ordered, Structure, Moves}
+use Rattle.refine_view.specs.Refines.{Ordered, Structure, Moves}
 use Rattle.refine_view.proofs.Seeing.{entries-same, live-on, live-back}
 use Rattle.refine_view.proofs.Frames.{held-self, mutator-beside}
 use Rattle.refine_view.proofs.Invariants.{to-record, to-inv, structure-of}
-use Rattle.laws.proofs.Apart.{class-of}
+use Rattle.model_laws.proofs.Apart.{class-of}
 use Rattle.refine_trace.proofs.Over.{over, condemned-class, heap-over}
 use Rattle.refine_trace.proofs.Entered.{Entered, structure-entered}
 use Rattle.refine_trace.proofs.Push.{Pushed, push-pushed}

@@ -17,18 +17,18 @@ use Rattle.theory.specs.Update.{upd}
 use Rattle.theory.specs.Machine.{State, trace}
 use Rattle.theory.specs.MachineCalls.{traceStep}
 use Rattle.theory.proofs.Agree.{Agree}
-use Rattle.model.specs.Rules.{phaseOf}
+use Rattle.model.specs.PhaseNumbers.{phaseOf}
 use Rattle.model.specs.Fields.{phase, traceCount}
 use Rattle.model.specs.Records.{record?, pointerCount, pointer}
 use Rattle.model.specs.Tracing.{popped, traced}
 use Rattle.model.specs.Collector.{traces}
 use Rattle.model.specs.Consistent.{RecordOk}
 use Rattle.refine_view.specs.View.{view, stackOf}
-use Rattle.refine_view.specs.Kept.{Ordered, Structure, Moves, MarksIn}
+use Rattle.refine_view.specs.Refines.{Ordered, Structure, Moves, MarksIn}
 use Rattle.refine_view.proofs.Seeing.{entries-same, live-on, live-back}
 use Rattle.refine_view.proofs.Invariants.{to-record, to-inv, structure-of}
-use Rattle.refine_view.proofs.Keeping.{moves-self}
-use Rattle.laws.proofs.Apart.{class-of}
+use Rattle.refine_view.proofs.SelfSimulation.{moves-self}
+use Rattle.model_laws.proofs.Apart.{class-of}
 use Rattle.refine_view.proofs.Frames.{held-self, mutator-beside, structure-beside}
 use Rattle.refine_view.proofs.Phasing.{phase-moves}
 use Rattle.refine_trace.proofs.Over.{over, condemned-class}

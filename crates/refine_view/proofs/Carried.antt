@@ -6,7 +6,7 @@ use Rattle.words.specs.Bits.{bitAt, onesAmong}
 use Rattle.classes.specs.Class.{blockWords}
 use Rattle.classes.specs.declared.SizeClass.the-variants.{Class}
 use Rattle.classes.specs.Record.{classOfRecord}
-use Rattle.laws.proofs.Headers.{shape-by}
+use Rattle.model_laws.proofs.Headers.{shape-by}
 use Rattle.layout.specs.declared.Geometry.{Geometry}
 use Rattle.layout.specs.Geometry.{segmentWords, mostBlocks, segmentOf, markBit}
 use Rattle.layout.specs.Mem.{Mem, traceWord, heapWord}
@@ -16,7 +16,7 @@ use Rattle.model.specs.Segments.{usedBit}
 use Rattle.model.specs.Records.{blockOf}
 use Rattle.model.specs.Reaching.{IsEntry}
 use Rattle.model.specs.Consistent.{RecordOk, HeadInUse, MarksOf}
-use Rattle.refine_view.specs.Kept.{EntriesOk, MarksIn}
+use Rattle.refine_view.specs.Refines.{EntriesOk, MarksIn}
 use Rattle.refine_view.proofs.Seeing.{entry-was}
 use Rattle.model.specs.Tag as Tag
 

@@ -3,7 +3,7 @@ use mathlib.Core.Path.{_≡_, sym, _∙_, ap}
 use Prim.Native.Nat.{ℕ, _+_, _<_}
 use native.Mathlib.Omega.{arith}
 use Rattle.classes.specs.Record.{pointerCountOf, valueCountOf}
-use Rattle.laws.proofs.Headers.{shape-by}
+use Rattle.model_laws.proofs.Headers.{shape-by}
 use Rattle.layout.specs.Mem.{Mem, heapWord}
 use Rattle.theory.specs.TraceStack.{tab}
 use Rattle.model.specs.Records.{pointerCount, valueCount, pointer, value}

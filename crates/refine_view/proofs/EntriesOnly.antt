@@ -14,7 +14,7 @@ use Rattle.model.specs.Calls.{isAttached, isInside}
 use Rattle.model.specs.Reaching.{Live}
 use Rattle.model.specs.Consistent.{MutatorOk}
 use Rattle.refine_view.specs.View.{view}
-use Rattle.refine_view.specs.Kept.{Structure, Moves}
+use Rattle.refine_view.specs.Refines.{Structure, Moves}
 use Rattle.refine_view.proofs.Seeing.{entries-same, live-on, live-back}
 use Rattle.refine_view.proofs.Carried.{entries-by}
 use Rattle.refine_view.proofs.Frames.{beside, Held, structure-beside, marks-beside}

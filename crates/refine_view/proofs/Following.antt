@@ -6,7 +6,7 @@ use Rattle.layout.specs.Mem.{Mem}
 use Rattle.theory.specs.Machine.{State}
 use Rattle.theory.proofs.Agree.{Agree, agree-trans}
 use Rattle.refine_view.specs.View.{view}
-use Rattle.refine_view.specs.Kept.{Moves}
+use Rattle.refine_view.specs.Refines.{Moves}
 
 -- the same operation after a move
 pub moves-then : (g : Geometry) (m m′ m″ : Mem) (st st′ st″ : State) → Moves g m m′ st → Agree (segmentOf g) st′ st″ → Moves g m′ m″ st″ → Moves g m m″ st′

@@ -7,18 +7,18 @@ use native.Mathlib.Omega.{arith}
 use lib.ListN.{getD}
 use Rattle.classes.specs.Class.{IsClass}
 use Rattle.classes.specs.Record.{classOfRecord}
-use Rattle.laws.proofs.Headers.{shape-by}
-use Rattle.laws.proofs.Words.{untouched-same}
-use Rattle.laws.proofs.Segments.{segment-same}
+use Rattle.model_laws.proofs.Headers.{shape-by}
+use Rattle.model_laws.proofs.Words.{untouched-same}
+use Rattle.model_laws.proofs.Segments.{segment-same}
 use Rattle.layout.specs.declared.Geometry.{Geometry}
 use Rattle.layout.specs.Geometry.{mutatorCount}
 use Rattle.layout.specs.Mem.{Mem, heapWord}
 use Rattle.theory.specs.Phases.{Phase}
-use Rattle.model.specs.Rules.{phaseOf}
+use Rattle.model.specs.PhaseNumbers.{phaseOf}
 use Rattle.model.specs.Fields.{traceCount, absent, state, holding}
 use Rattle.model.specs.Reaching.{Live}
 use Rattle.model.specs.Consistent.{SegmentOk, MutatorOk, StackOk, Summed, RecordOk, HeadInUse, bitWord}
-use Rattle.refine_view.specs.Kept.{Structure, EntriesOk, MarksIn}
+use Rattle.refine_view.specs.Refines.{Structure, EntriesOk, MarksIn}
 use Rattle.refine_view.proofs.Carried.{marks-by}
 use Rattle.refine_view.proofs.Seeing.{entry-was}
 

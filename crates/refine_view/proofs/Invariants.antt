@@ -7,7 +7,7 @@ use Prim.Native.Nat.{ℕ, zero, suc, _-_, _≤_, _<_}
 use native.Mathlib.Omega.{arith}
 use lib.ListN.{List·getD-eq-default}
 use borrow.Author.Tests.{eq-eqb, ne-eqb, eqb-true}
-use Rattle.rules.proofs.Order.{le-or-lt, same-or-not}
+use Rattle.basics.proofs.Order.{le-or-lt, same-or-not}
 use Rattle.words.proofs.Word.{zero-of-not-one}
 use Rattle.layout.specs.Geometry.{mutatorCount, segmentOf, markBit}
 use Rattle.layout.specs.declared.Geometry.{Geometry}
@@ -23,14 +23,14 @@ use Rattle.model.specs.Calls.{isAttached}
 use Rattle.model.specs.Reaching.{IsRoot, IsEntry, Live, Reached, Covered, isMarked}
 use Rattle.model.specs.Consistent.{Consistent, Behind, InPhase, AcksIn, Tricolour, RecordOk}
 use Rattle.refine_view.specs.View.{view, stackOf, isHead, isUsed}
-use Rattle.refine_view.specs.Kept.{Ordered, EachOccupied, Structure, MarksIn}
+use Rattle.refine_view.specs.Refines.{Ordered, EachOccupied, Structure, MarksIn}
 use Rattle.words.proofs.Counts.{lt-of}
-use Rattle.laws.proofs.Bools.{not-eq, ne-not, and-both, and-right, and-false}
+use Rattle.model_laws.proofs.Bools.{not-eq, ne-not, and-both, and-right, and-false}
 use Rattle.layout.proofs.Sizes.{segment-below}
-use Rattle.laws.proofs.Blocks.{bit-below, head-word}
-use Rattle.laws.proofs.Marked.{entry-unmarked, marked-entered, marked-lt}
+use Rattle.model_laws.proofs.Blocks.{bit-below, head-word}
+use Rattle.model_laws.proofs.Marked.{entry-unmarked, marked-entered, marked-lt}
 use Rattle.refine_view.proofs.Seeing.{entry-of, entry-in, live-on, live-back, reached-on, reached-back, entry-back, edge-on, edge-back, naming, covered-on, covered-back, head-of, few-mutators}
-use Rattle.laws.proofs.Rooted.{named}
+use Rattle.model_laws.proofs.Rooted.{named}
 use Rattle.theory.specs.Machine as machine
 
 -- ---- the parts of consistency that bear on the words alone

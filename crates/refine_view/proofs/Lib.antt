@@ -8,4 +8,4 @@ pub mod EntriesOnly
 pub mod Sides
 pub mod Phasing
 pub mod Invariants
-pub mod Keeping
+pub mod SelfSimulation

@@ -6,7 +6,7 @@ use native.Mathlib.Omega.{arith}
 use lib.Dec.{eqb}
 use lib.ListN.{getD, set}
 use mathlib.Core.Bool.{_&&_}
-use Rattle.laws.proofs.Marked.{marked-by}
+use Rattle.model_laws.proofs.Marked.{marked-by}
 use lib.Seq.{getD-set-same, getD-set-other}
 use Rattle.model.specs.Records.{pointerCount}
 use Rattle.layout.specs.Geometry.{segmentOf}
@@ -16,11 +16,11 @@ use Rattle.theory.specs.Phases.{Phase, idle, sync1, sync2, mark, sweep}
 use Rattle.theory.specs.Machine.{State}
 use Rattle.theory.proofs.Agree.{Agree}
 use Rattle.theory.proofs.Invariant.{Tracing}
-use Rattle.model.specs.Rules.{phaseOf, phaseNumber}
+use Rattle.model.specs.PhaseNumbers.{phaseOf, phaseNumber}
 use Rattle.model.specs.Fields.{setPhase, traceCount, cursor}
 use Rattle.model.specs.Reaching.{Live}
 use Rattle.refine_view.specs.View.{view, stackOf, isHead}
-use Rattle.refine_view.specs.Kept.{Structure, Moves, MarksIn}
+use Rattle.refine_view.specs.Refines.{Structure, Moves, MarksIn}
 use Rattle.refine_view.proofs.Seeing.{entries-same, root-was, entry-was, edge-was, live-was}
 use Rattle.refine_view.proofs.Carried.{entries-by}
 use Rattle.refine_view.proofs.Frames.{beside, held-self, mutator-beside, marks-beside, structure-beside}

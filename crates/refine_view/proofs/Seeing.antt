@@ -8,9 +8,9 @@ use Prim.Native.Nat.{ℕ, zero, suc, _+_, _-_, _≤_, _<_}
 use native.Mathlib.Omega.{arith}
 use lib.ListN.{List·getD-eq-default}
 use borrow.Author.Tests.{eq-eqb}
-use Rattle.rules.proofs.Order.{le-or-lt, same-or-not}
+use Rattle.basics.proofs.Order.{le-or-lt, same-or-not}
 use Rattle.classes.specs.Record.{pointerCountOf}
-use Rattle.laws.proofs.Headers.{shape-by}
+use Rattle.model_laws.proofs.Headers.{shape-by}
 use Rattle.layout.specs.declared.Geometry.{Geometry}
 use Rattle.layout.specs.Geometry.{mutatorCount, rootCount}
 use Rattle.layout.specs.Mem.{Mem, traceWord, heapWord, Sizes}
@@ -25,8 +25,8 @@ use Rattle.model.specs.Reaching.{IsRoot, IsEntry, PointsTo, Live, Reached, Cove
 use Rattle.model.specs.Consistent.{RecordOk}
 use Rattle.refine_view.specs.View.{view, stackOf, isHead}
 use Rattle.words.proofs.Counts.{lt-of}
-use Rattle.laws.proofs.Rooted.{named}
-use Rattle.laws.proofs.Bools.{not-eq, ne-not}
+use Rattle.model_laws.proofs.Rooted.{named}
+use Rattle.model_laws.proofs.Bools.{not-eq, ne-not}
 use Rattle.theory.specs.Machine as machine
 use Rattle.model.specs.Fields as fields
 

@@ -5,7 +5,7 @@ use mathlib.Core.Bool.{not}
 use Prim.Native.Nat.{ℕ, _≤_, _<_}
 use native.Mathlib.Omega.{arith}
 use lib.Dec.{eqb}
-use Rattle.rules.proofs.Order.{same-or-not}
+use Rattle.basics.proofs.Order.{same-or-not}
 use Rattle.layout.specs.declared.Geometry.{Geometry}
 use Rattle.layout.specs.Geometry.{mutatorCount}
 use Rattle.layout.specs.Mem.{Mem, setMutator, Sizes}
@@ -13,11 +13,11 @@ use Rattle.model.specs.Fields.{absent, inside, stateAt, state, setMutatorState}
 use Rattle.model.specs.Records.{record?}
 use Rattle.model.specs.Calls.{isAttached, isInside}
 use Rattle.refine_view.specs.View.{view}
-use Rattle.refine_view.specs.Kept.{Structure, Moves}
-use Rattle.laws.proofs.Bools.{ne-not}
-use Rattle.laws.proofs.Words.{mutator-there}
+use Rattle.refine_view.specs.Refines.{Structure, Moves}
+use Rattle.model_laws.proofs.Bools.{ne-not}
+use Rattle.model_laws.proofs.Words.{mutator-there}
 use Rattle.theory.proofs.Updates.{upd-by}
-use Rattle.laws.proofs.Entries.{state-set, acks-set, root-set, mutators-set, held-set}
+use Rattle.model_laws.proofs.Entries.{state-set, acks-set, root-set, mutators-set, held-set}
 use Rattle.refine_view.proofs.EntriesOnly.{entries-moves}
 use Rattle.theory.specs.Machine as machine
 

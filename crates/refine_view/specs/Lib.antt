@@ -1,3 +1,3 @@
 -- The memory as the abstract machine, and what a call keeps.
 pub mod View
-pub mod Kept
+pub mod Refines

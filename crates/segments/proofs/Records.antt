@@ -10,7 +10,7 @@ use Rattle.layout.specs.Mem.{Mem, segmentRecordWord, setSegment, withRegion, Si
 use Rattle.model.specs.declared.SegmentState.{SegmentState}
 use Rattle.model.specs.Fields.{setClass, setPlace, setOwner}
 use Rattle.model.specs.Segments.{stateOf, segment, setSegmentState, setRecord}
-use Rattle.laws.proofs.Words.{Recorded, segment-word-other, tagOf, classIn, placeIn, ownerIn, state-is, state-there}
+use Rattle.model_laws.proofs.Words.{Recorded, segment-word-other, tagOf, classIn, placeIn, ownerIn, state-is, state-there}
 use Rattle.model.specs.declared.SegmentState.the-variants as state
 use Rattle.model.specs.Tag as Tag
 use Rattle.layout.specs.Region as Region

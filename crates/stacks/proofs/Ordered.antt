@@ -8,7 +8,7 @@ use Rattle.layout.specs.declared.Geometry.{Geometry}
 use Rattle.layout.specs.Mem.{Mem}
 use Rattle.model.specs.Segments.{count, top}
 use Rattle.model.specs.Consistent.{StackOk}
-use Rattle.laws.proofs.Stacks.{count-le, stack-room}
+use Rattle.model_laws.proofs.Stacks.{count-le, stack-room}
 use Rattle.stacks.specs.declared.Topmost.the-variants.{Torn}
 use Rattle.stacks.specs.Stacking.{Tops, PushesSegment}
 

@@ -5,15 +5,15 @@ use Prim.Native.Nat.{ℕ, zero, suc, _≤_}
 use native.Mathlib.Omega.{arith}
 use lib.Dec.{eqb}
 use lib.ListN.{replicate}
-use Rattle.rules.specs.Pick.{pick}
+use Rattle.basics.specs.Pick.{pick}
 use Rattle.layout.specs.declared.Geometry.{Geometry}
 use Rattle.layout.specs.Geometry.{mutatorCount}
 use Rattle.layout.specs.Mem.{Mem, Sizes, withRegion, clearRegion, setControl}
 use Rattle.model.specs.Fields.{setTag, setAcks}
 use Rattle.model.specs.Collector.{collects, condemned, acksReset, started}
 use Rattle.model.proofs.Collecting.{collects-full}
-use Rattle.laws.proofs.Words.{Untouched, untouched-same, untouched-then, tag-other}
-use Rattle.laws.proofs.Operations.{sizes-condemned, sizes-reset}
+use Rattle.model_laws.proofs.Words.{Untouched, untouched-same, untouched-then, tag-other}
+use Rattle.model_laws.proofs.Operations.{sizes-condemned, sizes-reset}
 use Rattle.layout.specs.Region as Region
 use Rattle.model.specs.Tag as Tag
 

@@ -7,7 +7,7 @@ use model::Segment;
 ghost use mathlib.Core.Path.{_≡_};
 ghost use Prim.Native.Nat.{_<_};
 ghost use lib.ListN.{length};
-ghost use Rattle.rules.specs.Pick.{pick};
+ghost use Rattle.basics.specs.Pick.{pick};
 ghost use Rattle.layout.specs.Geometry.{Sized, mutatorCount};
 ghost use Rattle.layout.specs.Mem.{memOf};
 ghost use Rattle.model.specs.Fields.{setTag};

@@ -8,8 +8,8 @@ use native.Mathlib.Numerals.{add-one}
 use native.Mathlib.Omega.{arith}
 use lib.Dec.{eqb}
 use borrow.Author.Tests.{eq-eqb, ne-eqb}
-use Rattle.rules.specs.Pick.{pick}
-use Rattle.rules.proofs.Order.{le-or-lt}
+use Rattle.basics.specs.Pick.{pick}
+use Rattle.basics.proofs.Order.{le-or-lt}
 use Rattle.layout.specs.declared.Geometry.{Geometry}
 use Rattle.layout.specs.Geometry.{mutatorCount}
 use Rattle.layout.specs.Mem.{Mem, Sizes}
@@ -17,8 +17,8 @@ use Rattle.model.specs.Fields.{outside, stateAt, state}
 use Rattle.model.specs.Mutators.{acknowledged}
 use Rattle.model.specs.Collector.{outsideAnswered}
 use Rattle.model.specs.Consistent.{Consistent}
-use Rattle.laws.proofs.Operations.{sizes-acknowledged}
-use Rattle.laws.proofs.Acknowledgements.{acknowledged-word, roots-ready, answers-keep}
+use Rattle.model_laws.proofs.Operations.{sizes-acknowledged}
+use Rattle.model_laws.proofs.Acknowledgements.{acknowledged-word, roots-ready, answers-keep}
 use Rattle.tracing.specs.Roots.{RootFails}
 use Rattle.tracing.proofs.Roots.{roots-succeed}
 use Rattle.handshake_calls.specs.Acknowledging.{Acknowledges}

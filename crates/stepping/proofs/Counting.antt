@@ -5,14 +5,14 @@ use Prim.Native.Nat.{ℕ, zero, suc, _+_, _≤_}
 use native.Mathlib.Omega.{arith}
 use lib.Dec.{eqb}
 use borrow.Author.Tests.{eq-eqb, ne-eqb}
-use Rattle.rules.specs.Pick.{oneIf}
+use Rattle.basics.specs.Pick.{oneIf}
 use Rattle.layout.specs.Geometry.{mutatorCount}
 use Rattle.layout.specs.Mem.{Mem, controlWord}
 use Rattle.theory.specs.Phases.{Phase, owes}
-use Rattle.model.specs.Rules.{phaseOf}
+use Rattle.model.specs.PhaseNumbers.{phaseOf}
 use Rattle.model.specs.Fields.{phase, inside, state, acks}
 use Rattle.model.specs.Collector.{waiting}
-use Rattle.laws.proofs.Turns.{Turned}
+use Rattle.model_laws.proofs.Turns.{Turned}
 use Rattle.stepping.specs.Handshaking.{waits}
 
 -- ---- one mutator, by its state word v, its acknowledgements a, and whether one is owed

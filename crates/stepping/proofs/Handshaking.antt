@@ -12,13 +12,13 @@ use Rattle.theory.specs.Calls.{a-waiting}
 use Rattle.model.specs.declared.Step.the-variants.{Waiting, Moved, Refused}
 use Rattle.model.specs.Fields.{setPhase}
 use Rattle.model.specs.Answers.{isWaiting, isMoved}
-use Rattle.model.specs.Collector.{waiting, moves}
+use Rattle.model.specs.Collector.{waiting, movedOrWaiting}
 use Rattle.model.specs.StepParts.{StepsAs}
 use Rattle.stepping.specs.Handshaking.{AnswersOutside, handshakes}
 use Rattle.stepping.proofs.Answering.{answers-succeed}
 use Rattle.stepping.proofs.Counting.{waiting-most}
 
-waits-for : (n : ℕ) (m : Mem) (p : Phase) → (n ≡ 0 → ⊥) → moves n m p ≡ (a-waiting n, m)
+waits-for : (n : ℕ) (m : Mem) (p : Phase) → (n ≡ 0 → ⊥) → movedOrWaiting n m p ≡ (a-waiting n, m)
 waits-for zero m p f = absurd (f refl)
 waits-for (suc n) m p f = refl
 
@@ -28,8 +28,8 @@ at-least-one (suc n) f = omega arith
 
 module _ (g : Geometry) (m : Mem) (r : Bool) (x : Mem) (a : AnswersOutside g m r x) where
   module _ (t : r ≡ true) (n : ℕ) (w : n ≡ waiting x mutatorCount) where
-    counted : (p : Phase) → handshakes p g m ≡ moves n x p
-    counted p = ap (λ z. moves (waiting z mutatorCount) z p) (sym (a .done t)) ∙ ap (λ k. moves k x p) (sym w)
+    counted : (p : Phase) → handshakes p g m ≡ movedOrWaiting n x p
+    counted p = ap (λ z. movedOrWaiting (waiting z mutatorCount) z p) (sym (a .done t)) ∙ ap (λ k. movedOrWaiting k x p) (sym w)
 
     pub step-waits : (n ≡ 0 → ⊥) → (p : Phase) → StepsAs (handshakes p) g m (Waiting n) x
     step-waits f p =
@@ -43,7 +43,7 @@ module _ (g : Geometry) (m : Mem) (r : Bool) (x : Mem) (a : AnswersOutside g m r
 
     pub step-moves : n ≡ 0 → (p : Phase) (m′ : Mem) → m′ ≡ setPhase x p → StepsAs (handshakes p) g m Moved m′
     step-moves z p m′ e =
-        let d = counted p ∙ ap (λ k. moves k x p) z in
+        let d = counted p ∙ ap (λ k. movedOrWaiting k x p) z in
         record {
           exact = λ _. (sym (ap (λ z. z .0) d), e ∙ sym (ap (λ z. z .1) d));
           kind = λ _. isMoved;

@@ -4,14 +4,14 @@ use mathlib.Core.Path.{_≡_}
 use mathlib.Core.Bool.{Bool, true, false, _&&_}
 use Prim.Native.Nat.{ℕ, _≤_, _<_}
 use lib.Dec.{eqb}
-use Rattle.rules.specs.Pick.{oneIf}
+use Rattle.basics.specs.Pick.{oneIf}
 use Rattle.layout.specs.declared.Geometry.{Geometry}
 use Rattle.layout.specs.Geometry.{mutatorCount}
 use Rattle.layout.specs.Mem.{Mem}
 use Rattle.theory.specs.Phases.{Phase, owes}
 use Rattle.theory.specs.Calls.{Answer}
 use Rattle.model.specs.Fields.{inside, outside, state, acks}
-use Rattle.model.specs.Collector.{outsideAnswered, waiting, moves}
+use Rattle.model.specs.Collector.{outsideAnswered, waiting, movedOrWaiting}
 use Rattle.tracing.specs.Roots.{RootFails}
 
 -- the first mutator outside, from a number on, or the number of mutators where there is none
@@ -39,4 +39,4 @@ waits m p k = oneIf (eqb (state m k) inside && owes p (acks m k))
 
 -- a step in a handshake, with the phase after it
 abbrev pub handshakes : Phase → Geometry → Mem → Answer × Mem
-handshakes p g m = moves (waiting (outsideAnswered g m mutatorCount) mutatorCount) (outsideAnswered g m mutatorCount) p
+handshakes p g m = movedOrWaiting (waiting (outsideAnswered g m mutatorCount) mutatorCount) (outsideAnswered g m mutatorCount) p

@@ -10,7 +10,7 @@ ghost use lib.ListN.{length};
 ghost use Rattle.layout.specs.Geometry.{Sized, mutatorCount};
 ghost use Rattle.layout.specs.Mem.{memOf};
 ghost use Rattle.theory.specs.Phases.{sweep};
-ghost use Rattle.model.specs.Rules.{phaseOf, phaseNumber};
+ghost use Rattle.model.specs.PhaseNumbers.{phaseOf, phaseNumber};
 ghost use Rattle.model.specs.Collector.{waiting};
 ghost use Rattle.model.specs.Promise.{StepPromise};
 ghost use Rattle.model.specs.StepParts.{StepsAs};

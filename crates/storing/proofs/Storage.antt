@@ -16,16 +16,16 @@ use Rattle.theory.specs.Calls.{c-store, a-ok, ifRoot, pointer?}
 use Rattle.model.specs.declared.Answer.{Answer}
 use Rattle.model.specs.declared.Answer.the-variants.{Ok, Refused}
 use Rattle.model.specs.declared.Duty.{Duty}
-use Rattle.model.specs.Rules.{phaseOf, dutyOf}
+use Rattle.model.specs.PhaseNumbers.{phaseOf, dutyOf}
 use Rattle.model.specs.Fields.{phase, acks}
 use Rattle.model.specs.Records.{record?, pointerCount, pointer}
 use Rattle.model.specs.Tracing.{barrier}
 use Rattle.model.specs.Calls.{act}
 use Rattle.model.specs.Consistent.{RecordOk, Consistent}
 use Rattle.model.specs.Promise.{Promise}
-use Rattle.laws.proofs.Promised.{done, torn-13}
-use Rattle.laws.proofs.Rooted.{rooted, live-root}
-use Rattle.laws.proofs.Reaching.{Names, Reaches}
+use Rattle.model_laws.proofs.Promised.{done, torn-13}
+use Rattle.model_laws.proofs.Rooted.{rooted, live-root}
+use Rattle.model_laws.proofs.Reaching.{Names, Reaches}
 use Rattle.mutators.specs.Inside.{insideThen}
 use Rattle.mutators.proofs.Inside.{refused-with, reaches-with}
 use Rattle.records.specs.declared.FieldAt.the-variants.{Word}

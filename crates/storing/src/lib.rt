@@ -14,13 +14,13 @@ ghost use Rattle.model.specs.Promise.{Promise};
 ghost use Rattle.storing.specs.Stored.{Stores};
 ghost use Rattle.layout.specs.Region as Region;
 
-// A word of the heap gets a value, after the barrier of mutator k.
-fn store_at(g: Geometry, mem: &mut [u32], k: u32, word: usize, new: u32) -> Answer
-    requires { ⌜ (Sized g (length (now mem))) × (k < mutatorCount) × (word < len g Region.heap) ⌝ }
-    ensures { λ r. ⌜ Stores g (memOf g (now (mem .entry))) k word new r (memOf g (now (mem .exit))) ⌝ }
+// A word of the heap gets a value, after the barrier of the mutator.
+fn store_at(g: Geometry, mem: &mut [u32], mutator: u32, word: usize, new: u32) -> Answer
+    requires { ⌜ (Sized g (length (now mem))) × (mutator < mutatorCount) × (word < len g Region.heap) ⌝ }
+    ensures { λ r. ⌜ Stores g (memOf g (now (mem .entry))) mutator word new r (memOf g (now (mem .exit))) ⌝ }
 {
     let phase = control::phase(g, mem);
-    let duty = phase.duty(mutators::acks(g, mem, k));
+    let duty = phase.duty(mutators::acks(g, mem, mutator));
     let old = records::field(g, mem, word);
     if tracing::barrier(g, mem, duty, new, old) {
         records::set_field(g, mem, word, new);
@@ -29,26 +29,26 @@ fn store_at(g: Geometry, mem: &mut [u32], k: u32, word: usize, new: u32) -> Answ
     Answer::Refused(13)
 }
 
-// Pointer f of the record in root i gets what root j holds.
-pub fn store(g: Geometry, mem: &mut [u32], k: u32, i: u32, f: u32, j: u32) -> Answer
-    ensures { λ r. ⌜ Promise (c-store k i f j) g (now (mem .entry)) r (now (mem .exit)) ⌝ }
+// Pointer `field` of the record in root `root` gets what root `from` holds.
+pub fn store(g: Geometry, mem: &mut [u32], mutator: u32, root: u32, field: u32, from: u32) -> Answer
+    ensures { λ r. ⌜ Promise (c-store mutator root field from) g (now (mem .entry)) r (now (mem .exit)) ⌝ }
 {
     if layout::wrong_size(g, mem.len()) {
         return Answer::Refused(1);
     }
-    let refused = mutators::roots_refusal(g, mem, k, i, j);
+    let refused = mutators::roots_refusal(g, mem, mutator, root, from);
     if refused != 0 {
         return Answer::Refused(refused);
     }
-    let slot = records::held_of(mutators::root(g, mem, k, i));
+    let slot = records::held_of(mutators::root(g, mem, mutator, root));
     let Held::Record(at) = slot else {
         return Answer::Refused(7);
     };
-    match records::pointer_at(g, mem, at, f) {
+    match records::pointer_at(g, mem, at, field) {
         FieldAt::Refused(n) => Answer::Refused(n),
         FieldAt::Word(word) => {
-            let new = mutators::root(g, mem, k, j);
-            store_at(g, mem, k, word, new)
+            let new = mutators::root(g, mem, mutator, from);
+            store_at(g, mem, mutator, word, new)
         }
     }
 }

@@ -4,12 +4,12 @@ use mathlib.Core.Logic.{⊎-elim}
 use mathlib.Core.Bool.{Bool, true, false, true≢false}
 use Prim.Native.Nat.{ℕ, suc, _+_, _≤_, _<_}
 use native.Mathlib.Omega.{arith}
-use Rattle.rules.proofs.Order.{le-or-lt, same-or-not}
+use Rattle.basics.proofs.Order.{le-or-lt, same-or-not}
 use Rattle.layout.specs.declared.Geometry.{Geometry}
 use Rattle.layout.specs.Mem.{Mem}
 use Rattle.model.specs.Fields.{cursor, tag}
 use Rattle.model.specs.Consistent.{Behind}
-use Rattle.laws.proofs.Lowest.{lowest-none, lowest-some}
+use Rattle.model_laws.proofs.Lowest.{lowest-none, lowest-some}
 use Rattle.sweeping.specs.Sweeping.{lowestOf, Next, Finds}
 use Rattle.sweeping.specs.declared.Lowest.{Lowest}
 use Rattle.sweeping.specs.declared.Lowest.the-variants.{Segment, Nothing}

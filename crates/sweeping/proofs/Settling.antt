@@ -7,15 +7,15 @@ use native.Mathlib.Omega.{arith}
 use lib.Dec.{eqb}
 use lib.ListN.{getD}
 use borrow.Author.Tests.{eq-eqb, ne-eqb}
-use Rattle.rules.specs.Pick.{pick}
+use Rattle.basics.specs.Pick.{pick}
 use Rattle.classes.specs.Class.{IsClass}
 use Rattle.layout.specs.declared.Geometry.{Geometry}
 use Rattle.layout.specs.Geometry.{blocksIn, stackCount}
 use Rattle.layout.specs.Mem.{Mem}
 use Rattle.model.specs.declared.SegmentState.{SegmentState}
 use Rattle.model.specs.Segments.{setSegmentState, freeStack, partStack, stacked}
-use Rattle.laws.proofs.Words.{state-others}
-use Rattle.laws.proofs.OtherStacks.{part-few}
+use Rattle.model_laws.proofs.Words.{state-others}
+use Rattle.model_laws.proofs.OtherStacks.{part-few}
 use Rattle.stacks.specs.Stacking.{PushesSegment}
 use Rattle.sweeping.specs.Sweeping.{stateAfter, stackAfter, settled, Settles}
 

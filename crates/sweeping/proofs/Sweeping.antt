@@ -7,7 +7,7 @@ use Prim.Native.Nat.{ℕ, _-_, _<_, suc, _+_, _≤_}
 use native.Mathlib.Omega.{arith}
 use lib.Dec.{eqb}
 use borrow.Author.Tests.{ne-eqb, eqb-true}
-use Rattle.rules.specs.Pick.{pick}
+use Rattle.basics.specs.Pick.{pick}
 use Rattle.words.specs.Bits.{bitAt, onesAmong}
 use Rattle.classes.specs.Class.{IsClass, classTest}
 use Rattle.classes.proofs.Every.{class-passed, class-passes}
@@ -15,22 +15,22 @@ use Rattle.layout.specs.declared.Geometry.{Geometry}
 use Rattle.layout.specs.Geometry.{blocksIn}
 use Rattle.layout.specs.Mem.{Mem, Sizes, setControl, setRun}
 use Rattle.theory.specs.Phases.{idle}
-use Rattle.model.specs.Rules.{phaseNumber}
+use Rattle.model.specs.PhaseNumbers.{phaseNumber}
 use Rattle.model.specs.declared.Step.{Step}
 use Rattle.model.specs.declared.Step.the-variants.{Swept, Done, Refused}
 use Rattle.model.specs.Answers.{isSwept, isDone}
 use Rattle.model.specs.declared.SegmentState.{SegmentState}
 use Rattle.model.specs.Fields.{setCursor, tag, class, place, owner}
 use Rattle.model.specs.Segments.{stateOf, segment, freeStack, partStack, count, bitmap, marksIn, inUse}
-use Rattle.model.specs.Collector.{lowest, keptBy, rebuiltBy, swept, sweeps, settledBy}
+use Rattle.model.specs.Collector.{lowest, markedBlocks, rebuiltBy, swept, sweeps, settledBy}
 use Rattle.model.specs.Consistent.{Consistent, isFree, isPart}
 use Rattle.model.specs.StepParts.{StepsAs}
-use Rattle.laws.proofs.Words.{classIn}
-use Rattle.laws.proofs.Blocks.{blocks-most, blocks-some}
-use Rattle.laws.proofs.Segments.{in-use-le, not-free, not-part}
-use Rattle.laws.proofs.Stacks.{stack-room}
-use Rattle.laws.proofs.Swept.{swept-use}
-use Rattle.laws.proofs.StepParts.{steps-done, steps-13}
+use Rattle.model_laws.proofs.Words.{classIn}
+use Rattle.model_laws.proofs.Blocks.{blocks-most, blocks-some}
+use Rattle.model_laws.proofs.Segments.{in-use-le, not-free, not-part}
+use Rattle.model_laws.proofs.Stacks.{stack-room}
+use Rattle.model_laws.proofs.Swept.{swept-use}
+use Rattle.model_laws.proofs.StepParts.{steps-done, steps-13}
 use Rattle.bitmaps.specs.Given.{adoptedAs, usedBits}
 use Rattle.sweeping.specs.declared.Lowest.the-variants.{Segment, Nothing}
 use Rattle.sweeping.specs.Sweeping.{lowestOf, Finds, stateAfter, stackAfter, settled, Settles, Finishes, SweepFails, Sweeps}
@@ -43,12 +43,13 @@ inSweep g m = sweeps g (lowest m (g .segments)) m
 -- ---- what the code writes is what the model does
 
 module _ (g : Geometry) (m : Mem) (s : ℕ) (k : IsClass (class m s)) where
-  settled-is : settled g (rebuiltBy g m s) s (class m s) (keptBy g m s) ≡ settledBy g m s
+  settled-is : settled g (rebuiltBy g m s) s (class m s) (markedBlocks g m s) ≡ settledBy g m s
   unfolding settled stateAfter stackAfter settledBy
-  settled-is = go (eqb (keptBy g m s) 0) (eqb (keptBy g m s) (blocksIn g (class m s))) refl refl
+  settled-is = go (eqb (markedBlocks g m s) 0) (eqb (markedBlocks g m s) (blocksIn g (class m s))) refl refl
     where
-      go : (a b : Bool) → eqb (keptBy g m s) 0 ≡ a → eqb (keptBy g m s) (blocksIn g (class m s)) ≡ b → settled g (rebuiltBy g m s) s (class m s) (keptBy g m s) ≡ settledBy g m s
-      go true true x y = absurd (let p = blocks-some g (class m s) k in let q : keptBy g m s ≡ 0 = eqb-true _ _ x in let r : keptBy g m s ≡ blocksIn g (class m s) = eqb-true _ _ y in omega arith)
+      go : (a b : Bool) → eqb (markedBlocks g m s) 0 ≡ a → eqb (markedBlocks g m s) (blocksIn g (class m s)) ≡ b → settled g (rebuiltBy g m s) s (class m s) (markedBlocks g m s) ≡ settledBy g m s
+      go true true x y = absurd
+          (let p = blocks-some g (class m s) k in let q : markedBlocks g m s ≡ 0 = eqb-true _ _ x in let r : markedBlocks g m s ≡ blocksIn g (class m s) = eqb-true _ _ y in omega arith)
       go true false x y = rw (x, y) refl
       go false true x y = rw (x, y) refl
       go false false x y = rw (x, y) refl
@@ -68,23 +69,23 @@ module _ (g : Geometry) (m : Mem) (s : ℕ) (z : Sizes g m) (l : s < g .segments
     used-is = eu ∙ ap (λ x. onesAmong (usedBits (bitAt (bitmap g m s)) x) (blocksIn g c)) ep ∙ ap (λ x. onesAmong (usedBits (bitAt (bitmap g m s)) (place m s)) (blocksIn g x)) ec
         ∙ sym (ap (λ b. pick b 0 (onesAmong (usedBits (bitAt (bitmap g m s)) (place m s)) (blocksIn g (class m s)))) (ne-eqb (tag m s) Tag.free (λ x. omega arith)))
 
-    kept-is : n ≡ keptBy g m s
+    kept-is : n ≡ markedBlocks g m s
     kept-is = en ∙ ap (λ x. onesAmong (bitAt (marksIn g m s x)) (blocksIn g x)) ec
 
     pub swept-finished : (r : Step) (m₂ : Mem) → Finishes g m₁ s c u n r m₂ → Sweeps g m s r m₂
     unfolding swept setRun
     swept-finished r m₂ q = go (finishes .either)
       where
-        finishes : Finishes g (rebuiltBy g m s) s (class m s) u (keptBy g m s) r m₂
-        finishes = subst (λ x. Finishes g (rebuiltBy g m s) s x u (keptBy g m s) r m₂) ec
+        finishes : Finishes g (rebuiltBy g m s) s (class m s) u (markedBlocks g m s) r m₂
+        finishes = subst (λ x. Finishes g (rebuiltBy g m s) s x u (markedBlocks g m s) r m₂) ec
             (subst (λ x. Finishes g (rebuiltBy g m s) s c u x r m₂) kept-is
             (subst (λ x. Finishes g x s c u n r m₂) (e ∙ ap (adoptedAs g m s) ec) q))
 
-        freed : u - keptBy g m s ≡ inUse g m s - inUse g (swept g m s) s
-        freed = ap (λ w. w - keptBy g m s) used-is ∙ ap (λ w. inUse g m s - w) (sym (swept-use g m z s l is-class))
+        freed : u - markedBlocks g m s ≡ inUse g m s - inUse g (swept g m s) s
+        freed = ap (λ w. w - markedBlocks g m s) used-is ∙ ap (λ w. inUse g m s - w) (sym (swept-use g m z s l is-class))
 
-        go : ((r ≡ Swept s (u - keptBy g m s)) × (m₂ ≡ setCursor (settled g (rebuiltBy g m s) s (class m s) (keptBy g m s)) (suc s)))
-            ⊎ ((r ≡ Refused 13) × (g .segments ≤ count g (rebuiltBy g m s) (stackAfter (class m s) (keptBy g m s)))) → Sweeps g m s r m₂
+        go : ((r ≡ Swept s (u - markedBlocks g m s)) × (m₂ ≡ setCursor (settled g (rebuiltBy g m s) s (class m s) (markedBlocks g m s)) (suc s)))
+            ⊎ ((r ≡ Refused 13) × (g .segments ≤ count g (rebuiltBy g m s) (stackAfter (class m s) (markedBlocks g m s)))) → Sweeps g m s r m₂
         go (inl (a, b)) = record { either = inl (a ∙ ap (Swept s) freed, b ∙ ap (λ w. setCursor w (suc s)) (settled-is g m s is-class), is-class) }
         go (inr (a, b)) = record { either = inr (a, inr b) }
 
@@ -103,9 +104,9 @@ module _ (g : Geometry) (m : Mem) (c : Consistent g m) (s : ℕ) (l : s < g .seg
   is-classed : IsClass (class m s)
   is-classed = c .sound .segments s l .classes (λ z. omega arith)
 
-  room : count g m (stackAfter (class m s) (keptBy g m s)) < g .segments
+  room : count g m (stackAfter (class m s) (markedBlocks g m s)) < g .segments
   unfolding stackAfter
-  room = go (eqb (keptBy g m s) 0)
+  room = go (eqb (markedBlocks g m s) 0)
     where
       go : (b : Bool) → count g m (pick b freeStack (partStack (class m s))) < g .segments
       go true = stack-room g m freeStack (isFree m) (c .summed .freeSegments) s l (not-free m s (λ e. omega arith))

@@ -6,7 +6,7 @@ use mathlib.Core.Logic.{_⊎_}
 use mathlib.Core.Option.{Option, none, some}
 use Prim.Native.Nat.{ℕ, suc, _-_, _≤_, _<_}
 use lib.Dec.{eqb}
-use Rattle.rules.specs.Pick.{pick}
+use Rattle.basics.specs.Pick.{pick}
 use Rattle.classes.specs.Class.{IsClass}
 use Rattle.layout.specs.declared.Geometry.{Geometry}
 use Rattle.layout.specs.Geometry.{blocksIn}
@@ -16,7 +16,7 @@ use Rattle.model.specs.declared.Step.{Step}
 use Rattle.model.specs.declared.Step.the-variants.{Swept, Refused}
 use Rattle.model.specs.Fields.{class, tag, setCursor}
 use Rattle.model.specs.Segments.{setSegmentState, freeStack, partStack, count, stacked, inUse}
-use Rattle.model.specs.Collector.{keptBy, swept, lowest}
+use Rattle.model.specs.Collector.{markedBlocks, swept, lowest}
 use Rattle.sweeping.specs.declared.Lowest.{Lowest}
 use Rattle.sweeping.specs.declared.Lowest.the-variants.{Segment, Nothing}
 use Rattle.model.specs.Consistent.{Behind}
@@ -64,7 +64,7 @@ pub record Finishes (g : Geometry) (m : Mem) (s c used n : ℕ) (r : Step) (afte
 
 -- what hinders a sweep: the segment has no class, or its stack no room
 abbrev pub SweepFails : Geometry → Mem → ℕ → Type 0
-SweepFails g m s = (IsClass (class m s) → ⊥) ⊎ (g .segments ≤ count g m (stackAfter (class m s) (keptBy g m s)))
+SweepFails g m s = (IsClass (class m s) → ⊥) ⊎ (g .segments ≤ count g m (stackAfter (class m s) (markedBlocks g m s)))
 
 -- Swept, the segment and how many blocks in use became free, and the memory swept; or 13 where something hinders it
 pub record Sweeps (g : Geometry) (m : Mem) (s : ℕ) (r : Step) (after : Mem) : Type 0 where

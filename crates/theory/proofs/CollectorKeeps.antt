@@ -12,7 +12,7 @@ use Rattle.theory.proofs.Completeness.{start-comp, phase-comp, trace-co
 use Rattle.theory.proofs.Graph.{bool-cases, clash}
 use Rattle.theory.proofs.Invariant.{Inv}
 use Rattle.theory.specs.Machine.{State, Live, setAcks, acknowledge, check, start, setPhase}
-use Rattle.rules.specs.Pick.{oneIf}
+use Rattle.basics.specs.Pick.{oneIf}
 use Rattle.theory.specs.MachineCalls.{outside, answerOutside, waiting, move, traceStep, sweepStep, stepBy}
 use Rattle.theory.proofs.Simulation.{gc-sim}
 use Rattle.theory.proofs.Updates.{upd-cases, upd-same}

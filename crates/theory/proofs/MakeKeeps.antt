@@ -87,8 +87,8 @@ module _ (segmentOf : ℕ → ℕ) (st : State) (inv : Inv segmentOf st) (i d b 
   make-valid : (x : ℕ) → Live after x → after .used x ≡ true
   make-valid x p = ⊎-elim (λ p′. upd-other (st .used) b true x (live-other x p′) ∙ inv .valid x p′) (λ e. ap (after .used) e ∙ upd-same (st .used) b true) (live-back p)
 
-  make-kept : st .phase ≡ sweep → (x : ℕ) → Reached after x → st .condemned (segmentOf x) ≡ true → after .marked x ≡ true
-  make-kept e x p k = ⊎-elim (λ p′. mark-other x (live-other x (reached-live st p′)) ∙ inv .kept e x p′ k) (λ w. clash k (ap (λ z. st .condemned (segmentOf z)) w ∙ hd)) (reached-back p)
+  make-refines : st .phase ≡ sweep → (x : ℕ) → Reached after x → st .condemned (segmentOf x) ≡ true → after .marked x ≡ true
+  make-refines e x p k = ⊎-elim (λ p′. mark-other x (live-other x (reached-live st p′)) ∙ inv .kept e x p′ k) (λ w. clash k (ap (λ z. st .condemned (segmentOf z)) w ∙ hd)) (reached-back p)
 
   pub make-inv : Inv segmentOf after
   make-inv = record {
@@ -100,5 +100,5 @@ module _ (segmentOf : ℕ → ℕ) (st : State) (inv : Inv segmentOf st) (i d b 
     second = inv .second;
     all = inv .all;
     core = make-core;
-    kept = make-kept;
+    kept = make-refines;
   }

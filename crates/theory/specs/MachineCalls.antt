@@ -10,7 +10,7 @@ use Rattle.theory.specs.Machine.{State, setRoot, store, make, attach, de
 use Rattle.theory.specs.Calls.{Call, CallKind, coming, working, asksNumber, asksFlag, asksShape, making, kindOf, Answer, Observation, shapeIf, onRecord, sameRef, c-attach, c-detach, c-check, c-leave, c-enter, c-spawn, c-make, c-load, c-store, c-copy, c-clear, c-put, c-get, c-same, c-shape, a-ok, a-num, a-flag, a-shape}
 use Rattle.theory.specs.Phases.{Phase, idle, sync1, sync2, mark, sweep, inHandshake, owes}
 use Rattle.theory.specs.Reach.{root}
-use Rattle.rules.specs.Pick.{oneIf}
+use Rattle.basics.specs.Pick.{oneIf}
 use Rattle.classes.specs.Record.{ofCounts}
 use Rattle.classes.specs.declared.RecordShape.{RecordShape}
 use Rattle.layout.specs.Geometry.{rootCount, mutatorCount}

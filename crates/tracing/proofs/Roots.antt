@@ -11,8 +11,8 @@ use Rattle.layout.specs.Mem.{Mem}
 use Rattle.model.specs.Fields.{absent, state, root}
 use Rattle.model.specs.Records.{record?}
 use Rattle.model.specs.Tracing.{push, pushRoots}
-use Rattle.laws.proofs.Pushes.{fold-untouched, roots-none, roots-next}
-use Rattle.laws.proofs.Acknowledgements.{RootsReady, ready-roots, root-ok}
+use Rattle.model_laws.proofs.Pushes.{fold-untouched, roots-none, roots-next}
+use Rattle.model_laws.proofs.Acknowledgements.{RootsReady, ready-roots, root-ok}
 use Rattle.tracing.specs.Pushing.{PushFails, Pushes}
 use Rattle.tracing.specs.Roots.{RootFails, PushesRoots}
 use Rattle.tracing.proofs.Succeeds.{fold-succeeds}

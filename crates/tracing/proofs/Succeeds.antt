@@ -17,9 +17,9 @@ use Rattle.model.specs.Fields.{traceCount}
 use Rattle.model.specs.Records.{record?, entered}
 use Rattle.model.specs.Tracing.{push}
 use Rattle.model.specs.Consistent.{RecordOk, Consistent}
-use Rattle.laws.proofs.Blocks.{bit-below}
-use Rattle.laws.proofs.Apart.{class-of}
-use Rattle.laws.proofs.Pushes.{Counted, Ready, record-untouched, untouched-push, ready-push, fold-untouched, fold-ready}
+use Rattle.model_laws.proofs.Blocks.{bit-below}
+use Rattle.model_laws.proofs.Apart.{class-of}
+use Rattle.model_laws.proofs.Pushes.{Counted, PushReady, record-untouched, untouched-push, ready-push, fold-untouched, fold-ready}
 use Rattle.marks.specs.declared.Bit.the-variants.{At, Torn}
 use Rattle.marks.specs.Bits.{recordBitAt}
 use Rattle.marks.proofs.Bits.{isAt}
@@ -55,7 +55,7 @@ module _ (g : Geometry) (m : Mem) (number : Counted g m) where
 
 -- ---- any push of a fold: h is the memory after so many, w the words pushed
 
-module _ (g : Geometry) (h : ℕ → Mem) (w : ℕ → ℕ) (next : (n : ℕ) → h (suc n) ≡ push g (h n) (record? (w n))) (y : Ready g (h 0)) where
+module _ (g : Geometry) (h : ℕ → Mem) (w : ℕ → ℕ) (next : (n : ℕ) → h (suc n) ≡ push g (h n) (record? (w n))) (y : PushReady g (h 0)) where
   pub fold-succeeds : (n : ℕ) → ((i at : ℕ) → i ≤ n → w i ≡ suc at → RecordOk g (h 0) at) → PushFails g (h n) (w n) → ⊥
   fold-succeeds n ok =
       succeeds g (h n) (fold-ready g h w next y n (λ i at l. ok i at (omega arith)) .number) (w n)
@@ -70,6 +70,6 @@ module _ (g : Geometry) (m : Mem) (c : Consistent g m) where
   module _ (lc : 1 < length (m .control)) (lq : length (m .marks) ≡ g .segments * markWords g) where
     pub push-succeeds-next : (v w : ℕ) → ((at : ℕ) → v ≡ suc at → RecordOk g m at) → ((at : ℕ) → w ≡ suc at → RecordOk g m at) → PushFails g (push g m (record? v)) w → ⊥
     push-succeeds-next v w ok also =
-        let y : Ready g m = record { control = lc; marks = lq; number = c .sound .trace .number } in
+        let y : PushReady g m = record { control = lc; marks = lq; number = c .sound .trace .number } in
         succeeds g (push g m (record? v)) (ready-push g m y v ok .number) w
         (λ at e. record-untouched g m (push g m (record? v)) (untouched-push g m v) at (also at e))

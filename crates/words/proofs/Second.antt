@@ -11,7 +11,7 @@ use lib.Count.{trailingZeros, under}
 use lib.Dec.{ltb, eqb}
 use lib.Pow.{shr-shr, shr-le, pow-pos}
 use borrow.Author.Tests.{lt-ltb, le-ltb, eq-eqb, ne-eqb, ltb-true}
-use Rattle.rules.proofs.Order.{le-or-lt}
+use Rattle.basics.proofs.Order.{le-or-lt}
 use Rattle.words.specs.Bits.{clearFrom, someClear}
 use Rattle.words.proofs.Clear.{rest, none-clear, some-clear, clear-lt}
 

@@ -2,7 +2,7 @@
 use mathlib.Core.Path.{sym, _∙_}
 use borrow.Author.Needs.{needs}
 use Rattle.layout.proofs.Regions.{sized}
-use Rattle.laws.proofs.Promised.{size-1}
+use Rattle.model_laws.proofs.Promised.{size-1}
 use Rattle.attaching.proofs.Coming.{attach-2, attach-3, attaches}
 use Rattle.attaching.proofs.attach.Tie as tie
 use Rattle.attaching.proofs.attach.Statement.{statement}

@@ -3,7 +3,7 @@ use mathlib.Core.Path.{sym, _∙_}
 use borrow.Author.Needs.{needs}
 use Rattle.layout.proofs.Regions.{sized, resized}
 use Rattle.theory.specs.Calls.{c-detach}
-use Rattle.laws.proofs.Promised.{size-1, refused}
+use Rattle.model_laws.proofs.Promised.{size-1, refused}
 use Rattle.mutators.specs.Inside.{insideThen}
 use Rattle.attaching.proofs.Going.{known, detach-11, detaches, detach-13}
 use Rattle.attaching.proofs.detach.Tie as tie

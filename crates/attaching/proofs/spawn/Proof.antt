@@ -3,7 +3,7 @@ use mathlib.Core.Path.{sym, _∙_}
 use native.Mathlib.Omega.{arith}
 use borrow.Author.Needs.{needs}
 use Rattle.layout.proofs.Regions.{sized}
-use Rattle.laws.proofs.Promised.{size-1}
+use Rattle.model_laws.proofs.Promised.{size-1}
 use Rattle.attaching.proofs.Coming.{spawn-refused, in-range, spawns}
 use Rattle.attaching.proofs.spawn.Tie as tie
 use Rattle.attaching.proofs.spawn.Statement.{statement}

@@ -6,7 +6,7 @@ use borrow.Author.Needs.{needs}
 use borrow.Author.Tests.{not-true, not-false}
 use borrow.Fn.Kinds.{In}
 use borrow.Fn.PlainCycle.{Measures, is, falls, and}
-use Rattle.rules.proofs.Deciding.{holds, fails, refuted}
+use Rattle.basics.proofs.Deciding.{holds, fails, refuted}
 use Rattle.words.proofs.Trees.{tree-level, tree-top, tree-one, words-in, words-above, room-behind}
 use Rattle.bitmap_check.proofs.Examine.{not-summed, by-rest}
 use Rattle.bitmap_check.proofs.is_tree.Reads as is-tree

@@ -1,7 +1,7 @@
 -- `bitmap_check::agree` meets its contract.
 use mathlib.Core.Path.{sym, _∙_}
 use borrow.Author.Needs.{needs}
-use Rattle.rules.proofs.Deciding.{holds, fails}
+use Rattle.basics.proofs.Deciding.{holds, fails}
 use Rattle.bitmap_check.proofs.Examine.{agree-bit}
 use Rattle.bitmap_check.proofs.agree.Tie as tie
 use Rattle.bitmap_check.proofs.agree.Statement.{statement}

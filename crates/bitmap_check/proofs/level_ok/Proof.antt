@@ -1,7 +1,7 @@
 -- `bitmap_check::level_ok` meets its contract.
 use native.Mathlib.Omega.{arith}
 use borrow.Author.Needs.{needs}
-use Rattle.rules.proofs.Deciding.{holds, fails}
+use Rattle.basics.proofs.Deciding.{holds, fails}
 use Rattle.bitmap_check.proofs.Examine.{padded, not-padded}
 use Rattle.bitmap_check.proofs.level_ok.Tie as tie
 use Rattle.bitmap_check.proofs.level_ok.Statement.{statement}

@@ -3,7 +3,7 @@ use Prim.Native.Nat.{ℕ, _-_, _≤_, _<_}
 use native.Mathlib.Omega.{arith}
 use borrow.Author.Count.{below-more, below-none}
 use borrow.Author.Tests.{not-true, not-false}
-use Rattle.rules.proofs.Deciding.{holds, fails, refuted}
+use Rattle.basics.proofs.Deciding.{holds, fails, refuted}
 use Rattle.bitmap_check.specs.Agree.{SummaryAgrees}
 use Rattle.bitmap_check.proofs.Examine.{all-agree, one-agrees}
 use Rattle.bitmap_check.proofs.sums_ok.Tie as tie

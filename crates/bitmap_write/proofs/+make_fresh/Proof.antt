@@ -5,9 +5,9 @@ use native.Mathlib.Nat.{pos-of-ne-zero}
 use native.Mathlib.Omega.{arith}
 use lib.ListN.{length}
 use borrow.Author.Needs.{needs}
-use Rattle.rules.proofs.Parts.{put-length}
+use Rattle.basics.proofs.Parts.{put-length}
 use Rattle.words.proofs.Trees.{words-in, room-behind}
-use Rattle.bitmap_write.specs.Ready.{padded, cleared}
+use Rattle.bitmap_write.specs.Completed.{padded, cleared}
 use Rattle.bitmap_write.proofs.Fresh.{fresh-none, fresh-put, fresh-last}
 use Prim.Native.Nat.{ℕ, _-_, _≤_, _<_}
 use borrow.Fn.Kinds.{In}

@@ -5,7 +5,7 @@ use native.Mathlib.Omega.{arith}
 use borrow.Author.Needs.{needs}
 use borrow.Fn.Kinds.{In}
 use borrow.Fn.PlainCycle.{Measures, is, falls, and}
-use Rattle.rules.proofs.Parts.{put-length}
+use Rattle.basics.proofs.Parts.{put-length}
 use Rattle.words.proofs.Trees.{words-in, words-above, room-behind}
 use Rattle.bitmap_write.proofs.Rebuilt.{rebuilt-none, rebuild-put}
 use Rattle.bitmap_write.proofs.rebuild.Reads as rebuild

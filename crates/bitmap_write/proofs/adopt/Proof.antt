@@ -3,7 +3,7 @@ use mathlib.Core.Path.{_≡_, sym, ap, _∙_}
 use mathlib.Core.List.{List}
 use native.Mathlib.Omega.{arith}
 use Rattle.words.proofs.Trees.{words-in}
-use Rattle.bitmap_write.specs.Ready.{completed, adopted}
+use Rattle.bitmap_write.specs.Completed.{completed, adopted}
 use borrow.Author.Needs.{needs}
 use Rattle.bitmap_write.proofs.adopt.Statement.{statement}
 use Rattle.bitmap_write.proofs.adopt.Tie as tie

@@ -5,7 +5,7 @@ use Prim.Native.Nat.{ℕ, _-_, _≤_}
 use native.Mathlib.Omega.{arith}
 use lib.ListN.{length, set, drop, replicate, length-set}
 use borrow.Author.Fill.{fill-none, fill-more}
-use Rattle.bitmap_write.specs.Ready.{cleared}
+use Rattle.bitmap_write.specs.Completed.{cleared}
 use Rattle.bitmap_write.proofs.clear_words.Tie as tie
 use Rattle.bitmap_write.proofs.clear_words.Statement.{statement}
 

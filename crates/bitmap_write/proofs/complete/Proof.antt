@@ -6,7 +6,7 @@ use native.Mathlib.Omega.{arith}
 use borrow.Author.Needs.{needs}
 use Rattle.words.proofs.Trees.{words-in}
 use Rattle.bitmap_write.specs.Rebuild.{rebuilt}
-use Rattle.bitmap_write.specs.Ready.{completed}
+use Rattle.bitmap_write.specs.Completed.{completed}
 use Rattle.bitmap_write.proofs.complete.Tie as tie
 use Rattle.bitmap_write.proofs.complete.Statement.{statement}
 

@@ -2,7 +2,7 @@
 use mathlib.Core.Path.{ap, _∙_}
 use Prim.Native.Nat.{ℕ}
 use borrow.Author.Needs.{needs}
-use Rattle.bitmap_write.specs.Ready.{padded, cleared}
+use Rattle.bitmap_write.specs.Completed.{padded, cleared}
 use Rattle.bitmap_write.proofs.free_level.Statement.{statement}
 use Rattle.bitmap_write.proofs.free_level.Tie as tie
 

@@ -6,7 +6,7 @@ use Prim.Native.Nat.{ℕ, _-_, _*_, _^_, _%_, _≤_, _<_}
 use lib.ListN.{length, drop}
 use borrow.Author.Needs.{needs}
 use Rattle.words.specs.Levels.{wordsFor}
-use Rattle.bitmap_write.specs.Ready.{Pressable, Ways, copied, gathered}
+use Rattle.bitmap_write.specs.Completed.{Pressable, Ways, copied, gathered}
 use Rattle.bitmap_write.proofs.gather.Statement.{statement}
 use Rattle.bitmap_write.proofs.gather.Tie as tie
 

@@ -5,7 +5,7 @@ use native.Mathlib.Omega.{arith}
 use lib.ListN.{length, drop}
 use borrow.Author.Needs.{needs}
 use Rattle.words.specs.Levels.{wordsFor}
-use Rattle.bitmap_write.specs.Ready.{copied, gathered}
+use Rattle.bitmap_write.specs.Completed.{copied, gathered}
 use Rattle.bitmap_write.proofs.Gathered.{copied-none, part-length, part-turn, count-small}
 use Rattle.bitmap_write.proofs.gather_by.Tie as tie
 use Rattle.bitmap_write.proofs.gather_by.Statement.{statement}

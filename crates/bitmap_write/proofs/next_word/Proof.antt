@@ -4,7 +4,7 @@ use mathlib.Core.Logic.{_⊎_, inl, inr}
 use Prim.Native.Nat.{ℕ, _+_, _*_, _%_, _≤_, _<_}
 use native.Mathlib.Omega.{arith}
 use Rattle.words.specs.Levels.{wordsFor}
-use Rattle.bitmap_write.specs.Ready.{Pressable, Ways}
+use Rattle.bitmap_write.specs.Completed.{Pressable, Ways}
 use borrow.Author.Needs.{needs}
 use Rattle.bitmap_write.proofs.next_word.Statement.{statement}
 use Rattle.bitmap_write.proofs.next_word.Tie as tie

@@ -4,7 +4,7 @@ use Prim.Native.Nat.{ℕ, _/_}
 use lib.Bits.{bitOr}
 use lib.ListN.{getD, set}
 use borrow.Author.Needs.{needs}
-use Rattle.bitmap_write.proofs.Ready.{padded-whole, padded-part}
+use Rattle.bitmap_write.proofs.Completed.{padded-whole, padded-part}
 use Rattle.bitmap_write.proofs.pad.Tie as tie
 use Rattle.bitmap_write.proofs.pad.Statement.{statement}
 

@@ -2,7 +2,7 @@
 use mathlib.Core.Path.{sym, ap, ap₂, _∙_}
 use Prim.Native.Nat.{ℕ}
 use native.Mathlib.Omega.{arith}
-use Rattle.bitmap_write.specs.Ready.{pressed}
+use Rattle.bitmap_write.specs.Completed.{pressed}
 use Rattle.bitmap_write.proofs.Pressed.{told, press-all, press-quarter}
 use borrow.Author.Needs.{needs}
 use Rattle.bitmap_write.proofs.press.Statement.{statement}

@@ -5,7 +5,7 @@ use native.Mathlib.Omega.{arith}
 use lib.ListN.{length, getD, drop}
 use lib.Seq.{getD-drop}
 use borrow.Author.Needs.{needs}
-use Rattle.bitmap_write.specs.Ready.{pressed}
+use Rattle.bitmap_write.specs.Completed.{pressed}
 use Rattle.bitmap_write.proofs.Pressed.{room, some-step, press-fits, parts, parts-none, parts-turn, parts-lt, parts-all}
 use Rattle.bitmap_write.proofs.pressed_word.Statement.{statement}
 use Rattle.bitmap_write.proofs.pressed_word.Tie as tie

@@ -7,7 +7,7 @@ use Rattle.classes.specs.declared.SegmentShape.{SegmentShape}
 use Rattle.classes.proofs.Shapes.{shape-levels-pos}
 use Rattle.layout.specs.Geometry.{blocksIn}
 use Rattle.layout.specs.Mem.{memOf}
-use Rattle.bitmap_write.specs.Ready.{fresh}
+use Rattle.bitmap_write.specs.Completed.{fresh}
 use Rattle.model.specs.Segments.{bitmap, setBitmap}
 use Rattle.bitmaps.proofs.Lent.{TreePart, tree-at, tree-put}
 use Rattle.bitmaps.proofs.fresh.Tie as tie

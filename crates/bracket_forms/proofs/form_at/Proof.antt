@@ -2,7 +2,7 @@
 use mathlib.Core.Path.{sym}
 use native.Mathlib.Omega.{arith}
 use Rattle.bracket_forms.specs.Kinds.{forms, formAt}
-use Rattle.rules.proofs.Arms.{past-all}
+use Rattle.basics.proofs.Arms.{past-all}
 use Rattle.bracket_forms.proofs.Reader.{last-form}
 use Rattle.bracket_forms.proofs.form_at.Tie as tie
 use Rattle.bracket_forms.proofs.form_at.Statement.{statement}

@@ -1,6 +1,6 @@
 -- `bracket_forms::write_reply` meets its contract: the parts stand for the reply's text, which fits the buffer.
 use native.Mathlib.Omega.{arith}
-use Rattle.bracket_forms.proofs.Writer.{reply-stands, stands-written}
+use Rattle.bracket_forms.proofs.Writer.{reply-stands-for, stands-for-written}
 use borrow.Author.Needs.{needs}
 use Rattle.bracket_forms.proofs.write_reply.Statement.{statement}
 use Rattle.bracket_forms.proofs.write_reply.Tie as tie
@@ -10,13 +10,13 @@ reply-parts-requires c κs = search needs
 
 write-parts-requires : tie.Need-write-parts-requires
 write-parts-requires c κs =
-    let s = reply-stands (c .before .before .args .reply) (c .before .reply-parts .result) (c .before .reply-parts .ensures) in
+    let s = reply-stands-for (c .before .before .args .reply) (c .before .reply-parts .result) (c .before .reply-parts .ensures) in
     omega (arith, s .short)
 
 returns : tie.Need-returns
 returns c =
-    stands-written
-    (reply-stands (c .before .before .before .args .reply) (c .before .before .reply-parts .result) (c .before .before .reply-parts .ensures))
+    stands-for-written
+    (reply-stands-for (c .before .before .before .args .reply) (c .before .before .reply-parts .result) (c .before .before .reply-parts .ensures))
     _ _ _ (c .write-parts .ensures)
 
 pub write-reply-spec : {M : Type 1} → statement M

@@ -6,7 +6,7 @@ use mathlib.Core.Path.{_≡_, refl, _∙_}
 use native.Mathlib.Omega.{arith}
 use lib.ListN.{length, drop}
 use Rattle.bracket_text.specs.Scan.{matched}
-use Rattle.bracket_text.proofs.Steps.{moves-at, moves-astray, matched-more, matched-astray, matched-end, ended}
+use Rattle.bracket_text.proofs.Steps.{piece-read-at, piece-read-astray, matched-more, matched-astray, matched-end, ended}
 use Rattle.bracket_text.proofs.match_template.Statement.{statement}
 use Rattle.bracket_text.proofs.match_template.Tie as tie
 
@@ -41,7 +41,7 @@ returns c =
     let k = looping .loop in
     k .inv .3
     ∙ matched-astray (a .template .now) (k .i) (k .count) (k .numbers) _ (omega arith)
-    (moves-astray (a .line .now) _ _ _ (c .before .before .piece-at .ensures) (c .enum-told .given .1))
+    (piece-read-astray (a .line .now) _ _ _ (c .before .before .piece-at .ensures) (c .enum-told .given .1))
 
 add-i : tie.Need-add-i Inv-loop μ-loop
 add-i c = search needs
@@ -56,7 +56,7 @@ loop-again c =
     let entry = looping .before .before .before in
     let a = entry .args in
     let k = looping .loop in
-    let m = moves-at (a .line .now) _ _ _ (piece-at-told .piece-at .ensures) (c .before .next .given .1) in (
+    let m = piece-read-at (a .line .now) _ _ _ (piece-at-told .piece-at .ensures) (c .before .next .given .1) in (
       omega arith,
       m .1,
       m .2,

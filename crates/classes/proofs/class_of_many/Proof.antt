@@ -5,7 +5,7 @@ use Prim.Native.Nat.{ℕ, _^_}
 use native.Mathlib.Omega.{arith}
 use lib.Dec.{ltb, ltb→lt}
 use borrow.Author.Needs.{needs}
-use Rattle.rules.proofs.Table.{every-at}
+use Rattle.basics.proofs.Table.{every-at}
 use Rattle.classes.proofs.Smallest.{past-limit}
 use Rattle.classes.proofs.ClassTable.{table, in-table}
 use Rattle.classes.proofs.class_of_many.Tie as tie

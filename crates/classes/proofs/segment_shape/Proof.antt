@@ -7,8 +7,8 @@ use native.Mathlib.Omega.{arith}
 use lib.Dec.{T, eqb, ltb, eqb→eq, ltb→lt}
 use lib.ListN.{getD}
 use borrow.Author.Needs.{needs}
-use Rattle.rules.proofs.Arms.{NoneOf, past-all}
-use Rattle.rules.proofs.Table.{and-left, and-right, every-at}
+use Rattle.basics.proofs.Arms.{NoneOf, past-all}
+use Rattle.basics.proofs.Table.{and-left, and-right, every-at}
 use Rattle.classes.specs.declared.SegmentShape.{SegmentShape}
 use Rattle.classes.specs.declared.ClassShape.the-variants.{Of, NoClass}
 use Rattle.classes.specs.Class.{firstClass, classCount, IsClass, classTest}

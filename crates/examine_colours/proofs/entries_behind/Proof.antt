@@ -3,7 +3,7 @@ use mathlib.Core.Path.{_≡_, sym, subst}
 use mathlib.Core.List.{List}
 use Prim.Native.Nat.{ℕ}
 use Rattle.layout.specs.Mem.{memOf}
-use Rattle.searching.specs.Found.{Finds, ByEntries}
+use Rattle.examine_search.specs.Found.{Finds, ByEntries}
 use Rattle.examine_colours.proofs.Fields.{within, front, back}
 use borrow.Author.Needs.{needs}
 use Rattle.examine_colours.proofs.entries_behind.Statement.{statement}

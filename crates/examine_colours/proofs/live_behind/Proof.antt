@@ -4,7 +4,7 @@ use mathlib.Core.List.{List}
 use Prim.Native.Nat.{ℕ}
 use Rattle.layout.specs.Mem.{memOf}
 use Rattle.model.specs.Reaching.{Live}
-use Rattle.searching.specs.Found.{Finds}
+use Rattle.examine_search.specs.Found.{Finds}
 use Rattle.examine_colours.proofs.Fields.{within, back}
 use borrow.Author.Needs.{needs}
 use Rattle.examine_colours.proofs.live_behind.Statement.{statement}

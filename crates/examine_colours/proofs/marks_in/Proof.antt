@@ -3,7 +3,7 @@ use mathlib.Core.Path.{_≡_, sym, subst}
 use mathlib.Core.List.{List}
 use Prim.Native.Nat.{ℕ, _≤_}
 use lib.ListN.{length}
-use Rattle.rules.specs.Decides.{Decides}
+use Rattle.basics.specs.Decides.{Decides}
 use Rattle.layout.specs.Geometry.{len}
 use Rattle.layout.specs.Mem.{memOf}
 use Rattle.examine_cycle.specs.declared.Asked.the-variants.{Marks}

@@ -4,7 +4,7 @@ use lib.Seq.{length-take-le}
 use mathlib.Core.List.{List}
 use Prim.Native.Nat.{ℕ}
 use lib.ListN.{take}
-use Rattle.rules.specs.Decides.{Decides}
+use Rattle.basics.specs.Decides.{Decides}
 use Rattle.layout.specs.Mem.{memOf}
 use Rattle.examine_cycle.specs.declared.Asked.the-variants.{Pointers}
 use Rattle.examine_cycle.specs.Judged.{Judged}

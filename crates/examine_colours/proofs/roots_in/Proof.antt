@@ -2,7 +2,7 @@
 use mathlib.Core.Path.{_≡_, subst}
 use mathlib.Core.List.{List}
 use Prim.Native.Nat.{ℕ, _<_}
-use Rattle.rules.specs.Decides.{Decides}
+use Rattle.basics.specs.Decides.{Decides}
 use Rattle.layout.specs.Geometry.{mutatorCount}
 use Rattle.layout.specs.Mem.{memOf}
 use Rattle.examine_cycle.specs.Judged.{RootsFine}

@@ -2,7 +2,7 @@
 use mathlib.Core.Path.{_≡_, _∙_}
 use lib.ListN.{drop}
 use borrow.Author.Tests.{not-true, not-false}
-use Rattle.rules.proofs.Deciding.{fails, refuted}
+use Rattle.basics.proofs.Deciding.{fails, refuted}
 use Rattle.layout.specs.Mem.{memOf}
 use Rattle.model.specs.Reaching.{Reached}
 use Rattle.examine_colours.specs.Coloured.{Room}

@@ -2,7 +2,7 @@
 use mathlib.Core.Path.{_≡_, _∙_}
 use lib.ListN.{drop}
 use borrow.Author.Tests.{not-true, not-false}
-use Rattle.rules.proofs.Deciding.{fails, refuted}
+use Rattle.basics.proofs.Deciding.{fails, refuted}
 use Rattle.layout.specs.Mem.{memOf}
 use Rattle.model.specs.Reaching.{Live}
 use Rattle.examine_colours.specs.Coloured.{Room}
@@ -29,8 +29,8 @@ returns c =
     let m = memOf g (entry .args .mem .now) in
     fails (λ q. refuted (finds-decides g m (Live m) _ _ (live-behind-told .live-behind .ensures)) (not-true _ (c .if1 .taken)) (q .records))
 
-keep-requires : tie.Need-keep-requires
-keep-requires c κs =
+copy-to-front-requires : tie.Need-copy-to-front-requires
+copy-to-front-requires c κs =
     let live-behind-told = c .before .before .before .before in
     let front-told = live-behind-told .before .before in
     let entry = front-told .before .before .before in
@@ -52,10 +52,10 @@ covered-requires c κs =
     let m = memOf g (a .mem .now) in
     let n = front-told .front .result in
     let t = live-behind-told .live-behind .last .1 .1 .1 .0 in
-    let u = kept .keep .last .1 .0 in
+    let u = kept .copy-to-front .last .1 .0 in
     let r : Room g (a .mem .now) n t = record { sized = entry .pre .0; field = front-told .front .ensures; room = live-behind-told .live-behind .kept .1 .1 .1 .0 ∙ entry .pre .1 } in (
-      resize g (a .mem .now) n t r u (kept .keep .kept .1 .0),
-      bits-front g m (Live m) (a .mem .now) n t r (drop n t) u (kept .keep .ensures)
+      resize g (a .mem .now) n t r u (kept .copy-to-front .kept .1 .0),
+      bits-front g m (Live m) (a .mem .now) n t r (drop n t) u (kept .copy-to-front .ensures)
           (live-behind-told .live-behind .ensures .good (not-false _ (past-ok .if1 .left))),
     )
 
@@ -68,4 +68,4 @@ returns-2 c = search needs
 pub tricolour-spec : {M : Type 1} → statement M
 tricolour-spec =
     tie.close
-    (tie.spec front-requires live-behind-requires same-length returns keep-requires covered-requires same-length-2 returns-2)
+    (tie.spec front-requires live-behind-requires same-length returns copy-to-front-requires covered-requires same-length-2 returns-2)

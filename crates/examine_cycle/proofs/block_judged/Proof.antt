@@ -1,7 +1,7 @@
 -- `examine_cycle::block_judged` meets its contract.
 use mathlib.Core.Path.{_∙_, sym, ap}
 use native.Mathlib.Omega.{arith}
-use Rattle.rules.proofs.Deciding.{holds}
+use Rattle.basics.proofs.Deciding.{holds}
 use Rattle.words.specs.Bits.{bitAt}
 use Rattle.layout.specs.Mem.{memOf}
 use Rattle.layout.proofs.Sizes.{heap-most}

@@ -2,10 +2,10 @@
 use mathlib.Core.Path.{_≡_, _∙_, sym, subst}
 use Prim.Native.Nat.{_-_}
 use native.Mathlib.Omega.{arith}
-use Rattle.rules.proofs.Deciding.{holds}
+use Rattle.basics.proofs.Deciding.{holds}
 use Rattle.layout.specs.Mem.{memOf}
-use Rattle.record_test.specs.Tests.{Tested}
-use Rattle.record_test.proofs.Testing.{tested-small}
+use Rattle.examine_record.specs.Tests.{Tested}
+use Rattle.examine_record.proofs.Testing.{tested-small}
 use Rattle.examine_cycle.proofs.Judging.{fine-torn, fine-by}
 use borrow.Author.Needs.{needs}
 use Rattle.examine_cycle.proofs.fine.Statement.{statement}

@@ -2,7 +2,7 @@
 use mathlib.Core.Path.{_≡_}
 use mathlib.Core.Logic.{inl}
 use native.Mathlib.Omega.{arith}
-use Rattle.rules.proofs.Deciding.{holds, refuted}
+use Rattle.basics.proofs.Deciding.{holds, refuted}
 use Rattle.layout.proofs.Sizes.{trace-most, mark-word}
 use Rattle.examine_cycle.proofs.Judging.{bit-either}
 use borrow.Author.Needs.{needs}

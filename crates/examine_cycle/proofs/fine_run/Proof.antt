@@ -3,10 +3,10 @@ use Prim.Native.Nat.{ℕ, _-_, _≤_}
 use mathlib.Core.Path.{_≡_, _∙_, subst}
 use native.Mathlib.Omega.{arith}
 use borrow.Author.Tests.{not-true, not-false}
-use Rattle.rules.proofs.Deciding.{holds, fails, refuted}
+use Rattle.basics.proofs.Deciding.{holds, fails, refuted}
 use Rattle.layout.specs.Mem.{memOf}
-use Rattle.searching.specs.Graph.{wordsOf}
-use Rattle.searching.proofs.Rooting.{length-most}
+use Rattle.examine_search.specs.Graph.{wordsOf}
+use Rattle.examine_search.proofs.Rooting.{length-most}
 use Rattle.examine_cycle.specs.Judged.{FineRun}
 use Rattle.examine_cycle.proofs.Judging.{run-more, run-one}
 use Rattle.examine_cycle.proofs.fine_run.Statement.{statement}

@@ -1,7 +1,7 @@
 -- `examine_cycle::mutator_fine` meets its contract.
 use mathlib.Core.Path.{_≡_, _∙_, sym, subst}
 use native.Mathlib.Omega.{arith}
-use Rattle.rules.proofs.Deciding.{holds, via}
+use Rattle.basics.proofs.Deciding.{holds, via}
 use borrow.Author.Needs.{needs}
 use Rattle.examine_cycle.proofs.mutator_fine.Statement.{statement}
 use Rattle.examine_cycle.proofs.mutator_fine.Tie as tie

@@ -1,7 +1,7 @@
 -- `examine_cycle::pointers_fine` meets its contract.
 use Prim.Native.Nat.{ℕ, _+_, _≤_}
 use mathlib.Core.Path.{_≡_, _∙_, sym, subst}
-use Rattle.rules.specs.Decides.{Decides}
+use Rattle.basics.specs.Decides.{Decides}
 use Rattle.layout.specs.Geometry.{len}
 use Rattle.layout.specs.Mem.{memOf}
 use Rattle.examine_cycle.specs.Judged.{FineRun}

@@ -4,12 +4,12 @@ use mathlib.Core.Path.{_≡_, sym, subst}
 use native.Mathlib.Omega.{arith}
 use borrow.Author.Count.{below-more}
 use borrow.Author.Tests.{not-true, not-false}
-use Rattle.rules.proofs.Deciding.{holds, fails, refuted}
+use Rattle.basics.proofs.Deciding.{holds, fails, refuted}
 use Rattle.layout.specs.Geometry.{blocksIn}
 use Rattle.layout.specs.Mem.{memOf}
 use Rattle.layout.proofs.Sizes.{most-small, heap-most, words-some}
 use Rattle.model.specs.Records.{headerOf}
-use Rattle.laws.proofs.Blocks.{blocks-most}
+use Rattle.model_laws.proofs.Blocks.{blocks-most}
 use Rattle.examine_cycle.specs.Judged.{BlockJudged}
 use Rattle.examine_cycle.proofs.Judging.{block-ends, block-begins, known-at, header-first, header-next}
 use Rattle.examine_cycle.proofs.segment_judged.Statement.{statement}

@@ -4,7 +4,7 @@ use Prim.Native.Nat.{_*_}
 use Rattle.layout.specs.Mem.{memOf}
 use Rattle.layout.proofs.Sizes.{heap-most}
 use borrow.Author.Tests.{not-true, not-false}
-use Rattle.rules.proofs.Deciding.{holds, refuted}
+use Rattle.basics.proofs.Deciding.{holds, refuted}
 use Rattle.examine_marks.proofs.Judging.{at-inside, at-segment, not-asked, fine-by}
 use native.Mathlib.Omega.{arith}
 use borrow.Author.Needs.{needs}

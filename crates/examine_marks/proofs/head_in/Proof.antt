@@ -1,7 +1,7 @@
 -- `examine_marks::head_in` meets its contract.
 use Rattle.layout.specs.Mem.{memOf}
 use Rattle.classes.proofs.Filling.{two-words}
-use Rattle.record_test.proofs.Testing.{head-block, head-segment}
+use Rattle.examine_record.proofs.Testing.{head-block, head-segment}
 use Rattle.examine_marks.proofs.Judging.{no-head, head-by}
 use native.Mathlib.Omega.{arith}
 use borrow.Author.Needs.{needs}

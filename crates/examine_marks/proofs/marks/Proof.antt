@@ -5,7 +5,7 @@ use native.Mathlib.Omega.{arith}
 use borrow.Author.Count.{below-more, below-none}
 use borrow.Author.Needs.{needs}
 use borrow.Author.Tests.{not-true, not-false}
-use Rattle.rules.proofs.Deciding.{holds, fails, refuted}
+use Rattle.basics.proofs.Deciding.{holds, fails, refuted}
 use Rattle.layout.specs.Mem.{memOf}
 use Rattle.layout.proofs.Sizes.{marks-are, trace-most}
 use Rattle.examine_marks.specs.Heads.{BitFine}

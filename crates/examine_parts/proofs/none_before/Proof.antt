@@ -2,7 +2,7 @@
 use Prim.Native.Nat.{ℕ, _-_, _≤_, _<_}
 use native.Mathlib.Omega.{arith}
 use borrow.Author.Count.{below-more, below-none}
-use Rattle.rules.proofs.Deciding.{holds, fails}
+use Rattle.basics.proofs.Deciding.{holds, fails}
 use Rattle.layout.specs.Mem.{memOf}
 use mathlib.Core.Path.{_≡_, sym, _∙_}
 use Rattle.model.specs.Fields.{tag}

@@ -1,6 +1,6 @@
 -- `examine_sound::sync_ok` meets its contract.
 use borrow.Author.Tests.{not-true, not-false}
-use Rattle.rules.proofs.Deciding.{fails, refuted, via}
+use Rattle.basics.proofs.Deciding.{fails, refuted, via}
 use borrow.Author.Needs.{needs}
 use Rattle.examine_sound.proofs.sync_ok.Statement.{statement}
 use Rattle.examine_sound.proofs.sync_ok.Tie as tie

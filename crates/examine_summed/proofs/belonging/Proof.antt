@@ -1,10 +1,10 @@
 -- `examine_summed::belonging` meets its contract. The loop's invariant: the segments passed that belong on the stack are counted.
 use Prim.Native.Nat.{_-_}
 use native.Mathlib.Omega.{arith}
-use Rattle.rules.specs.Pick.{oneIf}
+use Rattle.basics.specs.Pick.{oneIf}
 use Rattle.words.specs.Bits.{onesAmong}
 use Rattle.layout.specs.Mem.{memOf}
-use Rattle.laws.proofs.Turns.{Turned, no-turn, one-turn, all-turns}
+use Rattle.model_laws.proofs.Turns.{Turned, no-turn, one-turn, all-turns}
 use Rattle.examine_summed.specs.Stacked.{onStack}
 use Rattle.examine_summed.proofs.Entering.{ones-none, ones-next, ones-few}
 use Rattle.examine_summed.proofs.belonging.Statement.{statement}

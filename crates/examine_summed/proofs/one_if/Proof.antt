@@ -1,6 +1,6 @@
 -- `examine_summed::one_if` meets its contract.
 use mathlib.Core.Path.{sym, _∙_, ap}
-use Rattle.rules.specs.Pick.{oneIf}
+use Rattle.basics.specs.Pick.{oneIf}
 use borrow.Author.Needs.{needs}
 use Rattle.examine_summed.proofs.one_if.Statement.{statement}
 use Rattle.examine_summed.proofs.one_if.Tie as tie

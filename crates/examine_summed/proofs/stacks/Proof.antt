@@ -3,7 +3,7 @@ use Prim.Native.Nat.{_-_}
 use native.Mathlib.Omega.{arith}
 use Rattle.layout.specs.Geometry.{stackCount}
 use Rattle.layout.specs.Mem.{memOf}
-use Rattle.laws.proofs.Passing.{Passed, none-passed, one-passed, one-failed, all-passed}
+use Rattle.model_laws.proofs.Passing.{Passed, none-passed, one-passed, one-failed, all-passed}
 use Rattle.examine_summed.specs.Stacked.{OrderedStack}
 use Rattle.examine_summed.proofs.stacks.Statement.{statement}
 use Rattle.examine_summed.proofs.stacks.Tie as tie

@@ -3,7 +3,7 @@ use Prim.Native.Nat.{_-_}
 use native.Mathlib.Omega.{arith}
 use Rattle.layout.specs.Mem.{memOf}
 use Rattle.model.specs.Consistent.{TreeOk}
-use Rattle.laws.proofs.Passing.{Passed, none-passed, one-passed, one-failed, all-passed}
+use Rattle.model_laws.proofs.Passing.{Passed, none-passed, one-passed, one-failed, all-passed}
 use Rattle.examine_summed.proofs.trees.Statement.{statement}
 use Rattle.examine_summed.proofs.trees.Tie as tie
 

@@ -2,9 +2,9 @@
 use mathlib.Core.Path.{_≡_, _∙_, sym, subst}
 use Prim.Native.Nat.{_-_}
 use Rattle.layout.specs.Mem.{memOf}
-use Rattle.record_test.specs.Tests.{Tested}
-use Rattle.searching.proofs.Steps.{bit-room}
-use Rattle.record_test.proofs.Testing.{tested-small}
+use Rattle.examine_record.specs.Tests.{Tested}
+use Rattle.examine_search.proofs.Steps.{bit-room}
+use Rattle.examine_record.proofs.Testing.{tested-small}
 use Rattle.examine_trace.proofs.Entering.{enter-nil, enter-torn, enter-by}
 use borrow.Author.Needs.{needs}
 use Rattle.examine_trace.proofs.enter.Statement.{statement}

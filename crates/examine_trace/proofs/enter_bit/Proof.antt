@@ -2,7 +2,7 @@
 use mathlib.Core.Path.{_≡_, _∙_, sym, subst}
 use native.Mathlib.Omega.{arith}
 use borrow.Author.Tests.{not-true, not-false}
-use Rattle.rules.proofs.Deciding.{refuted}
+use Rattle.basics.proofs.Deciding.{refuted}
 use Rattle.layout.specs.Mem.{memOf}
 use Rattle.layout.proofs.Sizes.{trace-most, mark-word}
 use Rattle.examine_trace.specs.Traced.{BitEnters}

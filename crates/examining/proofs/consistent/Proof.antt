@@ -1,6 +1,6 @@
 -- `examining::consistent` meets its contract.
 use borrow.Author.Tests.{not-true, not-false}
-use Rattle.rules.proofs.Deciding.{fails, refuted, via}
+use Rattle.basics.proofs.Deciding.{fails, refuted, via}
 use borrow.Author.Needs.{needs}
 use Rattle.examining.proofs.consistent.Statement.{statement}
 use Rattle.examining.proofs.consistent.Tie as tie

@@ -3,7 +3,7 @@ use mathlib.Core.Path.{sym, _∙_}
 use borrow.Author.Needs.{needs}
 use Rattle.layout.proofs.Regions.{sized}
 use Rattle.theory.specs.Calls.{c-get}
-use Rattle.laws.proofs.Promised.{size-1}
+use Rattle.model_laws.proofs.Promised.{size-1}
 use Rattle.mutators.proofs.Inside.{in-range-at}
 use Rattle.records.proofs.Found.{value-found}
 use Rattle.records.proofs.Reaching.{names, held-7, value-refused}
@@ -27,7 +27,7 @@ root-requires : tie.Need-root-requires
 root-requires c κs =
     let wrong-size-told = c .before .before .before in
     let entry = wrong-size-told .before .before in
-    let p = in-range-at _ _ _ (entry .args .i) _ (c .before .root-refusal .ensures) (c .if2 .left) in
+    let p = in-range-at _ _ _ (entry .args .root) _ (c .before .root-refusal .ensures) (c .if2 .left) in
     (sized _ _ (sym (wrong-size-told .wrong-size .ensures) ∙ c .before .before .if1 .left), p .0, p .1)
 
 held-of-requires : tie.Need-held-of-requires

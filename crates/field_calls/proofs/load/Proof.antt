@@ -3,7 +3,7 @@ use mathlib.Core.Path.{sym, _∙_}
 use borrow.Author.Needs.{needs}
 use Rattle.layout.proofs.Regions.{sized}
 use Rattle.theory.specs.Calls.{c-load}
-use Rattle.laws.proofs.Promised.{size-1}
+use Rattle.model_laws.proofs.Promised.{size-1}
 use Rattle.mutators.proofs.Inside.{in-range}
 use Rattle.records.proofs.Found.{pointer-found}
 use Rattle.records.proofs.Reaching.{names, held-7, pointer-refused}
@@ -30,7 +30,7 @@ root-requires : tie.Need-root-requires
 root-requires c κs =
     let past-wrong-size = c .before .before .before .before in
     let entry = past-wrong-size .before .before .before in
-    let p = in-range _ _ _ (entry .args .to) (entry .args .i) _ (c .before .before .roots-refusal .ensures) (c .before .if2 .left) in
+    let p = in-range _ _ _ (entry .args .to) (entry .args .root) _ (c .before .before .roots-refusal .ensures) (c .before .if2 .left) in
     (sized _ _ (sym (past-wrong-size .before .wrong-size .ensures) ∙ past-wrong-size .if1 .left), p .0, p .2)
 
 held-of-requires : tie.Need-held-of-requires
@@ -85,7 +85,7 @@ set-root-requires c κs =
     let roots-refusal-told = past-refused .before in
     let past-wrong-size = roots-refusal-told .before .before in
     let entry = past-wrong-size .before .before .before in
-    let p = in-range _ _ _ (entry .args .to) (entry .args .i) _ (roots-refusal-told .roots-refusal .ensures) (past-refused .if2 .left) in
+    let p = in-range _ _ _ (entry .args .to) (entry .args .root) _ (roots-refusal-told .roots-refusal .ensures) (past-refused .if2 .left) in
     (sized _ _ (sym (past-wrong-size .before .wrong-size .ensures) ∙ past-wrong-size .if1 .left), p .0, p .1)
 
 same-length-3 : tie.Need-same-length-3

@@ -4,9 +4,9 @@ use native.Mathlib.Omega.{arith}
 use borrow.Author.Needs.{needs}
 use Rattle.layout.proofs.Regions.{sized}
 use Rattle.theory.specs.Calls.{c-shape}
-use Rattle.laws.proofs.Promised.{size-1}
+use Rattle.model_laws.proofs.Promised.{size-1}
 use Rattle.mutators.proofs.Inside.{in-range-at}
-use Rattle.laws.proofs.Reaching.{header-13}
+use Rattle.model_laws.proofs.Reaching.{header-13}
 use Rattle.records.proofs.Reaching.{names, held-7}
 use Rattle.field_calls.proofs.Answering.{shape-refused, shape-reaches, shape-done}
 use Rattle.field_calls.proofs.shape.Tie as tie
@@ -28,7 +28,7 @@ root-requires : tie.Need-root-requires
 root-requires c κs =
     let wrong-size-told = c .before .before .before in
     let entry = wrong-size-told .before .before in
-    let p = in-range-at _ _ _ (entry .args .i) _ (c .before .root-refusal .ensures) (c .if2 .left) in
+    let p = in-range-at _ _ _ (entry .args .root) _ (c .before .root-refusal .ensures) (c .if2 .left) in
     (sized _ _ (sym (wrong-size-told .wrong-size .ensures) ∙ c .before .before .if1 .left), p .0, p .1)
 
 held-of-requires : tie.Need-held-of-requires

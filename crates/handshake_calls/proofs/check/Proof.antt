@@ -3,7 +3,7 @@ use mathlib.Core.Path.{refl, sym, _∙_}
 use borrow.Author.Needs.{needs}
 use Rattle.layout.proofs.Regions.{sized}
 use Rattle.theory.specs.Calls.{c-check}
-use Rattle.laws.proofs.Promised.{size-1, refused}
+use Rattle.model_laws.proofs.Promised.{size-1, refused}
 use Rattle.mutators.specs.Inside.{insideThen}
 use Rattle.mutators.proofs.Inside.{then-known}
 use Rattle.handshake_calls.proofs.Acknowledging.{checked, hindered}

@@ -2,7 +2,7 @@
 use mathlib.Core.Path.{sym, _∙_}
 use borrow.Author.Needs.{needs}
 use Rattle.layout.proofs.Regions.{sized}
-use Rattle.laws.proofs.Promised.{size-1}
+use Rattle.model_laws.proofs.Promised.{size-1}
 use Rattle.handshake_calls.proofs.Entering.{enter-2, enter-4, enter-5, enter-ok}
 use Rattle.handshake_calls.proofs.enter.Tie as tie
 use Rattle.handshake_calls.proofs.enter.Statement.{statement}

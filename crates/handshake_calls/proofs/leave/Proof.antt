@@ -4,7 +4,7 @@ use native.Mathlib.Omega.{arith}
 use borrow.Author.Needs.{needs}
 use Rattle.layout.proofs.Regions.{sized, resized}
 use Rattle.theory.specs.Calls.{c-leave}
-use Rattle.laws.proofs.Promised.{size-1, refused}
+use Rattle.model_laws.proofs.Promised.{size-1, refused}
 use Rattle.mutators.specs.Inside.{insideThen}
 use Rattle.mutators.proofs.Inside.{then-known}
 use Rattle.handshake_calls.proofs.Acknowledging.{left, hindered}

@@ -1,6 +1,6 @@
 -- `layout::wrong_size` meets its contract.
 use borrow.Author.Needs.{needs}
-use Rattle.rules.proofs.Tests.{tests}
+use Rattle.basics.proofs.Tests.{tests}
 use Rattle.layout.specs.Geometry.{wrongSize}
 use Rattle.layout.proofs.wrong_size.Tie as tie
 use Rattle.layout.proofs.wrong_size.Statement.{statement}

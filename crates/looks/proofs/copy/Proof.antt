@@ -5,7 +5,7 @@ use native.Mathlib.Omega.{arith}
 use lib.ListN.{length}
 use borrow.Author.Needs.{needs}
 use Rattle.layout.specs.Mem.{memOf}
-use Rattle.laws.proofs.Lengths.{sizes-of}
+use Rattle.model_laws.proofs.Lengths.{sizes-of}
 use Rattle.looks.proofs.Copying.{Copied, copied-none, copied-more, copied-all}
 use Rattle.looks.proofs.copy.Statement.{statement}
 use Rattle.looks.proofs.copy.Tie as tie

@@ -2,7 +2,7 @@
 use Prim.Native.Nat.{_-_}
 use native.Mathlib.Omega.{arith}
 use Rattle.layout.specs.Mem.{memOf}
-use Rattle.laws.proofs.Passing.{Passed, none-passed, one-passed, one-failed, all-passed}
+use Rattle.model_laws.proofs.Passing.{Passed, none-passed, one-passed, one-failed, all-passed}
 use Rattle.looks.specs.Plausible.{Plausible}
 use Rattle.looks.proofs.records_ok.Statement.{statement}
 use Rattle.looks.proofs.records_ok.Tie as tie

@@ -2,7 +2,7 @@
 -- `classed` is.
 use mathlib.Core.Path.{sym, _∙_}
 use Rattle.layout.proofs.Regions.{sized}
-use Rattle.laws.proofs.Promised.{size-1}
+use Rattle.model_laws.proofs.Promised.{size-1}
 use Rattle.mutators.proofs.Inside.{in-range-at}
 use Rattle.making.proofs.Beginning.{begun-called}
 use Rattle.making.proofs.Making.{make-refused, make-9}
@@ -68,7 +68,7 @@ returns-4 c =
     let sizes = tested .before .before in
     let e = sym (class .class .given .1) ∙ classed .class-of-record .ensures in
     let x = sizes .before .before .before .args in
-    begun-called (x .g) (x .k) (x .d) (x .shape) (x .mem .now) (sym (sizes .before .wrong-size .ensures) ∙ sizes .if1 .left) _ (tested .root-refusal .ensures)
+    begun-called (x .g) (x .mutator) (x .to) (x .shape) (x .mem .now) (sym (sizes .before .wrong-size .ensures) ∙ sizes .if1 .left) _ (tested .root-refusal .ensures)
     (classed .before .if2 .left) _ e (done .begin-of .result) (done .begin-of .last .1 .0) (done .begin-of .ensures)
 
 pub begin-spec : {M : Type 1} → statement M

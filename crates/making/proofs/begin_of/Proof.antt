@@ -47,7 +47,7 @@ returns-3 c =
     let entry = taken .before .before .before in
     let i = of-class (entry .args .shape) _ (entry .pre .1) in
     let x = entry .args in
-    begun-taken (x .g) (x .k) (x .d) (x .class) (x .shape) (x .mem .now) _ (entry .pre .0 .0) (entry .pre .0 .1) i _ (taken .take .ensures) _ (segment .s .given .1)
+    begun-taken (x .g) (x .mutator) (x .to) (x .class) (x .shape) (x .mem .now) _ (entry .pre .0 .0) (entry .pre .0 .1) i _ (taken .take .ensures) _ (segment .s .given .1)
     (handed .hand-near .result) (handed .hand-near .last .1 .0) (handed .hand-near .ensures)
 
 pub begin-of-spec : {M : Type 1} → statement M

@@ -2,7 +2,7 @@
 use mathlib.Core.Path.{_∙_}
 use Prim.Native.Nat.{_%_}
 use native.Mathlib.Omega.{arith}
-use Rattle.laws.proofs.Headers.{class-halves}
+use Rattle.model_laws.proofs.Headers.{class-halves}
 use Rattle.classes.specs.Class.{blockWords}
 use mathlib.Core.Path.{refl}
 use Rattle.layout.specs.Geometry.{blocksIn}

@@ -52,7 +52,7 @@ returns c =
     let read = asked .before .before in
     let entry = read .before .before .before in
     let x = entry .args in
-    near-out (x .g) (memOf (x .g) (x .mem .now)) (x .k) (x .d) (x .class) (x .s) (of-class (entry .args .shape) _ (entry .pre .1 .0)) (x .shape) _ (read .place .ensures) _
+    near-out (x .g) (memOf (x .g) (x .mem .now)) (x .mutator) (x .to) (x .class) (x .s) (of-class (entry .args .shape) _ (entry .pre .1 .0)) (x .shape) _ (read .place .ensures) _
     (near-at (x .g) (memOf (x .g) (x .mem .now)) (x .s) _ _ _ (asked .near .ensures) (moved .before .before .before .block .given .1)) _ _ (moved .set-place .ensures) (filled .fill-few .ensures)
 
 same-length-2 : tie.Need-same-length-2

@@ -4,7 +4,7 @@ use Prim.Native.Nat.{ℕ}
 use native.Mathlib.Nat.{mod-eq-of-lt}
 use Rattle.layout.proofs.Regions.{resized}
 use Rattle.layout.specs.Mem.{memOf}
-use Rattle.laws.proofs.Lengths.{sizes-of}
+use Rattle.model_laws.proofs.Lengths.{sizes-of}
 use Rattle.making.specs.HandingOut.{filledAs}
 use Rattle.making.proofs.Placing.{of-class}
 use Rattle.making.proofs.HandingOut.{none-out, handed-out}

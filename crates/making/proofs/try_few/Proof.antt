@@ -61,7 +61,7 @@ returns-4 c =
     let sizes = root-refusal-told .before .before in
     let entry = sizes .before .before .before .before .before .before in
     let x = entry .args in
-    tried-called (x .g) (x .k) (x .d) (x .shape) (x .mem .now) (sym (sizes .before .wrong-size .ensures) ∙ sizes .if2 .left) _
+    tried-called (x .g) (x .mutator) (x .to) (x .shape) (x .mem .now) (sym (sizes .before .wrong-size .ensures) ∙ sizes .if2 .left) _
     (root-refusal-told .root-refusal .ensures) (past-root-refusal .if3 .left) _
     (classed .class-of-few .ensures) (handed .try-held .result) (handed .try-held .last .1 .0) (handed .try-held .ensures)
 

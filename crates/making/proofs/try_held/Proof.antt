@@ -28,7 +28,8 @@ returns c =
     let entry = read .before .before .before in
     let i = of-class (entry .args .shape) _ (entry .pre .1 .0) in
     let x = entry .args in
-    tried-held (x .g) (x .k) (x .d) (x .class) (x .shape) (x .mem .now) (entry .pre .0 .0) (entry .pre .0 .1) i _ (read .holding .ensures) (asked .before .before .if1 .taken) (asked .if2 .taken)
+    tried-held (x .g) (x .mutator) (x .to) (x .class) (x .shape) (x .mem .now) (entry .pre .0 .0) (entry .pre .0 .1) i _ (read .holding .ensures) (asked .before .before .if1 .taken)
+    (asked .if2 .taken)
     (handed .hand-few .result) (handed .hand-few .last .1 .0) (handed .hand-few .ensures)
 
 same-length-2 : tie.Need-same-length-2

@@ -1,5 +1,5 @@
 -- `marking::trace` meets its contract.
-use Rattle.laws.proofs.Lengths.{sizes-of}
+use Rattle.model_laws.proofs.Lengths.{sizes-of}
 use Rattle.marking.proofs.Tracing.{trace-moved, trace-over, trace-nil, trace-torn, trace-visits}
 use borrow.Author.Needs.{needs}
 use Rattle.marking.proofs.trace.Statement.{statement}

@@ -1,5 +1,5 @@
 -- `packing::no_count` meets its contract.
-use Rattle.rules.proofs.Tests.{tests}
+use Rattle.basics.proofs.Tests.{tests}
 use Rattle.packing.proofs.no_count.Statement.{statement}
 use Rattle.packing.proofs.no_count.Tie as tie
 

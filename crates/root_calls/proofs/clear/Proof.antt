@@ -4,7 +4,7 @@ use borrow.Author.Needs.{needs}
 use Rattle.layout.proofs.Regions.{sized}
 use Rattle.theory.specs.Calls.{c-clear}
 use Rattle.model.specs.Calls.{act}
-use Rattle.laws.proofs.Promised.{size-1, refused, done}
+use Rattle.model_laws.proofs.Promised.{size-1, refused, done}
 use Rattle.mutators.specs.Inside.{insideThen}
 use Rattle.mutators.proofs.Inside.{in-range-at}
 use Rattle.root_calls.proofs.clear.Tie as tie

@@ -3,7 +3,7 @@ use mathlib.Core.Path.{refl, sym, _∙_, ap}
 use borrow.Author.Needs.{needs}
 use Rattle.layout.proofs.Regions.{sized}
 use Rattle.theory.specs.Calls.{c-copy}
-use Rattle.laws.proofs.Promised.{size-1, refused, done}
+use Rattle.model_laws.proofs.Promised.{size-1, refused, done}
 use Rattle.model.specs.Calls.{act}
 use Rattle.model.specs.Fields.{setRoot}
 use Rattle.mutators.proofs.Inside.{in-range}

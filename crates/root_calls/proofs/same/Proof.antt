@@ -4,7 +4,7 @@ use borrow.Author.Needs.{needs}
 use Rattle.layout.proofs.Regions.{sized}
 use Rattle.theory.specs.Calls.{c-same, a-flag}
 use Rattle.model.specs.Calls.{act}
-use Rattle.laws.proofs.Promised.{size-1, refused, done}
+use Rattle.model_laws.proofs.Promised.{size-1, refused, done}
 use Rattle.mutators.specs.Inside.{insideThen}
 use Rattle.mutators.proofs.Inside.{in-range}
 use Rattle.root_calls.proofs.References.{same-words}
@@ -28,14 +28,14 @@ root-requires : tie.Need-root-requires
 root-requires c κs =
     let wrong-size-told = c .before .before .before in
     let entry = wrong-size-told .before .before in
-    let p = in-range _ _ _ _ (entry .args .j) _ (c .before .roots-refusal .ensures) (c .if2 .left) in
+    let p = in-range _ _ _ _ (entry .args .other) _ (c .before .roots-refusal .ensures) (c .if2 .left) in
     (sized _ _ (sym (wrong-size-told .wrong-size .ensures) ∙ c .before .before .if1 .left), p .0, p .1)
 
 root-requires-2 : tie.Need-root-requires-2
 root-requires-2 c κs =
     let past-wrong-size = c .before .before .before in
     let entry = past-wrong-size .before .before .before in
-    let p = in-range _ _ _ (entry .args .i) _ _ (c .before .before .roots-refusal .ensures) (c .before .if2 .left) in
+    let p = in-range _ _ _ (entry .args .root) _ _ (c .before .before .roots-refusal .ensures) (c .before .if2 .left) in
     (sized _ _ (sym (past-wrong-size .before .wrong-size .ensures) ∙ past-wrong-size .if1 .left), p .0, p .2)
 
 returns-3 : tie.Need-returns-3

@@ -1,6 +1,6 @@
 -- `starting::begin` meets its contract.
 use borrow.Author.Needs.{needs}
-use Rattle.laws.proofs.Lengths.{sizes-of}
+use Rattle.model_laws.proofs.Lengths.{sizes-of}
 use Rattle.starting.proofs.Beginning.{started-by}
 use Rattle.starting.proofs.begin.Statement.{statement}
 use Rattle.starting.proofs.begin.Tie as tie

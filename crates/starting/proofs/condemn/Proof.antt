@@ -6,7 +6,7 @@ use lib.ListN.{length}
 use Rattle.layout.specs.Mem.{memOf}
 use Rattle.layout.proofs.Regions.{resized}
 use Rattle.model.specs.Collector.{condemned}
-use Rattle.laws.proofs.Turns.{Turned, no-turn, one-turn, all-turns}
+use Rattle.model_laws.proofs.Turns.{Turned, no-turn, one-turn, all-turns}
 use Rattle.starting.proofs.Beginning.{condemned-none, condemned-next}
 use Rattle.starting.proofs.condemn.Statement.{statement}
 use Rattle.starting.proofs.condemn.Tie as tie

@@ -7,7 +7,7 @@ use Rattle.layout.specs.Geometry.{mutatorCount}
 use Rattle.layout.specs.Mem.{memOf}
 use Rattle.layout.proofs.Regions.{resized}
 use Rattle.model.specs.Collector.{acksReset}
-use Rattle.laws.proofs.Turns.{Turned, no-turn, one-turn, all-turns}
+use Rattle.model_laws.proofs.Turns.{Turned, no-turn, one-turn, all-turns}
 use Rattle.starting.proofs.Beginning.{reset-none, reset-next}
 use Rattle.starting.proofs.reset_acks.Statement.{statement}
 use Rattle.starting.proofs.reset_acks.Tie as tie

@@ -6,7 +6,7 @@ use lib.ListN.{length}
 use Rattle.layout.specs.Geometry.{mutatorCount}
 use Rattle.layout.specs.Mem.{memOf}
 use Rattle.layout.proofs.Regions.{resized}
-use Rattle.laws.proofs.Lengths.{sizes-of}
+use Rattle.model_laws.proofs.Lengths.{sizes-of}
 use Rattle.stepping.proofs.Answering.{AnsweredTo, answered-first, answered-more, answer-hindered, all-answered}
 use Rattle.stepping.proofs.answer_outside.Statement.{statement}
 use Rattle.stepping.proofs.answer_outside.Tie as tie

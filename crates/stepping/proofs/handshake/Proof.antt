@@ -1,6 +1,6 @@
 -- `stepping::handshake` meets its contract.
 use borrow.Author.Needs.{needs}
-use Rattle.laws.proofs.Lengths.{sizes-of}
+use Rattle.model_laws.proofs.Lengths.{sizes-of}
 use Rattle.stepping.proofs.Handshaking.{step-waits, step-moves, step-torn}
 use Rattle.stepping.proofs.handshake.Statement.{statement}
 use Rattle.stepping.proofs.handshake.Tie as tie

@@ -4,7 +4,7 @@ use native.Mathlib.Omega.{arith}
 use Rattle.layout.specs.Geometry.{mutatorCount}
 use Rattle.layout.specs.Mem.{memOf}
 use Rattle.model.specs.Collector.{waiting}
-use Rattle.laws.proofs.Turns.{Turned, no-turn, one-turn, all-turns}
+use Rattle.model_laws.proofs.Turns.{Turned, no-turn, one-turn, all-turns}
 use Rattle.stepping.proofs.Counting.{waiting-none, waiting-next, waiting-few}
 use Rattle.stepping.proofs.waiting.Statement.{statement}
 use Rattle.stepping.proofs.waiting.Tie as tie

@@ -3,7 +3,7 @@ use mathlib.Core.Path.{sym, _∙_}
 use borrow.Author.Needs.{needs}
 use Rattle.layout.proofs.Regions.{sized}
 use Rattle.theory.specs.Calls.{c-store}
-use Rattle.laws.proofs.Promised.{size-1}
+use Rattle.model_laws.proofs.Promised.{size-1}
 use Rattle.mutators.proofs.Inside.{in-range}
 use Rattle.records.proofs.Found.{pointer-found}
 use Rattle.records.proofs.Reaching.{names, held-7, pointer-refused}
@@ -31,7 +31,7 @@ root-requires c κs =
     let past-wrong-size = c .before .before .before .before in
     let entry = past-wrong-size .before .before .before in
     let a = entry .args in
-    let p = in-range _ _ _ (a .i) (a .j) _ (c .before .before .roots-refusal .ensures) (c .before .if2 .left) in
+    let p = in-range _ _ _ (a .root) (a .from) _ (c .before .before .roots-refusal .ensures) (c .before .if2 .left) in
     (sized _ _ (sym (past-wrong-size .before .wrong-size .ensures) ∙ past-wrong-size .if1 .left), p .0, p .1)
 
 held-of-requires : tie.Need-held-of-requires
@@ -77,7 +77,7 @@ root-requires-2 c κs =
     let past-wrong-size = roots-refusal-told .before .before in
     let entry = past-wrong-size .before .before .before in
     let a = entry .args in
-    let p = in-range _ _ _ (a .i) (a .j) _ (roots-refusal-told .roots-refusal .ensures) (past-refused .if2 .left) in
+    let p = in-range _ _ _ (a .root) (a .from) _ (roots-refusal-told .roots-refusal .ensures) (past-refused .if2 .left) in
     (sized _ _ (sym (past-wrong-size .before .wrong-size .ensures) ∙ past-wrong-size .if1 .left), p .0, p .2)
 
 store-at-requires : tie.Need-store-at-requires
@@ -90,7 +90,7 @@ store-at-requires c κs =
     let past-wrong-size = roots-refusal-told .before .before in
     let entry = past-wrong-size .before .before .before in
     let a = entry .args in
-    let p = in-range _ _ _ (a .i) (a .j) _ (roots-refusal-told .roots-refusal .ensures) (past-refused .if2 .left) in
+    let p = in-range _ _ _ (a .root) (a .from) _ (roots-refusal-told .roots-refusal .ensures) (past-refused .if2 .left) in
     let t = pointer-found _ _ _ _ _ (sym (word-bound .word .given .1) ∙ pointer-at-told .pointer-at .ensures) in
     (sized _ _ (sym (past-wrong-size .before .wrong-size .ensures) ∙ past-wrong-size .if1 .left), p .0, t .within)
 
@@ -127,7 +127,7 @@ returns-5 c =
     let past-wrong-size = roots-refusal-told .before .before in
     let entry = past-wrong-size .before .before .before in
     let a = entry .args in
-    let p = in-range _ _ _ (a .i) (a .j) _ (roots-refusal-told .roots-refusal .ensures) (past-refused .if2 .left) in
+    let p = in-range _ _ _ (a .root) (a .from) _ (roots-refusal-told .roots-refusal .ensures) (past-refused .if2 .left) in
     store-by _ _ _ _ _ _ _
     (store-reaches _ _ _ _ _ _ _ (sym (past-wrong-size .before .wrong-size .ensures) ∙ past-wrong-size .if1 .left) (roots-refusal-told .roots-refusal .ensures) (past-refused .if2 .left))
     (names _ _ _ _ _ _ (root-told .root .ensures) (sym (slot-bound .slot .given .1) ∙ held-of-told .held-of .ensures))

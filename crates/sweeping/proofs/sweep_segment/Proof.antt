@@ -7,7 +7,7 @@ use Rattle.classes.specs.Class.{IsClass}
 use Rattle.classes.proofs.Every.{class-passed}
 use Rattle.layout.specs.Mem.{memOf}
 use Rattle.layout.proofs.Regions.{resized}
-use Rattle.laws.proofs.Lengths.{sizes-of}
+use Rattle.model_laws.proofs.Lengths.{sizes-of}
 use Rattle.bitmaps.proofs.Unset.{unset-fresh, unset-ones}
 use Rattle.sweeping.proofs.Sweeping.{swept-no-class, swept-finished}
 use borrow.Author.Needs.{needs}

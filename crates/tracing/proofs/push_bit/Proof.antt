@@ -1,6 +1,6 @@
 -- `tracing::push_bit` meets its contract.
 use native.Mathlib.Omega.{arith}
-use Rattle.rules.proofs.Deciding.{refuted}
+use Rattle.basics.proofs.Deciding.{refuted}
 use Rattle.layout.proofs.Sizes.{trace-most}
 use Rattle.tracing.proofs.Pushed.{push-old, push-full, push-done}
 use borrow.Author.Needs.{needs}
