@@ -33,7 +33,7 @@ extern "C" {
 /* The version of this interface, and the number of the layout of the lent slice. A landing that moves a word of the
  * layout raises the number: lengths are compiled into callers, and memory may outlive a restart into a program that was
  * linked with another library. CHANGELOG.md has an entry for each. */
-#define BORVUKHAI_VERSION "0.3.0"
+#define BORVUKHAI_VERSION "0.3.1"
 #define BORVUKHAI_LAYOUT 2u
 
 /* Refusals, by document 01's words. The lowest number that applies is given. On memory that passes the examination a refusal

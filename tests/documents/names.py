@@ -68,6 +68,11 @@ def proof():
     for key, definition, _, _ in believed.unreached():
         if not believed.marked(definition):
             wrong.append(f"crates/{key[0]}/specs/{key[1]}.antt: no statement reaches {definition.name}, and its comment does not say so")
+    seen = believed.reach(*believed.CLAIMS[-1][1:])[0]
+    for key in sorted(believed.counted(*believed.CLAIMS[1][1:])[0]):
+        for definition in believed.FILES[key].order:
+            if (key, definition.name) in seen and believed.marked(definition):
+                wrong.append(f"crates/{key[0]}/specs/{key[1]}.antt: a statement reaches {definition.name}, and its comment says none does")
     with tempfile.TemporaryDirectory() as scratch:
         drawn = Path(scratch) / "proof.svg"
         picture.draw(drawn)

@@ -1,5 +1,5 @@
-// The words of the control by name: the phase, the number of entries on the trace stack, and the sweep's cursor. Which word is which is known
-// here alone.
+// The words of the control by name: the phase, the number of entries on the trace stack, and the sweep's cursor. Of the heap's
+// code this alone knows which word is which.
 use layout::Geometry;
 use model::Phase;
 ghost use mathlib.Core.Path.{_≡_};

@@ -1,22 +1,20 @@
 -- What is judged by bits is what the examination is to decide, where the bits are those of the searches.
 use mathlib.Core.Path.{_≡_, refl, sym, ap, _∙_, subst}
 use mathlib.Core.Logic.{_⊎_, inl, inr, ⊎-elim}
-use mathlib.Core.Bool.{Bool, true, false, true≢false}
+use mathlib.Core.Bool.{Bool, true, false}
 use mathlib.Core.List.{List}
-use Prim.Native.Nat.{ℕ, suc, _+_, _*_, _≤_, _<_}
-use native.Mathlib.Omega.{arith}
+use Prim.Native.Nat.{ℕ, _*_, _≤_, _<_}
 use lib.ListN.{length, take, drop}
 use Rattle.basics.specs.Decides.{Decides}
 use Rattle.basics.proofs.Deciding.{holds, fails, via, refuted}
 use Rattle.words.specs.Bits.{bitAt}
-use Rattle.classes.specs.Class.{IsClass}
 use Rattle.layout.specs.declared.Geometry.{Geometry}
-use Rattle.layout.specs.Geometry.{len, mostBlocks, blocksIn, segmentOf, markBit, mutatorCount}
+use Rattle.layout.specs.Geometry.{len, mostBlocks, segmentOf, markBit, mutatorCount}
 use Rattle.layout.specs.Mem.{Mem}
 use Rattle.layout.proofs.Sizes.{segment-below}
 use Rattle.theory.specs.Reach.{root, next}
 use Rattle.theory.proofs.Graph.{reach-map}
-use Rattle.model.specs.Fields.{tag, class}
+use Rattle.model.specs.Fields.{class}
 use Rattle.model.specs.Records.{entered, blockOf, headerOf}
 use Rattle.model.specs.Reaching.{IsRoot, PointsTo, Live, Reached, Covered}
 use Rattle.model.specs.Consistent.{RecordOk}
@@ -29,8 +27,8 @@ use Rattle.examine_search.proofs.Covering.{covered-bits, bits-covered, edges-bi
 use Rattle.examine_cycle.specs.declared.Asked.{Asked}
 use Rattle.examine_cycle.specs.declared.Asked.the-variants.{Pointers, Marks}
 use Rattle.examine_cycle.specs.Judged.{Known, Fine, RootsFine, RecordFine, Judged}
-use Rattle.examine_cycle.proofs.Judging.{bit-small, known-record}
-use Rattle.examine_colours.specs.Coloured.{Room, LiveOk, Coloured, SweptOk}
+use Rattle.examine_cycle.proofs.Judging.{known-record}
+use Rattle.examine_colours.specs.Coloured.{Room, Coloured, SweptOk}
 use Rattle.examine_colours.proofs.Fields.{bit-front, front-room, resize}
 use Rattle.layout.specs.Region as Region
 use Rattle.model.specs.Tag as Tag

@@ -1,5 +1,5 @@
 -- What one word, one more word and one block decide.
-use mathlib.Core.Path.{_≡_, refl, sym, ap, _∙_, subst}
+use mathlib.Core.Path.{_≡_, sym, ap, _∙_, subst}
 use mathlib.Core.Bool.{Bool, true, false, true≢false}
 use mathlib.Core.Logic.{_⊎_, inl, inr, ⊎-elim}
 use mathlib.Core.List.{List}
@@ -8,7 +8,7 @@ use native.Mathlib.Numerals.{add-one}
 use native.Mathlib.Nat.{suc-mul}
 use native.Mathlib.Omega.{arith}
 use lib.Dec.{eqb}
-use lib.ListN.{length, getD}
+use lib.ListN.{getD}
 use borrow.Author.Tests.{eq-eqb, eqb-true}
 use Rattle.basics.specs.Decides.{Decides}
 use Rattle.basics.proofs.Deciding.{holds, fails, via}
@@ -21,13 +21,12 @@ use Rattle.layout.specs.Geometry.{len, segmentWords, mostBlocks, blocksIn, mark
 use Rattle.layout.specs.Mem.{Mem}
 use Rattle.layout.proofs.Sizes.{marks-words, mark-word}
 use Rattle.model.specs.Fields.{class}
-use Rattle.model.specs.Records.{entered, headerOf, pointerCount}
+use Rattle.model.specs.Records.{headerOf, pointerCount}
 use Rattle.model.specs.Consistent.{RecordOk}
 use Rattle.model_laws.proofs.Apart.{class-of, field-inside}
 use Rattle.model_laws.proofs.Blocks.{header-inside, header-is-class, header-head, same-bit}
 use Rattle.classes.proofs.Filling.{two-words}
 use Rattle.classes.proofs.Every.{class-passes}
-use Rattle.examine_search.specs.Graph.{InRun}
 use Rattle.examine_cycle.specs.declared.Asked.{Asked}
 use Rattle.examine_cycle.specs.Judged.{Known, Fine, FineRun, RecordFine, BlockJudged, SegmentJudged}
 use Rattle.layout.specs.Region as Region

@@ -15,7 +15,6 @@ use Rattle.words.specs.Bits.{bitAt}
 use Rattle.words.proofs.Trees.{words-in}
 use Rattle.classes.specs.Class.{blockWords, firstClass, classTest}
 use Rattle.classes.specs.Record.{classOfRecord}
-use Rattle.classes.specs.declared.SizeClass.{SizeClass}
 use Rattle.classes.specs.declared.SizeClass.the-variants.{Class}
 use Rattle.classes.proofs.Every.{class-passed, class-passes}
 use Rattle.layout.specs.declared.Geometry.{Geometry}

@@ -3,31 +3,24 @@ use mathlib.Core.Path.{_≡_, refl, sym, ap, _∙_, subst}
 use mathlib.Core.Bool.{Bool, true, false, true≢false}
 use mathlib.Core.Logic.{_⊎_, inl, inr}
 use mathlib.Core.List.{List}
-use Prim.Native.Nat.{ℕ, suc, _+_, _-_, _*_, _/_, _%_, _≤_, _<_}
+use Prim.Native.Nat.{ℕ, _+_, _-_, _*_, _/_, _≤_, _<_}
 use native.Mathlib.Omega.{arith}
-use lib.Dec.{eqb}
-use lib.ListN.{length, getD, take, drop, replicate}
-use lib.Seq.{take-all}
-use borrow.Author.Tests.{eq-eqb, eqb-true}
-use borrow.Rule.Slice.PartMut.{midOf}
+use lib.ListN.{length, replicate}
 use Rattle.basics.specs.Decides.{Decides}
 use Rattle.basics.proofs.Deciding.{holds, fails}
 use Rattle.basics.proofs.Order.{same-or-not}
-use Rattle.words.specs.Bits.{bitOf, bitAt, setBit, onesAmong}
-use Rattle.words.specs.Levels.{wordsFor}
+use Rattle.words.specs.Bits.{bitAt, setBit, onesAmong}
 use Rattle.words.proofs.Word.{zero-of-not-one}
-use Rattle.words.proofs.Lists.{bit-split, at-lt, set-there, set-elsewhere, length-setBit}
+use Rattle.words.proofs.Lists.{at-lt, set-there, set-elsewhere, length-setBit}
 use Rattle.words.proofs.Ones.{among-le}
 use Rattle.words.proofs.Zeros.{zeros-bit}
 use Rattle.layout.specs.declared.Geometry.{Geometry}
-use Rattle.layout.specs.Geometry.{Sized, len, from, markWords, mostBlocks, markBit}
-use Rattle.layout.specs.Mem.{Mem, memOf, traceWord, readRun}
-use Rattle.layout.proofs.Regions.{read-at}
-use Rattle.layout.proofs.Sizes.{mark-word, marks-are}
-use Rattle.model_laws.proofs.Lengths.{sizes-of}
+use Rattle.layout.specs.Geometry.{len, mostBlocks, markBit}
+use Rattle.layout.specs.Mem.{Mem, traceWord}
+use Rattle.layout.proofs.Sizes.{mark-word}
 use Rattle.model.specs.Fields.{traceCount}
 use Rattle.model.specs.Reaching.{IsEntry}
-use Rattle.model.specs.Consistent.{RecordOk, TraceOk}
+use Rattle.model.specs.Consistent.{RecordOk}
 use Rattle.examine_search.proofs.Steps.{placed}
 use Rattle.examine_trace.specs.Traced.{Traced, entryAt, entryBit, EntryOk, BitEnters, Enters, Seen, EntersAll}
 use Rattle.layout.specs.Region as Region

@@ -1,6 +1,7 @@
 // The one lent slice and its regions: control, mutators, heap, segment records, stacks, bitmaps, marks, trace stack.
 // Nothing above this crate mentions where a region begins: words are read and written through these functions, whose contracts speak of `Mem`, and the
-// place of a part that is lent to a leaf comes from here. Only the programs of cases, which change memory word by word, use the places below.
+// place of a part that is lent to a leaf comes from here. Only the programs of cases, which change memory word by word, use the
+// numbers of where a region begins.
 use classes::ClassShape;
 use classes::SegmentShape;
 ghost use mathlib.Core.Path.{_≡_};

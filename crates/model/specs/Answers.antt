@@ -129,7 +129,7 @@ abbrev pub among : ℕ → List ℕ → Bool
 among n [] = false
 among n (x ∷ xs) = pick (eqb n x) true (among n xs)
 
--- the numbers of a call's own, beside "1, size" and "13, torn", which every call may give
+-- the numbers of a call's own, beside "1, size" and "13, torn", which every mutator's call may give
 abbrev pub ownNumbers : Call → List ℕ
 ownNumbers (c-attach k) = 2 ∷ 3 ∷ 11 ∷ []
 ownNumbers (c-spawn k p i) = 2 ∷ 3 ∷ 4 ∷ 5 ∷ 6 ∷ 11 ∷ []

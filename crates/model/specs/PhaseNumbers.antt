@@ -19,6 +19,7 @@ dutyOf phases.nothing = Nothing
 dutyOf phases.both = Both
 dutyOf phases.old = Old
 
+-- the number of a phase
 abbrev pub phaseNumber : Phase → ℕ
 phaseNumber idle = 0
 phaseNumber sync1 = 1

@@ -45,10 +45,11 @@ shapeOf m at = headerShape (heapWord m at)
 abbrev pub pointerCount : Mem → ℕ → ℕ
 pointerCount m at = pointerCountOf (shapeOf m at)
 
--- how many values it has (in no statement: proofs use it)
+-- how many values it has (in no statement of the guarantee: proofs and the view use it)
 abbrev pub valueCount : Mem → ℕ → ℕ
 valueCount m at = valueCountOf (shapeOf m at)
 
+-- its pointers and its values, read and written
 abbrev pub pointer : Mem → ℕ → ℕ → ℕ
 pointer m at f = heapWord m (at + 1 + f)
 

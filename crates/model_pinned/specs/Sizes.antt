@@ -1,9 +1,9 @@
--- Document 01, "1, size": "segment count not 1 to 256, or a slice not of its length".
+-- Document 01, "1, size": "segment count not 1 to 256, or a slice not of its length"; and where the regions of the lent slice begin.
 use mathlib.Core.Path.{_≡_}
 use mathlib.Core.Bool.{Bool, true, false}
 use mathlib.Core.List.{List, [], _∷_}
-use Prim.Native.Nat.{ℕ}
-use Rattle.layout.specs.Geometry.{wrongSize}
+use Prim.Native.Nat.{ℕ, suc}
+use Rattle.layout.specs.Geometry.{wrongSize, from}
 use Rattle.model_cases.specs.Replies.{geometry}
 
 -- a segment count, a slice's length, and whether they are refused
@@ -17,8 +17,16 @@ row n x b = record { segments = n; length = x; refused = b }
 
 abbrev pub rows : List Row
 rows =
-    row 0 1051 true ∷ row 1 7341 false ∷ row 1 7340 true ∷ row 1 7342 true ∷ row 2 7341 true ∷ row 256 1611291 false ∷ row 257 1617581 true ∷ []
+    row 0 1051 true ∷ row 1 7341 false ∷ row 1 7340 true ∷ row 1 7342 true ∷ row 2 7341 true ∷ row 2 13631 false ∷ row 256 1611291 false ∷ row 257 1617581 true ∷ []
 
 abbrev pub All : List Row → Type 0
 All [] = Unit
 All (r ∷ rs) = (wrongSize (geometry (r .segments)) (r .length) ≡ r .refused) × All rs
+
+-- docs/LAYOUT.md: where the regions of a heap of two segments begin, and where the slice ends
+abbrev pub begins : List ℕ
+begins = 0 ∷ 16 ∷ 1040 ∷ 9232 ∷ 9240 ∷ 9273 ∷ 9407 ∷ 9535 ∷ 13631 ∷ []
+
+abbrev pub Begin : ℕ → List ℕ → Type 0
+Begin k [] = Unit
+Begin k (x ∷ xs) = (from (geometry 2) k ≡ x) × Begin (suc k) xs

@@ -13,6 +13,7 @@ use Rattle.theory.specs.Machine.{State, start}
 use Rattle.theory.proofs.Agree.{Agree}
 use Rattle.theory.proofs.CollectorKeeps.{Pick}
 use Rattle.model.specs.Fields.{phase, traceCount, absent, state, acks, tag, class}
+use Rattle.model.specs.PhaseNumbers.{phaseNumber}
 use Rattle.model.specs.Records.{entered}
 use Rattle.model.specs.Collector.{collects, started, lowest, stepOf}
 use Rattle.model.specs.Reaching.{IsEntry, Live}
@@ -25,7 +26,7 @@ use Rattle.model.specs.Tag as Tag
 -- consistency but for `occupied`, which a make breaks between taking a free segment and handing out a block of it, and `behind`, which no proof
 -- but that of the sweep's code asks for
 pub record Ordered (g : Geometry) (m : Mem) : Type 0 where
-  pub phases : controlWord m 0 ≤ 4
+  pub phases : controlWord m 0 ≤ phaseNumber sweep
   pub segments : (s : ℕ) → s < g .segments → SegmentOk g m s
   pub mutators : (k : ℕ) → k < mutatorCount → MutatorOk g m k
   pub acknowledgements : (k : ℕ) → k < mutatorCount → (state m k ≡ absent → ⊥) → AcksIn (phase m) (acks m k)
@@ -49,7 +50,7 @@ MarksIn mark g m = MarksOf g m (λ s. Unit {0})
 MarksIn sweep g m = MarksOf g m (λ s. tag m s ≡ Tag.condemned)
 
 pub record Structure (g : Geometry) (m : Mem) : Type 0 where
-  pub phases : controlWord m 0 ≤ 4
+  pub phases : controlWord m 0 ≤ phaseNumber sweep
   pub segments : (s : ℕ) → s < g .segments → SegmentOk g m s
   pub mutators : (k : ℕ) → k < mutatorCount → MutatorOk g m k
   pub summed : Summed g m

@@ -1,5 +1,5 @@
 -- `examine_cycle::any_judged` meets its contract.
-use mathlib.Core.Path.{_≡_, _∙_, sym}
+use mathlib.Core.Path.{_∙_, sym}
 use Rattle.layout.specs.Mem.{memOf}
 use Rattle.classes.proofs.Every.{class-passed}
 use Rattle.examine_cycle.proofs.Judging.{any-by, any-none}

@@ -1,5 +1,5 @@
 -- `examine_cycle::fine` meets its contract.
-use mathlib.Core.Path.{_≡_, _∙_, sym, subst}
+use mathlib.Core.Path.{subst}
 use Prim.Native.Nat.{_-_}
 use native.Mathlib.Omega.{arith}
 use Rattle.basics.proofs.Deciding.{holds}

@@ -1,5 +1,4 @@
 -- `examine_cycle::fine_bit` meets its contract.
-use mathlib.Core.Path.{_≡_}
 use mathlib.Core.Logic.{inl}
 use native.Mathlib.Omega.{arith}
 use Rattle.basics.proofs.Deciding.{holds, refuted}

@@ -1,6 +1,6 @@
 -- `examine_cycle::fine_run` meets its contract.
 use Prim.Native.Nat.{ℕ, _-_, _≤_}
-use mathlib.Core.Path.{_≡_, _∙_, subst}
+use mathlib.Core.Path.{subst}
 use native.Mathlib.Omega.{arith}
 use borrow.Author.Tests.{not-true, not-false}
 use Rattle.basics.proofs.Deciding.{holds, fails, refuted}

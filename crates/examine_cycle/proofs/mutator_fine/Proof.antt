@@ -1,5 +1,5 @@
 -- `examine_cycle::mutator_fine` meets its contract.
-use mathlib.Core.Path.{_≡_, _∙_, sym, subst}
+use mathlib.Core.Path.{_∙_, sym}
 use native.Mathlib.Omega.{arith}
 use Rattle.basics.proofs.Deciding.{holds, via}
 use borrow.Author.Needs.{needs}

@@ -1,6 +1,6 @@
 -- `examine_cycle::pointers_fine` meets its contract.
 use Prim.Native.Nat.{ℕ, _+_, _≤_}
-use mathlib.Core.Path.{_≡_, _∙_, sym, subst}
+use mathlib.Core.Path.{sym, subst}
 use Rattle.basics.specs.Decides.{Decides}
 use Rattle.layout.specs.Geometry.{len}
 use Rattle.layout.specs.Mem.{memOf}

@@ -1,5 +1,5 @@
 -- `examine_cycle::record_fine` meets its contract.
-use mathlib.Core.Path.{_≡_, _∙_, sym}
+use mathlib.Core.Path.{_∙_, sym}
 use Rattle.basics.proofs.Deciding.{holds, via, refuted}
 use Rattle.layout.specs.Mem.{memOf}
 use Rattle.examine_cycle.proofs.Judging.{ask}

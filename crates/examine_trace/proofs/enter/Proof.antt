@@ -1,9 +1,8 @@
 -- `examine_trace::enter` meets its contract.
-use mathlib.Core.Path.{_≡_, _∙_, sym, subst}
+use mathlib.Core.Path.{subst}
 use Prim.Native.Nat.{_-_}
 use Rattle.layout.specs.Mem.{memOf}
 use Rattle.examine_record.specs.Tests.{Tested}
-use Rattle.examine_search.proofs.Steps.{bit-room}
 use Rattle.examine_record.proofs.Testing.{tested-small}
 use Rattle.examine_trace.proofs.Entering.{enter-nil, enter-torn, enter-by}
 use borrow.Author.Needs.{needs}

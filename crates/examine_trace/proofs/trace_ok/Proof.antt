@@ -1,5 +1,5 @@
 -- `examine_trace::trace_ok` meets its contract.
-use mathlib.Core.Path.{_≡_, _∙_, sym, subst}
+use mathlib.Core.Path.{sym, subst}
 use Prim.Native.Nat.{ℕ, _≤_}
 use lib.ListN.{length}
 use Rattle.layout.specs.Geometry.{len}

@@ -37,7 +37,10 @@ returns-2 c =
     (roomed .trace-words .ensures) (c .if2 .taken)
 
 set-requires : tie.Need-set-requires
-set-requires c κs = search needs
+set-requires c κs =
+    let roomed = c .before in
+    let entry = roomed .before .before .before .before .before .before .before in
+    (entry .pre .0, omega (arith, entry .pre .1))
 
 cast-set-trace : tie.Need-cast-set-trace
 cast-set-trace c = search needs
