@@ -24,15 +24,15 @@ same-length c = search needs
 
 returns-3 : tie.Need-returns-3
 returns-3 c =
-    let past-mutators-upto-k = c .before .before .before in
-    let past-wrong-size = past-mutators-upto-k .before in
-    attach-3 _ _ _ (sym (past-wrong-size .before .wrong-size .ensures) ∙ past-wrong-size .if1 .left) (past-mutators-upto-k .if2 .left) _ (c .before .state .ensures) (c .if3 .taken)
+    let mutator-in-range = c .before .before .before in
+    let past-wrong-size = mutator-in-range .before in
+    attach-3 _ _ _ (sym (past-wrong-size .before .wrong-size .ensures) ∙ past-wrong-size .if1 .left) (mutator-in-range .if2 .left) _ (c .before .state .ensures) (c .if3 .taken)
 
 admit-requires : tie.Need-admit-requires
 admit-requires c κs =
-    let past-mutators-upto-k = c .before .before .before .before in
-    let past-wrong-size = past-mutators-upto-k .before in
-    (sized _ _ (sym (past-wrong-size .before .wrong-size .ensures) ∙ past-wrong-size .if1 .left), past-mutators-upto-k .if2 .left)
+    let mutator-in-range = c .before .before .before .before in
+    let past-wrong-size = mutator-in-range .before in
+    (sized _ _ (sym (past-wrong-size .before .wrong-size .ensures) ∙ past-wrong-size .if1 .left), mutator-in-range .if2 .left)
 
 same-length-2 : tie.Need-same-length-2
 same-length-2 c = search needs
@@ -41,9 +41,9 @@ returns-4 : tie.Need-returns-4
 returns-4 c =
     let past-state-not-absent = c .before .before .before .before in
     let state-told = past-state-not-absent .before in
-    let past-mutators-upto-k = state-told .before .before in
-    let past-wrong-size = past-mutators-upto-k .before in
-    attaches _ _ _ (sym (past-wrong-size .before .wrong-size .ensures) ∙ past-wrong-size .if1 .left) (past-mutators-upto-k .if2 .left)
+    let mutator-in-range = state-told .before .before in
+    let past-wrong-size = mutator-in-range .before in
+    attaches _ _ _ (sym (past-wrong-size .before .wrong-size .ensures) ∙ past-wrong-size .if1 .left) (mutator-in-range .if2 .left)
     _ (state-told .state .ensures) (past-state-not-absent .if3 .left) _ _ (c .before .before .admit .ensures)
 
 pub attach-spec : {M : Type 1} → statement M

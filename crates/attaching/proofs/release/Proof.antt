@@ -33,23 +33,25 @@ loop-less c = omega arith
 
 loop-again : tie.Need-loop-again Inv-loop μ-loop
 loop-again c =
-    let one-released = c .before .before .before in
-    let turning = one-released .before .before in
-    let looping = turning .before in
-    (one-released .release-one .kept .1 .0 ∙ looping .loop .inv .0, one-more _ _ _ _ _ (looping .loop .inv .1) (turning .loop-test .taken) _ _ (one-released .release-one .ensures) (c .if1 .taken))
+    let release-one-told = c .before .before .before in
+    let in-body = release-one-told .before .before in
+    let loop-head = in-body .before in (
+      release-one-told .release-one .kept .1 .0 ∙ loop-head .loop .inv .0,
+      one-more _ _ _ _ _ (loop-head .loop .inv .1) (in-body .loop-test .taken) _ _ (release-one-told .release-one .ensures) (c .if1 .taken),
+    )
 
 same-length : tie.Need-same-length Inv-loop μ-loop
 same-length c =
-    let one-released = c .before .before .before in
-    let looping = one-released .before .before .before in
-    one-released .release-one .kept .1 .0 ∙ looping .loop .inv .0
+    let release-one-told = c .before .before .before in
+    let loop-head = release-one-told .before .before .before in
+    release-one-told .release-one .kept .1 .0 ∙ loop-head .loop .inv .0
 
 returns : tie.Need-returns Inv-loop μ-loop
 returns c =
-    let one-released = c .before .before .before in
-    let turning = one-released .before .before in
-    let looping = turning .before in
-    one-fails _ _ _ _ _ (looping .loop .inv .1) (turning .loop-test .taken) _ _ (one-released .release-one .ensures) (c .if1 .left)
+    let release-one-told = c .before .before .before in
+    let in-body = release-one-told .before .before in
+    let loop-head = in-body .before in
+    one-fails _ _ _ _ _ (loop-head .loop .inv .1) (in-body .loop-test .taken) _ _ (release-one-told .release-one .ensures) (c .if1 .left)
 
 same-length-2 : tie.Need-same-length-2 Inv-loop μ-loop
 same-length-2 c = c .before .loop .inv .0

@@ -21,9 +21,9 @@ root-refusal-requires c κs = search needs
 
 returns-4 : tie.Need-returns-4
 returns-4 c =
-    let past-mutators-upto-parent = c .before .before .before in
-    let past-mutators-upto-k = past-mutators-upto-parent .before in
-    parent-rest _ _ _ _ (past-mutators-upto-k .if1 .left) (past-mutators-upto-parent .if2 .left) _ (c .before .before .state .ensures) (c .before .if3 .left) _ (c .root-refusal .ensures)
+    let parent-in-range = c .before .before .before in
+    let mutator-in-range = parent-in-range .before in
+    parent-rest _ _ _ _ (mutator-in-range .if1 .left) (parent-in-range .if2 .left) _ (c .before .before .state .ensures) (c .before .if3 .left) _ (c .root-refusal .ensures)
 
 pub spawn-refusal-spec : {M : Type 1} → statement M
 spawn-refusal-spec =

@@ -103,11 +103,11 @@ is-tree-returns-5 t c =
     let sums-ok-told = c .before .before .before in
     let words-for-told = sums-ok-told .before in
     let past-above-is-0 = words-for-told .before in
-    let past-level-ok = past-above-is-0 .before in
-    let entry = past-level-ok .before .before .before in
+    let level-ok-holds = past-above-is-0 .before in
+    let entry = level-ok-holds .before .before .before in
     by-rest (entry .args .above) (entry .args .n) (words-for-told .words-for .result) (entry .args .s .now)
     (past-above-is-0 .if2 .left) (words-for-told .words-for .ensures)
-    (past-level-ok .before .level-ok .ensures .sound (not-false _ (past-level-ok .if1 .left)))
+    (level-ok-holds .before .level-ok .ensures .sound (not-false _ (level-ok-holds .if1 .left)))
     (sums-ok-told .sums-ok .ensures .sound (not-false _ (c .before .before .if4 .left))) (c .is-tree .ensures)
 
 pub +is-tree-spec : {M : Type 1} → statement M

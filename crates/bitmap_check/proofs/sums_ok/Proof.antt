@@ -25,10 +25,10 @@ agree-requires c κs =
 
 returns : tie.Need-returns Inv-loop μ-loop
 returns c =
-    let looping = c .before .before .before in
-    let entry = looping .before .before in
+    let loop-head = c .before .before .before in
+    let entry = loop-head .before .before in
     let a = entry .args in
-    fails (λ q. refuted (c .before .agree .ensures) (not-true _ (c .if1 .taken)) (one-agrees (a .s .now) (a .m) (looping .loop .j) (c .before .before .loop-test .taken) q))
+    fails (λ q. refuted (c .before .agree .ensures) (not-true _ (c .if1 .taken)) (one-agrees (a .s .now) (a .m) (loop-head .loop .j) (c .before .before .loop-test .taken) q))
 
 add-j : tie.Need-add-j Inv-loop μ-loop
 add-j c = omega (arith, c .before .before .loop-test .taken)

@@ -31,10 +31,10 @@ shl-w c =
 
 sub-w : tie.Need-sub-w Inv-loop μ-loop
 sub-w c =
-    let looping = c .before .before .before in
-    let entry = looping .before .before in
+    let loop-head = c .before .before .before in
+    let entry = loop-head .before .before in
     let l = entry .pre in
-    let x = looping .loop in
+    let x = loop-head .loop in
     let a = entry .args in
     let i : x .i < 32 = omega arith in
     rw (one-shl (x .i) i) (omega (arith, turn-less (a .s .now) (a .from) (a .m) (x .i) (x .w) (omega arith) (x .inv .1) (sym (c .before .full-bit .ensures) ∙ c .if1 .taken) i))
@@ -50,10 +50,10 @@ loop-less c = omega arith
 
 loop-again : tie.Need-loop-again Inv-loop μ-loop
 loop-again c =
-    let looping = c .before .before .before in
-    let entry = looping .before .before in
+    let loop-head = c .before .before .before in
+    let entry = loop-head .before .before in
     let l = entry .pre in
-    let x = looping .loop in
+    let x = loop-head .loop in
     let a = entry .args in
     let i : x .i < 32 = omega arith in (
       omega arith,

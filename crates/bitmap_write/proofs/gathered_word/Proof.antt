@@ -75,22 +75,22 @@ bit-at-requires c κs =
 
 shl-w : tie.Need-shl-w Inv-loop μ-loop
 shl-w c =
-    let turning = c .before .before .before in
-    let after-most-below-32 = turning .before .before in
+    let in-body = c .before .before .before in
+    let after-most-below-32 = in-body .before .before in
     let l = count-is after-most-below-32 in
-    let t = turning .loop-test .taken in
+    let t = in-body .loop-test .taken in
     omega arith
 
 add-w : tie.Need-add-w Inv-loop μ-loop
 add-w c =
-    let turning = c .before .before .before in
-    let looping = turning .before in
-    let after-most-below-32 = looping .before in
+    let in-body = c .before .before .before in
+    let loop-head = in-body .before in
+    let after-most-below-32 = loop-head .before in
     let entry = after-most-below-32 .before .before in
     let l = count-is after-most-below-32 in
-    let x = looping .loop in
+    let x = loop-head .loop in
     let a = entry .args in
-    let h = turning .loop-test .taken in
+    let h = in-body .loop-test .taken in
     let i : x .i < 32 = omega arith in
     let e : bitAt (drop (a .from) (a .s .now)) ((a .j * 32 + x .i) * a .step) ≡ 1 =
     ap (λ (z : List ℕ). bitAt z ((a .j * 32 + x .i) * a .step)) (sym (tail-all (a .from) (a .s .now))) ∙ sym (c .before .bit-at .ensures) ∙ c .if2 .taken in
@@ -100,10 +100,10 @@ add-w c =
 
 add-i : tie.Need-add-i Inv-loop μ-loop
 add-i c =
-    let turning = c .before .before .before in
-    let after-most-below-32 = turning .before .before in
+    let in-body = c .before .before .before in
+    let after-most-below-32 = in-body .before .before in
     let l = count-is after-most-below-32 in
-    let t = turning .loop-test .taken in
+    let t = in-body .loop-test .taken in
     omega arith
 
 loop-less : tie.Need-loop-less Inv-loop μ-loop
@@ -111,14 +111,14 @@ loop-less c = let t = c .before .before .before .loop-test .taken in omega arith
 
 loop-again : tie.Need-loop-again Inv-loop μ-loop
 loop-again c =
-    let turning = c .before .before .before in
-    let looping = turning .before in
-    let after-most-below-32 = looping .before in
+    let in-body = c .before .before .before in
+    let loop-head = in-body .before in
+    let after-most-below-32 = loop-head .before in
     let entry = after-most-below-32 .before .before in
     let l = count-is after-most-below-32 in
-    let x = looping .loop in
+    let x = loop-head .loop in
     let a = entry .args in
-    let h = turning .loop-test .taken in
+    let h = in-body .loop-test .taken in
     let i : x .i < 32 = omega arith in
     let s = drop (a .from) (a .s .now) in
     let r : bitAt (drop (a .from) (a .s .now)) ((a .j * 32 + x .i) * a .step) ≡ c .before .bit-at .result =

@@ -86,9 +86,9 @@ turned : (c : tie.After-press Inv-loop μ-loop) →
     let a = c .before .before .before .before .before .args in
     at .w + (c .press .result * 2 ^ (at .k * a .count)) % 2 ^ 32 ≡ parts (drop (a .from) (a .s .now)) (a .n) (a .step) (a .count) (a .j) (at .k + 1)
 turned c =
-    let looping = c .before .before .before in
-    let entry = looping .before .before in
-    let at = looping .loop in
+    let loop-head = c .before .before .before in
+    let entry = loop-head .before .before in
+    let at = loop-head .loop in
     let a = entry .args in
     let ws = drop (a .from) (a .s .now) in
     let l = c .before .before .loop-test .taken in

@@ -24,9 +24,9 @@ hear-requires c κs = search needs
 loop-less : tie.Need-loop-less Inv-loop μ-loop
 loop-less c =
     let line-found = c .before .before .before in
-    let turning = line-found .before .before in
+    let in-body = line-found .before .before in
     omega
-    (arith, line-found .next-line .ensures .moves (turning .loop-test .taken))
+    (arith, line-found .next-line .ensures .moves (in-body .loop-test .taken))
 
 loop-again : tie.Need-loop-again Inv-loop μ-loop
 loop-again c = search needs

@@ -29,10 +29,10 @@ enum-known-reading c = search needs
 returns : tie.Need-returns Inv-loop μ-loop
 returns c =
     let kind-read = c .before .before .before in
-    let looping = kind-read .before .before in
-    let entry = looping .before .before in
+    let loop-head = kind-read .before .before in
+    let entry = loop-head .before .before in
     text-found (entry .args .line .now)
-    (looping .loop .kind) _ (omega arith)
+    (loop-head .loop .kind) _ (omega arith)
     (sym (c .before .reading .given .1) ∙ kind-read .read-kind .ensures)
 
 enum-told : tie.Need-enum-told Inv-loop μ-loop

@@ -43,10 +43,10 @@ loop-less c = search needs
 
 loop-again : tie.Need-loop-again Inv-loop μ-loop
 loop-again c =
-    let looping = c .before .before .before .before .before .before in
-    let entry = looping .before .before in
+    let loop-head = c .before .before .before .before .before .before in
+    let entry = loop-head .before .before in
     let a = entry .args in
-    let k = looping .loop in
+    let k = loop-head .loop in
     let s = c .before .before .take-byte in
     scanning-more (a .chunk .now) (a .from) (a .count) (a .line .now) (k .at) (k .n) (k .line) (k .inv) (omega arith) (s .result)
     (s .last .1 .1 .0) (s .ensures .0) (s .ensures .1) (c .enum-told .given .1)
@@ -56,10 +56,10 @@ enum-told-2 c = search needs
 
 returns : tie.Need-returns Inv-loop μ-loop
 returns c =
-    let looping = c .before .before .before .before .before .before in
-    let entry = looping .before .before in
+    let loop-head = c .before .before .before .before .before .before in
+    let entry = loop-head .before .before in
     let a = entry .args in
-    let k = looping .loop in
+    let k = loop-head .loop in
     let s = c .before .before .take-byte in
     scanning-told (a .chunk .now) (a .from) (a .count) (a .line .now) (k .at) (k .n) (k .line) (k .inv) (omega arith) (s .result)
     (s .last .1 .1 .0) (s .ensures .0) (s .ensures .1) (s .result .found) refl (never (c .enum-told2 .given .1))
@@ -69,10 +69,10 @@ enum-told-3 c = search needs
 
 returns-2 : tie.Need-returns-2 Inv-loop μ-loop
 returns-2 c =
-    let looping = c .before .before .before .before .before .before in
-    let entry = looping .before .before in
+    let loop-head = c .before .before .before .before .before .before in
+    let entry = loop-head .before .before in
     let a = entry .args in
-    let k = looping .loop in
+    let k = loop-head .loop in
     let s = c .before .before .take-byte in
     scanning-told (a .chunk .now) (a .from) (a .count) (a .line .now) (k .at) (k .n) (k .line) (k .inv) (omega arith) (s .result)
     (s .last .1 .1 .0) (s .ensures .0) (s .ensures .1) (s .result .found) refl (never-long (c .enum-told3 .given .1))

@@ -32,19 +32,20 @@ loop-less : tie.Need-loop-less Inv-loop μ-loop
 loop-less c =
     let heard = c .before .before .before in
     let line-found = heard .before .before .before .before .before in
-    let turning = line-found .before .before in
-    omega (arith, line-found .next-line .ensures .moves (turning .loop-test .taken))
+    let in-body = line-found .before .before in
+    omega (arith, line-found .next-line .ensures .moves (in-body .loop-test .taken))
 
 loop-again : tie.Need-loop-again Inv-loop μ-loop
 loop-again c =
     let heard = c .before .before .before in
     let line-found = heard .before .before .before .before .before in
-    let turning = line-found .before .before in
-    let looping = turning .before in
-    let q = passes _ _ _ (looping .loop .at) (record { count = looping .loop .n; line = looping .loop .line }) (looping .loop .inv .3) (line-found .next-line .ensures) (heard .hear .ensures) in
+    let in-body = line-found .before .before in
+    let loop-head = in-body .before in
+    let q = passes _ _ _ (loop-head .loop .at) (record { count = loop-head .loop .n; line = loop-head .loop .line }) (loop-head .loop .inv .3)
+    (line-found .next-line .ensures) (heard .hear .ensures) in
     let w = heard .hear .ensures .short in
-    let z = line-found .next-line .ensures .moves (turning .loop-test .taken) in
-    let k = line-found .next-line .ensures .inside (looping .loop .inv .0) in
+    let z = line-found .next-line .ensures .moves (in-body .loop-test .taken) in
+    let k = line-found .next-line .ensures .inside (loop-head .loop .inv .0) in
     (k, omega arith, omega arith, q)
 
 same-length : tie.Need-same-length Inv-loop μ-loop

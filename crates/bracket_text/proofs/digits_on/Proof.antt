@@ -31,10 +31,10 @@ cast-t12 c = search needs
 
 returns : tie.Need-returns Inv-loop μ-loop
 returns c =
-    let looping = c .before .before .before .before in
-    let entry = looping .before .before in
+    let loop-head = c .before .before .before .before in
+    let entry = loop-head .before .before in
     let a = entry .args in
-    let k = looping .loop in (
+    let k = loop-head .loop in (
       k .inv .2 ∙ digits-stop (a .line .now) (k .at) (c .before .digit .result) (omega arith) (c .before .digit .ensures) (k .value)
           (omega arith),
       omega arith,
@@ -48,10 +48,10 @@ add-next c = search needs
 
 returns-2 : tie.Need-returns-2 Inv-loop μ-loop
 returns-2 c =
-    let looping = c .before .before .before .before .before in
-    let entry = looping .before .before in
+    let loop-head = c .before .before .before .before .before in
+    let entry = loop-head .before .before in
     let a = entry .args in
-    let k = looping .loop in
+    let k = loop-head .loop in
     k .inv .2
     ∙ digits-over (a .line .now) (k .at) (c .before .before .digit .result) (omega arith) (c .before .before .digit .ensures)
     (k .value) (omega arith) (omega arith)
@@ -64,10 +64,10 @@ loop-less c = search needs
 
 loop-again : tie.Need-loop-again Inv-loop μ-loop
 loop-again c =
-    let looping = c .before .before .before .before .before in
-    let entry = looping .before .before in
+    let loop-head = c .before .before .before .before .before in
+    let entry = loop-head .before .before in
     let a = entry .args in
-    let k = looping .loop in (
+    let k = loop-head .loop in (
       omega arith,
       omega arith,
       k .inv .2 ∙ digits-more (a .line .now) (k .at) (c .before .before .digit .result) (omega arith)

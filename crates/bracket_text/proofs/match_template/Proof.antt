@@ -35,10 +35,10 @@ enum-told c = search needs
 
 returns : tie.Need-returns Inv-loop μ-loop
 returns c =
-    let looping = c .before .before .before .before .before .before in
-    let entry = looping .before .before .before in
+    let loop-head = c .before .before .before .before .before .before in
+    let entry = loop-head .before .before .before in
     let a = entry .args in
-    let k = looping .loop in
+    let k = loop-head .loop in
     k .inv .3
     ∙ matched-astray (a .template .now) (k .i) (k .count) (k .numbers) _ (omega arith)
     (piece-read-astray (a .line .now) _ _ _ (c .before .before .piece-at .ensures) (c .enum-told .given .1))
@@ -52,10 +52,10 @@ loop-less c = search needs
 loop-again : tie.Need-loop-again Inv-loop μ-loop
 loop-again c =
     let piece-at-told = c .before .before .before in
-    let looping = piece-at-told .before .before .before .before in
-    let entry = looping .before .before .before in
+    let loop-head = piece-at-told .before .before .before .before in
+    let entry = loop-head .before .before .before in
     let a = entry .args in
-    let k = looping .loop in
+    let k = loop-head .loop in
     let m = piece-read-at (a .line .now) _ _ _ (piece-at-told .piece-at .ensures) (c .before .next .given .1) in (
       omega arith,
       m .1,

@@ -22,10 +22,10 @@ shared-slice-read-put-piece c = search needs
 
 put-piece-requires : tie.Need-put-piece-requires Inv-loop μ-loop
 put-piece-requires c κs =
-    let looping = c .before .before .before in
-    let entry = looping .before .before .before .before in
+    let loop-head = c .before .before .before in
+    let entry = loop-head .before .before .before .before in
     let a = entry .args in
-    let k = looping .loop in (
+    let k = loop-head .loop in (
       writes-room (a .template .now) (a .numbers .now) (a .buf .now) (k .buf) (k .pen) (k .i) (k .inv)
           (entry .pre) (omega arith),
       omega (arith, k .inv .count),
@@ -39,10 +39,10 @@ loop-less c = omega arith
 
 loop-again : tie.Need-loop-again Inv-loop μ-loop
 loop-again c =
-    let looping = c .before .before .before .before .before .before in
-    let entry = looping .before .before .before .before in
+    let loop-head = c .before .before .before .before .before .before in
+    let entry = loop-head .before .before .before .before in
     let a = entry .args in
-    let k = looping .loop in
+    let k = loop-head .loop in
     writes-more (a .template .now) (a .numbers .now) (a .buf .now) (k .buf) (k .pen) (k .i) (k .inv)
     (entry .pre) (omega arith)
     (c .before .before .put-piece .result) (c .before .before .put-piece .last .0) (c .before .before .put-piece .kept .0)

@@ -46,7 +46,10 @@ same-length : tie.Need-same-length Inv-loop μ-loop
 same-length c = c .before .loop .inv .size
 
 returns : tie.Need-returns Inv-loop μ-loop
-returns c = let a = c .before .before in let l = c .before .loop in copied-all (a .args .n) (a .args .scratch .now) (a .pre) (l .scratch) (l .i) (c .loop-test .left) (l .inv)
+returns c =
+    let entry = c .before .before in
+    let l = c .before .loop in
+    copied-all (entry .args .n) (entry .args .scratch .now) (entry .pre) (l .scratch) (l .i) (c .loop-test .left) (l .inv)
 
 pub copy-to-front-spec : {M : Type 1} → statement M
 copy-to-front-spec =

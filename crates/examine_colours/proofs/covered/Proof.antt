@@ -31,14 +31,14 @@ same-length-2 c = search needs
 
 returns-2 : tie.Need-returns-2
 returns-2 c =
-    let past-ok = c .before .before .before in
-    let entries-behind-told = past-ok .before .before .before in
+    let ok-holds = c .before .before .before in
+    let entries-behind-told = ok-holds .before .before .before in
     let entry = entries-behind-told .before .before .before .before in
     let a = entry .args in
     let g = a .g in
     second-roots g (a .mem .now) (a .n) (a .scratch .now) (entry .pre .0) (memOf g (a .mem .now)) (entry .pre .1)
     (entries-behind-told .entries-behind .last .1 .1 .1 .0) (entries-behind-told .entries-behind .kept .1 .1 .1 .0) _
-    (entries-behind-told .entries-behind .ensures) (not-false _ (past-ok .if1 .left)) _ (c .before .roots-in .ensures)
+    (entries-behind-told .entries-behind .ensures) (not-false _ (ok-holds .if1 .left)) _ (c .before .roots-in .ensures)
     (not-true _ (c .if2 .taken))
 
 pointers-in-requires : tie.Need-pointers-in-requires
@@ -62,14 +62,14 @@ same-length-3 c = search needs
 returns-3 : tie.Need-returns-3
 returns-3 c =
     let roots-in-told = c .before .before .before in
-    let past-ok = roots-in-told .before .before in
-    let entries-behind-told = past-ok .before .before .before in
+    let ok-holds = roots-in-told .before .before in
+    let entries-behind-told = ok-holds .before .before .before in
     let entry = entries-behind-told .before .before .before .before in
     let a = entry .args in
     let g = a .g in
     second-all g (a .mem .now) (a .n) (a .scratch .now) (entry .pre .0) (memOf g (a .mem .now)) (entry .pre .1)
     (entries-behind-told .entries-behind .last .1 .1 .1 .0) (entries-behind-told .entries-behind .kept .1 .1 .1 .0) _
-    (entries-behind-told .entries-behind .ensures) (not-false _ (past-ok .if1 .left)) _ (roots-in-told .roots-in .ensures)
+    (entries-behind-told .entries-behind .ensures) (not-false _ (ok-holds .if1 .left)) _ (roots-in-told .roots-in .ensures)
     (not-false _ (c .before .before .if2 .left)) _ (c .pointers-in .ensures)
 
 pub covered-spec : {M : Type 1} → statement M

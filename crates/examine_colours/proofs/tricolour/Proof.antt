@@ -43,8 +43,8 @@ copy-to-front-requires c κs =
 covered-requires : tie.Need-covered-requires
 covered-requires c κs =
     let kept = c .before .before .before in
-    let past-ok = kept .before .before in
-    let live-behind-told = past-ok .before .before .before in
+    let ok-holds = kept .before .before in
+    let live-behind-told = ok-holds .before .before .before in
     let front-told = live-behind-told .before .before in
     let entry = front-told .before .before .before in
     let a = entry .args in
@@ -56,7 +56,7 @@ covered-requires c κs =
     let r : Room g (a .mem .now) n t = record { sized = entry .pre .0; field = front-told .front .ensures; room = live-behind-told .live-behind .kept .1 .1 .1 .0 ∙ entry .pre .1 } in (
       resize g (a .mem .now) n t r u (kept .copy-to-front .kept .1 .0),
       bits-front g m (Live m) (a .mem .now) n t r (drop n t) u (kept .copy-to-front .ensures)
-          (live-behind-told .live-behind .ensures .good (not-false _ (past-ok .if1 .left))),
+          (live-behind-told .live-behind .ensures .good (not-false _ (ok-holds .if1 .left))),
     )
 
 same-length-2 : tie.Need-same-length-2

@@ -31,10 +31,10 @@ enum-known-k c = search needs
 
 fine-bit-requires : tie.Need-fine-bit-requires
 fine-bit-requires c κs =
-    let known = c .before in
-    let tested = known .before .before in
-    let entry = tested .before .before .before .before in
-    let t = subst (Tested (entry .args .g) (memOf (entry .args .g) (entry .args .mem .now)) (entry .args .w - 1)) (known .k .given .1) (tested .test .ensures) in
+    let k-bound = c .before in
+    let test-told = k-bound .before .before in
+    let entry = test-told .before .before .before .before in
+    let t = subst (Tested (entry .args .g) (memOf (entry .args .g) (entry .args .mem .now)) (entry .args .w - 1)) (k-bound .k .given .1) (test-told .test .ensures) in
     (entry .pre .0, entry .pre .1, tested-small _ _ _ _ (t .0) (t .1))
 
 returns-2 : tie.Need-returns-2
@@ -47,13 +47,13 @@ returns-2 c =
 
 returns-3 : tie.Need-returns-3
 returns-3 c =
-    let known = c .before .before in
-    let tested = known .before .before in
-    let past-w-is-0 = tested .before in
+    let k-bound = c .before .before in
+    let test-told = k-bound .before .before in
+    let past-w-is-0 = test-told .before in
     let entry = past-w-is-0 .before .before .before in
     let a = entry .args in
     let m = memOf (a .g) (a .mem .now) in
-    let t = subst (Tested (a .g) m (a .w - 1)) (known .k .given .1) (tested .test .ensures) in
+    let t = subst (Tested (a .g) m (a .w - 1)) (k-bound .k .given .1) (test-told .test .ensures) in
     fine-by (a .g) m (a .cover .now) (a .w) (past-w-is-0 .if1 .left) (t .0) _ (t .1) _ (c .fine-bit .ensures)
 
 pub fine-spec : {M : Type 1} → statement M

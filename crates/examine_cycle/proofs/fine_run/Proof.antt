@@ -32,34 +32,34 @@ fine-requires c κs = let a = c .before .before .before .before .before in (a .p
 
 returns : tie.Need-returns Inv-loop μ-loop
 returns c =
-    let turning = c .before .before .before in
-    let looping = turning .before in
-    let entry = looping .before .before .before in
+    let in-body = c .before .before .before in
+    let loop-head = in-body .before in
+    let entry = loop-head .before .before .before in
     let a = entry .args in
     let m = memOf (a .g) (a .mem .now) in
     fails
     (λ q. refuted (c .before .fine .ensures) (not-true _ (c .if1 .taken))
-    (run-one (a .g) m (a .cover .now) (wordsOf (a .source) m) (a .from) (looping .loop .f) _ (c .before .before .word .ensures) (a .count) (turning .loop-test .taken) q))
+    (run-one (a .g) m (a .cover .now) (wordsOf (a .source) m) (a .from) (loop-head .loop .f) _ (c .before .before .word .ensures) (a .count) (in-body .loop-test .taken) q))
 
 add-f : tie.Need-add-f Inv-loop μ-loop
 add-f c =
-    let turning = c .before .before .before in
-    let entry = turning .before .before .before .before in
-    omega (arith, entry .pre .2, turning .loop-test .taken, length-most (entry .args .source) (entry .args .g) (entry .pre .0 .few))
+    let in-body = c .before .before .before in
+    let entry = in-body .before .before .before .before in
+    omega (arith, entry .pre .2, in-body .loop-test .taken, length-most (entry .args .source) (entry .args .g) (entry .pre .0 .few))
 
 loop-less : tie.Need-loop-less Inv-loop μ-loop
 loop-less c = omega (arith, c .before .before .before .loop-test .taken)
 
 loop-again : tie.Need-loop-again Inv-loop μ-loop
 loop-again c =
-    let turning = c .before .before .before in
-    let looping = turning .before in
-    let entry = looping .before .before .before in
+    let in-body = c .before .before .before in
+    let loop-head = in-body .before in
+    let entry = loop-head .before .before .before in
     let a = entry .args in
     let m = memOf (a .g) (a .mem .now) in (
-      omega (arith, turning .loop-test .taken),
-      run-more (a .g) m (a .cover .now) (wordsOf (a .source) m) (a .from) (looping .loop .f) _ (c .before .before .word .ensures)
-          (looping .loop .inv .1) (c .before .fine .ensures .sound (not-false _ (c .if1 .left))),
+      omega (arith, in-body .loop-test .taken),
+      run-more (a .g) m (a .cover .now) (wordsOf (a .source) m) (a .from) (loop-head .loop .f) _ (c .before .before .word .ensures)
+          (loop-head .loop .inv .1) (c .before .fine .ensures .sound (not-false _ (c .if1 .left))),
     )
 
 returns-2 : tie.Need-returns-2 Inv-loop μ-loop

@@ -54,12 +54,12 @@ returns-3 : tie.Need-returns-3
 returns-3 c =
     let located = c .before .before .before in
     let measured = located .before in
-    let past-is-set = measured .before in
-    let entry = past-is-set .before .before .before in
+    let is-set-holds = measured .before in
+    let entry = is-set-holds .before .before .before in
     let a = entry .args in
     fine-by (a .g) (a .k) _ (entry .pre .1) _ (measured .block-words .ensures) refl (memOf (a .g) (a .mem .now)) (a .condemned-only) _
     (located .segment-of .ensures) _ (c .before .before .asked .ensures) (not-false _ (c .before .if2 .left))
-    (past-is-set .before .is-set .ensures .sound (not-false _ (past-is-set .if1 .left))) _ (c .head .ensures)
+    (is-set-holds .before .is-set .ensures .sound (not-false _ (is-set-holds .if1 .left))) _ (c .head .ensures)
 
 pub bit-fine-spec : {M : Type 1} → statement M
 bit-fine-spec = tie.close (tie.spec is-set-requires returns block-words-requires mul-at segment-of-requires asked-requires returns-2 head-requires returns-3)

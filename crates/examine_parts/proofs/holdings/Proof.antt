@@ -36,10 +36,10 @@ loop-less c = omega (arith, c .before .before .loop-test .taken)
 
 loop-again : tie.Need-loop-again Inv-loop μ-loop
 loop-again c =
-    let looping = c .before .before .before in (
-      omega (arith, looping .loop .inv .0),
+    let loop-head = c .before .before .before in (
+      omega (arith, loop-head .loop .inv .0),
       omega (arith, c .before .before .loop-test .taken),
-      below-more _ _ (looping .loop .inv .2) (λ _. c .before .holds .ensures .sound (not-false _ (c .if1 .left))),
+      below-more _ _ (loop-head .loop .inv .2) (λ _. c .before .holds .ensures .sound (not-false _ (c .if1 .left))),
     )
 
 returns-2 : tie.Need-returns-2 Inv-loop μ-loop

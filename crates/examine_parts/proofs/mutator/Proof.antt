@@ -26,11 +26,11 @@ acknowledged-requires c κs = search needs
 
 returns-3 : tie.Need-returns-3
 returns-3 c =
-    let past-entry = c .before .before .before in
-    let entry = past-entry .before .before .before in
+    let entry-holds = c .before .before .before in
+    let entry = entry-holds .before .before .before in
     let a = entry .args in
-    mutator-all (a .g) (memOf (a .g) (a .mem .now)) (a .k) _ (past-entry .before .entry .ensures)
-    (not-false _ (past-entry .if1 .left)) _ (c .before .before .holdings .ensures) (not-false _ (c .before .if2 .left)) _
+    mutator-all (a .g) (memOf (a .g) (a .mem .now)) (a .k) _ (entry-holds .before .entry .ensures)
+    (not-false _ (entry-holds .if1 .left)) _ (c .before .before .holdings .ensures) (not-false _ (c .before .if2 .left)) _
     (c .acknowledged .ensures)
 
 pub mutator-spec : {M : Type 1} → statement M

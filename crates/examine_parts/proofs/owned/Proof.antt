@@ -32,11 +32,11 @@ add-result c = search needs
 
 returns-3 : tie.Need-returns-3
 returns-3 c =
-    let past-mutators-upto-k = c .before .before .before in
-    let owner-told = past-mutators-upto-k .before in
+    let mutator-in-range = c .before .before .before in
+    let owner-told = mutator-in-range .before in
     let entry = owner-told .before .before in
     let a = entry .args in
-    owned-there (memOf (a .g) (a .mem .now)) (a .s) (a .class) _ (owner-told .owner .ensures) (past-mutators-upto-k .if1 .left) _
+    owned-there (memOf (a .g) (a .mem .now)) (a .s) (a .class) _ (owner-told .owner .ensures) (mutator-in-range .if1 .left) _
     (c .before .before .state .ensures) (c .before .if2 .left) _ (c .holding .ensures)
 
 pub owned-spec : {M : Type 1} → statement M

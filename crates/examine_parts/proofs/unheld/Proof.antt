@@ -33,12 +33,12 @@ blocks-in-requires c κs = search needs
 
 returns-3 : tie.Need-returns-3
 returns-3 c =
-    let past-k = c .before .before .before in
-    let owner-told = past-k .before in
+    let k-is-0 = c .before .before .before in
+    let owner-told = k-is-0 .before in
     let entry = owner-told .before .before in
     let a = entry .args in
     used-full (a .g) (memOf (a .g) (a .mem .now)) (a .s) (a .tag) (a .class) (entry .pre .1 .1 .0) (entry .pre .1 .1 .1) _
-    (owner-told .owner .ensures) (past-k .if1 .left) (c .before .before .if2 .left) _ _ (c .before .place .ensures)
+    (owner-told .owner .ensures) (k-is-0 .if1 .left) (c .before .before .if2 .left) _ _ (c .before .place .ensures)
     (c .blocks-in .ensures)
 
 pub unheld-spec : {M : Type 1} → statement M

@@ -60,11 +60,11 @@ bit-at-requires c κs =
 returns-2 : tie.Need-returns-2
 returns-2 c =
     let bitmap-from-told = c .before .before .before in
-    let past-b = bitmap-from-told .before in
-    let place-told = past-b .before in
+    let past-b-below-place = bitmap-from-told .before in
+    let place-told = past-b-below-place .before in
     let entry = place-told .before .before in
     let a = entry .args in
-    used-by (a .g) (memOf (a .g) (a .mem .now)) (a .s) (a .b) _ (place-told .place .ensures) (past-b .if1 .left) _
+    used-by (a .g) (memOf (a .g) (a .mem .now)) (a .s) (a .b) _ (place-told .place .ensures) (past-b-below-place .if1 .left) _
     (rw
     (lent (a .g) (a .mem .now) (entry .pre .0) (a .s) (entry .pre .1) (bitmap-from-told .bitmap-from .result)
     (c .before .before .bitmap-from2 .result) (bitmap-from-told .bitmap-from .ensures) (c .before .before .bitmap-from2 .ensures) .is)

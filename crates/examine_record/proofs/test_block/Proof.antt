@@ -45,12 +45,12 @@ mark-bit-requires c κs = search needs
 returns-2 : tie.Need-returns-2
 returns-2 c =
     let when-is-used = c .before .before .before in
-    let past-0 = when-is-used .before .before in
-    let block-words-told = past-0 .before in
+    let at-a-block = when-is-used .before .before in
+    let block-words-told = at-a-block .before in
     let offset-of-told = block-words-told .before in
     let entry = offset-of-told .before .before in
     passes _ _ _ _ _ (entry .pre .2) (entry .pre .3) _ _ (offset-of-told .offset-of .ensures) (block-words-told .block-words .ensures)
-    (entry .pre .1) (past-0 .if1 .left) (when-is-used .before .is-used .ensures .sound (when-is-used .if2 .taken))
+    (entry .pre .1) (at-a-block .if1 .left) (when-is-used .before .is-used .ensures .sound (when-is-used .if2 .taken))
     (c .before .before .is-of-class .ensures .sound (c .before .if3 .taken)) _ (c .mark-bit .ensures)
 
 returns-3 : tie.Need-returns-3

@@ -22,10 +22,10 @@ waiting-requires c κs = tt
 
 turn-requires : tie.Need-turn-requires Inv-loop μ-loop
 turn-requires c κs =
-    let looping = c .before .before .before in
-    let entry = looping .before .before .before in
+    let loop-head = c .before .before .before in
+    let entry = loop-head .before .before .before in
     let a = entry .args in
-    let l = looping .loop in (
+    let l = loop-head .loop in (
       record { sized = entry .pre .0 .sized; room = l .inv .0 },
       under-ready (a .g) (memOf (a .g) (a .mem .now)) (a .edges) (a .scratch .now) (a .start) (l .met) (l .scratch) (l .inv .1),
       sym (c .before .before .waiting .ensures) ∙ c .before .if1 .taken,
@@ -34,10 +34,10 @@ turn-requires c κs =
 loop-less : tie.Need-loop-less Inv-loop μ-loop
 loop-less c =
     let when-waiting = c .before .before .before .before in
-    let looping = when-waiting .before .before in
-    let entry = looping .before .before .before in
+    let loop-head = when-waiting .before .before in
+    let entry = loop-head .before .before .before in
     let a = entry .args in
-    let l = looping .loop in
+    let l = loop-head .loop in
     under-more (a .g) (memOf (a .g) (a .mem .now)) (a .edges) (a .scratch .now) (a .start) (l .met) (c .before .before .turn .result)
     (l .scratch) (c .before .before .turn .last .1 .1 .1 .0) (l .inv .1)
     (sym (when-waiting .before .waiting .ensures) ∙ when-waiting .if1 .taken) (c .before .before .turn .ensures) .1
@@ -45,10 +45,10 @@ loop-less c =
 loop-again : tie.Need-loop-again Inv-loop μ-loop
 loop-again c =
     let when-waiting = c .before .before .before .before in
-    let looping = when-waiting .before .before in
-    let entry = looping .before .before .before in
+    let loop-head = when-waiting .before .before in
+    let entry = loop-head .before .before .before in
     let a = entry .args in
-    let l = looping .loop in (
+    let l = loop-head .loop in (
       c .before .before .turn .kept .1 .1 .1 .0 ∙ l .inv .0,
       under-more (a .g) (memOf (a .g) (a .mem .now)) (a .edges) (a .scratch .now) (a .start) (l .met) (c .before .before .turn .result)
           (l .scratch) (c .before .before .turn .last .1 .1 .1 .0) (l .inv .1)
@@ -60,16 +60,16 @@ good-requires c κs = tt
 
 same-length : tie.Need-same-length Inv-loop μ-loop
 same-length c =
-    let looping = c .before .before .before in
-    let entry = looping .before .before .before in
-    looping .loop .inv .0 ∙ sym (entry .pre .0 .room)
+    let loop-head = c .before .before .before in
+    let entry = loop-head .before .before .before in
+    loop-head .loop .inv .0 ∙ sym (entry .pre .0 .room)
 
 returns : tie.Need-returns Inv-loop μ-loop
 returns c =
-    let looping = c .before .before .before in
-    let entry = looping .before .before .before in
+    let loop-head = c .before .before .before in
+    let entry = loop-head .before .before .before in
     let a = entry .args in
-    let l = looping .loop in
+    let l = loop-head .loop in
     subst (λ (b : Bool). Finished (a .g) (memOf (a .g) (a .mem .now)) (a .edges) (a .scratch .now) (a .start) b (l .scratch))
     (sym (c .good2 .ensures))
     (under-end (a .g) (memOf (a .g) (a .mem .now)) (a .edges) (a .scratch .now) (a .start) (l .met) (l .scratch) (l .inv .1) (sym (c .before .before .waiting .ensures) ∙ c .before .if1 .left))

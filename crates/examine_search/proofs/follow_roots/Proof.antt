@@ -44,13 +44,13 @@ loop-less c = omega (arith, c .before .before .before .before .loop-test .taken)
 
 loop-again : tie.Need-loop-again Inv-loop μ-loop
 loop-again c =
-    let turning = c .before .before .before .before in
-    let looping = turning .before in
-    let entry = looping .before .before .before in
+    let in-body = c .before .before .before .before in
+    let loop-head = in-body .before in
+    let entry = loop-head .before .before .before in
     let a = entry .args in
     let m = memOf (a .g) (a .mem .now) in
-    let l = looping .loop in (
-      omega (arith, turning .loop-test .taken),
+    let l = loop-head .loop in (
+      omega (arith, in-body .loop-test .taken),
       c .before .before .follow-mutator .kept .1 .1 .1 .0 ∙ l .inv .1,
       roots-more (a .g) m (stateOf (a .g) (a .scratch .now) 0) (l .k) (l .met) (c .before .before .follow-mutator .result) (l .scratch)
           (c .before .before .follow-mutator .last .1 .1 .1 .0) (l .inv .2) (c .before .before .follow-mutator .ensures),

@@ -36,36 +36,36 @@ word-requires c κs = let a = c .before .before .before .before in (a .pre .0 .s
 
 follow-requires : tie.Need-follow-requires Inv-loop μ-loop
 follow-requires c κs =
-    let looping = c .before .before .before in
-    let entry = looping .before .before .before in
+    let loop-head = c .before .before .before in
+    let entry = loop-head .before .before .before in
     let a = entry .args in
     let m = memOf (a .g) (a .mem .now) in
-    let l = looping .loop in (
+    let l = loop-head .loop in (
       record { sized = entry .pre .0 .sized; room = l .inv .1 },
       came-ready (a .g) m (stateOf (a .g) (a .scratch .now) (a .top)) (InRun (wordsOf (a .source) m) (a .from) (l .f)) (l .met) (l .scratch) (l .inv .2),
     )
 
 add-f : tie.Need-add-f Inv-loop μ-loop
 add-f c =
-    let turning = c .before .before .before .before .before in
-    let entry = turning .before .before .before .before in
-    omega (arith, entry .pre .2, turning .loop-test .taken, length-most (entry .args .source) (entry .args .g) (entry .pre .0 .sized .few))
+    let in-body = c .before .before .before .before .before in
+    let entry = in-body .before .before .before .before in
+    omega (arith, entry .pre .2, in-body .loop-test .taken, length-most (entry .args .source) (entry .args .g) (entry .pre .0 .sized .few))
 
 loop-less : tie.Need-loop-less Inv-loop μ-loop
 loop-less c =
-    let turning = c .before .before .before .before .before in
-    omega (arith, turning .loop-test .taken)
+    let in-body = c .before .before .before .before .before in
+    omega (arith, in-body .loop-test .taken)
 
 loop-again : tie.Need-loop-again Inv-loop μ-loop
 loop-again c =
     let word-told = c .before .before .before .before in
-    let turning = word-told .before in
-    let looping = turning .before in
-    let entry = looping .before .before .before in
+    let in-body = word-told .before in
+    let loop-head = in-body .before in
+    let entry = loop-head .before .before .before in
     let a = entry .args in
     let m = memOf (a .g) (a .mem .now) in
-    let l = looping .loop in (
-      omega (arith, turning .loop-test .taken),
+    let l = loop-head .loop in (
+      omega (arith, in-body .loop-test .taken),
       c .before .before .follow .kept .1 .1 .1 .0 ∙ l .inv .1,
       came-more (a .g) m (wordsOf (a .source) m) (a .from) (stateOf (a .g) (a .scratch .now) (a .top)) (l .f) (word-told .word .result)
           (word-told .word .ensures) (l .met) (c .before .before .follow .result) (l .scratch) (c .before .before .follow .last .1 .1 .1 .0)

@@ -35,36 +35,36 @@ trace-requires c κs =
 
 seed-requires : tie.Need-seed-requires Inv-loop μ-loop
 seed-requires c κs =
-    let looping = c .before .before .before in
-    let entry = looping .before .before .before .before in
+    let loop-head = c .before .before .before in
+    let entry = loop-head .before .before .before .before in
     let a = entry .args in
     let m = memOf (a .g) (a .mem .now) in
-    let l = looping .loop in
+    let l = loop-head .loop in
     (record { sized = entry .pre .0 .sized; room = l .inv .1 }, came-ready (a .g) m (stateOf (a .g) (a .scratch .now) 0) (SeedBelow m (l .i)) (l .met) (l .scratch) (l .inv .2))
 
 add-i : tie.Need-add-i Inv-loop μ-loop
 add-i c =
-    let turning = c .before .before .before .before .before in
-    let entry-count-told = turning .before .before in
+    let in-body = c .before .before .before .before .before in
+    let entry-count-told = in-body .before .before in
     let entry = entry-count-told .before .before .before in
-    omega (arith, turning .loop-test .taken, entry-count-told .entry-count .ensures .room, trace-most (entry .args .g) (entry .pre .0 .sized .few))
+    omega (arith, in-body .loop-test .taken, entry-count-told .entry-count .ensures .room, trace-most (entry .args .g) (entry .pre .0 .sized .few))
 
 loop-less : tie.Need-loop-less Inv-loop μ-loop
 loop-less c =
-    let turning = c .before .before .before .before .before in
-    omega (arith, turning .loop-test .taken)
+    let in-body = c .before .before .before .before .before in
+    omega (arith, in-body .loop-test .taken)
 
 loop-again : tie.Need-loop-again Inv-loop μ-loop
 loop-again c =
     let trace-told = c .before .before .before .before in
-    let turning = trace-told .before in
-    let looping = turning .before in
-    let entry = looping .before .before .before .before in
+    let in-body = trace-told .before in
+    let loop-head = in-body .before in
+    let entry = loop-head .before .before .before .before in
     let a = entry .args in
     let m = memOf (a .g) (a .mem .now) in
-    let l = looping .loop in
+    let l = loop-head .loop in
     let q = c .before .before .seed in (
-      omega (arith, turning .loop-test .taken),
+      omega (arith, in-body .loop-test .taken),
       q .kept .1 .1 .1 .0 ∙ l .inv .1,
       seeds-more (a .g) m (stateOf (a .g) (a .scratch .now) 0) (l .i) (trace-told .trace .result) (trace-told .trace .ensures) (l .met)
           (q .result) (l .scratch) (q .last .1 .1 .1 .0) (l .inv .2) (q .ensures),

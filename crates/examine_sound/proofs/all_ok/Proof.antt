@@ -28,9 +28,9 @@ returns-2 c =
 rest-ok-requires : tie.Need-rest-ok-requires
 rest-ok-requires c κs =
     let trace-ok-told = c .before .before .before .before in
-    let past-parts = trace-ok-told .before .before in
-    let entry = past-parts .before .before .before .before in
-    let p = past-parts .before .parts .ensures .sound (not-false _ (past-parts .if1 .left)) in (
+    let parts-hold = trace-ok-told .before .before in
+    let entry = parts-hold .before .before .before .before in
+    let p = parts-hold .before .parts .ensures .sound (not-false _ (parts-hold .if1 .left)) in (
       entry .pre .0,
       trace-ok-told .trace-ok .kept .1 .1 .0 ∙ entry .pre .1,
       classes-of (entry .args .g) (memOf (entry .args .g) (entry .args .mem .now)) p,
@@ -43,13 +43,13 @@ same-length-2 c = search needs
 
 returns-3 : tie.Need-returns-3
 returns-3 c =
-    let past-trace = c .before .before .before .before in
-    let trace-ok-told = past-trace .before .before .before in
-    let past-parts = trace-ok-told .before .before in
-    let entry = past-parts .before .before .before .before in
+    let trace-holds = c .before .before .before .before in
+    let trace-ok-told = trace-holds .before .before .before in
+    let parts-hold = trace-ok-told .before .before in
+    let entry = parts-hold .before .before .before .before in
     all-of (entry .args .g) (memOf (entry .args .g) (entry .args .mem .now))
-    (past-parts .before .parts .ensures .sound (not-false _ (past-parts .if1 .left)))
-    (trace-ok-told .trace-ok .ensures .sound (not-false _ (past-trace .if2 .left))) _ (c .before .before .rest-ok .ensures)
+    (parts-hold .before .parts .ensures .sound (not-false _ (parts-hold .if1 .left)))
+    (trace-ok-told .trace-ok .ensures .sound (not-false _ (trace-holds .if2 .left))) _ (c .before .before .rest-ok .ensures)
 
 pub all-ok-spec : {M : Type 1} → statement M
 all-ok-spec =

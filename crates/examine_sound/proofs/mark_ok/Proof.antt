@@ -19,8 +19,8 @@ same-length c = search needs
 
 returns-2 : tie.Need-returns-2
 returns-2 c =
-    let past-marks = c .before .before .before .before in
-    via (λ h. record { marks = past-marks .before .marks .ensures .sound (not-false _ (past-marks .if1 .left)); coloured = h }) (λ q. q .coloured) (c .before .before .tricolour .ensures)
+    let marks-hold = c .before .before .before .before in
+    via (λ h. record { marks = marks-hold .before .marks .ensures .sound (not-false _ (marks-hold .if1 .left)); coloured = h }) (λ q. q .coloured) (c .before .before .tricolour .ensures)
 
 pub mark-ok-spec : {M : Type 1} → statement M
 mark-ok-spec = tie.close (tie.spec marks-requires returns tricolour-requires same-length returns-2)

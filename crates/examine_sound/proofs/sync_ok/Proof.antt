@@ -19,9 +19,9 @@ same-length c = search needs
 
 returns-2 : tie.Need-returns-2
 returns-2 c =
-    let past-only-entries = c .before .before .before .before in
+    let only-entries-hold = c .before .before .before .before in
     via
-    (λ h. record { only = past-only-entries .before .only-entries .ensures .sound (not-false _ (past-only-entries .if1 .left)); records = h })
+    (λ h. record { only = only-entries-hold .before .only-entries .ensures .sound (not-false _ (only-entries-hold .if1 .left)); records = h })
     (λ q. q .records) (c .before .before .live-ok .ensures)
 
 pub sync-ok-spec : {M : Type 1} → statement M

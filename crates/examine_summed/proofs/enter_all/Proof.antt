@@ -29,10 +29,10 @@ same-length c = search needs
 returns : tie.Need-returns Inv-loop μ-loop
 returns c =
     let entered = c .before .before .before in
-    let turning = entered .before .before in
-    let looping = turning .before in
-    let entry = looping .before .before .before in
-    one-wrong _ _ _ _ _ _ _ (entry .pre .0 .2) (turning .loop-test .taken) (looping .loop .inv .1) _ (entered .enter .ensures) (not-true _ (c .if1 .taken))
+    let in-body = entered .before .before in
+    let loop-head = in-body .before in
+    let entry = loop-head .before .before .before in
+    one-wrong _ _ _ _ _ _ _ (entry .pre .0 .2) (in-body .loop-test .taken) (loop-head .loop .inv .1) _ (entered .enter .ensures) (not-true _ (c .if1 .taken))
 
 add-i : tie.Need-add-i Inv-loop μ-loop
 add-i c =
@@ -42,16 +42,16 @@ add-i c =
 
 loop-less : tie.Need-loop-less Inv-loop μ-loop
 loop-less c =
-    let turning = c .before .before .before .before .before in
-    omega (arith, turning .loop-test .taken)
+    let in-body = c .before .before .before .before .before in
+    omega (arith, in-body .loop-test .taken)
 
 loop-again : tie.Need-loop-again Inv-loop μ-loop
 loop-again c =
     let entered = c .before .before .before in
-    let turning = entered .before .before in
-    let looping = turning .before in
-    let entry = looping .before .before .before in
-    (omega (arith, turning .loop-test .taken), seen-more _ _ _ _ _ (looping .loop .inv .1) _ _ (entered .enter .ensures) (entry .pre .0 .0 .few) (not-false _ (c .if1 .left)))
+    let in-body = entered .before .before in
+    let loop-head = in-body .before in
+    let entry = loop-head .before .before .before in
+    (omega (arith, in-body .loop-test .taken), seen-more _ _ _ _ _ (loop-head .loop .inv .1) _ _ (entered .enter .ensures) (entry .pre .0 .0 .few) (not-false _ (c .if1 .left)))
 
 same-length-2 : tie.Need-same-length-2 Inv-loop μ-loop
 same-length-2 c = search needs

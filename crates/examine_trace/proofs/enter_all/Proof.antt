@@ -28,36 +28,36 @@ enter-requires c κs =
 same-length : tie.Need-same-length Inv-loop μ-loop
 same-length c =
     let entered = c .before .before .before in
-    let looping = entered .before .before .before in
-    entered .enter .kept .1 .1 .1 .0 ∙ looping .loop .inv .1
+    let loop-head = entered .before .before .before in
+    entered .enter .kept .1 .1 .1 .0 ∙ loop-head .loop .inv .1
 
 returns : tie.Need-returns Inv-loop μ-loop
 returns c =
     let entered = c .before .before .before in
-    let turning = entered .before .before in
-    let looping = turning .before in
-    let entry = looping .before .before .before in
-    one-wrong _ _ _ _ _ _ (entry .pre .0 .1) (turning .loop-test .taken) (looping .loop .inv .2) _ (entered .enter .ensures) (not-true _ (c .if1 .taken))
+    let in-body = entered .before .before in
+    let loop-head = in-body .before in
+    let entry = loop-head .before .before .before in
+    one-wrong _ _ _ _ _ _ (entry .pre .0 .1) (in-body .loop-test .taken) (loop-head .loop .inv .2) _ (entered .enter .ensures) (not-true _ (c .if1 .taken))
 
 add-i : tie.Need-add-i Inv-loop μ-loop
 add-i c =
-    let turning = c .before .before .before .before .before in
-    let entry = turning .before .before .before .before in
-    omega (arith, turning .loop-test .taken, entry .pre .0 .2, trace-most (entry .args .g) (entry .pre .0 .0 .few))
+    let in-body = c .before .before .before .before .before in
+    let entry = in-body .before .before .before .before in
+    omega (arith, in-body .loop-test .taken, entry .pre .0 .2, trace-most (entry .args .g) (entry .pre .0 .0 .few))
 
 loop-less : tie.Need-loop-less Inv-loop μ-loop
 loop-less c =
-    let turning = c .before .before .before .before .before in
-    omega (arith, turning .loop-test .taken)
+    let in-body = c .before .before .before .before .before in
+    omega (arith, in-body .loop-test .taken)
 
 loop-again : tie.Need-loop-again Inv-loop μ-loop
 loop-again c =
     let entered = c .before .before .before in
-    let turning = entered .before .before in
-    let looping = turning .before in (
-      omega (arith, turning .loop-test .taken),
-      entered .enter .kept .1 .1 .1 .0 ∙ looping .loop .inv .1,
-      seen-more _ _ _ _ (looping .loop .inv .2) _ _ (entered .enter .ensures) (not-false _ (c .if1 .left)),
+    let in-body = entered .before .before in
+    let loop-head = in-body .before in (
+      omega (arith, in-body .loop-test .taken),
+      entered .enter .kept .1 .1 .1 .0 ∙ loop-head .loop .inv .1,
+      seen-more _ _ _ _ (loop-head .loop .inv .2) _ _ (entered .enter .ensures) (not-false _ (c .if1 .left)),
     )
 
 same-length-2 : tie.Need-same-length-2 Inv-loop μ-loop

@@ -42,12 +42,12 @@ returns-3 : tie.Need-returns-3
 returns-3 c =
     let past-bit-at-is-1 = c .before .before .before .before in
     let bit-at-told = past-bit-at-is-1 .before in
-    let past-is-set = bit-at-told .before .before in
-    let entry = past-is-set .before .before .before .before in
+    let is-set-holds = bit-at-told .before .before in
+    let entry = is-set-holds .before .before .before .before in
     let a = entry .args in
     let m = memOf (a .g) (a .mem .now) in
     subst (BitEnters m (a .k) (a .scratch .now) _) (sym (c .before .before .set-bit .ensures))
-    (bit-new m (a .k) (a .scratch .now) (past-is-set .before .is-set .ensures .sound (not-false _ (past-is-set .if1 .left))) (λ q. past-bit-at-is-1 .if2 .left (bit-at-told .bit-at .ensures ∙ q)))
+    (bit-new m (a .k) (a .scratch .now) (is-set-holds .before .is-set .ensures .sound (not-false _ (is-set-holds .if1 .left))) (λ q. past-bit-at-is-1 .if2 .left (bit-at-told .bit-at .ensures ∙ q)))
 
 pub enter-bit-spec : {M : Type 1} → statement M
 enter-bit-spec =

@@ -24,25 +24,25 @@ same-length c = search needs
 
 returns-3 : tie.Need-returns-3
 returns-3 c =
-    let past-mutators-upto-k = c .before .before .before in
-    let past-wrong-size = past-mutators-upto-k .before in
-    enter-4 _ _ _ (sym (past-wrong-size .before .wrong-size .ensures) ∙ past-wrong-size .if1 .left) (past-mutators-upto-k .if2 .left) _ (c .before .state .ensures) (c .if3 .taken)
+    let mutator-in-range = c .before .before .before in
+    let past-wrong-size = mutator-in-range .before in
+    enter-4 _ _ _ (sym (past-wrong-size .before .wrong-size .ensures) ∙ past-wrong-size .if1 .left) (mutator-in-range .if2 .left) _ (c .before .state .ensures) (c .if3 .taken)
 
 same-length-2 : tie.Need-same-length-2
 same-length-2 c = search needs
 
 returns-4 : tie.Need-returns-4
 returns-4 c =
-    let past-mutators-upto-k = c .before .before .before .before in
-    let past-wrong-size = past-mutators-upto-k .before in
-    enter-5 _ _ _ (sym (past-wrong-size .before .wrong-size .ensures) ∙ past-wrong-size .if1 .left) (past-mutators-upto-k .if2 .left)
+    let mutator-in-range = c .before .before .before .before in
+    let past-wrong-size = mutator-in-range .before in
+    enter-5 _ _ _ (sym (past-wrong-size .before .wrong-size .ensures) ∙ past-wrong-size .if1 .left) (mutator-in-range .if2 .left)
     _ (c .before .before .state .ensures) (c .before .if3 .left) (c .if4 .taken)
 
 set-state-requires : tie.Need-set-state-requires
 set-state-requires c κs =
-    let past-mutators-upto-k = c .before .before .before .before .before in
-    let past-wrong-size = past-mutators-upto-k .before in
-    (sized _ _ (sym (past-wrong-size .before .wrong-size .ensures) ∙ past-wrong-size .if1 .left), past-mutators-upto-k .if2 .left)
+    let mutator-in-range = c .before .before .before .before .before in
+    let past-wrong-size = mutator-in-range .before in
+    (sized _ _ (sym (past-wrong-size .before .wrong-size .ensures) ∙ past-wrong-size .if1 .left), mutator-in-range .if2 .left)
 
 same-length-3 : tie.Need-same-length-3
 same-length-3 c = search needs
@@ -52,9 +52,9 @@ returns-5 c =
     let past-state-is-inside = c .before .before .before .before in
     let past-state-is-absent = past-state-is-inside .before in
     let state-told = past-state-is-absent .before in
-    let past-mutators-upto-k = state-told .before .before in
-    let past-wrong-size = past-mutators-upto-k .before in
-    enter-ok _ _ _ (sym (past-wrong-size .before .wrong-size .ensures) ∙ past-wrong-size .if1 .left) (past-mutators-upto-k .if2 .left)
+    let mutator-in-range = state-told .before .before in
+    let past-wrong-size = mutator-in-range .before in
+    enter-ok _ _ _ (sym (past-wrong-size .before .wrong-size .ensures) ∙ past-wrong-size .if1 .left) (mutator-in-range .if2 .left)
     _ (state-told .state .ensures) (past-state-is-absent .if3 .left) (past-state-is-inside .if4 .left) _
     (c .before .before .set-state .ensures)
 

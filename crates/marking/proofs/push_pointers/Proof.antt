@@ -27,9 +27,9 @@ pointer-requires c κs =
 
 push-requires : tie.Need-push-requires Inv-loop μ-loop
 push-requires c κs =
-    let looping = c .before .before .before .before in
-    let entry = looping .before .before in
-    resized _ _ _ (entry .pre .0) (looping .loop .inv .0)
+    let loop-head = c .before .before .before .before in
+    let entry = loop-head .before .before in
+    resized _ _ _ (entry .pre .0) (loop-head .loop .inv .0)
 
 add-i : tie.Need-add-i Inv-loop μ-loop
 add-i c = omega arith
@@ -41,26 +41,26 @@ loop-again : tie.Need-loop-again Inv-loop μ-loop
 loop-again c =
     let pushed = c .before .before .before in
     let pointer-told = pushed .before .before in
-    let turning = pointer-told .before .before in
-    let looping = turning .before in (
-      pushed .push .kept .1 .0 ∙ looping .loop .inv .0,
-      one-more _ _ _ _ _ _ (looping .loop .inv .1) (turning .loop-test .taken) _ (pointer-told .pointer .ensures) _ _
+    let in-body = pointer-told .before .before in
+    let loop-head = in-body .before in (
+      pushed .push .kept .1 .0 ∙ loop-head .loop .inv .0,
+      one-more _ _ _ _ _ _ (loop-head .loop .inv .1) (in-body .loop-test .taken) _ (pointer-told .pointer .ensures) _ _
           (pushed .push .ensures) (c .if1 .taken),
     )
 
 same-length : tie.Need-same-length Inv-loop μ-loop
 same-length c =
     let pushed = c .before .before .before in
-    let looping = pushed .before .before .before .before .before in
-    pushed .push .kept .1 .0 ∙ looping .loop .inv .0
+    let loop-head = pushed .before .before .before .before .before in
+    pushed .push .kept .1 .0 ∙ loop-head .loop .inv .0
 
 returns : tie.Need-returns Inv-loop μ-loop
 returns c =
     let pushed = c .before .before .before in
     let pointer-told = pushed .before .before in
-    let turning = pointer-told .before .before in
-    let looping = turning .before in
-    one-fails _ _ _ _ _ _ (looping .loop .inv .1) (turning .loop-test .taken) _ (pointer-told .pointer .ensures) _ _ (pushed .push .ensures) (c .if1 .left)
+    let in-body = pointer-told .before .before in
+    let loop-head = in-body .before in
+    one-fails _ _ _ _ _ _ (loop-head .loop .inv .1) (in-body .loop-test .taken) _ (pointer-told .pointer .ensures) _ _ (pushed .push .ensures) (c .if1 .left)
 
 same-length-2 : tie.Need-same-length-2 Inv-loop μ-loop
 same-length-2 c = c .before .loop .inv .0

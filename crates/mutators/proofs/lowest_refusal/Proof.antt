@@ -24,14 +24,14 @@ returns-4 c = root-6 _ _ (c .if4 .taken) ∙ inside-rest _ _ _ (c .before .befor
 returns-5 : tie.Need-returns-5
 returns-5 c =
     let state-told = c .before .before .before .before in
-    let past-mutators-upto-k = state-told .before in
-    root-6 _ _ (c .if5 .taken) ∙ root-rest _ _ (c .before .if4 .left) ∙ inside-rest _ _ _ (past-mutators-upto-k .if1 .left) (sym (state-told .state .ensures) ∙ c .before .before .if3 .left)
+    let mutator-in-range = state-told .before in
+    root-6 _ _ (c .if5 .taken) ∙ root-rest _ _ (c .before .if4 .left) ∙ inside-rest _ _ _ (mutator-in-range .if1 .left) (sym (state-told .state .ensures) ∙ c .before .before .if3 .left)
 
 returns-6 : tie.Need-returns-6
 returns-6 c =
     let state-told = c .before .before .before .before in
-    let past-mutators-upto-k = state-told .before in
-    root-rest _ _ (c .if5 .left) ∙ root-rest _ _ (c .before .if4 .left) ∙ inside-rest _ _ _ (past-mutators-upto-k .if1 .left) (sym (state-told .state .ensures) ∙ c .before .before .if3 .left)
+    let mutator-in-range = state-told .before in
+    root-rest _ _ (c .if5 .left) ∙ root-rest _ _ (c .before .if4 .left) ∙ inside-rest _ _ _ (mutator-in-range .if1 .left) (sym (state-told .state .ensures) ∙ c .before .before .if3 .left)
 
 pub lowest-refusal-spec : {M : Type 1} → statement M
 lowest-refusal-spec =

@@ -42,9 +42,12 @@ loop-less c = omega arith
 
 loop-again : tie.Need-loop-again Inv-loop μ-loop
 loop-again c =
-    let turning = c .before .before .before .before in
-    let looping = turning .before in
-    (c .before .before .set-stack .kept .1 .0 ∙ looping .loop .inv .0, omega arith, left-less _ _ _ _ _ (looping .loop .inv .2) (turning .loop-test .taken) _ (c .before .before .set-stack .ensures))
+    let in-body = c .before .before .before .before in
+    let loop-head = in-body .before in (
+      c .before .before .set-stack .kept .1 .0 ∙ loop-head .loop .inv .0,
+      omega arith,
+      left-less _ _ _ _ _ (loop-head .loop .inv .2) (in-body .loop-test .taken) _ (c .before .before .set-stack .ensures),
+    )
 
 same-length : tie.Need-same-length Inv-loop μ-loop
 same-length c = c .before .loop .inv .0

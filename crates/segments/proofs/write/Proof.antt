@@ -46,32 +46,32 @@ same-length-2 c = search needs
 
 returns-2 : tie.Need-returns-2
 returns-2 c =
-    let state-bound = c .before .before .before .before .before in
-    state-written _ _ _ _ (state.Part _ _) _ (state-bound .state .given .1) (c .before .before .write-as2 .ensures)
+    let part-bound = c .before .before .before .before .before in
+    state-written _ _ _ _ (state.Part _ _) _ (part-bound .state .given .1) (c .before .before .write-as2 .ensures)
 
 same-length-3 : tie.Need-same-length-3
 same-length-3 c = search needs
 
 returns-3 : tie.Need-returns-3
 returns-3 c =
-    let state-bound = c .before .before .before .before .before in
-    state-written _ _ _ _ (state.Held _ _ _) _ (state-bound .state2 .given .1) (c .before .before .write-as3 .ensures)
+    let held-bound = c .before .before .before .before .before in
+    state-written _ _ _ _ (state.Held _ _ _) _ (held-bound .state2 .given .1) (c .before .before .write-as3 .ensures)
 
 same-length-4 : tie.Need-same-length-4
 same-length-4 c = search needs
 
 returns-4 : tie.Need-returns-4
 returns-4 c =
-    let state-bound = c .before .before .before .before .before in
-    state-written _ _ _ _ (state.Full _) _ (state-bound .state3 .given .1) (c .before .before .write-filled .ensures)
+    let full-bound = c .before .before .before .before .before in
+    state-written _ _ _ _ (state.Full _) _ (full-bound .state3 .given .1) (c .before .before .write-filled .ensures)
 
 same-length-5 : tie.Need-same-length-5
 same-length-5 c = search needs
 
 returns-5 : tie.Need-returns-5
 returns-5 c =
-    let state-bound = c .before .before .before .before .before in
-    state-written _ _ _ _ (state.Condemned _) _ (state-bound .state4 .given .1) (c .before .before .write-filled2 .ensures)
+    let condemned-bound = c .before .before .before .before .before in
+    state-written _ _ _ _ (state.Condemned _) _ (condemned-bound .state4 .given .1) (c .before .before .write-filled2 .ensures)
 
 pub write-spec : {M : Type 1} → statement M
 write-spec =

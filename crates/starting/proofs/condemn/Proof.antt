@@ -33,11 +33,11 @@ loop-less c = omega arith
 
 loop-again : tie.Need-loop-again Inv-loop μ-loop
 loop-again c =
-    let turning = c .before .before .before .before in
-    let looping = turning .before in (
-      c .before .before .condemn-one .kept .1 .0 ∙ looping .loop .inv .0,
-      one-turn _ _ _ _ (looping .loop .inv .1) (turning .loop-test .taken) _
-          (condemned-next _ _ _ _ (looping .loop .inv .1 .is) (c .before .before .condemn-one .ensures)),
+    let in-body = c .before .before .before .before in
+    let loop-head = in-body .before in (
+      c .before .before .condemn-one .kept .1 .0 ∙ loop-head .loop .inv .0,
+      one-turn _ _ _ _ (loop-head .loop .inv .1) (in-body .loop-test .taken) _
+          (condemned-next _ _ _ _ (loop-head .loop .inv .1 .is) (c .before .before .condemn-one .ensures)),
     )
 
 same-length : tie.Need-same-length Inv-loop μ-loop

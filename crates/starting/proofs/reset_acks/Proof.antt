@@ -32,11 +32,11 @@ loop-less c = omega arith
 
 loop-again : tie.Need-loop-again Inv-loop μ-loop
 loop-again c =
-    let turning = c .before .before .before .before in
-    let looping = turning .before in (
-      c .before .before .set-acks .kept .1 .0 ∙ looping .loop .inv .0,
-      one-turn _ _ _ _ (looping .loop .inv .1) (omega (arith, turning .loop-test .taken)) _
-          (reset-next _ _ _ _ (looping .loop .inv .1 .is) (c .before .before .set-acks .ensures)),
+    let in-body = c .before .before .before .before in
+    let loop-head = in-body .before in (
+      c .before .before .set-acks .kept .1 .0 ∙ loop-head .loop .inv .0,
+      one-turn _ _ _ _ (loop-head .loop .inv .1) (omega (arith, in-body .loop-test .taken)) _
+          (reset-next _ _ _ _ (loop-head .loop .inv .1 .is) (c .before .before .set-acks .ensures)),
     )
 
 same-length : tie.Need-same-length Inv-loop μ-loop

@@ -34,39 +34,39 @@ add-next-outside c = omega arith
 next-outside-requires-2 : tie.Need-next-outside-requires-2 Inv-loop μ-loop
 next-outside-requires-2 c κs =
     let acknowledged = c .before .before .before .before in
-    let turning = acknowledged .before .before in
-    let looping = turning .before in
-    let entry = looping .before .before .before .before in
-    (resized _ _ _ (resized _ _ _ (entry .pre) (looping .loop .inv .0)) (acknowledged .acknowledge .kept .1 .0), omega (arith, turning .loop-test .taken))
+    let in-body = acknowledged .before .before in
+    let loop-head = in-body .before in
+    let entry = loop-head .before .before .before .before in
+    (resized _ _ _ (resized _ _ _ (entry .pre) (loop-head .loop .inv .0)) (acknowledged .acknowledge .kept .1 .0), omega (arith, in-body .loop-test .taken))
 
 loop-less : tie.Need-loop-less Inv-loop μ-loop
 loop-less c =
-    let turning = c .before .before .before .before .before .before .before in
-    omega (arith, c .next-outside2 .ensures .after, turning .loop-test .taken)
+    let in-body = c .before .before .before .before .before .before .before in
+    omega (arith, c .next-outside2 .ensures .after, in-body .loop-test .taken)
 
 loop-again : tie.Need-loop-again Inv-loop μ-loop
 loop-again c =
     let acknowledged = c .before .before .before .before .before in
-    let turning = acknowledged .before .before in
-    let looping = turning .before in
-    let entry = looping .before .before .before .before in (
-      acknowledged .acknowledge .kept .1 .0 ∙ looping .loop .inv .0,
-      answered-more _ _ _ _ (looping .loop .inv .1) (omega (arith, turning .loop-test .taken)) _ _ (acknowledged .acknowledge .ensures)
+    let in-body = acknowledged .before .before in
+    let loop-head = in-body .before in
+    let entry = loop-head .before .before .before .before in (
+      acknowledged .acknowledge .kept .1 .0 ∙ loop-head .loop .inv .0,
+      answered-more _ _ _ _ (loop-head .loop .inv .1) (omega (arith, in-body .loop-test .taken)) _ _ (acknowledged .acknowledge .ensures)
           (sizes-of _ _ (entry .pre)) (c .before .before .if1 .taken) _ (c .next-outside2 .ensures),
     )
 
 same-length : tie.Need-same-length Inv-loop μ-loop
 same-length c =
     let acknowledged = c .before .before .before in
-    let looping = acknowledged .before .before .before in
-    acknowledged .acknowledge .kept .1 .0 ∙ looping .loop .inv .0
+    let loop-head = acknowledged .before .before .before in
+    acknowledged .acknowledge .kept .1 .0 ∙ loop-head .loop .inv .0
 
 returns : tie.Need-returns Inv-loop μ-loop
 returns c =
     let acknowledged = c .before .before .before in
-    let turning = acknowledged .before .before in
-    let looping = turning .before in
-    answer-hindered _ _ _ _ (looping .loop .inv .1) (omega (arith, turning .loop-test .taken)) _ _ (acknowledged .acknowledge .ensures) (c .if1 .left)
+    let in-body = acknowledged .before .before in
+    let loop-head = in-body .before in
+    answer-hindered _ _ _ _ (loop-head .loop .inv .1) (omega (arith, in-body .loop-test .taken)) _ _ (acknowledged .acknowledge .ensures) (c .if1 .left)
 
 same-length-2 : tie.Need-same-length-2 Inv-loop μ-loop
 same-length-2 c = c .before .loop .inv .0

@@ -30,9 +30,9 @@ loop-less c = omega arith
 
 loop-again : tie.Need-loop-again Inv-loop μ-loop
 loop-again c =
-    let looping = c .before .before .before in
-    let entry = looping .before .before in
-    one-other (entry .args .g) _ _ _ (looping .loop .inv) _ (c .before .tag .ensures) (c .if1 .left)
+    let loop-head = c .before .before .before in
+    let entry = loop-head .before .before in
+    one-other (entry .args .g) _ _ _ (loop-head .loop .inv) _ (c .before .tag .ensures) (c .if1 .left)
 
 returns-2 : tie.Need-returns-2 Inv-loop μ-loop
 returns-2 c = next-none _ _ _ _ (c .before .loop .inv) (c .loop-test .left)

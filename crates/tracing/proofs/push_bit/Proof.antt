@@ -38,7 +38,7 @@ returns-2 c =
 
 set-requires : tie.Need-set-requires
 set-requires c κs =
-    let roomed = c .before in
+    let roomed = c .before .before in
     let entry = roomed .before .before .before .before .before .before .before in
     (entry .pre .0, omega (arith, entry .pre .1))
 
