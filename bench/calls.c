@@ -36,6 +36,26 @@ static void rows_make_large(struct heap *h) {
     ROW(probe_make(h, 0, 0, 600, 400), 0, "make 600+400");
 }
 
+/* Records of values alone: in the segment that a first one has taken, where a block is left, and of the two classes whose
+ * segments have two blocks and one. */
+static void rows_make_values(struct heap *h) {
+    const u32 few[3] = {31, 32, 1023}, two[2] = {1024, 2047}, one[2] = {2048, 4095};
+    for (u32 i = 0; i < 3; i++) {
+        heap_reopen(h);
+        MUST(HEAP(make)(OVER(h), 0, 0, 0, few[i]), 0);
+        ROW(probe_make(h, 0, 0, 0, few[i]), 0, "make 0+%u", few[i]);
+    }
+    for (u32 i = 0; i < 2; i++) {
+        heap_reopen(h);
+        ROW(probe_make(h, 0, 0, 0, two[i]), 0, "make 0+%u, takes a free segment", two[i]);
+        ROW(probe_make(h, 0, 0, 0, two[i]), 0, "make 0+%u, segment becomes full", two[i]);
+    }
+    for (u32 i = 0; i < 2; i++) {
+        heap_reopen(h);
+        ROW(probe_make(h, 0, 0, 0, one[i]), 0, "make 0+%u, takes a free segment, full at once", one[i]);
+    }
+}
+
 /* Roots 0 and 1 are records of 2 + 2, the first holds the second. */
 static void rows_fields(struct heap *h) {
     heap_reopen(h);
@@ -103,17 +123,17 @@ static void rows_start(u32 segments) {
     heap_close(&h);
 }
 
-/* The roots are taken from the trace stack from the last on: 15 a leaf, then records of 16, 64 and 1,023 pointers. */
+/* The roots are taken from the trace stack from the last on: 15 a leaf, then records of 16, 64, 1,023 and 4,095 pointers. */
 static void rows_mark(struct heap *h) {
-    const u32 fans[3] = {16, 64, 1023};
+    const u32 fans[4] = {16, 64, 1023, 4095};
     heap_reopen(h);
     build_full_segment(h, 0);
-    for (u32 i = 0; i < 3; i++) build_fan(h, 0, 14 - i, fans[i], 0);
+    for (u32 i = 0; i < 4; i++) build_fan(h, 0, 14 - i, fans[i], 0);
     MUST(HEAP(make)(OVER(h), 0, 15, 0, 1), 0);
     MUST(HEAP(start)(OVER(h)), 0);
     build_handshakes(h);
     ROW(probe_step(h), STEP(TRACED), "step: mark, a record without pointers");
-    for (u32 i = 0; i < 3; i++) {
+    for (u32 i = 0; i < 4; i++) {
         ROW(probe_step(h), STEP(TRACED), "step: mark, %u new pointers", fans[i]);
         for (u32 leaf = 0; leaf < fans[i]; leaf++) MUST(HEAP(step)(OVER(h)), STEP(TRACED));
     }
@@ -141,6 +161,7 @@ int main(void) {
     rows_make(&h, 1, 1, "1+1");
     rows_make(&h, 8, 8, "8+8");
     rows_make_large(&h);
+    rows_make_values(&h);
     rows_fill();
     rows_fields(&h);
     rows_mutators(&h);

@@ -41,17 +41,21 @@ static void rows_make_long(struct heap *h) {
     ROW(probe_make(h, 0, 0, 1023, 0), 0, "make in mark, 1023+0, takes a free segment");
     for (u32 i = 0; i < 2; i++) MUST(HEAP(make)(OVER(h), 0, 0, 0, 1023), 0);
     ROW(probe_make(h, 0, 0, 1023, 0), 0, "make in mark, 1023+0, segment becomes full");
+    MUST(HEAP(make)(OVER(h), 0, 0, 0, 2047), 0);
+    ROW(probe_make(h, 0, 0, 2047, 0), 0, "make in mark, 2047+0, segment becomes full");
+    ROW(probe_make(h, 0, 0, 4095, 0), 0, "make in mark, 4095+0, takes a free segment, full at once");
 }
 
+/* A record of each class: the last one's segment is full at once, so the detach hands back eleven. */
 static void rows_attach_long(struct heap *h) {
-    const u32 fields[10] = {1, 3, 7, 15, 31, 63, 127, 255, 511, 1023};
+    const u32 fields[12] = {1, 3, 7, 15, 31, 63, 127, 255, 511, 1023, 2047, 4095};
     heap_reopen(h);
     begin_mark(h);
     MUST(HEAP(make)(OVER(h), 0, 0, 1, 1), 0);
     ROW(probe_attach(h, 1), 0, "attach in mark");
     ROW(probe_spawn(h, 2, 0, 0), 0, "spawn in mark");
-    for (u32 i = 0; i < 10; i++) MUST(HEAP(make)(OVER(h), 1, i, 0, fields[i]), 0);
-    ROW(probe_detach(h, 1), 0, "detach, holds a segment of each class");
+    for (u32 i = 0; i < 12; i++) MUST(HEAP(make)(OVER(h), 1, i, 0, fields[i]), 0);
+    ROW(probe_detach(h, 1), 0, "detach, hands back eleven segments");
 }
 
 static void rows_outside(struct heap *h) {

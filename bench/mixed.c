@@ -38,14 +38,14 @@ static u32 pick_kind(void) {
 }
 
 static void call_make(struct heap *h, u32 m) {
-    u32 fields = (2u << below(&random_state, 10)) - 1;
+    u32 fields = (2u << below(&random_state, 12)) - 1;
     u32 pointers = below(&random_state, fields + 1);
     u64 begin;
     AT(MAKE, HEAP(make)(OVER(h), m, below(&random_state, 16), pointers, fields - pointers));
 }
 
 static void call_mutator(struct heap *h, u32 kind, u32 m) {
-    u32 a = below(&random_state, 16), b = below(&random_state, 16), field = below(&random_state, below(&random_state, 8) ? 4 : 1023);
+    u32 a = below(&random_state, 16), b = below(&random_state, 16), field = below(&random_state, below(&random_state, 8) ? 4 : 4095);
     u64 begin;
     switch (kind) {
     case MAKE: call_make(h, m); break;

@@ -8,7 +8,7 @@ import sys
 from array import array
 from statistics import median
 
-from rows import AT_MOST, BELOW_BOEHM, FILLED, GROWTH, LONGEST, NO_MORE, PACES, POINTERS, RATIOS, SINGLE, YARDSTICK
+from rows import AT_MOST, BELOW_BOEHM, FILLED, FRAME, GROWTH, LONGEST, NO_MORE, NO_MORE_2, PACES, POINTERS, RATIOS, SINGLE, VALUES, YARDSTICK
 
 PART = re.compile(r"(<!-- measured, (\w+): written by bench/run -->\n).*?(<!-- end of measured -->)", re.S)
 STORED = os.path.join(os.path.dirname(os.path.abspath(__file__)), "before-8d90607.txt")
@@ -63,14 +63,22 @@ def read_stored():
     return before, held
 
 
+def differences():
+    """(name, row, row, divisor) of the rows that are the difference of two; at 8d90607 some of these were not counted."""
+    for more, fewer in POINTERS:
+        yield (f"a new pointer in mark ({more:,} against {fewer:,})", *(f"step: mark, {pointers} new pointers" for pointers in (more, fewer)), more - fewer)
+    for more, fewer in VALUES:
+        yield (f"make of {more} values less that of {fewer}", f"make 0+{more}", f"make 0+{fewer}", 1)
+
+
 def derive(counts, said):
     """The counts with those that follow from them: means, a new pointer in mark, the longest of each kind."""
     all_rows = dict(counts)
     for shape, makes in FILLED:
         all_rows[f"make {shape}, mean over {makes:,}"] = counts[f"fill {shape}"] / makes
-    for more, fewer in POINTERS:
-        steps = [counts[f"step: mark, {pointers} new pointers"] for pointers in (more, fewer)]
-        all_rows[f"a new pointer in mark ({more:,} against {fewer})"] = (steps[0] - steps[1]) / (more - fewer)
+    for name, row, less, by in differences():
+        if row in counts and less in counts:
+            all_rows[name] = (counts[row] - counts[less]) / by
     for kind, begins in LONGEST:
         all_rows[f"longest: {kind}"] = max(count for name, count in counts.items() if name.startswith(tuple(begins)))
     for name, many in said.items():
@@ -90,8 +98,9 @@ class Counted:
         self.said = said
 
     def line(self, name, *more, label=None):
-        now, before, independent = (rows[name] for rows in (self.now, self.before, self.independent))
-        return [label or name, number(now), number(before), number(independent), f"{now / before:.2f}", f"{now / independent:.2f}", *more]
+        now, before, independent = self.now[name], self.before.get(name), self.independent[name]
+        was, ratio = (number(before), f"{now / before:.2f}") if before else ("", "")
+        return [label or name, number(now), was, number(independent), ratio, f"{now / independent:.2f}", *more]
 
 
 COMPARED = ["verified", "at 8d90607", "independent", "by 8d90607's", "by independent's"]
@@ -100,7 +109,7 @@ COMPARED = ["verified", "at 8d90607", "independent", "by 8d90607's", "by indepen
 def single_table(c):
     rows = [c.line(name, " / ".join(number(rows[name][0]) for rows in c.probes)) for name in SINGLE]
     rows += [c.line(f"make {shape}, mean over {makes:,}", "") for shape, makes in FILLED]
-    rows += [c.line(f"a new pointer in mark ({more:,} against {fewer})", "") for more, fewer in POINTERS]
+    rows += [c.line(f"a new pointer in mark ({more:,} against {fewer:,})", "") for more, fewer in POINTERS]
     return table(["instructions of one call", *COMPARED, "as probes"], rows)
 
 
@@ -159,6 +168,8 @@ def limit_rows(c):
             out.append((group, f"{limit} of independent", name, c.now[name], reference, c.now[name] / reference <= limit + 1e-9))
     for group, rows in NO_MORE:
         out += [(group, "no more than at 8d90607", name, c.now[name], c.before[name], c.now[name] <= c.before[name]) for name in rows]
+    for group, rows in NO_MORE_2:
+        out += [(group, "no more than at 83a14ee", name, c.now[name], most, c.now[name] <= most) for name, most in rows.items()]
     for group, most, rows in AT_MOST:
         out += [(group, f"at most {most:,}", name, c.now[name], most, c.now[name] <= most) for name in rows]
     return out
@@ -174,6 +185,11 @@ def summary_rows(limits):
         best, worst = (f(ratio for ratio, _ in rows) for f in (min, max))
         out.append([group, f"{best:.2f} to {worst:.2f}" if len(rows) > 1 else f"{best:.2f}", limit, f"{kept} of {len(rows)}", verdict(kept == len(rows))])
     return out
+
+
+def summary_frame(folder):
+    frame, most = read_sizes(folder, "verified").get("frame of make"), FRAME[0]
+    return [["make's own frame, bytes", f"{frame / most:.2f}", f"below {most}", f"{int(frame < most)} of 1", verdict(frame < most)]] if frame else []
 
 
 def boehm_limits(folder, churn):
@@ -201,12 +217,12 @@ def summary_boehm(limits):
 def limits_part(folder, c, churn):
     """All limits in one view, and those on instructions row by row."""
     limits = limit_rows(c) if c else []
-    rows = summary_rows(limits) + (summary_boehm(boehm_limits(folder, churn)) if has_boehm(churn) else [])
+    rows = summary_rows(limits) + summary_frame(folder) + (summary_boehm(boehm_limits(folder, churn)) if has_boehm(churn) else [])
     parts = [table(["limits", "ratio, best to worst", "limit", "rows within it", ""], rows)] if rows else []
     if not c:
         parts.append(NOT_COUNTED)
     else:
-        each = [[name.replace("cycle, 1 segments", "cycle, 1 segment"), number(now), limit, number(reference), f"{now / reference:.2f}", verdict(kept), number(c.before[name])] for _, limit, name, now, reference, kept in limits]
+        each = [[name.replace("cycle, 1 segments", "cycle, 1 segment"), number(now), limit, number(reference), f"{now / reference:.2f}", verdict(kept), number(c.before[name]) if name in c.before else ""] for _, limit, name, now, reference, kept in limits]
         parts.append(table(["instructions", "verified", "limit", "held against", "ratio", "", "at 8d90607"], each))
     if has_boehm(churn):
         parts.append(make_table(churn, [("total", "boehm")]))
@@ -335,6 +351,8 @@ def sizes_table(folder):
     rows = [["words lent, n segments"] + [words(sizes) for sizes in (before, now, independent)],
             ["bytes lent, 256 segments"] + [lent(sizes) for sizes in (before, now, independent)],
             ["code and its constants, bytes", number(before["code"]), number(now["code"]), ""]]
+    if "frame of make" in now:
+        rows.append(["make's own frame, bytes", number(FRAME[1]), number(now["frame of make"]), ""])
     for call in ("make", "examine"):
         rows.append([f"the most stack that {call} takes, 256 segments, bytes"] + [number(sizes[f"stack of {call}"]) for sizes in (before, now, independent)])
     return table(["", "at 8d90607", "verified", "independent"], rows)

@@ -3,18 +3,22 @@
 SINGLE = [
     "load", "get", "put", "copy", "clear", "same", "shape",
     "store: nothing", "store: new and old pushed", "store: old pushed", "store: old is on the stack already",
-    "make 0+1", "make 1+1", "make 8+8", "make 600+400",
+    "make 0+1", "make 1+1", "make 8+8", "make 600+400", "make 0+31", "make 0+32", "make 0+1023",
     "make 0+1, last bit of a word", "make 1+1, last bit of a word", "make 8+8, last bit of a word",
     "make 0+1, takes a free segment", "make 1+1, takes a free segment", "make 8+8, takes a free segment",
+    "make 0+1024, takes a free segment", "make 0+1024, segment becomes full",
+    "make 0+2047, takes a free segment", "make 0+2047, segment becomes full",
+    "make 0+2048, takes a free segment, full at once", "make 0+4095, takes a free segment, full at once",
     "make in mark, 0+1, takes a free segment", "make in mark, 1023+0, takes a free segment", "make in mark, 1023+0, segment becomes full",
+    "make in mark, 2047+0, segment becomes full", "make in mark, 4095+0, takes a free segment, full at once",
     "make in mark, takes a part segment, next free block is the last", "make in mark, climbs to the last block, segment becomes full",
-    "attach", "spawn", "detach, holds nothing",
+    "attach", "spawn", "detach, holds nothing", "detach, hands back eleven segments",
     "check, idle", "check, first handshake", "check, second handshake, 16 roots", "leave, idle", "leave, second handshake, 16 roots", "enter",
     "start, 1 full", "start, 64 full", "start, 256 full",
     "step: waiting", "step: first handshake, 1 mutator", "step: second handshake, 1 mutator",
     "step: second handshake, 31 mutators outside",
     "step: mark, a record without pointers", "step: mark, 16 new pointers", "step: mark, 64 new pointers",
-    "step: mark, 1023 new pointers", "step: mark is over",
+    "step: mark, 1023 new pointers", "step: mark, 4095 new pointers", "step: mark is over",
     "step: sweep of class 3, 4 segments", "step: sweep of class 3, 256 segments", "step: sweep of class 3, last of 256 segments",
     "step: done, 4 segments", "step: done, 256 segments", "step: idle",
 ]
@@ -23,7 +27,10 @@ SINGLE = [
 FILLED = [("0+1", 8192), ("1+1", 4096), ("8+8", 512)]
 
 # A new pointer in mark: a step over a record of so many less one over so many.
-POINTERS = [(64, 16), (1023, 64)]
+POINTERS = [(64, 16), (1023, 64), (4095, 1023)]
+
+# A make of so many values less one of so many.
+VALUES = [(32, 31)]
 
 # Each kind of call and the beginnings of the names of its rows; the longest of them counts.
 LONGEST = [
@@ -69,12 +76,33 @@ NO_MORE = [
     ("states, examine", ["states, 256 segments", "examine, 256 segments, live"]),
 ]
 
+# Limits of request No. 2, no more than the library took before it (83a14ee): the group, and its rows with that count. Those of load,
+# get, put, copy, clear and same are above: they had not moved since 8d90607.
+NO_MORE_2 = [
+    ("store", {"store: nothing": 57, "store: new and old pushed": 120, "store: old pushed": 90, "store: old is on the stack already": 75}),
+    ("make of up to 31 fields", {
+        "make 0+1": 113, "make 1+1": 114, "make 8+8": 116, "make 0+31": 143,
+        "make 0+1, last bit of a word": 151, "make 1+1, last bit of a word": 152, "make 8+8, last bit of a word": 155,
+        "make 0+1, takes a free segment": 352, "make 1+1, takes a free segment": 282, "make 8+8, takes a free segment": 277,
+        "make in mark, 0+1, takes a free segment": 363, "make in mark, takes a part segment, next free block is the last": 594,
+        "make in mark, climbs to the last block, segment becomes full": 451}),
+    ("make of 32 to 1,023 fields", {
+        "make 0+32": 248, "make 600+400": 468, "make 0+1023": 475,
+        "make in mark, 1023+0, takes a free segment": 603, "make in mark, 1023+0, segment becomes full": 646}),
+]
+
 # Limits in instructions: the group, the most, and its rows.
 AT_MOST = [
+    ("make of 32 fields less that of 31", 30, ["make of 32 values less that of 31"]),
+    ("detach that holds nothing", 185, ["detach, holds nothing"]),
     ("done, 256 segments, none condemned", 1600, ["step: done, 256 segments"]),
     ("a sweep of class 3 with live blocks", 1000,
      ["step: sweep of class 3, 4 segments", "step: sweep of class 3, 256 segments", "step: sweep of class 3, last of 256 segments"]),
 ]
+
+# The frame that make reserves by its own, beside the registers that it saves, in bytes: it is to be below the first, and was the
+# second at 8d90607 (docs/requests/04.md).
+FRAME = (300, 1208)
 
 # Beside Boehm's stop-the-world, by time: make with its share of the cycles is to be below it at these segments and shapes.
 BELOW_BOEHM = [(64, "1+1"), (256, "1+1"), (64, "8+8")]

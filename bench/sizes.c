@@ -55,15 +55,31 @@ static void measure_examine(struct heap *h) {
     measure(call_examine, RESULT(1), 1);
 }
 
-/* A make of every number of fields, half of them pointers: some take a free segment, some fill the one that is held. */
-static void make_all(struct heap *h) {
-    for (u32 fields = 0; fields < 1024; fields++) measure_make(h, fields / 2, fields - fields / 2);
-    measure_examine(h);
-}
-
 static void begin_mark(struct heap *h) {
     MUST(HEAP(start)(OVER(h)), 0);
     build_handshakes(h);
+}
+
+/* A heap with room, in idle or in mark. */
+static void begin(struct heap *h, int mark) {
+    heap_reopen(h);
+    if (!mark) return;
+    build_full_segment(h, 0);
+    begin_mark(h);
+}
+
+/* A make of every number of fields, half of them pointers: some take a free segment, some fill the one that is held. From 1,024
+ * fields on a segment has two blocks or one, so the heap is begun again. */
+static void make_all(struct heap *h, int mark) {
+    begin(h, mark);
+    for (u32 fields = 0; fields < 4096; fields++) {
+        if (fields >= 1024 && fields % 128 == 0) {
+            measure_examine(h);
+            begin(h, mark);
+        }
+        measure_make(h, fields / 2, fields - fields / 2);
+    }
+    measure_examine(h);
 }
 
 static void end_cycle(struct heap *h) {
@@ -91,11 +107,8 @@ int main(void) {
     scratch_words = HEAP(scratch_length)(256);
     scratch = calloc(scratch_words, sizeof(u32));
     measure_examine(&h);
-    make_all(&h);
-    heap_reopen(&h);
-    build_full_segment(&h, 0);
-    begin_mark(&h);
-    make_all(&h);
+    make_all(&h, 0);
+    make_all(&h, 1);
     make_in_parts(&h);
     heap_reopen(&h);
     u32 live = build_graph(&h, 0);

@@ -108,7 +108,7 @@ static void build_for_handshake(struct heap *h) {
 static void build_for_mark(struct heap *h) {
     heap_reopen(h);
     build_full_segment(h, 0);
-    build_fan(h, 0, 15, 1023, 0);
+    build_fan(h, 0, 15, 4095, 0);
     MUST(HEAP(start)(OVER(h)), 0);
     build_handshakes(h);
 }

@@ -14,6 +14,10 @@
 
 #include "borvukhai.h"
 
+/* The classes of records. */
+#define PACER_FIRST 3u
+#define PACER_LAST 14u
+
 struct pacer {
     uint32_t segments, *mem, *output; /* the heap; an output of borvukhai_states_length words, the pacer's own between
                                        * calls: it reads there what the last look wrote */
@@ -47,13 +51,14 @@ static inline void pacer_insert(uint16_t *falling, uint32_t count, uint32_t left
     }
 }
 
-/* Of one segment: a part segment can have all left from its place on but the block that its taker uses. */
+/* Of one segment: a part segment can have all left from its place on but the block that its taker uses. Of a class of
+ * one block none is part or held but in torn memory, and there it counts as used. */
 static inline void pacer_see(struct pacer_class *of, const uint32_t *state, uint32_t blocks) {
     uint32_t full = state[0] == BORVUKHAI_SEGMENT_FULL || state[0] == BORVUKHAI_SEGMENT_CONDEMNED;
     uint32_t held = state[0] == BORVUKHAI_SEGMENT_HELD;
     of->blocks += blocks;
     of->least += full ? blocks : 1;
-    of->most += full ? blocks : blocks - 1;
+    of->most += full || blocks == 1 ? blocks : blocks - 1;
     of->held += held;
     of->parts += !full && !held;
     if (!full && state[2] < blocks) {
@@ -101,7 +106,7 @@ static inline uint32_t pacer_segments(const struct pacer *p, uint32_t tag) {
  * where all who make a class hold one that was free, another costs the blocks of a segment. */
 struct pacer_costs {
     uint32_t count, smallest;
-    uint16_t cost[320];
+    uint16_t cost[32 * (PACER_LAST - PACER_FIRST + 1)]; /* of 32 mutators that make every class */
 };
 
 /* The costs of one class; the answer is the first, which is the least. */
@@ -134,7 +139,7 @@ static inline uint32_t pacer_room(struct pacer *p) {
     uint32_t own[16] = {0}, first[16] = {0};
     struct pacer_costs costs;
     costs.count = 0, costs.smallest = 0;
-    for (number = 3; number <= 12; number++) {
+    for (number = PACER_FIRST; number <= PACER_LAST; number++) {
         struct pacer_class of = pacer_class_of(p, number);
         if (p->makers[number] != 0) {
             own[number] = of.blocks - p->in_use[number] - pacer_left(&of, p->makers[number] - 1);
@@ -143,7 +148,7 @@ static inline uint32_t pacer_room(struct pacer *p) {
         }
     }
     all = pacer_sum(&costs, free), beside = pacer_sum(&costs, free + 1);
-    for (number = 3; number <= 12; number++) {
+    for (number = PACER_FIRST; number <= PACER_LAST; number++) {
         uint32_t others = beside > first[number] ? beside - first[number] : 0;
         others = own[number] + (others > all ? others : all);
         room = p->makers[number] != 0 && others < room ? others : room;
@@ -154,7 +159,7 @@ static inline uint32_t pacer_room(struct pacer *p) {
 /* Steps that a cycle begun now can take: one for each record, one for each segment, and six beside. */
 static inline uint32_t pacer_work(const struct pacer *p) {
     uint32_t number, work = 2 * p->mutators + p->segments + 6;
-    for (number = 3; number <= 12; number++) {
+    for (number = PACER_FIRST; number <= PACER_LAST; number++) {
         work += p->in_use[number];
     }
     return work;

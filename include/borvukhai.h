@@ -33,8 +33,8 @@ extern "C" {
 /* The version of this interface, and the number of the layout of the lent slice. A landing that moves a word of the
  * layout raises the number: lengths are compiled into callers, and memory may outlive a restart into a program that was
  * linked with another library. CHANGELOG.md has an entry for each. */
-#define BORVUKHAI_VERSION "0.3.1"
-#define BORVUKHAI_LAYOUT 2u
+#define BORVUKHAI_VERSION "0.4.0"
+#define BORVUKHAI_LAYOUT 3u
 
 /* Refusals, by document 01's words. The lowest number that applies is given. On memory that passes the examination a refusal
  * changes no word, and is never BORVUKHAI_TORN. */
@@ -48,7 +48,7 @@ enum {
     BORVUKHAI_SLOT = 6,      /* a root over 15 */
     BORVUKHAI_DARK = 7,      /* nil in the root whose record is wanted */
     BORVUKHAI_FIELD = 8,     /* the record has no such pointer or value */
-    BORVUKHAI_TOO_BIG = 9,   /* make with more than 1,023 pointers and values together */
+    BORVUKHAI_TOO_BIG = 9,   /* make with more than 4,095 pointers and values together */
     BORVUKHAI_NO_ROOM = 10,  /* make: no segment of the class has room for this mutator, and none is free. Memory of
                               * zeros that was never opened looks so too: attach is not refused, and every make is */
     BORVUKHAI_NOT_NOW = 11,  /* attach, spawn or detach in a handshake; start while a cycle runs */
@@ -85,7 +85,7 @@ static inline const char *borvukhai_refusal_text(uint32_t number) {
     case BORVUKHAI_FIELD:
         return "the record has no such pointer or value";
     case BORVUKHAI_TOO_BIG:
-        return "a record has at most 1,023 pointers and values together";
+        return "a record has at most 4,095 pointers and values together";
     case BORVUKHAI_NO_ROOM:
         return "no segment of the record's class has room for this mutator, and none is free (or the memory was never opened)";
     case BORVUKHAI_NOT_NOW:
@@ -123,7 +123,7 @@ enum {
     BORVUKHAI_STEP_DONE = 5     /* the cycle has ended */
 };
 
-/* States of a segment: the first of its four words in the output of borvukhai_states. The others are its class (3 to 12), its place (the
+/* States of a segment: the first of its four words in the output of borvukhai_states. The others are its class (3 to 14), its place (the
  * next block to look at; the number of blocks where it is full or condemned) and the mutator that holds it; in memory that passes the
  * examination a word that a state does not have is 0. Over other memory place, mutator, and the class of a free segment may be any number. */
 enum {
@@ -139,11 +139,11 @@ enum {
 /* Whether a number is a count of segments: 1 for 1 to 256, else 0. */
 #define BORVUKHAI_IS_COUNT(segments) ((segments) - 1u < 256u)
 /* As constants, for arrays; 0 for a count that is not 1 to 256, as the functions below. The argument is named twice. */
-#define BORVUKHAI_LENGTH(segments) (BORVUKHAI_IS_COUNT(segments) * (6290u * (segments) + 1051u))
+#define BORVUKHAI_LENGTH(segments) (BORVUKHAI_IS_COUNT(segments) * (6292u * (segments) + 1053u))
 #define BORVUKHAI_STATES_LENGTH(segments) (BORVUKHAI_IS_COUNT(segments) * (4u * (segments)))
 #define BORVUKHAI_SCRATCH_LENGTH(segments) (BORVUKHAI_IS_COUNT(segments) * (2176u * (segments)))
 
-/* As functions, which answer 0 for a count that is not 1 to 256. The slice that every call is lent: 6290 n + 1051 words for n segments. */
+/* As functions, which answer 0 for a count that is not 1 to 256. The slice that every call is lent: 6292 n + 1053 words for n segments. */
 size_t borvukhai_length(uint32_t segments);
 /* The output of borvukhai_states: 4 n words. */
 size_t borvukhai_states_length(uint32_t segments);
@@ -159,13 +159,13 @@ static inline int borvukhai_check_layout(void) { return borvukhai_layout() == BO
 
 /* ---- size classes, as constants */
 
-/* The class of a record by its pointers and values together: 3 to 12, or 0 for more than 1,023, which make refuses. */
+/* The class of a record by its pointers and values together: 3 to 14, or 0 for more than 4,095, which make refuses. */
 #define BORVUKHAI_CLASS_OF(fields) \
     ((fields) <= 1 ? 3u : (fields) <= 3 ? 4u : (fields) <= 7 ? 5u : (fields) <= 15 ? 6u : (fields) <= 31 ? 7u \
      : (fields) <= 63 ? 8u : (fields) <= 127 ? 9u : (fields) <= 255 ? 10u : (fields) <= 511 ? 11u \
-     : (fields) <= 1023 ? 12u : 0u)
-/* The blocks of a segment of a class, one record each: 2048 of class 3 down to 4 of class 12; 0 where it is no class. */
-#define BORVUKHAI_BLOCKS(number) ((number) - 3u < 10u ? 16384u >> (number) % 32u : 0u)
+     : (fields) <= 1023 ? 12u : (fields) <= 2047 ? 13u : (fields) <= 4095 ? 14u : 0u)
+/* The blocks of a segment of a class, one record each: 2048 of class 3 down to 1 of class 14; 0 where it is no class. */
+#define BORVUKHAI_BLOCKS(number) ((number) - 3u < 12u ? 16384u >> (number) % 32u : 0u)
 
 /* ---- calls that answer 0 or a refusal */
 

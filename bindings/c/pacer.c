@@ -6,7 +6,7 @@
 
 #include <stdio.h>
 
-#define MOST 24u
+#define MOST 40u
 #define WORDS BORVUKHAI_LENGTH(MOST)
 static uint32_t memory[WORDS], output[BORVUKHAI_STATES_LENGTH(MOST)], states[BORVUKHAI_STATES_LENGTH(MOST)];
 #define HEAP mix->segments, memory, borvukhai_length(mix->segments)
@@ -17,16 +17,21 @@ struct mix {
     uint32_t values[3]; /* of the records, with one pointer */
     uint32_t apart;     /* whether mutator k makes class k only, and the pacer is told so */
     uint32_t often;     /* at least so many of 1,000 makes find the pace kept */
+    uint32_t alone;     /* whether a record keeps no other, so that the roots' own are alive and no more */
 };
 
 static const struct mix mixes[] = {
-    {"2 segments, 2 mutators, 2 classes", 2, 8, 2, 2, {1, 5, 0}, 0, 0},
-    {"8 segments, 1 mutator, 3 classes", 8, 64, 1, 3, {6, 14, 30}, 0, 950},
-    {"10 segments, 2 mutators, 3 classes", 10, 64, 2, 3, {1, 5, 12}, 0, 800},
-    {"16 segments, 2 mutators, 3 classes", 16, 64, 2, 3, {1, 5, 12}, 0, 950},
-    {"24 segments, 4 mutators, 3 classes", 24, 256, 4, 3, {2, 6, 40}, 0, 500},
-    {"24 segments, 3 mutators, a class each", 24, 64, 3, 3, {2, 6, 14}, 1, 950},
-    {"6 segments, 3 mutators, a class each", 6, 256, 3, 3, {6, 14, 60}, 1, 0},
+    {"2 segments, 2 mutators, 2 classes", 2, 8, 2, 2, {1, 5, 0}, 0, 0, 0},
+    {"8 segments, 1 mutator, 3 classes", 8, 64, 1, 3, {6, 14, 30}, 0, 950, 0},
+    {"10 segments, 2 mutators, 3 classes", 10, 64, 2, 3, {1, 5, 12}, 0, 800, 0},
+    {"16 segments, 2 mutators, 3 classes", 16, 64, 2, 3, {1, 5, 12}, 0, 950, 0},
+    {"24 segments, 4 mutators, 3 classes", 24, 256, 4, 3, {2, 6, 40}, 0, 500, 0},
+    {"24 segments, 3 mutators, a class each", 24, 64, 3, 3, {2, 6, 14}, 1, 950, 0},
+    {"6 segments, 3 mutators, a class each", 6, 256, 3, 3, {6, 14, 60}, 1, 0, 0},
+    {"12 segments, 1 mutator, classes 13 and 14", 12, 16, 1, 2, {1500, 3000, 0}, 0, 0, 1},
+    {"24 segments, 1 mutator, classes 13 and 14", 24, 16, 1, 2, {1500, 3000, 0}, 0, 700, 1},
+    {"32 segments, 2 mutators, classes 13 and 14", 32, 64, 2, 2, {1500, 3000, 0}, 0, 400, 1},
+    {"40 segments, 2 mutators, classes 5, 13 and 14", 40, 64, 2, 3, {6, 1500, 3000}, 0, 500, 1},
 };
 
 static uint32_t seed, makes, refusals, kept, lies;
@@ -87,7 +92,7 @@ static uint32_t turn(const struct mix *mix) {
         refused_one(mix, mutator);
         return BORVUKHAI_OK;
     }
-    refused = refused || any(16) == 0 ? refused : borvukhai_store(HEAP, mutator, 0, 0, root);
+    refused = refused || mix->alone || any(16) == 0 ? refused : borvukhai_store(HEAP, mutator, 0, 0, root);
     refused = refused ? refused : borvukhai_copy(HEAP, mutator, root, 0);
     for (other = 0; !refused && other < mix->mutators; other++) {
         refused = borvukhai_check(HEAP, other);
@@ -128,9 +133,39 @@ static int shortest(void) {
            borvukhai_make(HEAP, 1, 0, 1, 1) == BORVUKHAI_NO_ROOM;
 }
 
+/* Classes of 2 blocks and of 1, in two segments: as many makes as the pacer says find room, and the next finds none. */
+static int exact(uint32_t fields, uint32_t others, uint32_t wanted) {
+    const struct mix *mix = &mixes[0];
+    uint32_t made, refused = borvukhai_open(HEAP) | borvukhai_attach(HEAP, 0);
+    refused |= pacer_of(&pacer, 2, memory, output, 8, 1);
+    refused |= pacer_makers(&pacer, fields, 1) | pacer_makers(&pacer, others, 1);
+    for (made = 0; made < pacer.room; made++) {
+        refused |= borvukhai_make(HEAP, 0, 0, 1, fields - 1);
+    }
+    return refused == BORVUKHAI_OK && made == wanted && borvukhai_make(HEAP, 0, 0, 1, fields - 1) == BORVUKHAI_NO_ROOM;
+}
+
+/* 32 mutators that make every class: each of the segments can be taken by one make, and then the next finds none. */
+static int widest(void) {
+    const struct mix *mix = &mixes[4];
+    uint32_t number, refused = borvukhai_open(HEAP);
+    for (number = 0; number < 32; number++) {
+        refused |= borvukhai_attach(HEAP, number);
+    }
+    refused |= pacer_of(&pacer, mix->segments, memory, output, 8, 32);
+    for (number = PACER_FIRST; number <= PACER_LAST; number++) {
+        refused |= pacer_makers(&pacer, (1u << number) / 4 - 1, 32);
+    }
+    for (number = 0; number < mix->segments; number++) {
+        refused |= borvukhai_make(HEAP, number, 0, 1, 0);
+    }
+    return refused == BORVUKHAI_OK && pacer.room == mix->segments &&
+           borvukhai_make(HEAP, 31, 0, 1, 0) == BORVUKHAI_NO_ROOM;
+}
+
 int main(void) {
     uint32_t at, number;
-    int well = shortest();
+    int well = shortest() && exact(2047, 2047, 4) && exact(4095, 4095, 2) && exact(4095, 2047, 2) && widest();
     for (at = 0; at < sizeof mixes / sizeof mixes[0]; at++) {
         makes = refusals = kept = lies = 0;
         for (number = 1; number <= 5; number++) {

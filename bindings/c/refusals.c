@@ -11,21 +11,27 @@
 #define STATES BORVUKHAI_STATES_LENGTH(SEGMENTS)
 #define SCRATCH BORVUKHAI_SCRATCH_LENGTH(SEGMENTS)
 #define MANY 0xffffffffu
+#define LAYOUT_2(n) (6290u * (n) + 1051u) /* the words of the layout before this one */
 
-/* Each slice has one word more than is lent, for lengths that are too long by one. */
-static uint32_t memory[WORDS + 1];
-static uint32_t before[WORDS + 1];
-static uint32_t output[STATES + 1];
-static uint32_t scratch[SCRATCH + 1];
+/* Each slice has the words of MOST segments, for counts and lengths that are too large. */
+#define MOST 4u
+static uint32_t memory[BORVUKHAI_LENGTH(MOST)];
+static uint32_t before[BORVUKHAI_LENGTH(MOST)];
+static uint32_t output[BORVUKHAI_STATES_LENGTH(MOST)];
+static uint32_t scratch[BORVUKHAI_SCRATCH_LENGTH(MOST)];
 #define HEAP SEGMENTS, memory, WORDS
+#define LENT (WORDS * sizeof memory[0]) /* bytes */
 
 /* Where docs/LAYOUT.md puts the words that the torn cases break. */
 enum {
     PHASE_AT = 0,
     TRACE_COUNT_AT = 1,
     ROOT_AT = 16,                  /* root 0 of mutator 0 */
-    HELD_AT = 16 + 18 + 9,         /* the segment of class 12 that mutator 0 holds */
+    CLASSES = 12,                  /* from class 3 on */
+    HOLDS_AT = 16 + 18,            /* the segments that mutator 0 holds, by class */
+    HELD_AT = HOLDS_AT + 9,        /* that of class 12 */
     TAG_AT = 1040 + 4096 * SEGMENTS,
+    PARTS_AT = 1041 + 4101 * SEGMENTS, /* the part stacks, by class */
     OFF_HEAP = 4096 * SEGMENTS + 1 /* a reference one past the last word of the heap */
 };
 
@@ -109,21 +115,24 @@ static void full(void) {
     }
 }
 
-/* The calls that name no mutator, with a wrong count of segments or a wrong length. */
+/* The calls that name no mutator, with a wrong count of segments or a wrong length; output and scratch are of the
+ * count's own. */
 static void size_of_others(uint32_t segments, size_t length) {
+    size_t states = borvukhai_states_length(segments), examined = borvukhai_scratch_length(segments);
     expect("size", "open", borvukhai_open(segments, memory, length), BORVUKHAI_SIZE);
     expect("size", "start", borvukhai_start(segments, memory, length), BORVUKHAI_SIZE);
     expect("size", "step", borvukhai_refusal(borvukhai_step(segments, memory, length)), BORVUKHAI_SIZE);
     expect("size", "phase", borvukhai_refusal(borvukhai_phase(segments, memory, length)), BORVUKHAI_SIZE);
-    expect("size", "states", borvukhai_states(segments, memory, length, output, STATES), BORVUKHAI_SIZE);
-    expect("size", "examine", borvukhai_refusal(borvukhai_examine(segments, memory, length, scratch, SCRATCH)), BORVUKHAI_SIZE);
+    expect("size", "states", borvukhai_states(segments, memory, length, output, states), BORVUKHAI_SIZE);
+    expect("size", "examine", borvukhai_refusal(borvukhai_examine(segments, memory, length, scratch, examined)), BORVUKHAI_SIZE);
 }
 
 static void size(void) {
     static const struct {
         uint32_t segments;
         size_t length;
-    } wrong[] = {{0, WORDS}, {2, WORDS}, {257, WORDS}, {MANY, WORDS}, {1, WORDS - 1}, {1, WORDS + 1}, {1, 0}, {0, 0}};
+    } wrong[] = {{0, WORDS}, {2, WORDS}, {257, WORDS}, {MANY, WORDS}, {1, WORDS - 1}, {1, WORDS + 1}, {1, 0}, {0, 0},
+                 {1, LAYOUT_2(1)}, {2, LAYOUT_2(2)}, {3, LAYOUT_2(3)}, {4, LAYOUT_2(4)}};
     size_t i;
     int call;
     full();
@@ -220,11 +229,11 @@ static void field(void) {
 
 static void too_big(void) {
     fresh();
-    expect("too big", "1023 + 1", borvukhai_make(HEAP, 0, 0, 1023, 1), BORVUKHAI_TOO_BIG);
-    expect("too big", "0 + 1024", borvukhai_make(HEAP, 0, 0, 0, 1024), BORVUKHAI_TOO_BIG);
+    expect("too big", "4095 + 1", borvukhai_make(HEAP, 0, 0, 4095, 1), BORVUKHAI_TOO_BIG);
+    expect("too big", "0 + 4096", borvukhai_make(HEAP, 0, 0, 0, 4096), BORVUKHAI_TOO_BIG);
     expect("too big", "a sum that would wrap", borvukhai_make(HEAP, 0, 0, MANY, 2), BORVUKHAI_TOO_BIG);
     expect("too big", "both", borvukhai_make(HEAP, 0, 0, MANY, MANY), BORVUKHAI_TOO_BIG);
-    ok("1000 + 23", borvukhai_make(HEAP, 0, 0, 1000, 23));
+    ok("4000 + 95", borvukhai_make(HEAP, 0, 0, 4000, 95));
 }
 
 static void no_room(void) {
@@ -270,6 +279,67 @@ static void torn_hold(enum call call) {
     expect("torn", names[call], refusal(call, SEGMENTS, WORDS, 0, 0, 0), BORVUKHAI_TORN);
 }
 
+/* Segment 0 in any state, with a class that is not its own or none at all. Mutator 0 holds it for every class, or it is
+ * on every class's part stack, so that each call meets it. */
+static void break_class(uint32_t tag, uint32_t class_, uint32_t phase, uint32_t held) {
+    int at;
+    full();
+    memory[PHASE_AT] = phase;
+    memory[TAG_AT] = tag;
+    memory[TAG_AT + 1] = class_;
+    memory[TAG_AT + 2] = 0;
+    for (at = 0; at < CLASSES; at++) {
+        memory[HOLDS_AT + at] = held;
+        memory[PARTS_AT + (int)(1 + SEGMENTS) * at] = !held;
+        memory[PARTS_AT + (int)(1 + SEGMENTS) * at + 1] = 0;
+    }
+    memcpy(before, memory, LENT);
+}
+
+/* An answer is a result, or a refusal of the list and nothing above it; then the memory is as it was broken. */
+static void listed(const char *who, uint64_t answer) {
+    uint32_t number = borvukhai_refusal(answer);
+    expect("torn class", who, borvukhai_refusal_name(number)[0] != 0 && (number == 0 || borvukhai_result(answer) == 0), 1);
+    memcpy(memory, before, LENT);
+}
+
+/* Every call and look, and eight steps one after the other. */
+static void torn_class(void) {
+    int call, steps;
+    for (call = 0; call < CALLS; call++) {
+        listed(names[call], refusal((enum call)call, SEGMENTS, WORDS, call < DETACH, 0, 0));
+    }
+    listed("make of class 13", borvukhai_make(HEAP, 0, 0, 1, 2046));
+    listed("make of class 14", borvukhai_make(HEAP, 0, 0, 1, 4094));
+    listed("get", borvukhai_get(HEAP, 0, 0, 0));
+    listed("shape", borvukhai_shape(HEAP, 0, 0));
+    listed("open", borvukhai_open(HEAP));
+    listed("start", borvukhai_start(HEAP));
+    listed("phase", borvukhai_phase(HEAP));
+    listed("states", borvukhai_states(HEAP, output, STATES));
+    expect("torn class", "examine", borvukhai_examine(HEAP, scratch, SCRATCH), 0);
+    for (steps = 0; steps < 8; steps++) {
+        uint64_t answer = borvukhai_step(HEAP);
+        memcpy(before, memory, LENT); /* the next one goes on */
+        listed("step", answer);
+    }
+}
+
+static void torn_classes(void) {
+    static const uint32_t words[] = {13, 14, 15, 16, MANY};
+    uint32_t i, tag, now, held;
+    for (i = 0; i < sizeof words / sizeof words[0]; i++) {
+        for (tag = BORVUKHAI_SEGMENT_FREE; tag <= BORVUKHAI_SEGMENT_CONDEMNED; tag++) {
+            for (now = BORVUKHAI_IDLE; now <= BORVUKHAI_SWEEP; now++) {
+                for (held = 0; held <= 1; held++) {
+                    break_class(tag, words[i], now, held);
+                    torn_class();
+                }
+            }
+        }
+    }
+}
+
 static void torn(void) {
     torn_root();
     torn_handshake(CHECK);
@@ -293,7 +363,7 @@ static void lengths(void) {
     uint32_t n;
     size_t i;
     for (n = 1; n <= 256; n++) {
-        expect("lengths", "memory", (unsigned long)borvukhai_length(n), 6290ul * n + 1051ul);
+        expect("lengths", "memory", (unsigned long)borvukhai_length(n), 6292ul * n + 1053ul);
         expect("lengths", "output", (unsigned long)borvukhai_states_length(n), 4ul * n);
         expect("lengths", "scratch", (unsigned long)borvukhai_scratch_length(n), 2176ul * n);
         expect("lengths", "constant of the memory", (unsigned long)BORVUKHAI_LENGTH(n), (unsigned long)borvukhai_length(n));
@@ -472,6 +542,7 @@ int main(void) {
                  {"4 absent", absent},     {"5 side", side},            {"6 slot", slot},
                  {"7 dark", dark},         {"8 field", field},          {"9 too big", too_big},
                  {"10 no room", no_room},  {"11 not now", not_now},     {"13 torn", torn},
+                 {"13 torn classes", torn_classes},
                  {"lengths", lengths},     {"results", results},        {"states and phases", states_and_phases},
                  {"examination", examination},                          {"over nothing", over_nothing}};
     size_t i;

@@ -168,15 +168,15 @@ static void class_of(uint32_t fields) {
 }
 
 static void classes(void) {
-    static const char constant[BORVUKHAI_BLOCKS(BORVUKHAI_CLASS_OF(1023))] = {0};
+    static const char constant[BORVUKHAI_BLOCKS(BORVUKHAI_CLASS_OF(2047))] = {0};
     uint32_t fields, number;
-    expect("as a constant", sizeof constant, 4);
-    for (fields = 0; fields <= 1030; fields++) {
+    expect("as a constant", sizeof constant, 2);
+    for (fields = 0; fields <= 4100; fields++) {
         class_of(fields);
     }
     class_of(0xffffffffu);
     for (number = 0; number < 70; number++) {
-        expect("no class", BORVUKHAI_BLOCKS(number) != 0, number >= 3 && number <= 12);
+        expect("no class", BORVUKHAI_BLOCKS(number) != 0, number >= 3 && number <= 14);
     }
     expect("no class", BORVUKHAI_BLOCKS(0xffffffffu), 0);
 }

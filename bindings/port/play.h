@@ -56,7 +56,7 @@ static void play_answer(uint64_t answer) {
 /* A make of a few fields mostly; now and then of a long record, or of one that is too big. */
 static uint32_t play_make(uint32_t mutator) {
     uint32_t long_one = play_random(128) == 0;
-    uint32_t pointers = play_random(long_one ? 600 : 4), values = play_random(long_one ? 600 : 9);
+    uint32_t pointers = play_random(long_one ? 2400 : 4), values = play_random(long_one ? 2400 : 9);
     uint32_t answer = borvukhai_make(PLAY_HEAP, mutator, play_random(17), pointers, values);
     play_makes += answer == BORVUKHAI_OK;
     return answer;

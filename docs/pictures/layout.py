@@ -2,7 +2,7 @@
 
 WORD_BITS = 32
 SEGMENT_WORDS = 4096
-CLASSES = range(3, 13)
+CLASSES = range(3, 15)
 MUTATORS, ROOTS, ENTRY_WORDS = 32, 16, 32
 RECORD_WORDS = 4  # tag, class, place, mutator
 CONTROL_WORDS = 16

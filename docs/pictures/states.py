@@ -21,16 +21,19 @@ EDGES = {
     ("held", "part", "detach"): ("M415 156V302", (406, 236), (406, 252), "end", "place kept"),
     ("part", "full", "make"): ("M545 318C640 290 690 220 728 158", (668, 262), (668, 278), "start", "takes it and fills it"),
     ("full", "condemned", "start"): ("M785 156V302", (776, 200), None, "end", ""),
+    ("free", "full", "make"): ("M110 84V66H800V82", (810, 60), (810, 76), "start", "class 14, its one block"),
     ("condemned", "full", "step"): ("M825 304V158", (834, 236), (834, 252), "start", "all blocks marked"),
     ("condemned", "part", "step"): ("M705 345H547", (626, 335), (626, 363), "middle", "some blocks marked"),
     ("condemned", "free", "step"): ("M800 376C800 455 110 455 110 158", (222, 398), (222, 414), "end", "no block marked"),
 }
-# two moves that the longer runs have not: a part segment's last free block is handed out, and a segment is swept whose blocks are all marked
+# three moves that the longer runs have not: a part segment's last free block is handed out, a segment is swept whose blocks are all marked, and one of
+# class 14 is taken
 RARE = """
-(rack 1) (attach 0) (make (0 0) (0 600)) (make (0 1) (0 600)) (make (0 2) (0 600)) (detach 0) (attach 1) (make (1 0) (0 600)) (clear (1 0))
+(rack 2) (attach 0) (make (0 0) (0 600)) (make (0 1) (0 600)) (make (0 2) (0 600)) (detach 0) (attach 1) (make (1 0) (0 600)) (clear (1 0))
 (start) (leave 1) (step) (step) (step) (step) (step) (enter 1)
 (make (1 0) (0 600)) (make (1 1) (0 600)) (make (1 2) (0 600)) (make (1 3) (0 600))
 (start) (leave 1) (step) (step) (step) (step) (step) (step) (step) (step) (step)
+(enter 1) (make (1 4) (0 4000))
 """
 
 

@@ -34,7 +34,7 @@ impl Phase {
     }
 }
 
-/// What a segment is used for. A class is 3 to 12: its blocks have 2^class bytes. A place is the next block to look at, and the number of
+/// What a segment is used for. A class is 3 to 14: its blocks have 2^class bytes. A place is the next block to look at, and the number of
 /// blocks where the segment is full or condemned.
 #[derive(Clone, Copy, Debug, PartialEq, Eq, Hash)]
 pub enum SegmentState {

@@ -102,7 +102,7 @@ impl From<Root> for u32 {
 }
 
 /// The counts of a record: pointers (document 01: links) and values (document 01: numbers), numbered from 0 each. A record has at most
-/// 1,023 of them together.
+/// 4,095 of them together.
 #[derive(Clone, Copy, Debug, Default, PartialEq, Eq, Hash)]
 pub struct Shape {
     /// Pointers: nil or another record.
@@ -117,11 +117,11 @@ impl Shape {
         Shape { pointers, values }
     }
 
-    /// The class of a record of this shape, 3 to 12: its block has 2^class bytes. None where a make is refused
+    /// The class of a record of this shape, 3 to 14: its block has 2^class bytes. None where a make is refused
     /// [`TooBig`](Refusal::TooBig).
     pub const fn class(self) -> Option<u32> {
         let mut class = 3;
-        while class <= 12 {
+        while class <= 14 {
             if self.pointers as u64 + (self.values as u64) < (1 << class) / 4 {
                 return Some(class);
             }

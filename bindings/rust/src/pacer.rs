@@ -49,8 +49,8 @@ pub struct Pacer<O> {
     running: bool,
 }
 
-/// Class numbers are 3 to 12; the counts stand at their number.
-const CLASSES: usize = 13;
+/// Class numbers are 3 to 14; the counts stand at their number.
+const CLASSES: usize = 15;
 
 /// Mutators' numbers are 0 to 31.
 const MUTATORS: usize = 32;
@@ -103,11 +103,12 @@ impl Look {
         (&mut self.classes[class], blocks(class))
     }
 
+    /// Of a class of one block no segment is open but in torn memory, and there it counts as used.
     fn open(&mut self, class: u32, left: u32) {
         let (of, blocks) = self.class(class);
         of.blocks += blocks;
         of.least += 1;
-        of.most += blocks - 1;
+        of.most += (blocks - 1).max(1);
         of.insert(left.min(blocks) as u16);
     }
 

@@ -25,7 +25,7 @@ pub enum Refusal {
     Dark = 7,
     /// The record has no such pointer or value.
     Field = 8,
-    /// A make with more than 1,023 pointers and values together.
+    /// A make with more than 4,095 pointers and values together.
     TooBig = 9,
     /// A make for which no segment of the class has room for this mutator, and none is free. Memory of zeros that was never opened, taken up
     /// without examination, looks so too.
@@ -105,7 +105,7 @@ impl Refusal {
             Refusal::Slot => "the root's number is over 15",
             Refusal::Dark => "the root whose record is wanted is nil",
             Refusal::Field => "the record has no such pointer or value",
-            Refusal::TooBig => "a record has at most 1,023 pointers and values together",
+            Refusal::TooBig => "a record has at most 4,095 pointers and values together",
             Refusal::NoRoom => "no segment of the record's class has room for this mutator, and none is free",
             Refusal::NotNow => "a handshake runs, or a cycle that was to start runs already",
             Refusal::Torn => "the memory fails the examination and led the call astray",

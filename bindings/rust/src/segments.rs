@@ -11,15 +11,15 @@ use crate::refusal::Refusal;
 ///
 /// const SEGMENTS: Segments = Segments::new(2).unwrap();
 /// static MEMORY: [u32; SEGMENTS.length()] = [0; SEGMENTS.length()];
-/// assert_eq!(MEMORY.len(), 13_631);
+/// assert_eq!(MEMORY.len(), 13_637);
 /// ```
 #[derive(Clone, Copy, Debug, PartialEq, Eq, PartialOrd, Ord, Hash)]
 pub struct Segments(u16);
 
 /// Words of a heap that do not depend on the count: control, mutators' entries and the counts of the stacks.
-const FIXED: usize = 1051;
+const FIXED: usize = 1053;
 /// Words of a heap for each segment.
-const PER_SEGMENT: usize = 6290;
+const PER_SEGMENT: usize = 6292;
 const STATES_PER_SEGMENT: usize = 4;
 const SCRATCH_PER_SEGMENT: usize = 2176;
 
@@ -53,7 +53,7 @@ impl Segments {
         self.0 as u32
     }
 
-    /// Words of the memory that a heap is lent: 6290 n + 1051.
+    /// Words of the memory that a heap is lent: 6292 n + 1053.
     pub const fn length(self) -> usize {
         PER_SEGMENT * self.0 as usize + FIXED
     }

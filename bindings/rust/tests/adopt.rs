@@ -77,7 +77,7 @@ fn any_call(heap: &mut Heap<Vec<u32>>, dice: &mut Dice) {
     let mut mutator = heap.mutator(id(dice.below(32)));
     let (a, b, field) = (dice.root(), dice.root(), dice.below(4));
     let _ = match dice.below(14) {
-        0 => mutator.make(a, Shape::new(field, dice.below(1024))),
+        0 => mutator.make(a, Shape::new(field, dice.below(4096))),
         1 => mutator.load(a, b, field),
         2 => mutator.store(a, field, b),
         3 => mutator.put(a, field, field),

@@ -16,15 +16,16 @@ fn version_and_layout() {
     assert!(borvukhai::check_layout(), "the library has layout {}", borvukhai::raw::layout());
 }
 
-/// Document 01's table, and numbers whose sum would wrap.
+/// Document 01's table as document 02 has it, where each of the two longest classes ends, and numbers whose sum would wrap.
 #[test]
 fn classes() {
-    let table = [(0, 3), (1, 3), (2, 4), (3, 4), (4, 5), (511, 11), (512, 12), (1023, 12)];
+    let document = [(0, 3), (1, 3), (2, 4), (3, 4), (4, 5), (511, 11), (512, 12), (1023, 12), (1024, 13)];
+    let table = document.into_iter().chain([(2047, 13), (2048, 14), (4095, 14)]);
     for (fields, class) in table {
         assert_eq!(Shape::new(0, fields).class(), Some(class));
         assert_eq!(Shape::new(fields, 0).class(), Some(class));
     }
-    for shape in [Shape::new(1023, 1), Shape::new(u32::MAX, 2), Shape::new(u32::MAX, u32::MAX)] {
+    for shape in [Shape::new(4095, 1), Shape::new(0, 4096), Shape::new(u32::MAX, 2), Shape::new(u32::MAX, u32::MAX)] {
         assert_eq!(shape.class(), None);
     }
 }

@@ -125,6 +125,8 @@ struct Mix {
     mutators: u32,
     values: &'static [u32],
     often: u32,
+    /// Whether a record keeps no other, so that the roots' own are alive and no more.
+    alone: bool,
 }
 
 struct Mixed {
@@ -189,7 +191,7 @@ impl Mixed {
             }
             return self.pacer.finish(&mut self.heap);
         }
-        if self.any(16) != 0 {
+        if !self.mix.alone && self.any(16) != 0 {
             self.heap.mutator(id(number)).store(Root::R0, 0, root)?;
         }
         self.heap.mutator(id(number)).copy(root, Root::R0)?;
@@ -209,11 +211,15 @@ fn room_is_certain() -> Result<()> {
     const TURNS: u32 = 20_000;
     for seed in [1, 22, 333, 4444, 55_555] {
         let mixes = [
-            Mix { segments: 2, steps: 8, mutators: 2, values: &[1, 5], often: 0 },
-            Mix { segments: 8, steps: 64, mutators: 1, values: &[6, 14, 30], often: 950 },
-            Mix { segments: 10, steps: 64, mutators: 2, values: &[1, 5, 12], often: 700 },
-            Mix { segments: 16, steps: 64, mutators: 2, values: &[1, 5, 12], often: 950 },
-            Mix { segments: 24, steps: 256, mutators: 4, values: &[2, 6, 40], often: 400 },
+            Mix { segments: 2, steps: 8, mutators: 2, values: &[1, 5], often: 0, alone: false },
+            Mix { segments: 8, steps: 64, mutators: 1, values: &[6, 14, 30], often: 950, alone: false },
+            Mix { segments: 10, steps: 64, mutators: 2, values: &[1, 5, 12], often: 700, alone: false },
+            Mix { segments: 16, steps: 64, mutators: 2, values: &[1, 5, 12], often: 950, alone: false },
+            Mix { segments: 24, steps: 256, mutators: 4, values: &[2, 6, 40], often: 400, alone: false },
+            Mix { segments: 12, steps: 16, mutators: 1, values: &[1500, 3000], often: 0, alone: true },
+            Mix { segments: 24, steps: 16, mutators: 1, values: &[1500, 3000], often: 700, alone: true },
+            Mix { segments: 32, steps: 64, mutators: 2, values: &[1500, 3000], often: 400, alone: true },
+            Mix { segments: 40, steps: 64, mutators: 2, values: &[6, 1500, 3000], often: 500, alone: true },
         ];
         for mix in mixes {
             let mut mixed = Mixed::new(mix, seed)?;
@@ -246,6 +252,43 @@ fn one_mutator_holds_all() -> Result<()> {
         pacer.makers(&heap, Shape::new(1, values), 1)?;
     }
     assert_eq!((pacer.room(), pacer.kept()), (511, true));
+    Ok(())
+}
+
+/// Classes of 2 blocks and of 1, in two segments: as many makes as the pacer says find room, and the next finds none.
+#[test]
+fn classes_of_few_blocks() -> Result<()> {
+    const TWO: Segments = Segments::new(2).unwrap();
+    for (values, other, room) in [(2046, 2046, 4), (4094, 4094, 2), (4094, 2046, 2)] {
+        let mut heap = Heap::new(TWO);
+        heap.attach(id(0))?;
+        let mut pacer = Pacer::new(&heap, [0; TWO.states_length()], 8, 1)?;
+        for values in [values, other] {
+            pacer.makers(&heap, Shape::new(1, values), 1)?;
+        }
+        assert_eq!(pacer.room(), room);
+        for _ in 0..room {
+            heap.mutator(id(0)).make(NEW, Shape::new(1, values))?;
+        }
+        assert_eq!(heap.mutator(id(0)).make(NEW, Shape::new(1, values)), Err(Refusal::NoRoom));
+    }
+    Ok(())
+}
+
+/// 32 mutators that make every class: each of the segments can be taken by one make, and then the next finds none.
+#[test]
+fn all_mutators_and_classes() -> Result<()> {
+    const MANY: Segments = Segments::new(24).unwrap();
+    let mut heap = Heap::new(MANY);
+    let mut pacer = Pacer::new(&heap, [0; MANY.states_length()], 8, 32)?;
+    for class in 3..=14 {
+        pacer.makers(&heap, Shape::new(0, (1 << class) / 4 - 1), 32)?;
+    }
+    assert_eq!(pacer.room(), 24);
+    for number in 0..24 {
+        heap.attach(id(number))?.make(NEW, Shape::new(0, 1))?;
+    }
+    assert_eq!(heap.attach(id(31))?.make(NEW, Shape::new(0, 1)), Err(Refusal::NoRoom));
     Ok(())
 }
 
@@ -311,6 +354,21 @@ fn torn_memory() {
                     let _ = pacer.made(&mut heap, Shape::new(1, number));
                 }
             }
+        }
+    }
+}
+
+/// The same where a segment's class word is another class's or none: a look may then show one of class 14 as part or held.
+#[test]
+fn torn_class_words() {
+    for words in common::torn_classes() {
+        let mut heap = Heap::adopt_unexamined(common::ONE, words).unwrap();
+        if let Ok(mut pacer) = Pacer::new(&heap, [0; 4], 7, 1) {
+            for values in [6, 600, 2000, 4000] {
+                let _ = pacer.make(&mut heap, id(0), NEW, Shape::new(1, values));
+                let _ = pacer.made(&mut heap, Shape::new(1, values));
+            }
+            let _ = pacer.finish(&mut heap);
         }
     }
 }

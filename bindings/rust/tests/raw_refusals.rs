@@ -3,7 +3,7 @@
 mod common;
 
 use borvukhai::{Refusal, Result, Step, raw};
-use common::{OFF_HEAP, SCRATCH, at, fresh, full};
+use common::{OFF_HEAP, SCRATCH, at, fresh, full, torn_classes};
 
 const MANY: u32 = u32::MAX;
 
@@ -14,6 +14,8 @@ const ATTACH: Call = |n, words, mutator, _, _| raw::attach(n, words, mutator);
 const SPAWN: Call = |n, words, mutator, root, _| raw::spawn(n, words, mutator, 0, root);
 const DETACH: Call = |n, words, mutator, _, _| raw::detach(n, words, mutator);
 const MAKE: Call = |n, words, mutator, root, _| raw::make(n, words, mutator, root, 1, 600);
+const MAKE_13: Call = |n, words, mutator, root, _| raw::make(n, words, mutator, root, 1, 2046);
+const MAKE_14: Call = |n, words, mutator, root, _| raw::make(n, words, mutator, root, 1, 4094);
 const LOAD: Call = |n, words, mutator, root, field| raw::load(n, words, mutator, root, root, field);
 const STORE: Call = |n, words, mutator, root, field| raw::store(n, words, mutator, root, field, root);
 const PUT: Call = |n, words, mutator, root, field| raw::put(n, words, mutator, root, field, 1);
@@ -36,14 +38,14 @@ fn refused(words: &mut [u32], call: Call, (mutator, root, field): (u32, u32, u32
     assert!(words == before, "a word has changed");
 }
 
-/// The calls that name no mutator, all refused Size.
+/// The calls that name no mutator, all refused Size; output and scratch are of the count's own lengths.
 fn others_refused_size(segments: u32, words: &mut [u32]) {
     assert_eq!(raw::open(segments, words), Err(Refusal::Size));
     assert_eq!(raw::start(segments, words), Err(Refusal::Size));
     assert_eq!(raw::step(segments, words), Err(Refusal::Size));
     assert_eq!(raw::phase(segments, words), Err(Refusal::Size));
-    assert_eq!(raw::states(segments, words, &mut [9; 4]), Err(Refusal::Size));
-    assert_eq!(raw::examine(segments, words, &mut [9; SCRATCH]), Err(Refusal::Size));
+    assert_eq!(raw::states(segments, words, &mut vec![9; raw::states_length(segments)]), Err(Refusal::Size));
+    assert_eq!(raw::examine(segments, words, &mut vec![9; raw::scratch_length(segments)]), Err(Refusal::Size));
 }
 
 fn all_refused_size(segments: u32, words: &mut [u32]) {
@@ -67,6 +69,14 @@ fn number_1_size() {
     all_refused_size(1, &mut words);
     all_refused_size(1, &mut []);
     all_refused_size(0, &mut []);
+}
+
+/// The lengths of layout 2, which programs compiled for it still lend.
+#[test]
+fn number_1_size_of_the_layout_before() {
+    for segments in [1, 2, 3, 12, 255, 256] {
+        all_refused_size(segments, &mut vec![0; 6290 * segments as usize + 1051]);
+    }
 }
 
 #[test]
@@ -158,11 +168,26 @@ fn number_8_field() {
 fn number_9_too_big() {
     let mut words = fresh();
     let before = words.clone();
-    for (pointers, values) in [(1023, 1), (0, 1024), (MANY, 2), (2, MANY), (MANY, MANY)] {
+    for (pointers, values) in [(4095, 1), (0, 4096), (MANY, 2), (2, MANY), (MANY, MANY)] {
         assert_eq!(raw::make(1, &mut words, 0, 0, pointers, values), Err(Refusal::TooBig));
     }
     assert!(words == before, "a word has changed");
-    assert_eq!(raw::make(1, &mut words, 0, 0, 1000, 23), Ok(()));
+    assert_eq!(raw::make(1, &mut words, 0, 0, 4000, 95), Ok(()));
+}
+
+/// 4,096 fields where a lower number applies too, and where 10 would.
+#[test]
+fn number_9_in_the_order() {
+    let big: Call = |n, words, mutator, root, _| raw::make(n, words, mutator, root, 4095, 1);
+    let mut words = full();
+    assert_eq!(big(0, &mut words, 32, 16, 0), Err(Refusal::Size));
+    refused(&mut words, big, (32, 16, 0), Refusal::Script);
+    refused(&mut words, big, (31, 16, 0), Refusal::Absent);
+    refused(&mut words, big, (0, 16, 0), Refusal::Slot);
+    refused(&mut words, big, (0, 0, 0), Refusal::TooBig);
+    assert_eq!(raw::make(1, &mut words, 0, 0, 4095, 0), Err(Refusal::NoRoom));
+    raw::leave(1, &mut words, 0).unwrap();
+    refused(&mut words, big, (0, 16, 0), Refusal::Side);
 }
 
 #[test]
@@ -230,4 +255,23 @@ fn number_13_torn_entries() {
     let mut output = [9; 4];
     assert_eq!(raw::states(1, &words, &mut output), Err(Refusal::Torn));
     assert_eq!(output, [9; 4]);
+}
+
+/// A class word that is another class's or none. Nothing panics, nothing is refused Size, and the examination finds it.
+#[test]
+fn number_13_torn_class_words() {
+    let calls = INSIDE.into_iter().chain([ATTACH, SPAWN, ENTER, MAKE_13, MAKE_14]);
+    for torn in torn_classes() {
+        for (call, mutator) in calls.clone().flat_map(|call| [(call, 0), (call, 1)]) {
+            assert_ne!(call(1, &mut torn.clone(), mutator, 0, 0), Err(Refusal::Size));
+        }
+        assert_ne!(raw::start(1, &mut torn.clone()), Err(Refusal::Size));
+        assert!(raw::phase(1, &torn).is_ok());
+        assert_ne!(raw::states(1, &torn, &mut [0; 4]), Err(Refusal::Size));
+        assert_eq!(raw::examine(1, &torn, &mut [0; SCRATCH]), Ok(false));
+        let mut words = torn;
+        for _ in 0..8 {
+            assert_ne!(raw::step(1, &mut words), Err(Refusal::Size));
+        }
+    }
 }

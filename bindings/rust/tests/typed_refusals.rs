@@ -85,8 +85,9 @@ fn dark_and_field() {
 fn too_big_and_no_room() {
     let mut heap = heap(full());
     let mut mutator = heap.mutator(id(0));
-    assert_eq!(mutator.make(Root::R0, Shape::new(1023, 1)), Err(Refusal::TooBig));
+    assert_eq!(mutator.make(Root::R0, Shape::new(4095, 1)), Err(Refusal::TooBig));
     assert_eq!(mutator.make(Root::R0, Shape::new(u32::MAX, 2)), Err(Refusal::TooBig));
+    assert_eq!(mutator.make(Root::R0, Shape::new(4095, 0)), Err(Refusal::NoRoom));
     assert_eq!(mutator.make(Root::R0, SHAPE), Err(Refusal::NoRoom));
 }
 

@@ -17,7 +17,7 @@ use Rattle.bitmap_search.specs.Search.{lowered, forwarded, searched}
 use Rattle.bitmap_write.specs.Rebuild.{rebuilt}
 use Rattle.bitmap_write.specs.Completed.{completed, padded}
 use Rattle.bitmap_write.proofs.Completed.{completed-tree}
-use Rattle.cases.specs.Rows.{rows, above, treeOf, BlockHolds, All}
+use Rattle.cases.specs.Rows.{longRows, rows, above, treeOf, BlockHolds, All}
 
 -- a block row from what is computed
 row : {class : ℕ} {bits : List ℕ} {place : ℕ} {found : Found} → T (leb (treeWords (above class) (blocksOf segmentSize class)) (length bits))
@@ -30,7 +30,12 @@ row {class} {bits} room is search scan = record {
   scan = scan;
 }
 
+long-hold : All longRows
+unfolding classTest bitOf bitAt clearFrom nextFree lowered forwarded searched rebuilt completed padded
+long-hold =
+    (refl, (refl, (refl, (row tt refl refl refl, (row tt refl refl refl, (row tt refl refl refl, (row tt refl refl refl, (row tt refl refl refl, tt))))))))
+
 pub all-hold : All rows
 unfolding classTest bitOf bitAt clearFrom nextFree lowered forwarded searched rebuilt completed padded
 all-hold =
-    (refl, (refl, (refl, (refl, (refl, (refl, (refl, (refl, (refl, (row tt refl refl refl, (row tt refl refl refl, (row tt refl refl refl, tt))))))))))))
+    (refl, (refl, (refl, (refl, (refl, (refl, (refl, (refl, (refl, (refl, (row tt refl refl refl, (row tt refl refl refl, (row tt refl refl refl, long-hold)))))))))))))

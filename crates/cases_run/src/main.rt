@@ -149,6 +149,10 @@ fn class_cases() {
     class_line(512);
     class_line(1023);
     class_line(1024);
+    class_line(2047);
+    class_line(2048);
+    class_line(4095);
+    class_line(4096);
     class_line(65536);
     class_line(4294967295);
 }
@@ -169,6 +173,7 @@ fn shape_cases() {
     shape_line(12);
     shape_line(13);
     shape_line(14);
+    shape_line(15);
     shape_line(4294967295);
 }
 
@@ -254,6 +259,21 @@ fn short_cases(s: &mut [u32])
     search_line(s, 10, 15);
 }
 
+// A level of two blocks, and of one.
+fn last_cases(s: &mut [u32])
+    requires { ⌜ longestOf segmentSize ≤ length (now s) ⌝ }
+{
+    freshen(s, 13);
+    check_line(s, 13);
+    search_line(s, 13, 0);
+    search_line(s, 13, 1);
+    search_line(s, 13, 2);
+    freshen(s, 14);
+    check_line(s, 14);
+    search_line(s, 14, 0);
+    search_line(s, 14, 1);
+}
+
 fn main() {
     let mut s = [0u32; 134];
     class_cases();
@@ -263,4 +283,5 @@ fn main() {
     far_cases(&mut s);
     torn_cases(&mut s);
     short_cases(&mut s);
+    last_cases(&mut s);
 }

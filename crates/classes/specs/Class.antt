@@ -1,5 +1,6 @@
 -- The size class of a record. Document 01: "Class c, 3 to 12, has blocks of 2^c bytes. A record's class is the smallest whose
--- block holds 1 + P + N words", and "P + N at most 1,023"; and the number that document 01 gives each answer.
+-- block holds 1 + P + N words"; document 02, No. 2: "Classes 13 (two blocks a segment) and 14 (one block) are added, so a record
+-- has up to 4,095 fields"; and the number that document 01 gives each answer.
 use mathlib.Core.Bool.{Bool, false}
 use Prim.Native.Nat.{ℕ, zero, suc, _+_, _-_, _*_, _/_, _^_, _≤_, _<_}
 use lib.Dec.{leb, ltb}
@@ -7,12 +8,12 @@ use Rattle.basics.specs.Pick.{pick}
 use Rattle.classes.specs.declared.SizeClass.{SizeClass}
 use Rattle.classes.specs.declared.SizeClass.the-variants.{Class, TooBig}
 
--- the classes are 3 to 12
+-- the classes are 3 to 14
 abbrev pub firstClass : ℕ
 firstClass = 3
 
 abbrev pub classCount : ℕ
-classCount = 10
+classCount = 12
 
 -- a class number
 abbrev pub IsClass : ℕ → Type 0
@@ -30,7 +31,7 @@ wordBytes = 4
 abbrev pub blockWords : ℕ → ℕ
 blockWords c = 2 ^ c / wordBytes
 
--- the most fields that a block of the largest class holds: "P + N at most 1,023"
+-- the most fields that a block of the largest class holds: "a record has up to 4,095 fields"
 abbrev pub maxFields : ℕ
 maxFields = blockWords (firstClass + classCount - 1) - 1
 
@@ -51,7 +52,7 @@ pub data Outcome : Type 0 where
   value : ℕ → Outcome
   refusal : ℕ → Outcome
 
--- "9, too big: make with P + N over 1,023" (in no statement: evaluated cases use it)
+-- "Refusal 9 now begins at 4,096 fields." (in no statement: evaluated cases use it)
 abbrev pub outcomeOf : SizeClass → Outcome
 outcomeOf (Class c) = value c
 outcomeOf TooBig = refusal 9

@@ -1,5 +1,6 @@
 -- The shape of a segment of a class: its blocks and the levels of their bitmap. Document 01: "segments of 16,384 bytes",
--- "Class c, 3 to 12, has blocks of 2^c bytes", and the table of blocks and bitmap levels.
+-- "Class c, 3 to 12, has blocks of 2^c bytes", and the table of blocks and bitmap levels; document 02, No. 2: "Classes 13 (two
+-- blocks a segment) and 14 (one block) are added".
 use Prim.Native.Nat.{ℕ, _-_, _/_, _^_}
 use lib.ListN.{getD}
 use Rattle.basics.specs.Pick.{pick}

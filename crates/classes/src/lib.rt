@@ -4,7 +4,9 @@ mod table;
 
 use table::CLASSES;
 ghost use mathlib.Core.Path.{_≡_};
-ghost use Prim.Native.Nat.{_≤_};
+ghost use mathlib.Core.List.{[]};
+ghost use Prim.Native.Nat.{_<_, _≤_, _/_, _%_};
+ghost use lib.ListN.{getD};
 ghost use Rattle.classes.specs.Class.{IsClass, classTest, blockWords, classOf};
 ghost use Rattle.classes.specs.Record.{classOfRecord};
 ghost use Rattle.classes.specs.declared.SizeClass.the-variants.{Class};
@@ -12,10 +14,10 @@ ghost use Rattle.classes.specs.Shape.{segmentSize, segmentShape};
 
 pub const FIRST_CLASS: u32 = 3;
 
-pub const CLASS_COUNT: u32 = 10;
+pub const CLASS_COUNT: u32 = 12;
 
 // The most fields that a record has.
-pub const MAX_FIELDS: u32 = 1023;
+pub const MAX_FIELDS: u32 = 4095;
 
 // The shape of a record: how many pointer fields and how many data fields it has (document 01: P links and N numbers).
 pub struct RecordShape {
@@ -44,73 +46,74 @@ pub enum ClassShape {
     NoClass,
 }
 
-// The table's first entries by name, widened. A read at an index that is no literal copies the whole table to the stack; these fold.
-const CLASS_0: u32 = CLASSES[0] as u32;
+// The table's first entries by name, widened. A read at an index that is no literal copies the array that it reads to the stack; these
+// fold.
+const CLASS_0: u32 = CLASSES[0][0] as u32;
 
-const CLASS_1: u32 = CLASSES[1] as u32;
+const CLASS_1: u32 = CLASSES[0][1] as u32;
 
-const CLASS_2: u32 = CLASSES[2] as u32;
+const CLASS_2: u32 = CLASSES[0][2] as u32;
 
-const CLASS_3: u32 = CLASSES[3] as u32;
+const CLASS_3: u32 = CLASSES[0][3] as u32;
 
-const CLASS_4: u32 = CLASSES[4] as u32;
+const CLASS_4: u32 = CLASSES[0][4] as u32;
 
-const CLASS_5: u32 = CLASSES[5] as u32;
+const CLASS_5: u32 = CLASSES[0][5] as u32;
 
-const CLASS_6: u32 = CLASSES[6] as u32;
+const CLASS_6: u32 = CLASSES[0][6] as u32;
 
-const CLASS_7: u32 = CLASSES[7] as u32;
+const CLASS_7: u32 = CLASSES[0][7] as u32;
 
-const CLASS_8: u32 = CLASSES[8] as u32;
+const CLASS_8: u32 = CLASSES[0][8] as u32;
 
-const CLASS_9: u32 = CLASSES[9] as u32;
+const CLASS_9: u32 = CLASSES[0][9] as u32;
 
-const CLASS_10: u32 = CLASSES[10] as u32;
+const CLASS_10: u32 = CLASSES[0][10] as u32;
 
-const CLASS_11: u32 = CLASSES[11] as u32;
+const CLASS_11: u32 = CLASSES[0][11] as u32;
 
-const CLASS_12: u32 = CLASSES[12] as u32;
+const CLASS_12: u32 = CLASSES[0][12] as u32;
 
-const CLASS_13: u32 = CLASSES[13] as u32;
+const CLASS_13: u32 = CLASSES[0][13] as u32;
 
-const CLASS_14: u32 = CLASSES[14] as u32;
+const CLASS_14: u32 = CLASSES[0][14] as u32;
 
-const CLASS_15: u32 = CLASSES[15] as u32;
+const CLASS_15: u32 = CLASSES[0][15] as u32;
 
-const CLASS_16: u32 = CLASSES[16] as u32;
+const CLASS_16: u32 = CLASSES[0][16] as u32;
 
-const CLASS_17: u32 = CLASSES[17] as u32;
+const CLASS_17: u32 = CLASSES[0][17] as u32;
 
-const CLASS_18: u32 = CLASSES[18] as u32;
+const CLASS_18: u32 = CLASSES[0][18] as u32;
 
-const CLASS_19: u32 = CLASSES[19] as u32;
+const CLASS_19: u32 = CLASSES[0][19] as u32;
 
-const CLASS_20: u32 = CLASSES[20] as u32;
+const CLASS_20: u32 = CLASSES[0][20] as u32;
 
-const CLASS_21: u32 = CLASSES[21] as u32;
+const CLASS_21: u32 = CLASSES[0][21] as u32;
 
-const CLASS_22: u32 = CLASSES[22] as u32;
+const CLASS_22: u32 = CLASSES[0][22] as u32;
 
-const CLASS_23: u32 = CLASSES[23] as u32;
+const CLASS_23: u32 = CLASSES[0][23] as u32;
 
-const CLASS_24: u32 = CLASSES[24] as u32;
+const CLASS_24: u32 = CLASSES[0][24] as u32;
 
-const CLASS_25: u32 = CLASSES[25] as u32;
+const CLASS_25: u32 = CLASSES[0][25] as u32;
 
-const CLASS_26: u32 = CLASSES[26] as u32;
+const CLASS_26: u32 = CLASSES[0][26] as u32;
 
-const CLASS_27: u32 = CLASSES[27] as u32;
+const CLASS_27: u32 = CLASSES[0][27] as u32;
 
-const CLASS_28: u32 = CLASSES[28] as u32;
+const CLASS_28: u32 = CLASSES[0][28] as u32;
 
-const CLASS_29: u32 = CLASSES[29] as u32;
+const CLASS_29: u32 = CLASSES[0][29] as u32;
 
-const CLASS_30: u32 = CLASSES[30] as u32;
+const CLASS_30: u32 = CLASSES[0][30] as u32;
 
-const CLASS_31: u32 = CLASSES[31] as u32;
+const CLASS_31: u32 = CLASSES[0][31] as u32;
 
 // The shape of a class, indexed by the class less 3.
-const SHAPES: [SegmentShape; 10] = [
+const SHAPES: [SegmentShape; 12] = [
     SegmentShape {
         blocks: 2048,
         levels: 3,
@@ -181,6 +184,20 @@ const SHAPES: [SegmentShape; 10] = [
         words1: 0,
         words2: 0,
     },
+    SegmentShape {
+        blocks: 2,
+        levels: 1,
+        words0: 1,
+        words1: 0,
+        words2: 0,
+    },
+    SegmentShape {
+        blocks: 1,
+        levels: 1,
+        words0: 1,
+        words1: 0,
+        words2: 0,
+    },
 ];
 
 // Whether a number is a class's.
@@ -201,14 +218,70 @@ pub fn block_words(class: u32) -> usize
     1 << (class - 2)
 }
 
-// The class of a record of so many fields, few or many, by the table.
+// An entry, widened.
+fn widened(entry: u8) -> u32
+    ensures { λ r. ⌜ r ≡ entry ⌝ }
+{
+    entry as u32
+}
+
+// An entry of a row.
+fn entry_of(row: [u8; 128], i: usize) -> u32
+    requires { ⌜ i < 128 ⌝ }
+    ensures { λ r. ⌜ r ≡ getD row i 0 ⌝ }
+{
+    widened(row[i])
+}
+
+// The entry of a table of 4,096 at a number. A row is taken by a literal, arm by arm, so that no more than one of them is copied to the
+// stack.
+fn entry_at(table: [[u8; 128]; 32], n: u32) -> u32
+    requires { ⌜ n < 4096 ⌝ }
+    ensures { λ r. ⌜ r ≡ getD (getD table (n / 128) []) (n % 128) 0 ⌝ }
+{
+    let i = (n % 128) as usize;
+    match n / 128 {
+        0 => entry_of(table[0], i),
+        1 => entry_of(table[1], i),
+        2 => entry_of(table[2], i),
+        3 => entry_of(table[3], i),
+        4 => entry_of(table[4], i),
+        5 => entry_of(table[5], i),
+        6 => entry_of(table[6], i),
+        7 => entry_of(table[7], i),
+        8 => entry_of(table[8], i),
+        9 => entry_of(table[9], i),
+        10 => entry_of(table[10], i),
+        11 => entry_of(table[11], i),
+        12 => entry_of(table[12], i),
+        13 => entry_of(table[13], i),
+        14 => entry_of(table[14], i),
+        15 => entry_of(table[15], i),
+        16 => entry_of(table[16], i),
+        17 => entry_of(table[17], i),
+        18 => entry_of(table[18], i),
+        19 => entry_of(table[19], i),
+        20 => entry_of(table[20], i),
+        21 => entry_of(table[21], i),
+        22 => entry_of(table[22], i),
+        23 => entry_of(table[23], i),
+        24 => entry_of(table[24], i),
+        25 => entry_of(table[25], i),
+        26 => entry_of(table[26], i),
+        27 => entry_of(table[27], i),
+        28 => entry_of(table[28], i),
+        29 => entry_of(table[29], i),
+        30 => entry_of(table[30], i),
+        _ => entry_of(table[31], i),
+    }
+}
+
+// The class of a record of so many fields, few or many: the table's entry at that number.
 fn class_of_many(fields: u32) -> SizeClass
     ensures { λ r. ⌜ r ≡ classOf fields ⌝ }
 {
-    if fields < 1024 {
-        let i = fields as usize;
-        let class = CLASSES[i] as u32;
-        SizeClass::Class(class)
+    if fields < 4096 {
+        SizeClass::Class(entry_at(CLASSES, fields))
     } else {
         SizeClass::TooBig
     }
@@ -311,6 +384,8 @@ pub fn segment_shape(class: u32) -> ClassShape
         10 => ClassShape::Of(shapes[7]),
         11 => ClassShape::Of(shapes[8]),
         12 => ClassShape::Of(shapes[9]),
+        13 => ClassShape::Of(shapes[10]),
+        14 => ClassShape::Of(shapes[11]),
         _ => ClassShape::NoClass,
     }
 }

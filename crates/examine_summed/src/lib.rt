@@ -30,7 +30,7 @@ fn tree_at(g: Geometry, mem: &[u32], s: usize, n: u32, above: u32) -> bool
 }
 
 // Whether the bitmap of segment s is the tree of a class, any number: below the classes the blocks are too many for the words, and past them one
-// word holds their bits.
+// word at most holds their bits.
 fn tree_of(g: Geometry, mem: &[u32], s: usize, class: u32) -> bool
     requires { ⌜ (Sized g (length (now mem))) × (s < g .segments) ⌝ }
     ensures { λ r. ⌜ Decides r (Tree (above g class) (blocksIn g class) (bitmap g (memOf g (now (mem .entry))) s)) ⌝ }

@@ -21,3 +21,5 @@ pub mod Growing
 pub mod Stepping
 pub mod EmptyCycle
 pub mod Independent
+pub mod HandsBack
+pub mod FullAtOnce

@@ -4,3 +4,4 @@ pub mod Elements
 pub mod Keeping
 pub mod EmptyCycle
 pub mod Independent
+pub mod HandsBack

@@ -8,3 +8,4 @@ pub mod Consequences
 pub mod OverNothing
 pub mod SoundOnly
 pub mod RefusedStand
+pub mod HandsBack

@@ -4,3 +4,4 @@ pub mod Instance
 pub mod Consequences
 pub mod OverNothing
 pub mod RefusedStand
+pub mod HandsBack

@@ -1,5 +1,5 @@
--- A segment's bytes, and what follows for its words, blocks, bits and bitmap. Only `bytes-are` and `class-fits` look at how many they
--- are.
+-- A segment's bytes, and what follows for its words, blocks, bits and bitmap. Only `bytes-are`, `size-is` and `class-fits` look at how
+-- many they are.
 use mathlib.Core.Path.{_≡_, refl, sym, _∙_, ap, subst}
 use Prim.Native.Nat.{ℕ, suc, _+_, _-_, _*_, _/_, _%_, _^_, _≤_, _<_}
 use native.Mathlib.Nat.{mul-assoc, div-lt-iff-lt-mul, mul-add-div-right, div-eq-of-lt, mul-add-mod-self-right, mod-eq-of-lt, suc-mul, mul-le-mul-right}
@@ -31,6 +31,11 @@ within w a n i l h = let e : suc a * w ≤ n * w = mul-le-mul-right w l in let f
 pub bytes-are : (g : Geometry) → (n : ℕ) × (segmentBytes g ≡ n * segmentSize) × (1 ≤ n) × (n ≤ 2)
 unfolding segmentBytes
 bytes-are g = (1, refl, omega arith, omega arith)
+
+-- they are 16 KiB once
+pub size-is : (g : Geometry) → segmentBytes g ≡ segmentSize
+unfolding segmentBytes
+size-is g = refl
 
 -- every class's bitmap is within the longest
 pub class-fits : (g : Geometry) (c : ℕ) → IsClass c → treeWords (shapeFor (blocksIn g c) .levels - 1) (blocksIn g c) ≤ bitmapWords g

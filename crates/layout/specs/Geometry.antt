@@ -93,7 +93,7 @@ regionCount = 8
 
 -- the number of this layout: a change that moves a word of the lent slice raises it (in no statement: a contract uses it)
 abbrev pub layoutNumber : ℕ
-layoutNumber = 2
+layoutNumber = 3
 
 -- the length of the lent slice
 abbrev pub total : Geometry → ℕ

@@ -19,7 +19,7 @@ pub struct Geometry {
 }
 
 // The number of this layout: a change that moves a word of the lent slice raises it.
-pub const LAYOUT_NUMBER: u32 = 2;
+pub const LAYOUT_NUMBER: u32 = 3;
 
 pub const MAX_SEGMENTS: usize = 256;
 

@@ -2,3 +2,4 @@
 pub mod Whole
 pub mod Refusals
 pub mod Stacks
+pub mod Long

@@ -3,3 +3,4 @@ pub mod Replies
 pub mod Whole
 pub mod Refusals
 pub mod Stacks
+pub mod Long

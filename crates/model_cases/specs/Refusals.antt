@@ -26,11 +26,11 @@ refusals =
     ∷ call (c-clear 0 16) ⇒ no 6
     ∷ call (c-load 0 16 0 0) ⇒ no 6
     ∷ call (c-store 0 0 0 16) ⇒ no 6
-    ∷ call (c-make 0 16 1 1023) ⇒ no 6
+    ∷ call (c-make 0 16 1 4095) ⇒ no 6
     -- 7 and 9
     ∷ call (c-get 0 0 0) ⇒ no 7
     ∷ call (c-shape 0 0) ⇒ no 7
-    ∷ call (c-make 0 0 1 1023) ⇒ no 9
+    ∷ call (c-make 0 0 1 4095) ⇒ no 9
     ∷ call (c-make 0 0 4294967295 4294967295) ⇒ no 9
     -- in idle, the segment free: a cycle over nothing begins. From here on the phase is roll 1: "each script call answers what it would answer over
     -- the same heap in idle, save 11"

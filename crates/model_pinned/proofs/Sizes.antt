@@ -5,7 +5,7 @@ use Rattle.model_pinned.specs.Sizes.{rows, All, begins, Begin}
 
 pub rows-hold : All rows
 unfolding wrongSize segmentBytes
-rows-hold = (refl, (refl, (refl, (refl, (refl, (refl, (refl, (refl, tt))))))))
+rows-hold = (refl, (refl, (refl, (refl, (refl, (refl, (refl, (refl, (refl, (refl, (refl, tt)))))))))))
 
 pub begins-hold : Begin 0 begins
 unfolding segmentBytes

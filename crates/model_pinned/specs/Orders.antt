@@ -11,8 +11,8 @@ orders =
     opening ⇒ ok
     -- 4: each call of an absent mutator (check, enter and detach stand among the refusals), before 6 and 9
     ∷ call (c-leave 5) ⇒ no 4
-    ∷ call (c-make 5 16 1 1023) ⇒ no 4
-    ∷ call (c-make 5 0 1 1023) ⇒ no 4
+    ∷ call (c-make 5 16 1 4095) ⇒ no 4
+    ∷ call (c-make 5 0 1 4095) ⇒ no 4
     ∷ call (c-load 5 16 16 0) ⇒ no 4
     ∷ call (c-store 5 16 0 16) ⇒ no 4
     ∷ call (c-copy 5 16 16) ⇒ no 4
@@ -21,7 +21,7 @@ orders =
     ∷ call (c-get 5 16 0) ⇒ no 4
     ∷ call (c-same 5 16 16) ⇒ no 4
     ∷ call (c-shape 5 16) ⇒ no 4
-    -- "P + N at most 1,023": both ways to reach it
+    -- two records of class 12; "up to 4,095 fields" stands among the long records
     ∷ call (c-attach 0) ⇒ ok
     ∷ call (c-make 0 0 0 1023) ⇒ ok
     ∷ call (c-make 0 1 1 1022) ⇒ ok
@@ -44,13 +44,14 @@ orders =
     ∷ call (c-put 0 0 1023 0) ⇒ no 5
     ∷ call (c-get 0 2 0) ⇒ no 5
     ∷ call (c-get 0 0 1023) ⇒ no 5
-    -- 2, 4, 5 and 6 before 10, while mutator 0 holds the one segment
+    -- 2, 4, 5, 6 and 9 before 10, while mutator 0 holds the one segment
     ∷ call (c-make 32 0 0 0) ⇒ no 2
     ∷ call (c-make 5 0 0 0) ⇒ no 4
     ∷ call (c-make 1 0 0 0) ⇒ no 5
     ∷ call (c-enter 1) ⇒ ok
     ∷ call (c-make 1 16 0 0) ⇒ no 6
     ∷ call (c-make 1 0 0 0) ⇒ no 10
+    ∷ call (c-make 1 0 1 4095) ⇒ no 9
     -- in a handshake, 11 after every other number (attach's 3, spawn's and detach's 5 stand among the refusals)
     ∷ call (c-attach 2) ⇒ ok
     ∷ call (c-attach 3) ⇒ ok

@@ -10,7 +10,7 @@ sides =
     ∷ call (c-detach 32) ⇒ no 2
     ∷ call (c-leave 32) ⇒ no 2
     ∷ call (c-enter 32) ⇒ no 2
-    ∷ call (c-make 32 16 1 1023) ⇒ no 2
+    ∷ call (c-make 32 16 1 4095) ⇒ no 2
     ∷ call (c-load 32 16 16 0) ⇒ no 2
     ∷ call (c-store 32 16 0 16) ⇒ no 2
     ∷ call (c-copy 32 16 16) ⇒ no 2
@@ -43,7 +43,7 @@ sides =
     -- 5 before 6, 7 and 9: every call by an outside mutator but enter
     ∷ call (c-leave 0) ⇒ ok
     ∷ call (c-check 0) ⇒ no 5
-    ∷ call (c-make 0 16 1 1023) ⇒ no 5
+    ∷ call (c-make 0 16 1 4095) ⇒ no 5
     ∷ call (c-load 0 16 16 0) ⇒ no 5
     ∷ call (c-store 0 16 0 16) ⇒ no 5
     ∷ call (c-copy 0 16 16) ⇒ no 5

@@ -59,6 +59,8 @@ pub enum Length {
     Of(u32),
     Longer(u32),
     Shorter(u32),
+    /// The length that the memory had before request No. 2.
+    Former,
 }
 
 #[derive(Clone, Copy, PartialEq, Eq, Debug)]

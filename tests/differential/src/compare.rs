@@ -72,6 +72,9 @@ impl List<'_> {
             let (first, second) = (&first[4 * at..4 * at + 4], &second[4 * at..4 * at + 4]);
             return Err(format!("state of segment {at}: verified {first:?}, independent {second:?}"));
         }
+        if let Some(at) = first.chunks_exact(4).position(layout::shared_of_one_block) {
+            return Err(format!("segment {at} has one block and is part or held"));
+        }
         self.nothing.looked(&self.states, first)?;
         self.states.copy_from_slice(first);
         Ok(())

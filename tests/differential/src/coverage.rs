@@ -1,6 +1,7 @@
 //! Counters: calls by kind and answer, and the situations that a campaign must have met.
 
 use crate::calls::*;
+use crate::layout;
 
 macro_rules! situations {
     ($($name:ident),* $(,)?) => {
@@ -31,6 +32,9 @@ situations! {
     MakeFromPart,
     MakeFromFree,
     MakeFills,
+    MakeClass13,
+    MakeClass14,
+    MakeFullAtOnce,
     AttachIdle,
     AttachMark,
     AttachSweep,
@@ -41,6 +45,7 @@ situations! {
     DetachMark,
     DetachSweep,
     DetachGivesBack,
+    DetachGivesBackEleven,
     CheckOwingSync1,
     CheckOwingSync2,
     LeaveOwingSync1,
@@ -87,8 +92,10 @@ pub struct Coverage {
     pub compared_stacks: u64,
     pub longest_stack: usize,
     /// By class from 3 on: segments swept that became free, part and full.
-    pub by_class: [[u64; 3]; 10],
+    pub by_class: [[u64; 3]; layout::CLASSES],
     pub by_kind: [[u64; 14]; KINDS],
+    /// By kind: calls with the length that the memory had before request No. 2.
+    pub former: [u64; KINDS],
     pub steps: [u64; 6],
     pub situations: Vec<u64>,
 }
@@ -107,8 +114,9 @@ impl Coverage {
             compared_states: 0,
             compared_stacks: 0,
             longest_stack: 0,
-            by_class: [[0; 3]; 10],
+            by_class: [[0; 3]; layout::CLASSES],
             by_kind: [[0; 14]; KINDS],
+            former: [0; KINDS],
             steps: [0; 6],
             situations: vec![0; SITUATIONS.len()],
         }
@@ -148,10 +156,13 @@ impl Coverage {
             if self.by_kind[kind as usize][0] == 0 {
                 missing.push(format!("{kind:?} not refused"));
             }
+            if self.former[kind as usize] == 0 {
+                missing.push(format!("{kind:?} with the former layout's length"));
+            }
         }
-        for (class, [free, part, full]) in (3..).zip(self.by_class) {
-            // That all of more than 256 blocks are reached is rare.
-            if free == 0 || part == 0 || class > 5 && full == 0 {
+        for (class, [free, part, full]) in (layout::LOWEST..).zip(self.by_class) {
+            // That all of more than 256 blocks are reached is rare; a segment of one block is never part.
+            if free == 0 || part == 0 && layout::blocks(class) > 1 || class > 5 && full == 0 {
                 missing.push(format!("a segment of class {class} swept to free, to part and to full"));
             }
         }
@@ -202,7 +213,7 @@ impl Coverage {
     pub fn print_lists(&self) {
         self.print_cycles();
         println!("  {} trace stacks compared, the longest of {} entries", self.compared_stacks, self.longest_stack);
-        let classes: Vec<String> = (3..).zip(self.by_class).map(|(class, [free, part, full])| format!("{class}: {free}/{part}/{full}")).collect();
+        let classes: Vec<String> = (layout::LOWEST..).zip(self.by_class).map(|(class, [free, part, full])| format!("{class}: {free}/{part}/{full}")).collect();
         println!("  swept to free/part/full by class: {}", classes.join(", "));
         let met: Vec<String> = SITUATIONS.iter().map(|&situation| format!("{situation:?} {}", self.situations[situation as usize])).collect();
         for line in met.chunks(5) {

@@ -8,7 +8,7 @@ pub fn tear(rng: &mut Rng, memory: &mut [u32], base: &[u32], segments: u32) {
     match rng.below(16) {
         0 => memory.fill_with(|| rng.word()),
         1 => {
-            let bound = rng.pick(&[2, 5, 14, 64, 4096]);
+            let bound = rng.pick(&[2, 5, layout::HIGHEST + 2, 64, 4096]);
             memory.fill_with(|| rng.below(bound));
         }
         2 => memory.fill(rng.pick(&[0, 1, u32::MAX, 0x0001_0001])),
@@ -31,17 +31,18 @@ pub fn tear(rng: &mut Rng, memory: &mut [u32], base: &[u32], segments: u32) {
 pub fn tweak(rng: &mut Rng, memory: &mut [u32], base: &[u32], segments: u32) {
     memory.copy_from_slice(base);
     for _ in 0..rng.pick(&[1, 1, 2, 4]) {
-        match rng.below(8) {
+        match rng.below(9) {
             0 => damage(rng, memory, segments),
             1 => acknowledge(rng, memory),
             2 => exchange(rng, memory, 1, layout::regions(segments)[7]),
             3 => {
-                let stack = layout::regions(segments)[4] + rng.below(11) as usize * (1 + segments as usize);
+                let stack = layout::regions(segments)[4] + rng.below(layout::STACKS as u32) as usize * (1 + segments as usize);
                 exchange(rng, memory, stack, stack + 1);
             }
             4 => set_bits(rng, memory, layout::regions(segments)[6], segments),
             5 => memory[layout::CURSOR] = rng.below(segments + 2),
             6 => segment_word(rng, memory, segments),
+            7 => hollow(rng, memory, segments),
             _ => bitmap_bit(rng, memory, segments),
         }
     }
@@ -77,6 +78,47 @@ fn segment_word(rng: &mut Rng, memory: &mut [u32], segments: u32) {
         0 => memory[at] = rng.below(5),
         _ => memory[at + 2] = memory[at + 2].wrapping_sub(rng.below(9)).wrapping_add(4),
     }
+}
+
+/// A free segment becomes one of the class of one block, part or held, with no block in use: no call leaves that, and the examination says
+/// no to it.
+fn hollow(rng: &mut Rng, memory: &mut [u32], segments: u32) {
+    let starts = layout::regions(segments);
+    let (free, count) = (starts[4], memory[starts[4]] as usize);
+    if count == 0 || count > segments as usize || memory[free + count] >= segments {
+        return;
+    }
+    let segment = memory[free + count];
+    memory[free] -= 1;
+    memory[starts[5] + 67 * segment as usize] = u32::MAX << layout::blocks(layout::HIGHEST);
+    let inside: Vec<u32> = (0..32).filter(|&m| layout::side(memory, m) == 1).collect();
+    let state = if !inside.is_empty() && rng.chance(512) {
+        let m = rng.pick(&inside);
+        memory[layout::held_at(m, layout::HIGHEST)] = 1 + segment;
+        [2, layout::HIGHEST, 0, m]
+    } else {
+        let stack = free + (layout::STACKS - 1) * (1 + segments as usize);
+        let top = 1 + memory[stack].min(segments - 1);
+        memory[stack] = top;
+        memory[stack + top as usize] = segment;
+        [1, layout::HIGHEST, 0, 0]
+    };
+    let record = starts[3] + 4 * segment as usize;
+    memory[record..record + 4].copy_from_slice(&state);
+}
+
+/// Class words: of no class, of the last ones, past them, and at the bounds of shifts and of the 32 bits.
+pub const CLASS_WORDS: [u32; 16] = [0, 1, 2, 3, 12, 13, 14, 15, 16, 31, 32, 33, 0x7fff_ffff, 0x8000_0000, 0xffff_fffe, 0xffff_ffff];
+
+/// The class word of a segment, or of every one, becomes one of those: which, and where it stands.
+pub fn tear_class(rng: &mut Rng, memory: &mut [u32], segments: u32) -> (usize, usize) {
+    let which = rng.below(CLASS_WORDS.len() as u32) as usize;
+    let (one, all) = (rng.below(segments), rng.chance(512));
+    let at = |segment: u32| layout::regions(segments)[3] + 4 * segment as usize + 1;
+    for segment in (0..segments).filter(|&segment| all || segment == one) {
+        memory[at(segment)] = CLASS_WORDS[which];
+    }
+    (which, at(one))
 }
 
 /// A block's bit at level 0 of a bitmap.
@@ -138,7 +180,7 @@ fn run(rng: &mut Rng, memory: &[u32], at: usize) -> usize {
 
 /// Numbers at the bounds of phases, classes, states, mutators, roots, fields, blocks, words and the 32 bits.
 const BOUNDS: [u32; 26] = [
-    0, 1, 2, 3, 4, 5, 11, 12, 13, 15, 16, 31, 32, 33, 1023, 1024, 2047, 2048, 2049, 4095, 4096, 4097, 0x7fff_ffff, 0x8000_0000, 0xffff_fffe,
+    0, 1, 2, 3, 4, 5, 12, 13, 14, 15, 16, 31, 32, 33, 1023, 1024, 2047, 2048, 2049, 4095, 4096, 4097, 0x7fff_ffff, 0x8000_0000, 0xffff_fffe,
     0xffff_ffff,
 ];
 
@@ -149,8 +191,11 @@ fn value(rng: &mut Rng, memory: &[u32], segments: u32) -> u32 {
     match rng.below(6) {
         0 => rng.pick(&bounds),
         1 => rng.pick(&BOUNDS),
-        2 => 1 + (rng.below(heap) & !((1 << rng.below(11)) - 1)),
-        3 => rng.below(1100) << 16 | rng.below(1100),
+        2 => 1 + (rng.below(heap) & !((1 << rng.below(layout::HIGHEST - 1)) - 1)),
+        3 => {
+            let bound = rng.pick(&[1100, 4200]);
+            rng.below(bound) << 16 | rng.below(bound)
+        }
         4 => memory[rng.below(memory.len() as u32) as usize],
         _ => rng.word(),
     }

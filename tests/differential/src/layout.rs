@@ -7,6 +7,13 @@ pub const MUTATORS: usize = 16;
 pub const HEAP: usize = 1040;
 pub const SEGMENT_WORDS: usize = 4096;
 
+/// The classes.
+pub const LOWEST: u32 = 3;
+pub const HIGHEST: u32 = 14;
+pub const CLASSES: usize = (HIGHEST - LOWEST) as usize + 1;
+/// The stacks: the free one, then a part stack for each class.
+pub const STACKS: usize = 1 + CLASSES;
+
 /// The number of blocks in a segment of the class.
 pub fn blocks(class: u32) -> u32 {
     16384 >> class
@@ -14,13 +21,13 @@ pub fn blocks(class: u32) -> u32 {
 
 /// The smallest class whose block holds a header and `fields` words.
 pub fn class_of(fields: u32) -> u32 {
-    (3..12).find(|class| fields < (1 << class) / 4).unwrap_or(12)
+    (LOWEST..HIGHEST).find(|class| fields < (1 << class) / 4).unwrap_or(HIGHEST)
 }
 
 /// The regions in order: where each begins for n segments, and behind the last one the end.
 pub fn regions(segments: u32) -> [usize; 9] {
     let n = segments as usize;
-    [0, MUTATORS, HEAP, 1040 + 4096 * n, 1040 + 4100 * n, 1051 + 4111 * n, 1051 + 4178 * n, 1051 + 4242 * n, 1051 + 6290 * n]
+    [0, MUTATORS, HEAP, 1040 + 4096 * n, 1040 + 4100 * n, 1053 + 4113 * n, 1053 + 4180 * n, 1053 + 4244 * n, 1053 + 6292 * n]
 }
 
 pub fn acknowledgements(memory: &[u32], mutator: u32) -> u32 {
@@ -31,9 +38,14 @@ pub fn root(memory: &[u32], mutator: u32, root: u32) -> u32 {
     memory[MUTATORS + 32 * mutator as usize + root as usize]
 }
 
+/// The word of a mutator's entry for the segment that it holds of the class.
+pub fn held_at(mutator: u32, class: u32) -> usize {
+    MUTATORS + 32 * mutator as usize + 15 + class as usize
+}
+
 /// 0, or 1 + the segment that the mutator holds of the class.
 pub fn held(memory: &[u32], mutator: u32, class: u32) -> u32 {
-    memory[MUTATORS + 32 * mutator as usize + 15 + class as usize]
+    memory[held_at(mutator, class)]
 }
 
 pub fn phase(memory: &[u32]) -> u32 {
@@ -66,6 +78,11 @@ pub fn trace_entry(memory: &[u32], segments: u32, number: usize) -> u32 {
 pub fn segment(memory: &[u32], segments: u32, number: u32) -> [u32; 4] {
     let at = regions(segments)[3] + 4 * number as usize;
     [memory[at], memory[at + 1], memory[at + 2], memory[at + 3]]
+}
+
+/// Whether a segment of one block is part or held: it is full from its first block.
+pub fn shared_of_one_block(state: &[u32]) -> bool {
+    matches!(state[0], 1 | 2) && blocks(state[1]) == 1
 }
 
 /// Whether the block's bit at level 0 of its segment's bitmap is 1.

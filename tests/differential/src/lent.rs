@@ -83,6 +83,7 @@ impl Lent {
             Length::Of(count) => right(self.interface, count),
             Length::Longer(by) => whole + by as usize,
             Length::Shorter(by) => whole.saturating_sub(by as usize),
+            Length::Former => 6290 * self.segments as usize + 1051,
         };
         named.min(present + self.guard)
     }

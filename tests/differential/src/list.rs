@@ -179,7 +179,7 @@ impl<'a> List<'a> {
 
     fn play_one(&mut self, call: &Call) -> Result<(), String> {
         let expected = call.kind.is_mutators().then(|| self.heap.answer(call));
-        if call.kind == Start || (call.kind == Step && self.phase == SWEEP) {
+        if matches!(call.kind, Start | Detach) || (call.kind == Step && self.phase == SWEEP) {
             self.compare_states()?;
         }
         let watched = self.watch(call, expected);
@@ -217,6 +217,7 @@ impl<'a> List<'a> {
         if answer != u64::from(SIZE) {
             return Err(format!("{call}: {}, not refused 1", answer_words(call.kind, answer)));
         }
+        self.coverage.former[call.kind as usize] += u64::from(call.length == Length::Former);
         if watched {
             self.unchanged(call)?;
         }
@@ -275,7 +276,7 @@ impl<'a> List<'a> {
     fn performed(&mut self, call: &Call, answer: u64) -> Result<(), String> {
         match call.kind {
             Make => self.made(call),
-            Detach => self.compare_states(),
+            Detach => self.detached(call.args[0]),
             States => self.same_states(),
             Start => self.started(),
             Step => self.stepped(answer),
@@ -298,6 +299,27 @@ impl<'a> List<'a> {
         self.compare_states()
     }
 
+    /// What the mutator held, at most eleven segments, is part with its class and place; every other segment is as it was.
+    fn detached(&mut self, m: u32) -> Result<(), String> {
+        let before = self.states.clone();
+        self.compare_states()?;
+        let mut given = 0;
+        for (segment, (was, is)) in before.chunks_exact(4).zip(self.states.chunks_exact(4)).enumerate() {
+            let held = was[0] == 2 && was[3] == m;
+            let due = if held { [1, was[1], was[2], 0] } else { [was[0], was[1], was[2], was[3]] };
+            if is != due {
+                return Err(format!("detach({m}): segment {segment} was {was:?} and is {is:?}"));
+            }
+            given += u32::from(held);
+        }
+        match given {
+            12.. => return Err(format!("detach({m}) handed back {given} segments")),
+            11 => self.coverage.met(Situation::DetachGivesBackEleven),
+            _ => {}
+        }
+        Ok(())
+    }
+
     fn made(&mut self, call: &Call) -> Result<(), String> {
         let [m, to, pointers, values] = call.args;
         let class = layout::class_of(pointers + values);
@@ -306,6 +328,12 @@ impl<'a> List<'a> {
         let segment = self.blocks.put(memory, class, root, self.heap.records.len() as u32)?;
         let state = layout::segment(memory, self.n, segment);
         let at = 4 * segment as usize;
+        if layout::blocks(class) == 1 {
+            if state[0] != 3 {
+                return Err(format!("{call}: segment {segment} has one block and is {state:?}"));
+            }
+            self.coverage.met(Situation::MakeFullAtOnce);
+        }
         if state[0] == 3 && self.nothing.runs() {
             self.coverage.met(Situation::FilledOverNothing);
         }
@@ -357,7 +385,7 @@ impl<'a> List<'a> {
         }
         self.compare_states()?;
         let became = [0, 1, 2, 2, 2][self.states[at] as usize];
-        self.coverage.by_class[before[1] as usize - 3][became] += 1;
+        self.coverage.by_class[(before[1] - layout::LOWEST) as usize][became] += 1;
         self.coverage.met(match self.states[at] {
             0 => Situation::SweptToFree,
             1 => Situation::SweptToPart,

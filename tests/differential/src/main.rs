@@ -51,6 +51,8 @@ fn summary(campaign: &Campaign, seconds: f64) {
         "  {} cases; the examination said yes {} times and no {} times; {} calls on memory that passed it; {} refused calls that changed no word",
         torn.cases, torn.said_yes, torn.said_no, torn.consistent_calls, torn.refused_unchanged
     );
+    let fewest = torn.class_words.iter().flatten().min().unwrap_or(&0);
+    println!("  {} class words in torn records, each met by every kind of call, at least {fewest} times", torn.class_words.len());
     campaign.adopted.print("lists gone on from changed memory that passes the examination");
     campaign.adopted.print_cycles();
     let calls = campaign.calls();
@@ -67,6 +69,14 @@ fn missing(campaign: &Campaign) -> Vec<String> {
         if campaign.torn.by_kind[kind as usize][13] == 0 {
             missing.push(format!("{kind:?} refused 13 on torn memory"));
         }
+    }
+    for (word, counts) in damage::CLASS_WORDS.iter().zip(campaign.counts.class_words) {
+        for kind in ALL_KINDS.into_iter().filter(|&kind| counts[kind as usize] == 0) {
+            missing.push(format!("{kind:?} over torn memory with the class word {word}"));
+        }
+    }
+    for kind in ALL_KINDS.into_iter().filter(|&kind| campaign.torn.former[kind as usize] == 0) {
+        missing.push(format!("{kind:?} over torn memory with the former layout's length"));
     }
     for (name, _) in STEP_KINDS.iter().zip(campaign.adopted.steps).filter(|(_, count)| *count == 0) {
         missing.push(format!("Step answered {name} on changed memory"));

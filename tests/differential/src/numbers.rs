@@ -1,29 +1,48 @@
 //! The numbers of a call: mostly such that the call is not refused, by chance at a bound or past it.
 
 use crate::choose::Chooser;
-use crate::unbounded::UnboundedHeap;
+use crate::layout;
+use crate::unbounded::{UnboundedHeap, MOST_FIELDS};
 
 const FAR: [u32; 7] = [16, 17, 31, 32, 33, 0x8000_0000, u32::MAX];
-/// Counts of pointers and values at the bound of 1,023, beyond it, and with sums that wrap.
-const SIZES: [(u32, u32); 18] = [
-    (1022, 0),
-    (0, 1022),
+/// Counts of pointers and values where the last classes begin, at the bound of 4,095, past it and far past it, and with sums that wrap.
+const SIZES: [(u32, u32); 36] = [
     (1023, 0),
     (0, 1023),
     (511, 512),
-    (512, 511),
     (1024, 0),
     (0, 1024),
     (512, 512),
     (1, 1023),
-    (1023, 1),
-    (1025, 0),
-    (u32::MAX, 1),
-    (1, u32::MAX),
-    (0x8000_0000, 0x8000_0000),
-    (u32::MAX, u32::MAX),
+    (2047, 0),
+    (0, 2047),
+    (1024, 1023),
+    (2048, 0),
+    (0, 2048),
+    (1024, 1024),
+    (2047, 1),
+    (4094, 0),
+    (0, 4094),
+    (4095, 0),
+    (0, 4095),
+    (2047, 2048),
+    (2048, 2047),
+    (4096, 0),
+    (0, 4096),
+    (2048, 2048),
+    (1, 4095),
+    (4095, 1),
+    (4097, 0),
+    (8191, 0),
     (65536, 0),
     (0, 65536),
+    (u32::MAX, 1),
+    (1, u32::MAX),
+    (u32::MAX, 1024),
+    (4096, u32::MAX),
+    (0x8000_0000, 0x8000_0000),
+    (0xffff_f001, 0x1000),
+    (u32::MAX, u32::MAX),
 ];
 
 impl Chooser {
@@ -78,7 +97,7 @@ impl Chooser {
             root = self.rng.bit(heap.filled(mutator)).unwrap_or(root);
         }
         if count == 0 || self.bad() {
-            let far = [count, count.wrapping_sub(1), count + 1, 0, 1023, 65536, u32::MAX];
+            let far = [count, count.wrapping_sub(1), count + 1, 0, 1023, 1024, MOST_FIELDS, 65536, u32::MAX];
             return (root, self.rng.pick(&far));
         }
         let field = match self.rng.below(8) {
@@ -94,11 +113,11 @@ impl Chooser {
             return self.rng.pick(&SIZES);
         }
         let class = match self.rng.below(40) {
-            0 => self.rng.between(3, 12),
+            0 => self.rng.between(layout::LOWEST, layout::HIGHEST),
             _ => self.rng.pick(&self.plan.palette),
         };
         let most = (1 << class) / 4 - 1;
-        let least = if class == 3 { 0 } else { (1 << class) / 8 };
+        let least = if class == layout::LOWEST { 0 } else { (1 << class) / 8 };
         let fields = match self.rng.below(4) {
             0 => most,
             1 => least,

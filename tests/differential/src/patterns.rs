@@ -1,12 +1,18 @@
-//! Patterns of several calls: chains that grow and are walked, rows of blocks, and a record moved behind the collector's back.
+//! Patterns of several calls: chains that grow and are walked, rows of blocks, a record moved behind the collector's back, and a mutator that
+//! holds a segment of each class.
 
 use crate::calls::*;
 use crate::choose::Chooser;
-use crate::unbounded::UnboundedHeap;
+use crate::layout;
+use crate::unbounded::{UnboundedHeap, MOST_FIELDS};
 
 impl Chooser {
     /// The first call of a pattern; the others are queued.
     pub fn pattern(&mut self, heap: &UnboundedHeap) -> Option<Call> {
+        if self.plan.segments as usize >= layout::CLASSES && self.rng.chance(40) {
+            self.each_class(heap);
+            return self.queue.pop_front();
+        }
         let m = self.rng.bit(heap.inside)?;
         match self.rng.below(8) {
             4..=7 if self.plan.profile.rows => self.row(m),
@@ -20,7 +26,7 @@ impl Chooser {
     /// A new record whose last pointer is the head of a chain becomes the chain's head.
     fn push(&mut self, m: u32) {
         let (pointers, values) = self.shape();
-        if pointers == 0 || pointers + values > 1023 {
+        if pointers == 0 || pointers + values > MOST_FIELDS {
             return;
         }
         let (new, head) = (self.rng.below(8), 8 + self.rng.below(8));
@@ -47,6 +53,26 @@ impl Chooser {
         for _ in 0..dead {
             self.queue.push_back(Call::new(Make, self.plan.segments, [m, new, pointers, 0]));
         }
+    }
+
+    /// A mutator that comes in, a record of each class by it, in any order, and mostly its detach: it hands back a segment of each class in
+    /// which a block is left.
+    fn each_class(&mut self, heap: &UnboundedHeap) {
+        let Some(m) = self.rng.bit(!(heap.inside | heap.outside)) else { return };
+        let mut classes: Vec<u32> = (layout::LOWEST..=layout::HIGHEST).collect();
+        for place in 1..classes.len() {
+            classes.swap(place, self.rng.below(place as u32 + 1) as usize);
+        }
+        let mut calls = vec![(Attach, [m, 0, 0, 0])];
+        calls.extend(classes.into_iter().map(|class| {
+            let fields = (1 << class) / 4 - 1;
+            let pointers = self.rng.between(0, fields);
+            (Make, [m, class, pointers, fields - pointers])
+        }));
+        if self.rng.chance(900) {
+            calls.push((Detach, [m, 0, 0, 0]));
+        }
+        self.queue.extend(calls.into_iter().map(|(kind, args)| Call::new(kind, self.plan.segments, args)));
     }
 
     /// Some steps along a chain.

@@ -1,6 +1,7 @@
 //! Kinds of lists: how often each call comes, how large the records are, how many mutators there are, how fast the collector goes.
 
 use crate::calls::*;
+use crate::layout::HIGHEST;
 use crate::rng::Rng;
 
 /// What a list is made to meet.
@@ -35,7 +36,7 @@ pub const PROFILES: [Profile; 11] = [
     Profile {
         name: "mixed sizes",
         weights: [70, 30, 40, 20, 20, 15, 15, 6, 8, 4, 2, 4, 2, 2, 2, 0, 0],
-        classes: (3, 12),
+        classes: (3, HIGHEST),
         mutators: 6,
         bad: 16,
         patterns: 60,
@@ -44,7 +45,7 @@ pub const PROFILES: [Profile; 11] = [
     Profile {
         name: "big records",
         weights: [60, 30, 60, 30, 30, 12, 12, 5, 5, 4, 2, 4, 1, 1, 1, 0, 0],
-        classes: (9, 12),
+        classes: (9, HIGHEST),
         mutators: 5,
         bad: 16,
         patterns: 60,
@@ -71,7 +72,7 @@ pub const PROFILES: [Profile; 11] = [
     Profile {
         name: "inside and outside",
         weights: [50, 20, 40, 4, 4, 10, 8, 4, 2, 20, 45, 55, 2, 2, 2, 0, 0],
-        classes: (6, 12),
+        classes: (6, HIGHEST),
         mutators: 12,
         bad: 16,
         patterns: 40,
@@ -80,7 +81,7 @@ pub const PROFILES: [Profile; 11] = [
     Profile {
         name: "coming and going",
         weights: [60, 20, 30, 4, 4, 10, 5, 5, 3, 8, 3, 5, 20, 30, 50, 0, 0],
-        classes: (5, 12),
+        classes: (5, HIGHEST),
         mutators: 32,
         bad: 24,
         patterns: 40,
@@ -89,7 +90,7 @@ pub const PROFILES: [Profile; 11] = [
     Profile {
         name: "no room",
         weights: [110, 10, 50, 4, 4, 16, 2, 3, 3, 4, 2, 4, 1, 1, 1, 0, 0],
-        classes: (6, 12),
+        classes: (6, HIGHEST),
         mutators: 8,
         bad: 12,
         patterns: 240,
@@ -98,7 +99,7 @@ pub const PROFILES: [Profile; 11] = [
     Profile {
         name: "bounds",
         weights: [40, 20, 20, 20, 20, 15, 10, 15, 15, 8, 6, 10, 8, 10, 6, 6, 12],
-        classes: (3, 12),
+        classes: (3, HIGHEST),
         mutators: 8,
         bad: 300,
         patterns: 10,
@@ -107,7 +108,7 @@ pub const PROFILES: [Profile; 11] = [
     Profile {
         name: "values",
         weights: [30, 20, 20, 70, 70, 10, 8, 8, 12, 4, 2, 3, 1, 1, 1, 0, 0],
-        classes: (4, 12),
+        classes: (4, HIGHEST),
         mutators: 3,
         bad: 24,
         patterns: 20,
@@ -185,7 +186,7 @@ fn palette(rng: &mut Rng, profile: &Profile, segments: u32) -> Vec<u32> {
     let low = match segments {
         0..=8 => low,
         9..=40 => low.max(6).min(high),
-        _ => low.max(8).max(high.saturating_sub(3)).min(12),
+        _ => low.max(8).max(high.saturating_sub(5)).min(HIGHEST),
     };
     if profile.rows && segments <= 8 && rng.chance(600) {
         return vec![rng.between(3, 5)];

@@ -3,7 +3,7 @@
 use crate::calls::*;
 use crate::coverage::{Coverage, Situation, Situation::*};
 use crate::layout;
-use crate::unbounded::UnboundedHeap;
+use crate::unbounded::{UnboundedHeap, MOST_FIELDS};
 
 #[derive(Clone, Copy)]
 pub struct Facts {
@@ -30,9 +30,9 @@ fn holds(memory: &[u32], call: &Call) -> bool {
     match call.kind {
         Make => {
             let fields = call.args[2].saturating_add(call.args[3]);
-            fields <= 1023 && layout::held(memory, mutator, layout::class_of(fields)) != 0
+            fields <= MOST_FIELDS && layout::held(memory, mutator, layout::class_of(fields)) != 0
         }
-        _ => (3..=12).any(|class| layout::held(memory, mutator, class) != 0),
+        _ => (layout::LOWEST..=layout::HIGHEST).any(|class| layout::held(memory, mutator, class) != 0),
     }
 }
 
@@ -141,6 +141,8 @@ impl Facts {
             false => MakeFromPart,
         });
         let class = layout::class_of(call.args[2] + call.args[3]);
+        self.met_if(class == 13, MakeClass13, coverage);
+        self.met_if(class == 14, MakeClass14, coverage);
         self.met_if(layout::held(memory, call.args[0], class) == 0, MakeFills, coverage);
     }
 

@@ -15,6 +15,7 @@ impl Chooser {
         match self.rng.below(4) {
             0 => call.segments = self.other_count(),
             1 if call.has_extra() => call.extra = self.wrong_length(),
+            2 if self.rng.chance(512) => call.length = Length::Former,
             2 => {
                 call.segments = self.other_count();
                 call.length = self.wrong_length();

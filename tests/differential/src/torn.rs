@@ -17,6 +17,8 @@ pub struct TornCounts {
     pub said_no: u64,
     pub consistent_calls: u64,
     pub refused_unchanged: u64,
+    /// By class word and kind: calls while a segment's record had that class word.
+    pub class_words: [[u64; KINDS]; damage::CLASS_WORDS.len()],
 }
 
 pub struct Torn<'a> {
@@ -32,6 +34,8 @@ pub struct Torn<'a> {
     /// The last examination said yes, and every call since keeps that.
     consistent: bool,
     longer: bool,
+    /// The class word that was put into a segment's record, by number, and where.
+    class_word: Option<(usize, usize)>,
     recent: Recent,
 }
 
@@ -39,7 +43,20 @@ impl<'a> Torn<'a> {
     pub fn new(n: u32, lent: &'a mut Lent, coverage: &'a mut Coverage, counts: &'a mut TornCounts, rng: Rng, longer: bool) -> Torn<'a> {
         let scratch = vec![0; lent.scratch.len()];
         lent.scratch.words_mut().fill(0);
-        Torn { n, lent, coverage, counts, rng, memory: Vec::new(), output: Vec::new(), scratch, consistent: false, longer, recent: Recent::new() }
+        Torn {
+            n,
+            lent,
+            coverage,
+            counts,
+            rng,
+            memory: Vec::new(),
+            output: Vec::new(),
+            scratch,
+            consistent: false,
+            longer,
+            class_word: None,
+            recent: Recent::new(),
+        }
     }
 
     /// One case: the memory is torn, then `calls` calls are played.
@@ -47,6 +64,7 @@ impl<'a> Torn<'a> {
         self.counts.cases += 1;
         self.coverage.lists += 1;
         damage::tear(&mut self.rng, self.lent.memory.words_mut(), base, self.n);
+        self.class_word = self.rng.chance(256).then(|| damage::tear_class(&mut self.rng, self.lent.memory.words_mut(), self.n));
         self.lent.output.words_mut().fill_with(|| self.rng.word());
         self.remember();
         self.play_calls(calls).map_err(|fault| format!("{fault}\nthe last calls:\n{}", self.recent))
@@ -90,6 +108,11 @@ impl<'a> Torn<'a> {
         let answer = self.lent.play(call);
         self.recent.push(call, answer);
         self.coverage.count(call.kind, answer);
+        if let Some((which, at)) = self.class_word.filter(|_| !call.wrong_size(self.n)) {
+            let stands = self.memory[at] == damage::CLASS_WORDS[which];
+            self.counts.class_words[which][call.kind as usize] += u64::from(stands);
+        }
+        self.coverage.former[call.kind as usize] += u64::from(call.length == Length::Former);
         let fault = |what: &str| Err(format!("{call}: {}: {what}", answer_words(call.kind, answer)));
         if !plausible(call, self.n, answer) {
             return fault("an answer that the call may not give");
@@ -120,7 +143,9 @@ impl<'a> Torn<'a> {
         }
         self.counts.refused_unchanged += u64::from(no_word && refused != 0);
         let shows = call.kind == States && refused == 0;
-        let state = |words: &[u32]| words[0] == 0 || words[0] <= 4 && (3..=12).contains(&words[1]);
+        let known = layout::LOWEST..=layout::HIGHEST;
+        let shared = |words: &[u32]| self.consistent && layout::shared_of_one_block(words);
+        let state = |words: &[u32]| words[0] == 0 || words[0] <= 4 && known.contains(&words[1]) && !shared(words);
         if shows && !self.lent.output.words().chunks_exact(4).all(state) {
             return false;
         }
@@ -227,8 +252,8 @@ impl<'a> Torn<'a> {
 
     fn size(&mut self) -> u32 {
         match self.rng.below(8) {
-            0 => self.rng.below(1025),
-            1 => self.rng.pick(&[511, 512, 1022, 1023, 1024, 65535, 65536, u32::MAX]),
+            0 => self.rng.below(4097),
+            1 => self.rng.pick(&[511, 512, 1023, 1024, 2047, 2048, 4094, 4095, 4096, 65535, 65536, u32::MAX]),
             2 => self.rng.below(64),
             _ => self.rng.below(6),
         }
@@ -242,9 +267,10 @@ impl<'a> Torn<'a> {
             2 if self.longer => Length::Longer(self.rng.between(1, 16)),
             _ => Length::Shorter(self.rng.between(1, 40)),
         };
-        match self.rng.below(3) {
+        match self.rng.below(4) {
             0 => call.segments = self.rng.pick(&[0, n + 1, 257, u32::MAX, n | 0x100]),
             1 if call.has_extra() => call.extra = length,
+            2 => call.length = Length::Former,
             _ => call.length = length,
         }
     }

@@ -9,6 +9,9 @@ pub enum Side {
     Outside,
 }
 
+/// The most pointers and values of a record together.
+pub const MOST_FIELDS: u32 = 4095;
+
 /// A reference: 0 for nil, or 1 + a position in the list of records.
 pub type Reference = u32;
 
@@ -93,7 +96,7 @@ impl UnboundedHeap {
             Clear => self.rooted(m, &[x]),
             Copy | Same => self.rooted(m, &[x, y]),
             Make => match self.rooted(m, &[x]) {
-                0 if u64::from(y) + u64::from(z) > 1023 => 9,
+                0 if u64::from(y) + u64::from(z) > u64::from(MOST_FIELDS) => 9,
                 number => number,
             },
             Shape => self.recorded(m, &[x], x, None),

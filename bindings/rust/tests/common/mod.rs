@@ -35,13 +35,34 @@ pub mod at {
     pub const TRACE_COUNT: usize = 1;
     /// Root 0 of mutator 0.
     pub const ROOT: usize = 16;
-    /// The segment of class 12 that mutator 0 holds.
-    pub const HELD: usize = 16 + 18 + 9;
+    /// The segments that mutator 0 holds, by class from 3 on.
+    pub const HOLDS: usize = 16 + 18;
+    /// That of class 12.
+    pub const HELD: usize = HOLDS + 9;
     /// The tag, and the mutator, of segment 0's record.
     pub const TAG: usize = 1040 + 4096;
     pub const HOLDER: usize = TAG + 3;
     /// The count of the free stack.
     pub const FREE_COUNT: usize = 1040 + 4100;
+    /// The part stacks, each a count and an entry, by class from 3 on.
+    pub const PARTS: usize = FREE_COUNT + 2;
+}
+
+/// The words of `full` with segment 0 in any state, and a class that is another's or none. Mutator 0 holds it for every class, or it is on
+/// every part stack, so that each call meets it.
+pub fn torn_classes() -> impl Iterator<Item = Vec<u32>> {
+    let classes = [13, 14, 15, 16, u32::MAX].into_iter();
+    let cases = classes.flat_map(|class| (0..50).map(move |n| (class, n % 5, n / 5 % 5, n / 25)));
+    cases.map(|(class, tag, phase, held)| {
+        let mut words = full();
+        words[at::PHASE] = phase;
+        words[at::TAG..at::TAG + 3].copy_from_slice(&[tag, class, 0]);
+        words[at::HOLDS..at::HOLDS + 12].fill(held);
+        for stack in words[at::PARTS..at::PARTS + 2 * 12].chunks_exact_mut(2) {
+            stack.copy_from_slice(&[1 - held, 0]);
+        }
+        words
+    })
 }
 
 /// A reference one past the last word of the heap.

@@ -26,7 +26,7 @@ table : List SegmentShape
 unfolding shape
 table =
     shape 2048 3 64 2 1 ∷ shape 1024 2 32 1 0 ∷ shape 512 2 16 1 0 ∷ shape 256 2 8 1 0 ∷ shape 128 2 4 1 0 ∷ shape 64 2 2 1 0
-    ∷ shape 32 1 1 0 0 ∷ shape 16 1 1 0 0 ∷ shape 8 1 1 0 0 ∷ shape 4 1 1 0 0 ∷ []
+    ∷ shape 32 1 1 0 0 ∷ shape 16 1 1 0 0 ∷ shape 8 1 1 0 0 ∷ shape 4 1 1 0 0 ∷ shape 2 1 1 0 0 ∷ shape 1 1 1 0 0 ∷ []
 
 past : SegmentShape
 unfolding shape
@@ -87,6 +87,8 @@ segment-shape-spec =
     (λ c. search needs)
     (λ c. search needs)
     (λ c. search needs)
+    (λ c. search needs)
+    (λ c. search needs)
     (λ c. entry 0 (c .before .match .keys1) tt)
     (λ c. entry 1 (c .before .match .keys2) tt)
     (λ c. entry 2 (c .before .match .keys3) tt)
@@ -97,4 +99,6 @@ segment-shape-spec =
     (λ c. entry 7 (c .before .match .keys8) tt)
     (λ c. entry 8 (c .before .match .keys9) tt)
     (λ c. entry 9 (c .before .match .keys10) tt)
+    (λ c. entry 10 (c .before .match .keys11) tt)
+    (λ c. entry 11 (c .before .match .keys12) tt)
     (λ c. no-entry _ (c .match .rest)))

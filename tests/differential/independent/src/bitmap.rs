@@ -125,7 +125,7 @@ mod tests {
 
     #[test]
     fn marks_are_moved() {
-        for class in 3..=12 {
+        for class in classes::LOWEST..=classes::HIGHEST {
             let words = classes::level_words(class).max(FOUR);
             for factor in [0, 1, 0x9e37_79b9, 0xffff_fff1] {
                 let marks: Vec<u32> = (0..words as u32).map(|index| if index % 5 == 0 { u32::MAX } else { index.wrapping_mul(factor) }).collect();
@@ -152,13 +152,18 @@ mod tests {
         assert_eq!(search(9, class9, 0), Some(31));
         assert_eq!(search(9, class9, 32), None);
         assert_eq!(search(10, empty(10), 16), None);
+        for (place, block) in [(0, Some(0)), (1, Some(1)), (2, None)] {
+            assert_eq!(search(13, empty(13), place), block);
+        }
+        assert_eq!(search(14, empty(14), 0), Some(0));
+        assert_eq!(search(14, empty(14), 1), None);
     }
 
     #[test]
     fn search_finds_what_a_plain_scan_finds() {
         let mut random = 1_u64;
         for round in 0..60 {
-            for class in 3..=12 {
+            for class in classes::LOWEST..=classes::HIGHEST {
                 let mut level0 = empty(class);
                 for word in &mut level0[..classes::level_words(class)] {
                     random = random.wrapping_mul(6_364_136_223_846_793_005).wrapping_add(1);

@@ -1,15 +1,16 @@
-//! Size classes 3 to 12: which class a record has, how many blocks a segment of it has, and how many words of level 0 they take.
+//! Size classes 3 to 14: which class a record has, how many blocks a segment of it has, and how many words of level 0 they take.
 
 use crate::answers::{refuse, Answer, Refusal};
 
 pub const LOWEST: u32 = 3;
-pub const HIGHEST: u32 = 12;
+pub const HIGHEST: u32 = 14;
 
 /// The most pointers and values together.
-pub const MOST_FIELDS: u64 = 1023;
+pub const MOST_FIELDS: u64 = 4095;
 
 /// The class by the count of pointers and values together.
-static CLASS_OF: [u32; 1024] = class_table();
+static CLASS_OF: [u32; ENTRIES] = class_table();
+const ENTRIES: usize = MOST_FIELDS as usize + 1;
 
 /// The smallest class whose block of 2^c bytes holds the header and the fields.
 const fn smallest(fields: u32) -> u32 {
@@ -20,10 +21,10 @@ const fn smallest(fields: u32) -> u32 {
     class
 }
 
-const fn class_table() -> [u32; 1024] {
-    let mut table = [0; 1024];
+const fn class_table() -> [u32; ENTRIES] {
+    let mut table = [0; ENTRIES];
     let mut fields = 0;
-    while fields < 1024 {
+    while fields < ENTRIES {
         table[fields] = smallest(fields as u32);
         fields += 1;
     }
@@ -83,17 +84,17 @@ mod tests {
 
     #[test]
     fn class_cases() {
-        let cases = [(0, 3), (1, 3), (2, 4), (3, 4), (4, 5), (511, 11), (512, 12), (1023, 12)];
+        let cases = [(0, 3), (1, 3), (2, 4), (3, 4), (4, 5), (511, 11), (512, 12), (1023, 12), (1024, 13), (2047, 13), (2048, 14), (4095, 14)];
         for (fields, class) in cases {
             assert_eq!(class_of(fields), Ok(class), "{fields} fields");
         }
-        assert_eq!(class_of(1024), Err(Refusal::TOO_BIG));
+        assert_eq!(class_of(4096), Err(Refusal::TOO_BIG));
         assert_eq!(class_of(u64::from(u32::MAX) * 2), Err(Refusal::TOO_BIG));
     }
 
     #[test]
     fn blocks_by_class() {
-        let blocks_of = [2048, 1024, 512, 256, 128, 64, 32, 16, 8, 4];
+        let blocks_of = [2048, 1024, 512, 256, 128, 64, 32, 16, 8, 4, 2, 1];
         for (class, expected) in (LOWEST..=HIGHEST).zip(blocks_of) {
             assert_eq!(blocks(class), expected);
             assert_eq!(level_words(class), (expected as usize).max(32) / 32);

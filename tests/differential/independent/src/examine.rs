@@ -118,6 +118,8 @@ impl Examination<'_> {
             must(words[PLACE] == blocks && words[NEXT] == blocks)?;
             return must(words[STATE] == FULL || self.phase != IDLE);
         }
+        // A segment of one block is full from its first: it is never part or held.
+        must(blocks > 1)?;
         must(words[PLACE] < blocks && tree(words).ok()?.next_free(blocks, words[PLACE]) == Some(words[NEXT]))?;
         must(words[STATE] == PART || self.holds(words[TIE], segment, class)?)
     }

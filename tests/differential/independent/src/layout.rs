@@ -23,7 +23,7 @@ pub const PHASE: usize = 1024;
 pub const TRACE_HEIGHT: usize = 1025;
 pub const FREE_TOP: usize = 1026;
 const PART_BY_CLASS: usize = 1024;
-pub const CONDEMNED_TOP: usize = 1037;
+pub const CONDEMNED_TOP: usize = 1039;
 
 /// The first block of segment 0.
 pub const BLOCKS: usize = 1040;

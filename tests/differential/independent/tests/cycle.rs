@@ -310,6 +310,38 @@ fn sweep_order() {
     assert_eq!(world.state(4), [HELD, 3, 1, 0]);
 }
 
+/// A segment of one block is swept to free or to full, one of two blocks to part too.
+#[test]
+fn large_records_are_swept() {
+    let mut world = World::new(4);
+    assert_eq!(world.attach(0), Ok(()));
+    for (root, fields) in [4095, 4095, 2047, 2047, 1024, 1024].into_iter().enumerate() {
+        assert_eq!(world.make(0, root as u32, fields, 0), Ok(()));
+    }
+    assert_eq!(world.store(0, 0, 4094, 2), Ok(()));
+    for root in [1, 2, 4, 5] {
+        assert_eq!(world.clear(0, root), Ok(()));
+    }
+    for (segment, state) in [[FULL, 14, 1, 0], [FULL, 14, 1, 0], [FULL, 13, 2, 0], [FULL, 13, 2, 0]].into_iter().enumerate() {
+        assert_eq!(world.state(segment), state);
+    }
+    assert_eq!(world.clear(0, 3), Ok(()));
+    assert_eq!(world.start(), Ok(()));
+    world.play_to_mark(&[0]);
+    assert_eq!(world.trace_all(), 2);
+    for (segment, freed) in [0, 1, 1, 2].into_iter().enumerate() {
+        assert_eq!(world.step(), Ok(Step::Swept { segment: segment as u32, freed }));
+    }
+    assert_eq!(world.step(), Ok(Step::Done));
+    for (segment, state) in [[FULL, 14, 1, 0], [FREE, 0, 0, 0], [PART, 13, 0, 0], [FREE, 0, 0, 0]].into_iter().enumerate() {
+        assert_eq!(world.state(segment), state);
+    }
+    assert_eq!(world.make(0, 7, 0, 2047), Ok(()));
+    assert_eq!(world.state(2), [FULL, 13, 2, 0]);
+    assert_eq!(world.make(0, 8, 0, 2048), Ok(()));
+    assert_eq!(world.state(3), [FULL, 14, 1, 0]);
+}
+
 /// A long list and a ring survive a cycle; the rest of their segments is freed and used again.
 #[test]
 fn sparse_survivors() {

@@ -3,7 +3,7 @@
 mod common;
 
 use common::World;
-use independent::{Shape, FREE, FULL, HELD, PART};
+use independent::{Refusal, Shape, FREE, FULL, HELD, PART};
 
 #[test]
 fn shapes_and_fields() {
@@ -22,6 +22,33 @@ fn shapes_and_fields() {
         for field in 0..values {
             assert_eq!(world.get(31, root, field), Ok(0));
         }
+    }
+}
+
+/// Where classes 13 and 14 begin and end: the first and the last field of each kind.
+#[test]
+fn large_shapes_and_fields() {
+    for (pointers, values, class) in [(512, 512, 13), (1000, 1047, 13), (2, 2046, 14), (2000, 2095, 14)] {
+        let mut world = World::new(2);
+        assert_eq!(world.attach(3), Ok(()));
+        assert_eq!(world.make(3, 0, pointers, values), Ok(()));
+        assert_eq!(world.state(0)[1], class);
+        assert_eq!(world.shape(3, 0), Ok(Shape { pointers, values }));
+        assert_eq!(world.make(3, 1, 0, 0), Ok(()));
+        for field in [0, pointers - 1] {
+            assert_eq!(world.load(3, 2, 0, field), Ok(()));
+            assert_eq!(world.same(3, 2, 15), Ok(true));
+            assert_eq!(world.store(3, 0, field, 1), Ok(()));
+            assert_eq!(world.load(3, 2, 0, field), Ok(()));
+            assert_eq!(world.same(3, 2, 1), Ok(true));
+        }
+        for field in [0, values - 1] {
+            assert_eq!(world.get(3, 0, field), Ok(0));
+            assert_eq!(world.put(3, 0, field, field + 7), Ok(()));
+            assert_eq!(world.get(3, 0, field), Ok(field + 7));
+        }
+        assert_eq!(world.load(3, 2, 0, pointers), Err(Refusal::FIELD));
+        assert_eq!(world.get(3, 0, values), Err(Refusal::FIELD));
     }
 }
 
@@ -81,6 +108,23 @@ fn segments_and_places() {
     assert_eq!(world.state(1), [HELD, 4, 2, 9]);
 }
 
+/// A detach hands back eleven segments, one of each class from 3 to 13: that of class 14 is full from its first block.
+#[test]
+fn a_detach_hands_back_eleven() {
+    let mut world = World::new(12);
+    assert_eq!(world.attach(5), Ok(()));
+    for class in 3..=14_u32 {
+        assert_eq!(world.make(5, class, 0, (1 << (class - 2)) - 1), Ok(()));
+        let expected = if class == 14 { [FULL, 14, 1, 0] } else { [HELD, class, 1, 5] };
+        assert_eq!(world.state(class as usize - 3), expected);
+    }
+    assert_eq!(world.detach(5), Ok(()));
+    for class in 3..=14_u32 {
+        let expected = if class == 14 { [FULL, 14, 1, 0] } else { [PART, class, 1, 0] };
+        assert_eq!(world.state(class as usize - 3), expected);
+    }
+}
+
 /// The last part segment put on its stack is the first taken.
 #[test]
 fn part_stack_order() {
@@ -101,7 +145,7 @@ fn part_stack_order() {
 
 #[test]
 fn a_segment_of_each_class_fills() {
-    for class in 3..=12_u32 {
+    for class in 3..=14_u32 {
         let mut world = World::new(1);
         assert_eq!(world.attach(0), Ok(()));
         let blocks = 16384 >> class;

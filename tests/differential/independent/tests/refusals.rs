@@ -44,7 +44,7 @@ fn script() {
     assert_eq!(world.attach(32), Err(Refusal::SCRIPT));
     assert_eq!(world.spawn(0, 32, 0), Err(Refusal::SCRIPT));
     assert_eq!(world.spawn(32, 0, 0), Err(Refusal::SCRIPT));
-    assert_eq!(world.make(u32::MAX, 16, 1024, 0), Err(Refusal::SCRIPT));
+    assert_eq!(world.make(u32::MAX, 16, 4096, 0), Err(Refusal::SCRIPT));
 }
 
 #[test]
@@ -62,6 +62,7 @@ fn absent() {
     assert_eq!(world.detach(1), Err(Refusal::ABSENT));
     assert_eq!(world.spawn(1, 1, 16), Err(Refusal::ABSENT));
     assert_eq!(world.clear(1, 16), Err(Refusal::ABSENT));
+    assert_eq!(world.make(1, 16, 4096, 0), Err(Refusal::ABSENT));
     assert_eq!(world.enter(1), Err(Refusal::ABSENT));
 }
 
@@ -75,6 +76,7 @@ fn side() {
     assert_eq!(world.detach(0), Err(Refusal::SIDE));
     assert_eq!(world.spawn(1, 0, 16), Err(Refusal::SIDE));
     assert_eq!(world.same(0, 16, 0), Err(Refusal::SIDE));
+    assert_eq!(world.make(0, 16, 4096, 0), Err(Refusal::SIDE));
     assert_eq!(world.enter(0), Ok(()));
 }
 
@@ -86,6 +88,7 @@ fn slot() {
     assert_eq!(world.load(0, 16, 0, 0), Err(Refusal::SLOT));
     assert_eq!(world.store(0, 0, 0, u32::MAX), Err(Refusal::SLOT));
     assert_eq!(world.make(0, 16, u32::MAX, u32::MAX), Err(Refusal::SLOT));
+    assert_eq!(world.make(0, 16, 4096, 0), Err(Refusal::SLOT));
     assert_eq!(world.spawn(1, 0, 16), Err(Refusal::SLOT));
 }
 
@@ -113,9 +116,10 @@ fn field() {
 #[test]
 fn too_big() {
     let mut world = world();
-    assert_eq!(world.make(0, 0, 1024, 0), Err(Refusal::TOO_BIG));
-    assert_eq!(world.make(0, 0, u32::MAX, 1), Err(Refusal::TOO_BIG));
-    assert_eq!(world.make(0, 0, 1023, 0), Ok(()));
+    for (pointers, values) in [(4096, 0), (0, 4096), (1, 4095), (4095, 1), (2048, 2048), (u32::MAX, 1), (1, u32::MAX), (u32::MAX, u32::MAX)] {
+        assert_eq!(world.make(0, 0, pointers, values), Err(Refusal::TOO_BIG));
+    }
+    assert_eq!(world.make(0, 0, 4095, 0), Ok(()));
 }
 
 #[test]
@@ -124,6 +128,8 @@ fn no_room() {
     world.fill_segment(0);
     assert_eq!(world.make(0, 0, 0, 0), Err(Refusal::NO_ROOM));
     assert_eq!(world.make(0, 0, 0, 1023), Err(Refusal::NO_ROOM));
+    assert_eq!(world.make(0, 0, 0, 4095), Err(Refusal::NO_ROOM));
+    assert_eq!(world.make(0, 0, 0, 4096), Err(Refusal::TOO_BIG));
 }
 
 /// A held segment of another mutator has room, but not for this one.

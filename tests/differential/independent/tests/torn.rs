@@ -19,7 +19,10 @@ fn play(random: &mut Random, segments: u32, mem: &mut [u32]) -> u32 {
         0 => pack(attach(segments, mem, m)),
         1 => pack(spawn(segments, mem, m, c, a)),
         2 => pack(detach(segments, mem, m)),
-        3..=5 => pack(make(segments, mem, m, a, b, random.next() % 300)),
+        3..=5 => {
+            let most = [300, 300, 4200][random.next() as usize % 3];
+            pack(make(segments, mem, m, a, b, random.next() % most))
+        }
         6 => pack(load(segments, mem, m, a, b, c)),
         7 => pack(store(segments, mem, m, a, c, b)),
         8 => pack(put(segments, mem, m, a, c, 5)),
@@ -55,6 +58,22 @@ fn random_words() {
         }
         mem[1024] = round % 6;
         play_many(&mut random, segments, &mut mem, 300);
+    }
+}
+
+/// The class of each segment is a number that is none, or that of another class.
+#[test]
+fn other_classes() {
+    let mut random = Random(5);
+    for round in 0..60 {
+        let mut mem = vec![0; independent::length(2)];
+        assert_eq!(independent::open(2, &mut mem), Ok(()));
+        assert_eq!(independent::attach(2, &mut mem, 0), Ok(()));
+        play_many(&mut random, 2, &mut mem, 100);
+        for segment in 0..2 {
+            mem[1040 + 4160 * 2 + 136 * segment + 1] = [0, 2, 13, 14, 15, 16, 31, 32, 33, u32::MAX][round % 10];
+        }
+        play_many(&mut random, 2, &mut mem, 100);
     }
 }
 
