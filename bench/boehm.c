@@ -68,7 +68,7 @@ static uint32_t live_records(void) {
 int main(int argc, char **argv) {
     struct churn c = churn_read(argc, argv);
     GC_set_all_interior_pointers(0);
-    GC_set_max_heap_size(((size_t)c.segments * 6292 + 1053) * 4);
+    GC_set_max_heap_size(((size_t)c.segments * 6294 + 1053) * 4);
     GC_set_markers_count(1);
     GC_INIT();
     if (getenv("BENCH_INCREMENTAL") != NULL) GC_enable_incremental();

@@ -25,7 +25,7 @@ static inline int some_full(const struct heap *h) {
     u32 states[BORVUKHAI_STATES_LENGTH(256)];
     MUST(HEAP(states)(OVER(h), states, HEAP(states_length)(h->segments)), 0);
     for (u32 segment = 0; segment < h->segments; segment++) {
-        if (states[4 * segment] == BORVUKHAI_SEGMENT_FULL) return 1;
+        if (states[BORVUKHAI_STATE_WORDS * segment + BORVUKHAI_STATE_TAG] == BORVUKHAI_SEGMENT_FULL) return 1;
     }
     return 0;
 }

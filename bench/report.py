@@ -8,7 +8,7 @@ import sys
 from array import array
 from statistics import median
 
-from rows import AT_MOST, BELOW_BOEHM, FILLED, FRAME, GROWTH, LONGEST, NO_MORE, NO_MORE_2, PACES, POINTERS, RATIOS, SINGLE, VALUES, YARDSTICK
+from rows import AT_MOST, BELOW_BOEHM, FILLED, FRAME, GROWTH, LONGEST, NO_MORE, NO_MORE_2, NO_MORE_3, PACES, POINTERS, RAISED, RATIOS, SINGLE, VALUES, YARDSTICK
 
 PART = re.compile(r"(<!-- measured, (\w+): written by bench/run -->\n).*?(<!-- end of measured -->)", re.S)
 STORED = os.path.join(os.path.dirname(os.path.abspath(__file__)), "before-8d90607.txt")
@@ -170,6 +170,8 @@ def limit_rows(c):
         out += [(group, "no more than at 8d90607", name, c.now[name], c.before[name], c.now[name] <= c.before[name]) for name in rows]
     for group, rows in NO_MORE_2:
         out += [(group, "no more than at 83a14ee", name, c.now[name], most, c.now[name] <= most) for name, most in rows.items()]
+    for group, rows in NO_MORE_3:
+        out += [(group, f"{RAISED} more than at 778de55", name, c.now[name], most + RAISED, c.now[name] <= most + RAISED) for name, most in rows.items()]
     for group, most, rows in AT_MOST:
         out += [(group, f"at most {most:,}", name, c.now[name], most, c.now[name] <= most) for name in rows]
     return out

@@ -59,7 +59,8 @@ RATIOS = [
     ("check and leave with 16 roots", 1.0, {"check, second handshake, 16 roots": 536, "leave, second handshake, 16 roots": 524}),
     ("the longest step in a handshake", 1.0, {"longest: step in a handshake": 17002}),
     ("store that enters", 1.2, {"store: new and old pushed": 105, "store: old pushed": 81, "store: old is on the stack already": 73}),
-    ("make", 1.2, {"make 0+1": 97, "make 1+1": 98, "make 8+8": 100}),
+    # the three counts of request No. 3, with which that implementation counts too: one instruction more than at 8d90607
+    ("make", 1.2, {"make 0+1": 98, "make 1+1": 99, "make 8+8": 101}),
     ("make, mean over a fill", 1.25, {"make 0+1, mean over 8,192": None, "make 1+1, mean over 4,096": None, "make 8+8, mean over 512": None}),
     ("mutation with steps", 1.05, {f"{pace}: a call": None for pace in PACES[1:]}),
     ("open", 1.0, {"longest: open": None}),
@@ -73,22 +74,28 @@ NO_MORE = [
         "make 0+1, takes a free segment", "make 1+1, takes a free segment", "make 8+8, takes a free segment",
         "make in mark, 0+1, takes a free segment", "make in mark, 1023+0, takes a free segment",
         "make in mark, takes a part segment, next free block is the last", "make in mark, climbs to the last block, segment becomes full"]),
-    ("states, examine", ["states, 256 segments", "examine, 256 segments, live"]),
+    ("examine", ["examine, 256 segments, live"]),
 ]
 
 # Limits of request No. 2, no more than the library took before it (83a14ee): the group, and its rows with that count. Those of load,
 # get, put, copy, clear and same are above: they had not moved since 8d90607.
 NO_MORE_2 = [
     ("store", {"store: nothing": 57, "store: new and old pushed": 120, "store: old pushed": 90, "store: old is on the stack already": 75}),
-    ("make of up to 31 fields", {
-        "make 0+1": 113, "make 1+1": 114, "make 8+8": 116, "make 0+31": 143,
+    ("make of up to 31 fields that searches or takes a segment", {
         "make 0+1, last bit of a word": 151, "make 1+1, last bit of a word": 152, "make 8+8, last bit of a word": 155,
         "make 0+1, takes a free segment": 352, "make 1+1, takes a free segment": 282, "make 8+8, takes a free segment": 277,
         "make in mark, 0+1, takes a free segment": 363, "make in mark, takes a part segment, next free block is the last": 594,
         "make in mark, climbs to the last block, segment becomes full": 451}),
-    ("make of 32 to 1,023 fields", {
-        "make 0+32": 248, "make 600+400": 468, "make 0+1023": 475,
+    ("make of 1,023 fields that takes or fills a segment", {
         "make in mark, 1023+0, takes a free segment": 603, "make in mark, 1023+0, segment becomes full": 646}),
+]
+
+# Limits of request No. 3, for the word that a make raises: at most so many instructions more than before it (778de55); the group, and
+# its rows with that count.
+RAISED = 6
+NO_MORE_3 = [
+    ("make with a free block at hand", {
+        "make 0+1": 111, "make 1+1": 112, "make 8+8": 114, "make 0+31": 139, "make 0+32": 159, "make 600+400": 374, "make 0+1023": 381}),
 ]
 
 # Limits in instructions: the group, the most, and its rows.
@@ -96,6 +103,8 @@ AT_MOST = [
     ("make of 32 fields less that of 31", 30, ["make of 32 values less that of 31"]),
     ("detach that holds nothing", 185, ["detach, holds nothing"]),
     ("done, 256 segments, none condemned", 1600, ["step: done, 256 segments"]),
+    # six words a segment where there were four: half more than at 8d90607
+    ("states", 6018, ["states, 256 segments"]),
     ("a sweep of class 3 with live blocks", 1000,
      ["step: sweep of class 3, 4 segments", "step: sweep of class 3, 256 segments", "step: sweep of class 3, last of 256 segments"]),
 ]

@@ -155,6 +155,19 @@ static uint32_t alive(void) {
     return bytes;
 }
 
+/* The load of the heap at the end: what its segments count. */
+static void say_load(void) {
+    uint32_t s, kept = 0, handed_out = 0;
+    if (borvukhai_states(HEAP, output, BORVUKHAI_STATES_LENGTH(SEGMENTS)) != BORVUKHAI_OK) {
+        return;
+    }
+    for (s = 0; s < SEGMENTS; s++) {
+        kept += output[s * BORVUKHAI_STATE_WORDS + BORVUKHAI_STATE_KEPT];
+        handed_out += output[s * BORVUKHAI_STATE_WORDS + BORVUKHAI_STATE_HANDED_OUT];
+    }
+    printf("%u blocks in use: %u kept by sweeps, %u handed out since\n", kept + handed_out, kept, handed_out);
+}
+
 /* The whole list of calls, from an opening. */
 static int play(void) {
     int well = borvukhai_open(HEAP) == BORVUKHAI_OK && borvukhai_attach(HEAP, ID) == BORVUKHAI_OK;
@@ -178,6 +191,7 @@ int main(int count, char **words) {
         printf("at most %u steps between two makes\n", STEPS);
     }
     printf("no room: %u times\n", refusals);
+    say_load();
     say("call of the mutator", &calls);
     say("share of the collector", &shares);
     return well && (late || refusals == 0) ? 0 : 1;

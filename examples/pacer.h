@@ -1,10 +1,11 @@
 /* A pacer: so many steps of the collector after each make, and each cycle begun as late as that pace allows, so that it
  * finds the most to free. docs/PACING.md says why and when this holds.
  *
- * It counts the blocks in use of each class (makes, less what sweeps freed), as no call answers them, and looks at the
- * segments' states now and then. So it has two bounds: the makes that are certain to find room, in any order, by any of
- * the mutators and of any class in play, and the steps that a cycle begun now can take. Once the makes times the pace
- * are no more than the steps, it starts a cycle. Every step of the heap goes through it, and it is told of every make.
+ * It counts the blocks in use of each class: makes, less what sweeps freed. (From an opening on, the counts of a look
+ * add up to the same.) And it looks at the segments' states now and then. So it has two bounds: the makes that are
+ * certain to find room, in any order, by any of the mutators and of any class in play, and the steps that a cycle begun
+ * now can take. Once the makes times the pace are no more than the steps, it starts a cycle. Every step of the heap
+ * goes through it, and it is told of every make.
  *
  * What the caller may read: `room`, so many next makes are certain to find room; and `kept`, which is 0 where the pace
  * cannot promise that a cycle ends before they are used up. Then makes may be refused BORVUKHAI_NO_ROOM: lend more
@@ -41,6 +42,11 @@ struct pacer_class {
     uint16_t most_left[32]; /* what one segment can have left then, the 32 largest, falling */
 };
 
+/* The words that the last look wrote of a segment; BORVUKHAI_STATE_TAG and the others are places in them. */
+static inline const uint32_t *pacer_state(const struct pacer *p, uint32_t segment) {
+    return p->output + segment * BORVUKHAI_STATE_WORDS;
+}
+
 /* One more of the numbers that a segment can have left. */
 static inline void pacer_insert(uint16_t *falling, uint32_t count, uint32_t left) {
     uint32_t at;
@@ -54,15 +60,16 @@ static inline void pacer_insert(uint16_t *falling, uint32_t count, uint32_t left
 /* Of one segment: a part segment can have all left from its place on but the block that its taker uses. Of a class of
  * one block none is part or held but in torn memory, and there it counts as used. */
 static inline void pacer_see(struct pacer_class *of, const uint32_t *state, uint32_t blocks) {
-    uint32_t full = state[0] == BORVUKHAI_SEGMENT_FULL || state[0] == BORVUKHAI_SEGMENT_CONDEMNED;
-    uint32_t held = state[0] == BORVUKHAI_SEGMENT_HELD;
+    uint32_t tag = state[BORVUKHAI_STATE_TAG], place = state[BORVUKHAI_STATE_PLACE];
+    uint32_t full = tag == BORVUKHAI_SEGMENT_FULL || tag == BORVUKHAI_SEGMENT_CONDEMNED;
+    uint32_t held = tag == BORVUKHAI_SEGMENT_HELD;
     of->blocks += blocks;
     of->least += full ? blocks : 1;
     of->most += full || blocks == 1 ? blocks : blocks - 1;
     of->held += held;
     of->parts += !full && !held;
-    if (!full && state[2] < blocks) {
-        pacer_insert(of->most_left, 32, blocks - state[2] - !held);
+    if (!full && place < blocks) {
+        pacer_insert(of->most_left, 32, blocks - place - !held);
     }
 }
 
@@ -71,8 +78,9 @@ static inline struct pacer_class pacer_class_of(struct pacer *p, uint32_t number
     struct pacer_class of = {0, 0, 0, 0, 0, 0, {0}};
     uint32_t s, count = p->in_use[number], *makers = &p->makers[number];
     for (s = 0; s < p->segments; s++) {
-        if (p->output[4 * s] != BORVUKHAI_SEGMENT_FREE && p->output[4 * s + 1] == number) {
-            pacer_see(&of, p->output + 4 * s, BORVUKHAI_BLOCKS(number));
+        const uint32_t *state = pacer_state(p, s);
+        if (state[BORVUKHAI_STATE_TAG] != BORVUKHAI_SEGMENT_FREE && state[BORVUKHAI_STATE_CLASS] == number) {
+            pacer_see(&of, state, BORVUKHAI_BLOCKS(number));
         }
     }
     count = count < of.least ? of.least : count > of.most ? of.most : count;
@@ -96,7 +104,7 @@ static inline uint32_t pacer_left(const struct pacer_class *of, uint32_t mutator
 static inline uint32_t pacer_segments(const struct pacer *p, uint32_t tag) {
     uint32_t s, count = 0;
     for (s = 0; s < p->segments; s++) {
-        count += p->output[4 * s] == tag;
+        count += pacer_state(p, s)[BORVUKHAI_STATE_TAG] == tag;
     }
     return count;
 }
@@ -193,7 +201,7 @@ static inline uint32_t pacer_start(struct pacer *p) {
 static inline uint32_t pacer_one(struct pacer *p, struct borvukhai_stepped *stepped) {
     uint32_t refused = borvukhai_step_to(p->segments, p->mem, p->length, stepped);
     if (refused == BORVUKHAI_OK && stepped->kind == BORVUKHAI_STEP_SWEPT) {
-        uint32_t *in_use = &p->in_use[p->output[4 * stepped->segment + 1] % 16];
+        uint32_t *in_use = &p->in_use[pacer_state(p, stepped->segment)[BORVUKHAI_STATE_CLASS] % 16];
         *in_use -= *in_use < stepped->freed ? *in_use : stepped->freed;
     }
     if (refused == BORVUKHAI_OK && (stepped->kind == BORVUKHAI_STEP_DONE || stepped->kind == BORVUKHAI_STEP_IDLE)) {

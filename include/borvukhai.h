@@ -33,8 +33,8 @@ extern "C" {
 /* The version of this interface, and the number of the layout of the lent slice. A landing that moves a word of the
  * layout raises the number: lengths are compiled into callers, and memory may outlive a restart into a program that was
  * linked with another library. CHANGELOG.md has an entry for each. */
-#define BORVUKHAI_VERSION "0.4.0"
-#define BORVUKHAI_LAYOUT 3u
+#define BORVUKHAI_VERSION "0.5.0"
+#define BORVUKHAI_LAYOUT 4u
 
 /* Refusals, by document 01's words. The lowest number that applies is given. On memory that passes the examination a refusal
  * changes no word, and is never BORVUKHAI_TORN. */
@@ -123,9 +123,23 @@ enum {
     BORVUKHAI_STEP_DONE = 5     /* the cycle has ended */
 };
 
-/* States of a segment: the first of its four words in the output of borvukhai_states. The others are its class (3 to 14), its place (the
- * next block to look at; the number of blocks where it is full or condemned) and the mutator that holds it; in memory that passes the
- * examination a word that a state does not have is 0. Over other memory place, mutator, and the class of a free segment may be any number. */
+/* A segment's record, as borvukhai_states writes it: six words, those of segment s from s * BORVUKHAI_STATE_WORDS on, so
+ * that output[s * BORVUKHAI_STATE_WORDS + BORVUKHAI_STATE_KEPT] is one of them. The last two count blocks: those that
+ * the segment's last sweep kept, and those that were handed out since then, or since the opening where it was not swept
+ * yet. A sweep sets both, and each make adds 1 to the second in the segment that its block is in.
+ *
+ * In memory that passes the examination the two counts together are the segment's blocks in use, both are 0 where it is
+ * free, and a word that a state does not have is 0. Over other memory place, mutator, both counts, and the class of a
+ * free segment may be any number; then the sum of the counts may not fit in 32 bits. */
+#define BORVUKHAI_STATE_WORDS 6u
+#define BORVUKHAI_STATE_TAG 0u        /* its state, one of those below */
+#define BORVUKHAI_STATE_CLASS 1u      /* its class, 3 to 14 */
+#define BORVUKHAI_STATE_PLACE 2u      /* the next block to look at; the number of blocks where it is full or condemned */
+#define BORVUKHAI_STATE_MUTATOR 3u    /* the mutator that holds it */
+#define BORVUKHAI_STATE_KEPT 4u       /* the blocks kept at its last sweep, 0 before one */
+#define BORVUKHAI_STATE_HANDED_OUT 5u /* the blocks handed out since */
+
+/* States of a segment, and which of class, place and mutator each has. */
 enum {
     BORVUKHAI_SEGMENT_FREE = 0,
     BORVUKHAI_SEGMENT_PART = 1,      /* class, place */
@@ -139,13 +153,13 @@ enum {
 /* Whether a number is a count of segments: 1 for 1 to 256, else 0. */
 #define BORVUKHAI_IS_COUNT(segments) ((segments) - 1u < 256u)
 /* As constants, for arrays; 0 for a count that is not 1 to 256, as the functions below. The argument is named twice. */
-#define BORVUKHAI_LENGTH(segments) (BORVUKHAI_IS_COUNT(segments) * (6292u * (segments) + 1053u))
-#define BORVUKHAI_STATES_LENGTH(segments) (BORVUKHAI_IS_COUNT(segments) * (4u * (segments)))
+#define BORVUKHAI_LENGTH(segments) (BORVUKHAI_IS_COUNT(segments) * (6294u * (segments) + 1053u))
+#define BORVUKHAI_STATES_LENGTH(segments) (BORVUKHAI_IS_COUNT(segments) * (6u * (segments)))
 #define BORVUKHAI_SCRATCH_LENGTH(segments) (BORVUKHAI_IS_COUNT(segments) * (2176u * (segments)))
 
-/* As functions, which answer 0 for a count that is not 1 to 256. The slice that every call is lent: 6292 n + 1053 words for n segments. */
+/* As functions, which answer 0 for a count that is not 1 to 256. The slice that every call is lent: 6294 n + 1053 words for n segments. */
 size_t borvukhai_length(uint32_t segments);
-/* The output of borvukhai_states: 4 n words. */
+/* The output of borvukhai_states: 6 n words. */
 size_t borvukhai_states_length(uint32_t segments);
 /* The scratch of borvukhai_examine: 2176 n words. */
 size_t borvukhai_scratch_length(uint32_t segments);
@@ -208,7 +222,8 @@ uint32_t borvukhai_enter(uint32_t segments, uint32_t *mem, size_t length, uint32
  * held as usual, the first step in sweep answers done, and nothing is freed. Refused SIZE, NOT_NOW, TORN. */
 uint32_t borvukhai_start(uint32_t segments, uint32_t *mem, size_t length);
 
-/* The segments' states, four words each, into `output` of borvukhai_states_length words; the heap is not changed. Refused, the output
+/* The segments' records, six words each (BORVUKHAI_STATE_TAG to BORVUKHAI_STATE_HANDED_OUT), into `output` of
+ * borvukhai_states_length words; the heap is not changed. The counts are copied whatever they are. Refused, the output
  * is unchanged. Refused SIZE, TORN. */
 uint32_t borvukhai_states(uint32_t segments, const uint32_t *mem, size_t length, uint32_t *output, size_t output_length);
 

@@ -54,12 +54,21 @@ static void look(void) {
     expect("sound", segments, (uint64_t)borvukhai_is_sound(HEAP, scratch, BORVUKHAI_SCRATCH_LENGTH(segments)), 1);
 }
 
-/* The look says these four words of a segment. */
+/* A word of a segment in the look. */
+static uint32_t word(uint32_t s, uint32_t at) { return output[s * BORVUKHAI_STATE_WORDS + at]; }
+
+/* The look says this state of a segment. */
 static void state(uint32_t s, uint32_t tag, uint32_t class_, uint32_t place, uint32_t mutator) {
-    expect("tag of segment", s, output[4 * s], tag);
-    expect("class of segment", s, output[4 * s + 1], class_);
-    expect("place of segment", s, output[4 * s + 2], place);
-    expect("mutator of segment", s, output[4 * s + 3], mutator);
+    expect("tag of segment", s, word(s, BORVUKHAI_STATE_TAG), tag);
+    expect("class of segment", s, word(s, BORVUKHAI_STATE_CLASS), class_);
+    expect("place of segment", s, word(s, BORVUKHAI_STATE_PLACE), place);
+    expect("mutator of segment", s, word(s, BORVUKHAI_STATE_MUTATOR), mutator);
+}
+
+/* The look says these counts of a segment: blocks kept at its last sweep, and handed out since. */
+static void counts(uint32_t s, uint32_t kept, uint32_t handed_out) {
+    expect("kept of segment", s, word(s, BORVUKHAI_STATE_KEPT), kept);
+    expect("handed out of segment", s, word(s, BORVUKHAI_STATE_HANDED_OUT), handed_out);
 }
 
 /* A cycle with mutator 0 outside: so many records are marked, and each segment that is swept frees so many blocks, from
@@ -106,8 +115,9 @@ static void hands_back(void) {
     look();
     for (c = FIRST; c <= LAST; c++) {
         state(c - FIRST, c < LAST ? BORVUKHAI_SEGMENT_PART : BORVUKHAI_SEGMENT_FULL, c, places[c - FIRST], 0);
-        parts += output[4 * (c - FIRST)] == BORVUKHAI_SEGMENT_PART;
-        full += output[4 * (c - FIRST)] == BORVUKHAI_SEGMENT_FULL;
+        counts(c - FIRST, 0, places[c - FIRST]);
+        parts += word(c - FIRST, BORVUKHAI_STATE_TAG) == BORVUKHAI_SEGMENT_PART;
+        full += word(c - FIRST, BORVUKHAI_STATE_TAG) == BORVUKHAI_SEGMENT_FULL;
     }
     expect("part segments", CLASSES, parts, 11);
     expect("full segments", CLASSES, full, 1);
@@ -118,8 +128,10 @@ static void hands_back(void) {
     look();
     for (c = FIRST; c < LAST - 1; c++) {
         state(c - FIRST, BORVUKHAI_SEGMENT_HELD, c, places[c - FIRST] + 1, 1);
+        counts(c - FIRST, 0, places[c - FIRST] + 1);
     }
     state(LAST - 1 - FIRST, BORVUKHAI_SEGMENT_FULL, LAST - 1, 2, 0);
+    counts(LAST - 1 - FIRST, 0, 2);
 }
 
 /* A new record in root 0: its counts, all its pointers nil, all its values 0, and no field beyond them. */
@@ -194,10 +206,14 @@ static void longest(uint32_t pointers, uint32_t values) {
     look();
     state(0, BORVUKHAI_SEGMENT_FULL, 14, 1, 0);
     state(1, BORVUKHAI_SEGMENT_FULL, 13, 2, 0);
+    counts(0, 0, 1);
+    counts(1, 0, 2);
     cycle(1 + kept, 2, first);
     is_kept(pointers, values);
     look();
     state(0, BORVUKHAI_SEGMENT_FULL, 14, 1, 0);
+    counts(0, 1, 0);
+    counts(1, kept, 0);
     state(1, kept == 2 ? BORVUKHAI_SEGMENT_FULL : kept == 1 ? BORVUKHAI_SEGMENT_PART : BORVUKHAI_SEGMENT_FREE,
           kept == 0 ? 0 : 13, kept == 2 ? 2 : 0, 0);
     ok("clear", borvukhai_clear(HEAP, 0, 0));
@@ -205,6 +221,8 @@ static void longest(uint32_t pointers, uint32_t values) {
     look();
     state(0, BORVUKHAI_SEGMENT_FREE, 0, 0, 0);
     state(1, kept == 1 ? BORVUKHAI_SEGMENT_PART : BORVUKHAI_SEGMENT_FREE, kept == 1 ? 13 : 0, 0, 0);
+    counts(0, 0, 0);
+    counts(1, kept == 1 ? 1 : 0, 0);
 }
 
 static void longest_records(void) {

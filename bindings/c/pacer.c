@@ -1,7 +1,8 @@
 /* The pacer of examples/pacer.h under several mutators and classes, by several seeds and sizes of heap: no make is
  * refused BORVUKHAI_NO_ROOM while it says that room is certain, nor while it says that the pace keeps the heap in room.
  * Half of the makes are random; the other half are of a mutator that holds no segment of the class, so that as many
- * segments as can be are held. It prints a line for each mix. */
+ * segments as can be are held. Before each make the pacer's own count of blocks in use, from the calls, is compared
+ * with the counts of a look. It prints a line for each mix. */
 #include "../../examples/pacer.h"
 
 #include <stdio.h>
@@ -34,7 +35,7 @@ static const struct mix mixes[] = {
     {"40 segments, 2 mutators, classes 5, 13 and 14", 40, 64, 2, 3, {6, 1500, 3000}, 0, 500, 1},
 };
 
-static uint32_t seed, makes, refusals, kept, lies;
+static uint32_t seed, makes, refusals, kept, lies, differ;
 static struct pacer pacer;
 
 static uint32_t any(uint32_t below) {
@@ -47,17 +48,34 @@ static uint32_t any(uint32_t below) {
 static int holds(const struct mix *mix, uint32_t mutator, uint32_t number) {
     uint32_t s;
     for (s = 0; s < mix->segments; s++) {
-        if (states[4 * s] == BORVUKHAI_SEGMENT_HELD && states[4 * s + 1] == number && states[4 * s + 3] == mutator) {
+        const uint32_t *state = states + s * BORVUKHAI_STATE_WORDS;
+        if (state[BORVUKHAI_STATE_TAG] == BORVUKHAI_SEGMENT_HELD && state[BORVUKHAI_STATE_CLASS] == number &&
+            state[BORVUKHAI_STATE_MUTATOR] == mutator) {
             return 1;
         }
     }
     return 0;
 }
 
+/* Whether the look's counts of each class add up to the blocks in use that the pacer counts. */
+static int counted_alike(const struct mix *mix) {
+    uint32_t s, number, sums[16] = {0};
+    int alike = 1;
+    for (s = 0; s < mix->segments; s++) {
+        const uint32_t *state = states + s * BORVUKHAI_STATE_WORDS;
+        sums[state[BORVUKHAI_STATE_CLASS] % 16] += state[BORVUKHAI_STATE_KEPT] + state[BORVUKHAI_STATE_HANDED_OUT];
+    }
+    for (number = PACER_FIRST; number <= PACER_LAST; number++) {
+        alike = alike && sums[number] == pacer.in_use[number];
+    }
+    return alike && sums[0] == 0; /* the class of a free segment is 0, and so are its counts */
+}
+
 /* Who makes which class next: one that holds no segment of it, where there is one and the dice say so. */
 static void choose(const struct mix *mix, uint32_t *mutator, uint32_t *values) {
     uint32_t turn, tries = any(2) ? 12 : 1;
     borvukhai_states(HEAP, states, borvukhai_states_length(mix->segments));
+    differ += !counted_alike(mix);
     for (turn = 0; turn < tries; turn++) {
         *mutator = any(mix->mutators);
         *values = mix->values[mix->apart ? *mutator : any(mix->classes)];
@@ -167,14 +185,14 @@ int main(void) {
     uint32_t at, number;
     int well = shortest() && exact(2047, 2047, 4) && exact(4095, 4095, 2) && exact(4095, 2047, 2) && widest();
     for (at = 0; at < sizeof mixes / sizeof mixes[0]; at++) {
-        makes = refusals = kept = lies = 0;
+        makes = refusals = kept = lies = differ = 0;
         for (number = 1; number <= 5; number++) {
             seed = 2463534242u + 77u * number;
             well = play(&mixes[at], 40000) == BORVUKHAI_OK && well;
         }
-        printf("%s: %u makes, %u refused, %u of them while room was certain; the pace kept at %u\n", mixes[at].name,
-               (unsigned)makes, (unsigned)refusals, (unsigned)lies, (unsigned)kept);
-        well = well && lies == 0 && kept >= makes / 1000 * mixes[at].often;
+        printf("%s: %u makes, %u refused, %u of them while room was certain; the pace kept at %u, %u looks differ\n",
+               mixes[at].name, (unsigned)makes, (unsigned)refusals, (unsigned)lies, (unsigned)kept, (unsigned)differ);
+        well = well && lies == 0 && differ == 0 && kept >= makes / 1000 * mixes[at].often;
     }
     return well ? 0 : 1;
 }

@@ -11,7 +11,8 @@
 #define STATES BORVUKHAI_STATES_LENGTH(SEGMENTS)
 #define SCRATCH BORVUKHAI_SCRATCH_LENGTH(SEGMENTS)
 #define MANY 0xffffffffu
-#define LAYOUT_2(n) (6290u * (n) + 1051u) /* the words of the layout before this one */
+#define LAYOUT_2(n) (6290u * (n) + 1051u) /* the words of the layouts before this one */
+#define LAYOUT_3(n) (6292u * (n) + 1053u)
 
 /* Each slice has the words of MOST segments, for counts and lengths that are too large. */
 #define MOST 4u
@@ -31,7 +32,7 @@ enum {
     HOLDS_AT = 16 + 18,            /* the segments that mutator 0 holds, by class */
     HELD_AT = HOLDS_AT + 9,        /* that of class 12 */
     TAG_AT = 1040 + 4096 * SEGMENTS,
-    PARTS_AT = 1041 + 4101 * SEGMENTS, /* the part stacks, by class */
+    PARTS_AT = 1041 + 4103 * SEGMENTS, /* the part stacks, by class */
     OFF_HEAP = 4096 * SEGMENTS + 1 /* a reference one past the last word of the heap */
 };
 
@@ -132,7 +133,8 @@ static void size(void) {
         uint32_t segments;
         size_t length;
     } wrong[] = {{0, WORDS}, {2, WORDS}, {257, WORDS}, {MANY, WORDS}, {1, WORDS - 1}, {1, WORDS + 1}, {1, 0}, {0, 0},
-                 {1, LAYOUT_2(1)}, {2, LAYOUT_2(2)}, {3, LAYOUT_2(3)}, {4, LAYOUT_2(4)}};
+                 {1, LAYOUT_2(1)}, {2, LAYOUT_2(2)}, {3, LAYOUT_2(3)}, {4, LAYOUT_2(4)},
+                 {1, LAYOUT_3(1)}, {2, LAYOUT_3(2)}, {3, LAYOUT_3(3)}, {4, LAYOUT_3(4)}};
     size_t i;
     int call;
     full();
@@ -146,6 +148,7 @@ static void size(void) {
         size_of_others(wrong[i].segments, wrong[i].length);
     }
     expect("size", "output too short", borvukhai_states(HEAP, output, STATES - 1), BORVUKHAI_SIZE);
+    expect("size", "output of layout 3", borvukhai_states(HEAP, output, 4 * SEGMENTS), BORVUKHAI_SIZE);
     expect("size", "output too long", borvukhai_states(HEAP, output, STATES + 1), BORVUKHAI_SIZE);
     expect("size", "scratch too short", borvukhai_refusal(borvukhai_examine(HEAP, scratch, SCRATCH - 1)), BORVUKHAI_SIZE);
     expect("size", "scratch too long", borvukhai_refusal(borvukhai_examine(HEAP, scratch, SCRATCH + 1)), BORVUKHAI_SIZE);
@@ -286,8 +289,8 @@ static void break_class(uint32_t tag, uint32_t class_, uint32_t phase, uint32_t 
     full();
     memory[PHASE_AT] = phase;
     memory[TAG_AT] = tag;
-    memory[TAG_AT + 1] = class_;
-    memory[TAG_AT + 2] = 0;
+    memory[TAG_AT + BORVUKHAI_STATE_CLASS] = class_;
+    memory[TAG_AT + BORVUKHAI_STATE_PLACE] = 0;
     for (at = 0; at < CLASSES; at++) {
         memory[HOLDS_AT + at] = held;
         memory[PARTS_AT + (int)(1 + SEGMENTS) * at] = !held;
@@ -363,8 +366,9 @@ static void lengths(void) {
     uint32_t n;
     size_t i;
     for (n = 1; n <= 256; n++) {
-        expect("lengths", "memory", (unsigned long)borvukhai_length(n), 6292ul * n + 1053ul);
-        expect("lengths", "output", (unsigned long)borvukhai_states_length(n), 4ul * n);
+        expect("lengths", "memory", (unsigned long)borvukhai_length(n), 6294ul * n + 1053ul);
+        expect("lengths", "output", (unsigned long)borvukhai_states_length(n), 6ul * n);
+        expect("lengths", "records of the output", (unsigned long)borvukhai_states_length(n), (unsigned long)BORVUKHAI_STATE_WORDS * n);
         expect("lengths", "scratch", (unsigned long)borvukhai_scratch_length(n), 2176ul * n);
         expect("lengths", "constant of the memory", (unsigned long)BORVUKHAI_LENGTH(n), (unsigned long)borvukhai_length(n));
         expect("lengths", "constant of the output", (unsigned long)BORVUKHAI_STATES_LENGTH(n), (unsigned long)borvukhai_states_length(n));
@@ -380,14 +384,16 @@ static void lengths(void) {
     }
 }
 
-/* The look at the states says these four words of the segment. */
-static void state(const char *who, uint32_t tag, uint32_t class_, uint32_t place, uint32_t mutator) {
+/* The look at the states says these six words of the segment. */
+static void state(const char *who, uint32_t tag, uint32_t class_, uint32_t place, uint32_t mutator, uint32_t kept, uint32_t handed_out) {
     memset(output, 0x5a, sizeof output);
     ok("states", borvukhai_states(HEAP, output, STATES));
-    expect("tag", who, output[0], tag);
-    expect("class", who, output[1], class_);
-    expect("place", who, output[2], place);
-    expect("mutator", who, output[3], mutator);
+    expect("tag", who, output[BORVUKHAI_STATE_TAG], tag);
+    expect("class", who, output[BORVUKHAI_STATE_CLASS], class_);
+    expect("place", who, output[BORVUKHAI_STATE_PLACE], place);
+    expect("mutator", who, output[BORVUKHAI_STATE_MUTATOR], mutator);
+    expect("kept", who, output[BORVUKHAI_STATE_KEPT], kept);
+    expect("handed out", who, output[BORVUKHAI_STATE_HANDED_OUT], handed_out);
     expect("beyond the output", who, output[STATES], 0x5a5a5a5au);
 }
 
@@ -406,21 +412,21 @@ static void step(const char *who, uint32_t kind, uint32_t then) {
 /* A segment through its five states, and the phases of one cycle. */
 static void states_and_phases(void) {
     fresh();
-    state("free", BORVUKHAI_SEGMENT_FREE, 0, 0, 0);
+    state("free", BORVUKHAI_SEGMENT_FREE, 0, 0, 0, 0, 0);
     ok("detach", borvukhai_detach(HEAP, 0));
     ok("attach", borvukhai_attach(HEAP, 7));
     ok("make", borvukhai_make(HEAP, 7, 0, 1, 600));
-    state("held", BORVUKHAI_SEGMENT_HELD, 12, 1, 7);
+    state("held", BORVUKHAI_SEGMENT_HELD, 12, 1, 7, 0, 1);
     ok("spawn", borvukhai_spawn(HEAP, 0, 7, 0));
     ok("detach", borvukhai_detach(HEAP, 7));
-    state("part", BORVUKHAI_SEGMENT_PART, 12, 1, 0);
+    state("part", BORVUKHAI_SEGMENT_PART, 12, 1, 0, 0, 1);
     ok("make", borvukhai_make(HEAP, 0, 1, 1, 600));
     ok("make", borvukhai_make(HEAP, 0, 1, 1, 600));
     ok("make", borvukhai_make(HEAP, 0, 1, 1, 600));
-    state("full", BORVUKHAI_SEGMENT_FULL, 12, 4, 0);
+    state("full", BORVUKHAI_SEGMENT_FULL, 12, 4, 0, 0, 4);
     phase(BORVUKHAI_IDLE);
     ok("start", borvukhai_start(HEAP));
-    state("condemned", BORVUKHAI_SEGMENT_CONDEMNED, 12, 4, 0);
+    state("condemned", BORVUKHAI_SEGMENT_CONDEMNED, 12, 4, 0, 0, 4);
     phase(BORVUKHAI_SYNC1);
     step("waiting", BORVUKHAI_STEP_WAITING, BORVUKHAI_SYNC1);
     ok("leave", borvukhai_leave(HEAP, 0));
@@ -430,7 +436,7 @@ static void states_and_phases(void) {
     step("traced", BORVUKHAI_STEP_TRACED, BORVUKHAI_MARK);
     step("to sweep", BORVUKHAI_STEP_MOVED, BORVUKHAI_SWEEP);
     step("swept", BORVUKHAI_STEP_SWEPT, BORVUKHAI_SWEEP);
-    state("part again", BORVUKHAI_SEGMENT_PART, 12, 0, 0);
+    state("part again", BORVUKHAI_SEGMENT_PART, 12, 0, 0, 2, 0);
     step("done", BORVUKHAI_STEP_DONE, BORVUKHAI_IDLE);
     step("idle", BORVUKHAI_STEP_IDLE, BORVUKHAI_IDLE);
 }
@@ -468,7 +474,7 @@ static void cycle_over_nothing_with_a_mutator(void) {
     step("to sweep", BORVUKHAI_STEP_MOVED, BORVUKHAI_SWEEP);
     ok("make", borvukhai_make(HEAP, 0, 1, 1, 600));
     step("done", BORVUKHAI_STEP_DONE, BORVUKHAI_IDLE);
-    state("held", BORVUKHAI_SEGMENT_HELD, 12, 2, 0);
+    state("held", BORVUKHAI_SEGMENT_HELD, 12, 2, 0, 0, 2);
 }
 
 static void over_nothing(void) {

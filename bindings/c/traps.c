@@ -162,9 +162,10 @@ static void class_of(uint32_t fields) {
     }
     expect("states", borvukhai_states(HEAP, output, STATES), 0);
     expect("refused", refused, BORVUKHAI_CLASS_OF(fields) ? BORVUKHAI_NO_ROOM : BORVUKHAI_TOO_BIG);
-    expect("class", output[1], BORVUKHAI_CLASS_OF(fields));
+    expect("class", output[BORVUKHAI_STATE_CLASS], BORVUKHAI_CLASS_OF(fields));
     expect("blocks", made, BORVUKHAI_BLOCKS(BORVUKHAI_CLASS_OF(fields)));
-    expect("place", output[2], made);
+    expect("place", output[BORVUKHAI_STATE_PLACE], made);
+    expect("handed out", output[BORVUKHAI_STATE_HANDED_OUT], made);
 }
 
 static void classes(void) {

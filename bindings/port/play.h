@@ -1,6 +1,7 @@
 /* The same calls on every processor: a list that follows from one seed, by four mutators and the collector, with looks
- * and refusals among them. After each part of it, one line: two hashes, of every answer so far and of the lent slice.
- * No C library. A program that has this gives `say`, which writes a text, and calls `play`. */
+ * and refusals among them. After each part of it, one line: two hashes, of every answer so far and of the lent slice;
+ * and the makes, less the blocks that sweeps freed, are the blocks in use by the counts of a look. No C library. A
+ * program that has this gives `say`, which writes a text, and calls `play`. */
 #ifndef PLAY_H
 #define PLAY_H
 
@@ -19,7 +20,7 @@ void say(const char *text);
 static uint32_t play_memory[PLAY_WORDS];
 static uint32_t play_output[BORVUKHAI_STATES_LENGTH(PLAY_SEGMENTS)];
 static uint32_t play_scratch[BORVUKHAI_SCRATCH_LENGTH(PLAY_SEGMENTS)];
-static uint32_t play_seed, play_makes, play_cycles;
+static uint32_t play_seed, play_makes, play_freed, play_cycles;
 static uint64_t play_answers;
 #define PLAY_EMPTY 0xcbf29ce484222325u /* the hash of no words */
 
@@ -118,6 +119,8 @@ static void play_collect(void) {
     play_answer(answer);
     if (borvukhai_step_kind(answer) == BORVUKHAI_STEP_DONE) {
         play_cycles++;
+    } else if (borvukhai_step_kind(answer) == BORVUKHAI_STEP_SWEPT) {
+        play_freed += borvukhai_step_freed(answer);
     } else if (borvukhai_step_kind(answer) == BORVUKHAI_STEP_IDLE && play_random(32) == 0) {
         play_answer(borvukhai_start(PLAY_HEAP));
     }
@@ -163,9 +166,22 @@ static void play_say_part(uint32_t turns) {
     say("\n");
 }
 
-/* The whole list; 0 where the heap opens, and passes the examination at the end. */
+/* The blocks in use, by the counts of a look. */
+static uint32_t play_in_use(void) {
+    uint32_t segment, sum = 0;
+    borvukhai_states(PLAY_HEAP, play_output, BORVUKHAI_STATES_LENGTH(PLAY_SEGMENTS));
+    for (segment = 0; segment < PLAY_SEGMENTS; segment++) {
+        const uint32_t *state = play_output + segment * BORVUKHAI_STATE_WORDS;
+        sum += state[BORVUKHAI_STATE_KEPT] + state[BORVUKHAI_STATE_HANDED_OUT];
+    }
+    return sum;
+}
+
+/* The whole list; 0 where the heap opens, the counts are right after each part, and the memory passes the examination
+ * at the end. */
 static int play(void) {
     uint32_t turn;
+    int counted = 1;
     play_seed = 2463534242u;
     play_answers = PLAY_EMPTY;
     if (borvukhai_open(PLAY_HEAP) != BORVUKHAI_OK) {
@@ -175,9 +191,10 @@ static int play(void) {
         play_turn();
         if (turn % (PLAY_TURNS / PLAY_PARTS) == 0) {
             play_say_part(turn);
+            counted = counted && play_in_use() == play_makes - play_freed;
         }
     }
-    return borvukhai_examine(PLAY_HEAP, play_scratch, BORVUKHAI_SCRATCH_LENGTH(PLAY_SEGMENTS)) == (uint64_t)1 << 32 ? 0 : 1;
+    return counted && borvukhai_is_sound(PLAY_HEAP, play_scratch, BORVUKHAI_SCRATCH_LENGTH(PLAY_SEGMENTS)) ? 0 : 1;
 }
 
 #endif

@@ -21,7 +21,7 @@ def blocks_over_time(frames, s):
     """For each frame the class of a segment, 0 where it is free, and the colour of each of its blocks."""
     freed, before, was, found = set(), 0, [], []
     for _, _, image in frames:
-        tag, c, _, _ = image.segment(s)
+        tag, c, *_ = image.segment(s)
         used = image.in_use(s)
         if c != before:
             freed, was = set(), [False] * len(used)
@@ -62,7 +62,7 @@ def draw(path, frames, begin, end):
     for s in range(frames[0][2].n):
         y = TOP + 8 + s * BAND
         picture.text(14, y + 30, f"segment {s}")
-        for a, b, (tag, c, owner) in stretches([(t, c, o) for t, c, _, o in (image.segment(s) for _, _, image in frames[begin:end])]):
+        for a, b, (tag, c, owner) in stretches([(t, c, o) for t, c, _, o, *_ in (image.segment(s) for _, _, image in frames[begin:end])]):
             left, right, word = x(begin + a), x(begin + b), layout.TAGS[tag]
             picture.box(left, y, right - left, STRIP, STATE[word])
             picture.text((left + right) / 2, y + 10, said(word, owner, c, right - left), 10, anchor="middle")

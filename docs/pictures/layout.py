@@ -4,7 +4,7 @@ WORD_BITS = 32
 SEGMENT_WORDS = 4096
 CLASSES = range(3, 15)
 MUTATORS, ROOTS, ENTRY_WORDS = 32, 16, 32
-RECORD_WORDS = 4  # tag, class, place, mutator
+RECORD_WORDS = 6  # tag, class, place, mutator, blocks kept at the last sweep, blocks handed out since
 CONTROL_WORDS = 16
 PHASE, TRACE_COUNT, CURSOR = 0, 1, 2
 MARK_GRAIN = 2  # words of the heap that share a mark bit
@@ -100,8 +100,16 @@ class Image:
         return [self.reference(self.at("trace", i)) for i in range(self.at("control", TRACE_COUNT))]
 
     def segment(self, s):
-        """Tag, class, place, mutator."""
+        """Tag, class, place, mutator, and the two counts: blocks kept at the last sweep, and handed out since."""
         return self.run("segments", s * RECORD_WORDS, RECORD_WORDS)
+
+    def counts(self, s):
+        return self.segment(s)[4:]
+
+    def counted(self, s):
+        """The two counts by the bits and the place: the 1 bits among the blocks, and the blocks in use whose bit is 0."""
+        bits = self.bits(s)
+        return [sum(bits), sum(self.in_use(s)) - sum(bits)]
 
     def mutator(self, k):
         """State, acknowledgements, roots, and the held segment of each class that has one."""
@@ -111,12 +119,18 @@ class Image:
 
     def levels(self, s):
         """The words of each level of a segment's bitmap; of a free segment none."""
-        tag, c, _, _ = self.segment(s)
+        tag, c, *_ = self.segment(s)
         found, at = [], s * BITMAP_WORDS
         for bits in level_bits(c) if tag != FREE else []:
             found.append(self.run("bitmaps", at, words_for(bits)))
             at += words_for(bits)
         return found
+
+    def bits(self, s):
+        """The bit of each block at level 0; of a free segment none."""
+        tag, c, *_ = self.segment(s)
+        level = self.levels(s)[0] if tag != FREE else []
+        return [level[b // WORD_BITS] >> b % WORD_BITS & 1 for b in range(blocks(c) if level else 0)]
 
     def entered(self, header):
         """Whether a record is marked or on the trace stack."""
@@ -144,11 +158,8 @@ class Image:
 
     def in_use(self, s):
         """For each block of a segment whether it is in use."""
-        tag, c, place, _ = self.segment(s)
-        if tag == FREE:
-            return []
-        level = self.levels(s)[0]
-        return [b < place or level[b // WORD_BITS] >> b % WORD_BITS & 1 for b in range(blocks(c))]
+        place = self.segment(s)[2]
+        return [b < place or bit for b, bit in enumerate(self.bits(s))]
 
     def reached(self):
         """The records that the roots of attached mutators lead to."""

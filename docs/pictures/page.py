@@ -16,17 +16,16 @@ def name(image, header):
 
 
 def segment(image, s, reached, stacked):
-    """Tag, class, place, mutator, a character for each block, and the words of each bitmap level."""
-    tag, c, place, owner = image.segment(s)
+    """Tag, class, place, mutator, a character for each block, the words of each bitmap level, and the two counts."""
+    tag, c, place, owner, *counts = image.segment(s)
     codes = ""
-    for b, used in enumerate(image.in_use(s)):
+    for b, (used, bit) in enumerate(zip(image.in_use(s), image.bits(s))):
         header = image.header(s, b)
-        bit = image.levels(s)[0][b // layout.WORD_BITS] >> b % layout.WORD_BITS & 1
         code = IN_USE * used | BIT * bit | REACHED * (header in reached) | ON_STACK * (header in stacked)
         if layout.marks_bind(image.phase, tag):
             code |= ENTERED * image.entered(header)
         codes += chr(48 + code)
-    return [tag, c, place, owner, codes, [" ".join(f"{w:08x}" for w in level) for level in image.levels(s)]]
+    return [tag, c, place, owner, codes, [" ".join(f"{w:08x}" for w in level) for level in image.levels(s)], counts]
 
 
 def state(image):

@@ -39,7 +39,8 @@ class Library:
 
     def look(self, image):
         """The looks beside the words: phase, segment states, and that the examination says yes and leaves its scratch zero. What no look shows is compared
-        with what it shows: the stacks of segments, the marks of what is on the trace stack, the class of records that are reached."""
+        with what it shows: the stacks of segments, the marks of what is on the trace stack, the class of records that are reached; and the counts that it
+        shows with bits and places."""
         assert self.ask("phase") == image.phase << 32
         output = (WORD * (layout.RECORD_WORDS * self.n))()
         assert self.ask("states", lent=output) == 0
@@ -53,6 +54,7 @@ class Library:
         assert sorted(image.stack(0)) == [s for s, (tag, *_) in enumerate(segments) if tag == layout.FREE]
         for t, c in enumerate(layout.CLASSES, 1):
             assert sorted(image.stack(t)) == [s for s, (tag, of, *_) in enumerate(segments) if tag == layout.PART and of == c]
+        assert all(image.counts(s) == image.counted(s) for s in range(self.n))
         assert all(image.entered(header) for header in image.trace())
         for header in image.reached():
             s, b = image.block(header)
@@ -79,10 +81,11 @@ def reply(name, answer):
 
 
 class Player:
-    """Lines played one after the other; `frames` has each with its reply and the memory after it."""
+    """Lines played one after the other; `frames` has each with its reply and the memory after it. The blocks in use are those of all makes, less those
+    that sweeps freed."""
 
     def __init__(self, library):
-        self.library, self.image, self.frames = library, None, []
+        self.library, self.image, self.frames, self.used = library, None, [], 0
 
     def line(self, line):
         name = re.match(r"\((\w+)", line)[1]
@@ -94,6 +97,10 @@ class Player:
         if said.startswith("(swept"):
             s, freed = map(int, re.findall(r"\d+", said))
             assert freed == sum(before.in_use(s)) - sum(self.image.in_use(s))
+            self.used -= freed
+        self.used = 0 if name == "rack" else self.used + (name == "make" and said == "(ok)")
+        for of in (self.image.in_use, self.image.counts):
+            assert self.used == sum(sum(of(s)) for s in range(self.image.n))
         self.frames.append((line, said, self.image))
         return said
 

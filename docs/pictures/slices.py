@@ -14,7 +14,8 @@ PARTS = {
     "a mutator's entry, one of 32": [
         ("roots", layout.ROOTS, STATE["held"]), ("state", 1, USED), ("acknowledgements", 1, USED),
         ("held segments, one for each class", len(layout.CLASSES), STATE["part"]), ("not used", layout.ENTRY_WORDS - layout.HELD - len(layout.CLASSES), PAPER)],
-    "a segment's record": [(word, 1, STATE["condemned"]) for word in ("state", "class", "place", "mutator")],
+    "a segment's record": [(word, 1, STATE["condemned"]) for word in ("state", "class", "place", "mutator")]
+                          + [(word, 1, STATE["part"]) for word in ("blocks kept at the last sweep", "blocks handed out since")],
     "a record of 2 pointers and 4 values, class 5": [("header", 1, STATE["full"]), ("pointers", 2, GREY), ("values", 4, USED), ("rest of the block", 1, PAPER)],
 }
 

@@ -1,4 +1,5 @@
-"""A segment's states, with the call that moves it. The moves are those that were seen in the recorded runs, no more and no fewer."""
+"""A segment's states, with the call that moves it. The moves are those that were seen in the recorded runs, no more and no fewer; so is what they do with
+a segment's two counts."""
 import re
 from collections import Counter
 
@@ -53,11 +54,26 @@ def moves(recordings):
     return seen
 
 
+def counted(recordings):
+    """How often which call changed a segment's counts, and whether it was by one block more or to what a sweep leaves."""
+    seen = Counter()
+    for frames in recordings:
+        for (_, _, before), (line, reply, after) in zip(frames, frames[1:]):
+            for s in range(after.n):
+                (kept, out), now = before.counts(s), after.counts(s)
+                if now != [kept, out]:
+                    more = now == [kept, out + 1]
+                    assert more or now[1] == 0 and reply.startswith(f"(swept {s} "), (line, reply)
+                    seen[re.match(r"\((\w+)", line)[1], more] += 1
+    return seen
+
+
 def draw(path, recordings):
-    seen = moves(recordings)
+    seen, counts = moves(recordings), counted(recordings)
     assert set(seen) == set(EDGES), f"moves that are not drawn, or not seen: {set(seen) ^ set(EDGES)}"
+    assert set(counts) == {("make", True), ("step", False)}, counts
     picture = Picture(960, "A segment's states, and the call that moves it",
-                      "In brackets how often in the recorded runs. A make that finds a block in a held segment moves the place alone.")
+                      "In brackets how often in the recorded runs. A make that finds a block in a held segment moves the place and counts the block, no more.")
     for edge, (d, call, more, anchor, words) in EDGES.items():
         picture.arrow(d)
         picture.text(*call, f"{edge[2]} ({seen[edge]})", 13, anchor=anchor, weight="bold")
@@ -67,4 +83,9 @@ def draw(path, recordings):
         picture.box(x - width / 2, y - 36, width, 72, STATE[word], INK, 'rx="10"')
         picture.text(x, y - 4, word, 17, anchor="middle", weight="bold")
         picture.text(x, y + 17, has, 12, SOFT, "middle")
-    picture.write(path, 456)
+    makes, steps = counts["make", True], counts["step", False]
+    picture.text(14, 470, "Each segment has two counts, of the blocks kept at its last sweep and of those handed out since. "
+                 f"A make adds 1 to the second ({makes});", 12, SOFT)
+    picture.text(14, 486, f"the step that sweeps the segment sets the first to its marked blocks and the second to 0 ({steps}). "
+                 "Their sum is the blocks in use; in a free segment both are 0.", 12, SOFT)
+    picture.write(path, 502)

@@ -7,7 +7,7 @@
 
 use std::time::Instant;
 
-use borvukhai::{Heap, MutatorId, Pacer, Refusal, Result, Root, Segments, Shape};
+use borvukhai::{Heap, MutatorId, Pacer, Refusal, Result, Root, SegmentRecord, Segments, Shape};
 
 pub(crate) const SEGMENTS: Segments = Segments::new(8).unwrap();
 pub(crate) const STEPS: u32 = 48;
@@ -160,6 +160,13 @@ impl Play {
     }
 }
 
+/// The load of a heap: the blocks that sweeps kept and those handed out since, of all segments.
+fn load_of(heap: &Heap<Box<[u32]>>) -> Result<(u32, u32)> {
+    let mut output = [0; SEGMENTS.states_length()];
+    let add = |(kept, handed_out), of: SegmentRecord| (kept + of.kept, handed_out + of.handed_out);
+    Ok(heap.states(&mut output)?.fold((0, 0), add))
+}
+
 /// Where a slot's leaf hangs.
 fn place(slot: usize) -> (Root, u32) {
     let leaf = slot / WIDTH;
@@ -174,6 +181,8 @@ fn main() -> Result<()> {
         play.run(OPERATIONS)?;
         if round == ROUNDS {
             println!("{} operations, {} cycles; no room: {} times", play.operations, play.cycles, play.no_room);
+            let (kept, handed_out) = load_of(&play.heap)?;
+            println!("{} blocks in use: {kept} kept by sweeps, {handed_out} handed out since", kept + handed_out);
         }
         assert!(steps.is_none() || play.no_room == 0);
         (calls, shares) = (Lengths { count: 0, ..play.calls }, Lengths { count: 0, ..play.shares });

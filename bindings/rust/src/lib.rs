@@ -129,7 +129,7 @@ mod sys;
 
 pub use collector::Step;
 pub use heap::Heap;
-pub use looks::{Phase, SegmentState, States};
+pub use looks::{Phase, SegmentRecord, SegmentState, States};
 pub use mutator::Mutator;
 pub use numbers::{MutatorId, Root, Shape};
 pub use pacer::Pacer;
@@ -138,7 +138,7 @@ pub use segments::Segments;
 
 /// The number of the layout of the lent words, as include/borvukhai.h has it (`BORVUKHAI_LAYOUT`). A landing that moves a word raises it:
 /// keep it beside memory that outlives a restart, and take up only memory of the same number.
-pub const LAYOUT: u32 = 3;
+pub const LAYOUT: u32 = 4;
 
 /// Whether the library that is linked has the layout of this crate: to be asked once, before the first call.
 pub fn check_layout() -> bool {

@@ -4,6 +4,7 @@ use crate::heap::Heap;
 use crate::numbers::MutatorId;
 use crate::raw;
 use crate::refusal::{Refusal, Result};
+use crate::segments::STATE_WORDS;
 
 /// Where a cycle is.
 #[derive(Clone, Copy, Debug, PartialEq, Eq, PartialOrd, Ord, Hash)]
@@ -73,7 +74,7 @@ pub enum SegmentState {
 }
 
 impl SegmentState {
-    /// The state that four words of the output of states are.
+    /// The state that the first four words of a segment's record are.
     fn unpack(words: &[u32]) -> Result<SegmentState> {
         let &[tag, class, place, mutator] = words else {
             return Err(Refusal::Torn);
@@ -92,29 +93,61 @@ impl SegmentState {
     }
 }
 
-/// The states of the segments, from segment 0 on: what [`Heap::states`] answers.
+/// What the look says of a segment: its state, and two counts of its blocks.
+///
+/// A sweep sets both counts, and each make adds 1 to the second one in the segment that its block is in. In memory that passes the
+/// examination the two together are the segment's blocks in use, and both are 0 where it is free. Over other memory they may be any
+/// numbers: the look tells them as they are.
+#[derive(Clone, Copy, Debug, PartialEq, Eq, Hash)]
+pub struct SegmentRecord {
+    /// What it is used for.
+    pub state: SegmentState,
+    /// The blocks kept at its last sweep, 0 before one.
+    pub kept: u32,
+    /// The blocks handed out since that sweep, or since the opening where there was none.
+    pub handed_out: u32,
+}
+
+impl SegmentRecord {
+    /// The record that six words of the output of states are.
+    fn unpack(words: &[u32]) -> Result<SegmentRecord> {
+        let &[ref state @ .., kept, handed_out] = words else {
+            return Err(Refusal::Torn);
+        };
+        Ok(SegmentRecord { state: SegmentState::unpack(state)?, kept, handed_out })
+    }
+
+    /// The blocks in use: those kept, and those handed out since. In memory that passes the examination they are no more than the
+    /// segment's blocks, 2,048 at most. It has 64 bits, as over other memory the sum may not fit in 32.
+    #[inline]
+    pub const fn in_use(self) -> u64 {
+        self.kept as u64 + self.handed_out as u64
+    }
+}
+
+/// The records of the segments, from segment 0 on: what [`Heap::states`] answers.
 #[derive(Clone, Debug)]
 pub struct States<'o> {
     words: core::slice::ChunksExact<'o, u32>,
 }
 
 impl<'o> States<'o> {
-    /// The states in these words, if every four of them are one.
+    /// The records in these words, if every six of them are one.
     fn of(words: &'o [u32]) -> Result<States<'o>> {
-        let words = words.chunks_exact(4);
-        for state in words.clone() {
-            SegmentState::unpack(state)?;
+        let words = words.chunks_exact(STATE_WORDS);
+        for record in words.clone() {
+            SegmentRecord::unpack(record)?;
         }
         Ok(States { words })
     }
 }
 
 impl Iterator for States<'_> {
-    type Item = SegmentState;
+    type Item = SegmentRecord;
 
-    fn next(&mut self) -> Option<SegmentState> {
-        // `of` has seen that every four words are a state.
-        SegmentState::unpack(self.words.next()?).ok()
+    fn next(&mut self) -> Option<SegmentRecord> {
+        // `of` has seen that every six words are a record.
+        SegmentRecord::unpack(self.words.next()?).ok()
     }
 
     fn size_hint(&self) -> (usize, Option<usize>) {
@@ -130,24 +163,38 @@ impl<M: AsRef<[u32]> + AsMut<[u32]>> Heap<M> {
         raw::phase(self.segments().count(), self.memory())
     }
 
-    /// The state of each segment, from segment 0 on, through an output of [`Segments::states_length`](crate::Segments::states_length)
-    /// words. Refused Size where the output has another length, and Torn.
+    /// The record of each segment, its state and its counts of blocks, from segment 0 on, through an output of
+    /// [`Segments::states_length`](crate::Segments::states_length) words. Refused Size where the output has another length, and Torn.
     ///
     /// Over memory that fails the examination the library may name a holder over 31; that is Torn here too, and the output then holds the
     /// words that the library wrote. Otherwise a refusal leaves the output as it was.
     ///
     /// ```
-    /// use borvukhai::{Heap, MutatorId, Root, SegmentState, Segments, Shape};
+    /// use borvukhai::{Heap, MutatorId, Root, SegmentRecord, SegmentState, Segments, Shape};
     ///
     /// let mut heap = Heap::new(Segments::new(2).unwrap());
     /// let id = MutatorId::new(5).unwrap();
-    /// heap.attach(id)?.make(Root::R0, Shape::new(1, 600))?;
+    /// let mut mutator = heap.attach(id)?;
+    /// for root in [Root::R0, Root::R1, Root::R2, Root::R2] {
+    ///     mutator.make(root, Shape::new(1, 600))?;
+    /// }
     ///
-    /// let mut output = [0; 8];
+    /// // Four blocks were handed out; the cycle finds three records alive, and frees the fourth.
+    /// let mut output = [0; 12];
+    /// let full = SegmentState::Full { class: 12, place: 4 };
     /// let mut states = heap.states(&mut output)?;
-    /// assert_eq!(states.next(), Some(SegmentState::Held { class: 12, place: 1, mutator: id }));
-    /// assert_eq!(states.next(), Some(SegmentState::Free));
+    /// assert_eq!(states.next(), Some(SegmentRecord { state: full, kept: 0, handed_out: 4 }));
+    /// assert_eq!(states.next(), Some(SegmentRecord { state: SegmentState::Free, kept: 0, handed_out: 0 }));
     /// assert_eq!(states.next(), None);
+    /// heap.start()?;
+    /// assert_eq!(heap.finish_cycle()?, 1);
+    ///
+    /// // The next make gets the block that became free.
+    /// let part = SegmentState::Part { class: 12, place: 0 };
+    /// assert_eq!(heap.states(&mut output)?.next(), Some(SegmentRecord { state: part, kept: 3, handed_out: 0 }));
+    /// heap.mutator(id).make(Root::R3, Shape::new(1, 600))?;
+    /// assert_eq!(heap.states(&mut output)?.next(), Some(SegmentRecord { state: full, kept: 3, handed_out: 1 }));
+    /// assert_eq!(heap.states(&mut output)?.map(SegmentRecord::in_use).sum::<u64>(), 4);
     /// # Ok::<(), borvukhai::Refusal>(())
     /// ```
     pub fn states<'o>(&self, output: &'o mut [u32]) -> Result<States<'o>> {
@@ -172,6 +219,16 @@ mod tests {
         assert_eq!(Phase::unpack(5), Err(Refusal::Torn));
         assert_eq!(SegmentState::unpack(&[5, 12, 0, 0]), Err(Refusal::Torn));
         assert_eq!(SegmentState::unpack(&[2, 12, 0, 32]), Err(Refusal::Torn));
-        assert!(States::of(&[0, 0, 0, 0, 5, 12, 0, 0]).is_err());
+        assert!(States::of(&[0, 0, 0, 0, 0, 0, 5, 12, 0, 0, 0, 0]).is_err());
+        assert_eq!(SegmentRecord::unpack(&[]), Err(Refusal::Torn));
+        assert_eq!(SegmentRecord::unpack(&[0, 0, 0, 0]), Err(Refusal::Torn));
+    }
+
+    #[test]
+    fn counts_of_any_size() {
+        let record = SegmentRecord::unpack(&[3, 12, 4, 0, u32::MAX, u32::MAX]).unwrap();
+        let state = SegmentState::Full { class: 12, place: 4 };
+        assert_eq!(record, SegmentRecord { state, kept: u32::MAX, handed_out: u32::MAX });
+        assert_eq!(record.in_use(), 8_589_934_590);
     }
 }

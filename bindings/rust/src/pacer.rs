@@ -7,14 +7,16 @@ use crate::heap::Heap;
 use crate::looks::{Phase, SegmentState};
 use crate::numbers::{MutatorId, Root, Shape};
 use crate::refusal::{Refusal, Result};
+use crate::segments::{CLASS_AT, STATE_WORDS};
 
 /// Runs the collector beside the makes: at most so many steps after each of them, and a cycle begun as late as that
 /// pace allows, so that it finds the most to free. docs/PACING.md says why and when this holds.
 ///
-/// It counts the blocks in use of each class (makes, less what sweeps freed), as no call answers them, and looks at
-/// the segments' states now and then, through an output that it keeps. So it has two bounds: the makes that are
-/// certain to find room, in any order, by any of the mutators and of any class in play, and the steps that a cycle
-/// begun now can take. Once the makes times the pace are no more than the steps, it starts a cycle.
+/// It counts the blocks in use of each class: makes, less what sweeps freed. (From an opening on, the counts of a look
+/// add up to the same.) And it looks at the segments' states now and then, through an output that it keeps. So it has
+/// two bounds: the makes that are certain to find room, in any order, by any of the mutators and of any class in play,
+/// and the steps that a cycle begun now can take. Once the makes times the pace are no more than the steps, it starts a
+/// cycle.
 ///
 /// [`room`](Pacer::room) says the first bound, and [`kept`](Pacer::kept) whether the pace promises that a cycle ends
 /// before that room is used up. Where not, makes may be refused NoRoom: lend more segments, take more steps, say by
@@ -293,7 +295,7 @@ impl<O: AsRef<[u32]> + AsMut<[u32]>> Pacer<O> {
     fn look<M: AsRef<[u32]> + AsMut<[u32]>>(&mut self, heap: &Heap<M>) -> Result<Look> {
         let mut look = Look::default();
         (self.room, self.wait, self.kept) = (0, 0, false);
-        heap.states(self.output.as_mut())?.for_each(|state| look.see(state));
+        heap.states(self.output.as_mut())?.for_each(|record| look.see(record.state));
         for (class, of) in look.classes.iter().enumerate() {
             self.in_use[class] = self.in_use[class].clamp(of.least, of.most);
             let makers = &mut self.makers[class];
@@ -359,7 +361,7 @@ impl<O: AsRef<[u32]> + AsMut<[u32]>> Pacer<O> {
 
     /// Blocks became free; the segment's class is that of a look before this sweep.
     fn swept(&mut self, segment: u32, freed: u32) {
-        let class = self.output.as_ref().get(4 * segment as usize + 1).copied().unwrap_or_default();
+        let class = self.output.as_ref().get(STATE_WORDS * segment as usize + CLASS_AT).copied().unwrap_or_default();
         if let Some(in_use) = self.in_use.get_mut(class as usize) {
             *in_use = in_use.saturating_sub(freed);
         }

@@ -171,8 +171,8 @@ pub fn phase(segments: u32, memory: &[u32]) -> Result<Phase> {
     Phase::unpack(result(unsafe { sys::borvukhai_phase(segments, memory.as_ptr(), memory.len()) })?)
 }
 
-/// The states of the segments, four words each: tag, class, place, mutator, as include/borvukhai.h has them. Refused Size, Torn, and
-/// then the output is unchanged.
+/// The segments' records, six words each: tag, class, place, mutator, blocks kept, blocks handed out, as include/borvukhai.h has them.
+/// The two counts are copied whatever they are. Refused Size, Torn, and then the output is unchanged.
 #[inline]
 pub fn states(segments: u32, memory: &[u32], output: &mut [u32]) -> Result<()> {
     // SAFETY: two slices; `output` is borrowed for this call alone, so `memory`, which is only read, does not overlap it.

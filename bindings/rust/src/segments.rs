@@ -11,7 +11,7 @@ use crate::refusal::Refusal;
 ///
 /// const SEGMENTS: Segments = Segments::new(2).unwrap();
 /// static MEMORY: [u32; SEGMENTS.length()] = [0; SEGMENTS.length()];
-/// assert_eq!(MEMORY.len(), 13_637);
+/// assert_eq!(MEMORY.len(), 13_641);
 /// ```
 #[derive(Clone, Copy, Debug, PartialEq, Eq, PartialOrd, Ord, Hash)]
 pub struct Segments(u16);
@@ -19,8 +19,10 @@ pub struct Segments(u16);
 /// Words of a heap that do not depend on the count: control, mutators' entries and the counts of the stacks.
 const FIXED: usize = 1053;
 /// Words of a heap for each segment.
-const PER_SEGMENT: usize = 6292;
-const STATES_PER_SEGMENT: usize = 4;
+const PER_SEGMENT: usize = 6294;
+/// Words of a segment's record in the output of states, and where its class stands in them.
+pub(crate) const STATE_WORDS: usize = 6;
+pub(crate) const CLASS_AT: usize = 1;
 const SCRATCH_PER_SEGMENT: usize = 2176;
 
 impl Segments {
@@ -53,14 +55,14 @@ impl Segments {
         self.0 as u32
     }
 
-    /// Words of the memory that a heap is lent: 6292 n + 1053.
+    /// Words of the memory that a heap is lent: 6294 n + 1053.
     pub const fn length(self) -> usize {
         PER_SEGMENT * self.0 as usize + FIXED
     }
 
-    /// Words of the output of [`Heap::states`](crate::Heap::states): 4 n.
+    /// Words of the output of [`Heap::states`](crate::Heap::states): 6 n.
     pub const fn states_length(self) -> usize {
-        STATES_PER_SEGMENT * self.0 as usize
+        STATE_WORDS * self.0 as usize
     }
 
     /// Words of the scratch of [`Heap::examine`](crate::Heap::examine): 2176 n.

@@ -3,7 +3,7 @@
 mod common;
 
 use borvukhai::{Heap, Refusal, Root, Segments, Shape, Step};
-use common::{OFF_HEAP, ONE, SCRATCH, at, fresh, full, id};
+use common::{OFF_HEAP, ONE, SCRATCH, STATES, at, fresh, full, id};
 
 #[test]
 fn a_heap_goes_on_in_the_middle_of_a_cycle() {
@@ -24,8 +24,16 @@ fn a_heap_goes_on_in_the_middle_of_a_cycle() {
 
 #[test]
 fn torn_memory_is_refused_and_handed_back() {
-    let breaks: [(usize, u32); 6] =
-        [(at::PHASE, 5), (at::TRACE_COUNT, 1), (at::ROOT, OFF_HEAP), (at::HELD, 1), (at::TAG, 0), (at::FREE_COUNT, 1)];
+    let breaks: [(usize, u32); 8] = [
+        (at::PHASE, 5),
+        (at::TRACE_COUNT, 1),
+        (at::ROOT, OFF_HEAP),
+        (at::HELD, 1),
+        (at::TAG, 0),
+        (at::KEPT, 1),
+        (at::HANDED_OUT, 3),
+        (at::FREE_COUNT, 1),
+    ];
     for (word, value) in breaks {
         let mut words = full();
         words[word] = value;
@@ -92,7 +100,7 @@ fn any_call(heap: &mut Heap<Vec<u32>>, dice: &mut Dice) {
         12 => heap.start(),
         _ => heap.step().map(drop),
     };
-    let _ = heap.states(&mut [0; 4]).map(Iterator::count);
+    let _ = heap.states(&mut [0; STATES]).map(Iterator::count);
 }
 
 #[test]

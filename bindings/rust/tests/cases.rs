@@ -2,7 +2,7 @@
 
 mod common;
 
-use borvukhai::{Heap, Mutator, Refusal, Result, Root, SegmentState, Segments, Step};
+use borvukhai::{Heap, Mutator, Refusal, Result, Root, SegmentRecord, SegmentState, Segments, Step};
 use common::{SHAPE, id};
 
 const TWO: Segments = Segments::new(2).unwrap();
@@ -133,7 +133,8 @@ fn a_cycle_over_nothing_with_a_mutator() -> Result<()> {
     heap.mutator(id(0)).make(Root::R1, SHAPE)?;
     steps(&mut heap, &[Step::Done, Step::Idle]);
     let mut states = [0; TWO.states_length()];
-    let expected = [SegmentState::Held { class: 12, place: 2, mutator: id(0) }, SegmentState::Free];
+    let held = SegmentState::Held { class: 12, place: 2, mutator: id(0) };
+    let expected = [(held, 2), (SegmentState::Free, 0)].map(|(state, handed_out)| SegmentRecord { state, kept: 0, handed_out });
     assert!(heap.states(&mut states)?.eq(expected));
     Ok(())
 }

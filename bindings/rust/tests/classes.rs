@@ -21,7 +21,7 @@ fn opened(segments: Segments) -> Result<Heap<Vec<u32>>> {
 fn look(heap: &Heap<Vec<u32>>) -> Vec<SegmentState> {
     assert_eq!(heap.examine(&mut vec![7; heap.segments().scratch_length()]), Ok(true));
     let mut output = vec![0; heap.segments().states_length()];
-    heap.states(&mut output).unwrap().collect()
+    heap.states(&mut output).unwrap().map(|record| record.state).collect()
 }
 
 /// A cycle with mutator 0 outside: the records marked, and the segments swept with the blocks that became free.

@@ -18,7 +18,7 @@ fn every_count_as_the_library_has_it() {
 fn the_formulas() {
     for n in 1..=256 {
         let count = n as u32;
-        assert_eq!(lengths_of(count), [6292 * n + 1053, 4 * n, 2176 * n]);
+        assert_eq!(lengths_of(count), [6294 * n + 1053, 6 * n, 2176 * n]);
         assert_eq!(Segments::try_from(count).map(u32::from), Ok(count));
     }
 }
@@ -39,7 +39,7 @@ fn the_most_segments_that_fit() {
     for n in 1..=256 {
         let segments = Segments::new(n).unwrap();
         assert_eq!(Segments::fitting(segments.length()), Some(segments));
-        assert_eq!(Segments::fitting(segments.length() + 6291), Some(segments));
+        assert_eq!(Segments::fitting(segments.length() + 6293), Some(segments));
     }
     assert_eq!(Segments::fitting(usize::MAX), Some(Segments::MAX));
 }

@@ -2,37 +2,38 @@
 
 mod common;
 
-use borvukhai::{Heap, Phase, Refusal, Root, SegmentState, Step};
-use common::{ONE, SCRATCH, SHAPE, at, fresh, full, id};
+use borvukhai::{Heap, Phase, Refusal, Root, SegmentRecord, SegmentState, Step};
+use common::{ONE, SCRATCH, SHAPE, STATES, at, fresh, full, id};
 
-fn state(heap: &Heap<Vec<u32>>) -> SegmentState {
+/// The state, the blocks kept and the blocks handed out.
+fn look(heap: &Heap<Vec<u32>>) -> (SegmentState, u32, u32) {
     let before = heap.memory().to_vec();
-    let mut output = [9; 4];
+    let mut output = [9; STATES];
     let mut states = heap.states(&mut output).unwrap();
     assert_eq!(states.len(), 1);
-    let state = states.next().unwrap();
+    let SegmentRecord { state, kept, handed_out } = states.next().unwrap();
     assert_eq!((states.len(), states.next()), (0, None));
     assert!(heap.memory() == before, "a word has changed");
-    state
+    (state, kept, handed_out)
 }
 
 #[test]
 fn the_states_of_a_segment() {
     let mut heap = Heap::open(ONE, vec![0; ONE.length()]).unwrap();
-    assert_eq!(state(&heap), SegmentState::Free);
+    assert_eq!(look(&heap), (SegmentState::Free, 0, 0));
     heap.attach(id(7)).unwrap().make(Root::R0, SHAPE).unwrap();
-    assert_eq!(state(&heap), SegmentState::Held { class: 12, place: 1, mutator: id(7) });
+    assert_eq!(look(&heap), (SegmentState::Held { class: 12, place: 1, mutator: id(7) }, 0, 1));
     heap.spawn(id(0), id(7), Root::R0).unwrap();
     heap.mutator(id(7)).detach().unwrap();
-    assert_eq!(state(&heap), SegmentState::Part { class: 12, place: 1 });
+    assert_eq!(look(&heap), (SegmentState::Part { class: 12, place: 1 }, 0, 1));
     for _ in 0..3 {
         heap.mutator(id(0)).make(Root::R1, SHAPE).unwrap();
     }
-    assert_eq!(state(&heap), SegmentState::Full { class: 12, place: 4 });
+    assert_eq!(look(&heap), (SegmentState::Full { class: 12, place: 4 }, 0, 4));
     heap.start().unwrap();
-    assert_eq!(state(&heap), SegmentState::Condemned { class: 12, place: 4 });
+    assert_eq!(look(&heap), (SegmentState::Condemned { class: 12, place: 4 }, 0, 4));
     assert_eq!(heap.finish_cycle(), Ok(2));
-    assert_eq!(state(&heap), SegmentState::Part { class: 12, place: 0 });
+    assert_eq!(look(&heap), (SegmentState::Part { class: 12, place: 0 }, 2, 0));
 }
 
 #[test]
@@ -69,7 +70,7 @@ fn the_examination() {
 #[test]
 fn a_holder_over_31_is_torn() {
     let mut words = fresh();
-    words[at::TAG..at::TAG + 4].copy_from_slice(&[2, 12, 0, 32]);
+    words[at::TAG..=at::HOLDER].copy_from_slice(&[2, 12, 0, 32]);
     let heap = Heap::adopt_unexamined(ONE, words).unwrap();
-    assert_eq!(heap.states(&mut [0; 4]).unwrap_err(), Refusal::Torn);
+    assert_eq!(heap.states(&mut [0; STATES]).unwrap_err(), Refusal::Torn);
 }

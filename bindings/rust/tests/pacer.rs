@@ -7,7 +7,7 @@ mod common;
 #[allow(dead_code)] // its main
 mod paced;
 
-use borvukhai::{Heap, Pacer, Phase, Refusal, Result, Root, SegmentState, Segments, Shape};
+use borvukhai::{Heap, Pacer, Phase, Refusal, Result, Root, SegmentRecord, SegmentState, Segments, Shape};
 use common::id;
 use paced::{Play, STEPS};
 
@@ -165,8 +165,8 @@ impl Mixed {
         for _ in 0..tries {
             let values = self.any(self.mix.values.len() as u32) as usize;
             chosen = (self.any(self.mix.mutators), self.mix.values[values]);
-            let holds = |state: &SegmentState| {
-                matches!(*state, SegmentState::Held { class, mutator, .. }
+            let holds = |record: &SegmentRecord| {
+                matches!(record.state, SegmentState::Held { class, mutator, .. }
                 if mutator == id(chosen.0) && Some(class) == Shape::new(1, chosen.1).class())
             };
             if !states.iter().any(holds) {
@@ -297,7 +297,7 @@ fn all_mutators_and_classes() -> Result<()> {
 fn a_small_heap_by_whole_cycles() -> Result<()> {
     let mut heap = Heap::new(common::ONE);
     heap.attach(id(0))?;
-    let mut pacer = Pacer::new(&heap, [0; 4], 1, 1)?;
+    let mut pacer = Pacer::new(&heap, [0; common::STATES], 1, 1)?;
     let mut refused = 0;
     for _ in 0..1000 {
         if pacer.make(&mut heap, id(0), NEW, common::SHAPE) == Err(Refusal::NoRoom) {
@@ -327,14 +327,14 @@ fn a_class_that_is_no_longer_made() -> Result<()> {
     heap.start()?;
     assert_eq!(heap.finish_cycle(), Ok(0));
     assert_eq!(heap.mutator(id(0)).make(NEW, Shape::new(1, 14)), Err(Refusal::NoRoom));
-    assert!(heap.states(&mut [0; TWO.states_length()])?.all(|state| matches!(state, SegmentState::Held { .. })));
+    assert!(heap.states(&mut [0; TWO.states_length()])?.all(|record| matches!(record.state, SegmentState::Held { .. })));
     Ok(())
 }
 
 #[test]
 fn another_output_is_refused() {
     let heap = Heap::new(SEGMENTS);
-    assert_eq!(Pacer::new(&heap, [0; 4], 1, 1).unwrap_err(), Refusal::Size);
+    assert_eq!(Pacer::new(&heap, [0; common::STATES], 1, 1).unwrap_err(), Refusal::Size);
 }
 
 /// Over words of any content a pacer ends and panics never, as the calls below it.
@@ -348,7 +348,7 @@ fn torn_memory() {
         for tag in 0..=5 {
             (words[common::at::PHASE], words[common::at::TAG]) = (phase, tag);
             let mut heap = Heap::adopt_unexamined(common::ONE, words.clone()).unwrap();
-            if let Ok(mut pacer) = Pacer::new(&heap, [0; 4], 7, 1) {
+            if let Ok(mut pacer) = Pacer::new(&heap, [0; common::STATES], 7, 1) {
                 for number in 0..200 {
                     let _ = pacer.make(&mut heap, id(number % 32), NEW, Shape::new(1, number));
                     let _ = pacer.made(&mut heap, Shape::new(1, number));
@@ -363,7 +363,22 @@ fn torn_memory() {
 fn torn_class_words() {
     for words in common::torn_classes() {
         let mut heap = Heap::adopt_unexamined(common::ONE, words).unwrap();
-        if let Ok(mut pacer) = Pacer::new(&heap, [0; 4], 7, 1) {
+        if let Ok(mut pacer) = Pacer::new(&heap, [0; common::STATES], 7, 1) {
+            for values in [6, 600, 2000, 4000] {
+                let _ = pacer.make(&mut heap, id(0), NEW, Shape::new(1, values));
+                let _ = pacer.made(&mut heap, Shape::new(1, values));
+            }
+            let _ = pacer.finish(&mut heap);
+        }
+    }
+}
+
+/// The same where a segment's counts are others: a make or a sweep may then be refused Torn.
+#[test]
+fn torn_counts() {
+    for words in common::torn_counts() {
+        let mut heap = Heap::adopt_unexamined(common::ONE, words).unwrap();
+        if let Ok(mut pacer) = Pacer::new(&heap, [0; common::STATES], 7, 1) {
             for values in [6, 600, 2000, 4000] {
                 let _ = pacer.make(&mut heap, id(0), NEW, Shape::new(1, values));
                 let _ = pacer.made(&mut heap, Shape::new(1, values));

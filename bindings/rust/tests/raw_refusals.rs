@@ -3,7 +3,7 @@
 mod common;
 
 use borvukhai::{Refusal, Result, Step, raw};
-use common::{OFF_HEAP, SCRATCH, at, fresh, full, torn_classes};
+use common::{OFF_HEAP, SCRATCH, STATES, at, fresh, full, torn_classes, torn_counts};
 
 const MANY: u32 = u32::MAX;
 
@@ -71,18 +71,19 @@ fn number_1_size() {
     all_refused_size(0, &mut []);
 }
 
-/// The lengths of layout 2, which programs compiled for it still lend.
+/// The lengths of layouts 2 and 3, which programs compiled for them still lend.
 #[test]
-fn number_1_size_of_the_layout_before() {
+fn number_1_size_of_the_layouts_before() {
     for segments in [1, 2, 3, 12, 255, 256] {
         all_refused_size(segments, &mut vec![0; 6290 * segments as usize + 1051]);
+        all_refused_size(segments, &mut vec![0; 6292 * segments as usize + 1053]);
     }
 }
 
 #[test]
 fn number_1_size_of_output_and_scratch() {
     let words = full();
-    for length in [0, 3, 5] {
+    for length in [0, 4, STATES - 1, STATES + 1] {
         let mut output = vec![9; length];
         assert_eq!(raw::states(1, &words, &mut output), Err(Refusal::Size));
         assert!(output.iter().all(|&word| word == 9));
@@ -252,22 +253,23 @@ fn number_13_torn_entries() {
     assert_eq!(raw::step(1, &mut words), Err(Refusal::Torn));
     assert_eq!(raw::phase(1, &words), Err(Refusal::Torn));
     words[at::TAG] = 5;
-    let mut output = [9; 4];
+    let mut output = [9; STATES];
     assert_eq!(raw::states(1, &words, &mut output), Err(Refusal::Torn));
-    assert_eq!(output, [9; 4]);
+    assert_eq!(output, [9; STATES]);
 }
 
-/// A class word that is another class's or none. Nothing panics, nothing is refused Size, and the examination finds it.
+/// A class word that is another class's or none, or counts that are not right. Nothing panics, nothing is refused Size, and the
+/// examination finds it.
 #[test]
-fn number_13_torn_class_words() {
+fn number_13_torn_segment_records() {
     let calls = INSIDE.into_iter().chain([ATTACH, SPAWN, ENTER, MAKE_13, MAKE_14]);
-    for torn in torn_classes() {
+    for torn in torn_classes().chain(torn_counts()) {
         for (call, mutator) in calls.clone().flat_map(|call| [(call, 0), (call, 1)]) {
             assert_ne!(call(1, &mut torn.clone(), mutator, 0, 0), Err(Refusal::Size));
         }
         assert_ne!(raw::start(1, &mut torn.clone()), Err(Refusal::Size));
         assert!(raw::phase(1, &torn).is_ok());
-        assert_ne!(raw::states(1, &torn, &mut [0; 4]), Err(Refusal::Size));
+        assert_ne!(raw::states(1, &torn, &mut [0; STATES]), Err(Refusal::Size));
         assert_eq!(raw::examine(1, &torn, &mut [0; SCRATCH]), Ok(false));
         let mut words = torn;
         for _ in 0..8 {

@@ -2,7 +2,6 @@
 // that fails the examination an entry may name a segment that is none, or a part stack have no room: then the answer is 13.
 use layout::Geometry;
 use model::Answer;
-use model::Segment;
 use model::SegmentState;
 ghost use mathlib.Core.Path.{_≡_};
 ghost use Prim.Native.Nat.{_<_};
@@ -94,7 +93,7 @@ fn release_one(g: Geometry, mem: &mut [u32], mutator: u32, class: u32) -> bool
     }
     let place = segments::place(g, mem, s);
     let state = SegmentState::Part { class, place };
-    segments::write(g, mem, s, Segment { state });
+    segments::write(g, mem, s, state);
     stacks::push(g, mem, stacks::part_stack(class), s)
 }
 

@@ -35,6 +35,64 @@ fn broken(mem: &mut [u32], scratch: &mut [u32], i: usize, v: u32, text: &[u8]) {
     }
 }
 
+// The word at i becomes v; what it was.
+fn put(mem: &mut [u32], i: usize, v: u32) -> u32 {
+    if i < mem.len() {
+        let kept = mem[i];
+        mem[i] = v;
+        return kept;
+    }
+    0
+}
+
+// The two counts of segment 0.
+fn first_counts(mem: &mut [u32], kept: u32, handed: u32) {
+    put(mem, SEGMENTS + layout::KEPT_AT, kept);
+    put(mem, SEGMENTS + layout::HANDED_AT, handed);
+}
+
+// The two counts of segment 1.
+fn second_counts(mem: &mut [u32], kept: u32, handed: u32) {
+    put(mem, SECOND + layout::KEPT_AT, kept);
+    put(mem, SECOND + layout::HANDED_AT, handed);
+}
+
+// A word of segment 0 becomes v, with counts that fit it, so that these are not what is wrong; then all is put back.
+fn first_broken(
+    mem: &mut [u32],
+    scratch: &mut [u32],
+    kept: u32,
+    handed: u32,
+    i: usize,
+    v: u32,
+    text: &[u8],
+) {
+    first_counts(mem, kept, handed);
+    let old = put(mem, i, v);
+    say(mem, scratch, text);
+    put(mem, i, old);
+    first_counts(mem, 0, 4);
+    say(mem, scratch, b"  put back");
+}
+
+// The same of segment 1.
+fn second_broken(
+    mem: &mut [u32],
+    scratch: &mut [u32],
+    kept: u32,
+    handed: u32,
+    i: usize,
+    v: u32,
+    text: &[u8],
+) {
+    second_counts(mem, kept, handed);
+    let old = put(mem, i, v);
+    say(mem, scratch, text);
+    put(mem, i, old);
+    second_counts(mem, 0, 2);
+    say(mem, scratch, b"  put back");
+}
+
 fn ask(mem: &mut [u32], request: Request) {
     let a = perform::perform(heap(), mem, request);
     match a {
@@ -150,41 +208,87 @@ const SCRATCH: usize = 2 * (layout::MARK_WORDS + layout::MARK_WORDS + layout::MO
 fn tree_cases(mem: &mut [u32], scratch: &mut [u32]) {
     say(mem, scratch, b"a heap in idle");
     broken(mem, scratch, 0, 5, b"a phase over sweep");
-    broken(
+    second_broken(
         mem,
         scratch,
-        BITMAPS,
-        4294967294,
-        b"a full segment's bit, which binds nothing but its tree",
-    );
-    broken(
-        mem,
-        scratch,
+        32,
+        0,
         SECOND_BITMAP,
         4294967295,
         b"a held segment's word full and its summary bit 0",
     );
 }
 
-// Segment records and stacks.
-fn segment_cases(mem: &mut [u32], scratch: &mut [u32]) {
+// A full segment's bits bind nothing but its tree and its counts.
+fn bit_counts(mem: &mut [u32], scratch: &mut [u32]) {
     broken(
         mem,
         scratch,
+        BITMAPS,
+        4294967294,
+        b"a full segment's bits without its counts",
+    );
+    first_broken(
+        mem,
+        scratch,
+        3,
+        1,
+        BITMAPS,
+        4294967294,
+        b"a full segment's bits with its counts",
+    );
+}
+
+// The two counts by themselves.
+fn count_cases(mem: &mut [u32], scratch: &mut [u32]) {
+    broken(
+        mem,
+        scratch,
+        SEGMENTS + layout::KEPT_AT,
+        1,
+        b"a full segment's count of blocks kept",
+    );
+    broken(
+        mem,
+        scratch,
+        SEGMENTS + layout::HANDED_AT,
+        4294967295,
+        b"a full segment's count of blocks handed out",
+    );
+    broken(
+        mem,
+        scratch,
+        SECOND + layout::HANDED_AT,
+        1,
+        b"a held segment's count of blocks handed out",
+    );
+}
+
+// Segment records and stacks.
+fn segment_cases(mem: &mut [u32], scratch: &mut [u32]) {
+    first_broken(
+        mem,
+        scratch,
+        0,
+        3,
         SEGMENTS + layout::PLACE_AT,
         3,
         b"a full segment's place",
     );
-    broken(
+    second_broken(
         mem,
         scratch,
+        0,
+        1024,
         SECOND + layout::PLACE_AT,
         1025,
         b"a held segment's place past its blocks",
     );
-    broken(
+    second_broken(
         mem,
         scratch,
+        0,
+        0,
         SECOND + layout::PLACE_AT,
         0,
         b"a held segment with nothing in use",
@@ -448,8 +552,20 @@ fn sweep_cases(mem: &mut [u32], scratch: &mut [u32]) {
     );
 }
 
+fn condemned_counts(mem: &mut [u32], scratch: &mut [u32]) {
+    broken(
+        mem,
+        scratch,
+        SEGMENTS + layout::KEPT_AT,
+        1,
+        b"a condemned segment's count of blocks kept",
+    );
+}
+
 fn idle(mem: &mut [u32], scratch: &mut [u32]) {
     tree_cases(mem, scratch);
+    bit_counts(mem, scratch);
+    count_cases(mem, scratch);
     segment_cases(mem, scratch);
     mutator_cases(mem, scratch);
     record_cases(mem, scratch);
@@ -474,6 +590,7 @@ fn marking(mem: &mut [u32], scratch: &mut [u32]) {
     bit_cases(mem, scratch);
     covered_cases(mem, scratch);
     sweep_cases(mem, scratch);
+    condemned_counts(mem, scratch);
 }
 
 fn cases(mem: &mut [u32], scratch: &mut [u32]) {

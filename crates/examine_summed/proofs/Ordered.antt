@@ -1,4 +1,4 @@
--- A stack whose count and whose entries are right is in order, and the trees and the stacks make the first half of consistency.
+-- A stack whose count and whose entries are right is in order, and the trees, the counts and the stacks make the first half of consistency.
 use mathlib.Core.Path.{_≡_, refl, sym, _∙_, ap, subst}
 use mathlib.Core.Bool.{Bool, true, false}
 use mathlib.Core.Logic.{_⊎_, inl, inr}
@@ -18,7 +18,7 @@ use Rattle.layout.specs.declared.Geometry.{Geometry}
 use Rattle.layout.specs.Geometry.{stackCount}
 use Rattle.layout.specs.Mem.{Mem}
 use Rattle.model.specs.Segments.{partStack, count, entry}
-use Rattle.model.specs.Consistent.{StackOk, TreeOk, Summed, isPart}
+use Rattle.model.specs.Consistent.{StackOk, TreeOk, CountsOk, Summed, isPart}
 use Rattle.model_laws.proofs.Bools.{one-less}
 use Rattle.examine_summed.specs.Stacked.{onStack, OrderedStack, Seen, EntersAll}
 
@@ -60,8 +60,14 @@ module _ (g : Geometry) (m : Mem) (t n k : ℕ) (e : n ≡ count g m t) (q : k �
 -- ---- the first half
 
 module _ (g : Geometry) (m : Mem) where
-  from-stacks : ((s : ℕ) → s < g .segments → TreeOk g m s) → ((t : ℕ) → t < stackCount → OrderedStack g m t) → Summed g m
-  from-stacks a h = record { trees = a; freeSegments = h 0 (omega arith); partSegments = λ c k. part c k }
+  abbrev Trees : Type 0
+  Trees = (s : ℕ) → s < g .segments → TreeOk g m s
+
+  abbrev Counts : Type 0
+  Counts = (s : ℕ) → s < g .segments → CountsOk g m s
+
+  from-stacks : Trees → Counts → ((t : ℕ) → t < stackCount → OrderedStack g m t) → Summed g m
+  from-stacks a n h = record { trees = a; counts = n; freeSegments = h 0 (omega arith); partSegments = λ c k. part c k }
     where
       part : (c : ℕ) → IsClass c → StackOk g m (partStack c) (isPart m c)
       part c (a, b) =
@@ -73,8 +79,11 @@ module _ (g : Geometry) (m : Mem) where
   to-stacks s zero l = s .freeSegments
   to-stacks s (suc t) l = let x : partStack (3 + t) ≡ suc t = omega arith in subst (λ z. StackOk g m z (isPart m (3 + t))) x (s .partSegments (3 + t) (omega arith, omega arith))
 
-  pub trees-wrong : (r : Bool) → Decides r ((s : ℕ) → s < g .segments → TreeOk g m s) → r ≡ false → Decides false (Summed g m)
+  pub trees-wrong : (r : Bool) → Decides r Trees → r ≡ false → Decides false (Summed g m)
   trees-wrong r d e = fails (λ s. refuted d e (s .trees))
 
-  pub both : (r : Bool) → Decides r ((s : ℕ) → s < g .segments → TreeOk g m s) → r ≡ true → (b : Bool) → Decides b ((t : ℕ) → t < stackCount → OrderedStack g m t) → Decides b (Summed g m)
-  both r d e b o = record { sound = λ x. from-stacks (d .sound e) (o .sound x); complete = λ s. o .complete (to-stacks s) }
+  pub counts-wrong : (r : Bool) → Decides r Counts → r ≡ false → Decides false (Summed g m)
+  counts-wrong r d e = fails (λ s. refuted d e (s .counts))
+
+  pub all-three : (r : Bool) → Decides r Trees → r ≡ true → (n : Bool) → Decides n Counts → n ≡ true → (b : Bool) → Decides b ((t : ℕ) → t < stackCount → OrderedStack g m t) → Decides b (Summed g m)
+  all-three r d e n h f b o = record { sound = λ x. from-stacks (d .sound e) (h .sound f) (o .sound x); complete = λ s. o .complete (to-stacks s) }

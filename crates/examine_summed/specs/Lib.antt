@@ -1,2 +1,3 @@
--- The stacks as the examination goes through them.
+-- The counts and the stacks as the examination goes through them.
+pub mod Counted
 pub mod Stacked

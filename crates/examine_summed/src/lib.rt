@@ -1,4 +1,5 @@
-// The examination's first half, decided both ways over memory of any content: the bitmaps' trees, and the stacks of free and of part segments.
+// The examination's first half, decided both ways over memory of any content: the bitmaps' trees, the segments' counts, and the stacks of free and of
+// part segments.
 // It needs no scratch: the entries of a stack are told apart by a table of one word for each segment.
 use layout::Geometry;
 use model::Segment;
@@ -10,10 +11,12 @@ ghost use Rattle.basics.specs.Pick.{oneIf};
 ghost use Rattle.words.specs.Bits.{onesAmong};
 ghost use Rattle.words.specs.Levels.{treeWords};
 ghost use Rattle.words.specs.Tree.{Tree};
+ghost use Rattle.classes.specs.Class.{IsClass};
 ghost use Rattle.layout.specs.Geometry.{Sized, bitmapWords, blocksIn, maxSegments, stackCount};
 ghost use Rattle.layout.specs.Mem.{memOf};
 ghost use Rattle.model.specs.Segments.{above, bitmap, count, entry};
-ghost use Rattle.model.specs.Consistent.{TreeOk, Summed};
+ghost use Rattle.model.specs.Consistent.{TreeOk, CountsOk, Summed};
+ghost use Rattle.examine_summed.specs.Counted.{CountedAs};
 ghost use Rattle.examine_summed.specs.Stacked.{onStack, OrderedStack, Enters, EntersAll};
 
 const FIRST_CLASS: usize = classes::FIRST_CLASS as usize;
@@ -66,6 +69,57 @@ fn trees(g: Geometry, mem: &[u32]) -> bool
     let mut s = 0;
     while s < n {
         let ok = segment_tree(g, mem, s);
+        if !ok {
+            return false;
+        }
+        s += 1;
+    }
+    true
+}
+
+// Whether the two counts of segment s, of a class, are the 1 bits among its blocks and the 0 bits before its place: what is in use without a place, and
+// what the place adds to that.
+fn counts_of(g: Geometry, mem: &[u32], s: usize, class: u32) -> bool
+    requires { ⌜ (Sized g (length (now mem))) × (s < g .segments) ⌝ }
+    requires { ⌜ IsClass class ⌝ }
+    ensures { λ r. ⌜ Decides r (CountedAs g (memOf g (now (mem .entry))) s class) ⌝ }
+{
+    let kept = segments::kept(g, mem, s);
+    if kept != bitmaps::in_use(g, mem, s, class, 0) {
+        return false;
+    }
+    let used = bitmaps::in_use(g, mem, s, class, segments::place(g, mem, s));
+    segments::handed(g, mem, s) as u64 + kept as u64 == used as u64
+}
+
+// Whether the two counts of segment s are as its record asks: 0 of a free one; nothing is asked where the class is none.
+fn segment_counts(g: Geometry, mem: &[u32], s: usize) -> bool
+    requires { ⌜ (Sized g (length (now mem))) × (s < g .segments) ⌝ }
+    ensures { λ r. ⌜ Decides r (CountsOk g (memOf g (now (mem .entry))) s) ⌝ }
+{
+    let tag = segments::tag(g, mem, s);
+    if tag == Segment::TAG_FREE {
+        if segments::kept(g, mem, s) != 0 {
+            return false;
+        }
+        return segments::handed(g, mem, s) == 0;
+    }
+    let class = segments::class(g, mem, s);
+    if classes::is_class(class) {
+        return counts_of(g, mem, s, class);
+    }
+    true
+}
+
+// Whether every segment's counts are as its record asks.
+fn counts(g: Geometry, mem: &[u32]) -> bool
+    requires { ⌜ Sized g (length (now mem)) ⌝ }
+    ensures { λ r. ⌜ Decides r ((s : ℕ) → s < g .segments → CountsOk g (memOf g (now (mem .entry))) s) ⌝ }
+{
+    let n = g.segments;
+    let mut s = 0;
+    while s < n {
+        let ok = segment_counts(g, mem, s);
         if !ok {
             return false;
         }
@@ -199,13 +253,17 @@ fn stacks(g: Geometry, mem: &[u32]) -> bool
     true
 }
 
-// Whether the trees and the stacks are in order.
+// Whether the trees, the counts and the stacks are in order.
 pub fn summed(g: Geometry, mem: &[u32]) -> bool
     requires { ⌜ Sized g (length (now mem)) ⌝ }
     ensures { λ r. ⌜ Decides r (Summed g (memOf g (now (mem .entry)))) ⌝ }
 {
     let ok = trees(g, mem);
     if !ok {
+        return false;
+    }
+    let counted = counts(g, mem);
+    if !counted {
         return false;
     }
     stacks(g, mem)

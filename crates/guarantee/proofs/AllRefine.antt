@@ -28,6 +28,7 @@ use Rattle.refine_view.specs.View.{view}
 use Rattle.refine_view.specs.Refines.{Ordered, Moves, Refines, refusedOut, agrees, CallRefines, StepRefines, AllRefine}
 use Rattle.refine_view.proofs.Invariants.{consistent-ordered, to-inv, ordered-of}
 use Rattle.refine_view.proofs.SelfSimulation.{agree-self, moves-self}
+use Rattle.model_laws.proofs.Words.{untouched-same}
 use Rattle.refine_roots.proofs.Calls.{load-refines, copy-refines, clear-refines, get-refines, same-refines, shape-refines}
 use Rattle.refine_roots.proofs.Sides.{enter-refines}
 use Rattle.refine_roots.proofs.Coming.{attach-refines, spawn-refines}
@@ -89,6 +90,7 @@ module _ (g : Geometry) (m : Mem) (s : Sizes g m) (c : Ordered g m) (k d cl p n 
     prepared = agree-self g m;
     shows = refl;
     steady = λ i q y. (y, refl);
+    counts = λ i. untouched-same m m i refl .counts;
     holds = q;
     known = a;
   }

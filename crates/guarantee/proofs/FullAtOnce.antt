@@ -67,7 +67,7 @@ module _ (g : Geometry) (m : Mem) (s : Sizes g m) (c : Consistent g m) (k d cl p
         at-segment : segmentOf g (headerOf g r cl b) ≡ r
         at-segment = segment-is g m₁ ordered k d cl r b (ofCounts p n) q
 
-        go : StillHeld g m₁ (handedOut g m₁ k d cl r b (ofCounts p n)) k cl r b ⊎ NowFull g (handedOut g m₁ k d cl r b (ofCounts p n)) k cl r
+        go : StillHeld g m₁ (handedOut g m₁ k d cl r b (ofCounts p n)) k cl r b ⊎ NowFull g m₁ (handedOut g m₁ k d cl r b (ofCounts p n)) k cl r b
             → FullAtOnce g m (handedOut g m₁ k d cl r b (ofCounts p n)) k d
         go (inl v) = let w = v .after in let u = v .below in absurd (omega arith)
         go (inr v) = record {

@@ -1,4 +1,4 @@
--- Memories that differ in stacks, upper levels and bits past ends only are sound together. Of a segment's record they share the four words of its
+-- Memories that differ in stacks, counts, upper levels and bits past ends only are sound together. Of a segment's record they share the four words of its
 -- state.
 use mathlib.Core.Path.{_≡_, refl, sym, _∙_, ap, subst}
 use mathlib.Core.Logic.{inl, inr}

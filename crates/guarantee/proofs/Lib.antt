@@ -23,3 +23,5 @@ pub mod EmptyCycle
 pub mod Independent
 pub mod HandsBack
 pub mod FullAtOnce
+pub mod Counting
+pub mod Totals

@@ -1,6 +1,6 @@
 -- `Sound` does not depend on what `Summed` is about: two memories that differ only in words which can be built again
--- from the others are sound together. So memory that is not sound stays so however its stacks and its bitmaps' upper
--- levels are built again. Of a segment's record it reads tag, class, place and owner.
+-- from the others are sound together. So memory that is not sound stays so however its stacks, its counts and its bitmaps'
+-- upper levels are built again. Of a segment's record it reads tag, class, place and owner.
 use mathlib.Core.Path.{_≡_}
 use Prim.Native.Nat.{ℕ, _<_}
 use Rattle.words.specs.Bits.{bitAt}

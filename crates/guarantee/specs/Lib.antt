@@ -5,3 +5,4 @@ pub mod Keeping
 pub mod EmptyCycle
 pub mod Independent
 pub mod HandsBack
+pub mod Totals

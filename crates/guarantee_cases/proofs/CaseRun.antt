@@ -37,6 +37,7 @@ commandIn input.start = some start
 commandIn input.step = some step
 commandIn input.look = some (look ofPhase)
 commandIn input.opening = none
+commandIn input.counts = none
 commandIn (input.acknowledgements n) = none
 commandIn (input.marks s) = none
 commandIn (input.enteredIn s) = none

@@ -9,3 +9,4 @@ pub mod OverNothing
 pub mod SoundOnly
 pub mod RefusedStand
 pub mod HandsBack
+pub mod Totals

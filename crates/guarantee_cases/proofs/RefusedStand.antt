@@ -79,7 +79,7 @@ module _ (count : Geometry) (lent : List ℕ) (wrong : wrongSize count (length l
       (meets v r, refl, inl w, subst (λ b. Chain g (pick b words lent) es) (sym w) ch)
 
 -- 257 is no count, and a heap of one segment is none of two
-no-count : wrongSize (geometry 257) (length {A = ℕ} []) ≡ true
+pub no-count : wrongSize (geometry 257) (length {A = ℕ} []) ≡ true
 unfolding wrongSize
 no-count = refl
 

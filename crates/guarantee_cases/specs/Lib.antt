@@ -5,3 +5,4 @@ pub mod Consequences
 pub mod OverNothing
 pub mod RefusedStand
 pub mod HandsBack
+pub mod Totals

@@ -67,13 +67,17 @@ module _ (g : Geometry) (m : Mem) where
   leaves-traces zero = leaves-control m 0 (phaseNumber sweep)
   leaves-traces (suc n) = let at : ℕ = traceWord m n - 1 in same-then m (popped g m at) _ (leaves-popped at) (leaves-pointers g (popped g m at) at (pointerCount m at))
 
-  pub leaves-step : lowest m (g .segments) ≡ none → SameHeap m (stepOf g m .1)
+  -- a step that sweeps nothing
+  pub leaves-unswept : (phase m ≡ sweep → lowest m (g .segments) ≡ none) → SameHeap m (stepOf g m .1)
   unfolding stepOf
-  leaves-step h = go (phase m)
+  leaves-unswept h = go (phase m) h
     where
-      go : (p : Phase) → SameHeap m (stepIn p g m .1)
-      go idle = same-self m
-      go sync1 = leaves-moves (waiting (outsideAnswered g m mutatorCount) mutatorCount) (outsideAnswered g m mutatorCount) (leaves-outside mutatorCount) sync2
-      go sync2 = leaves-moves (waiting (outsideAnswered g m mutatorCount) mutatorCount) (outsideAnswered g m mutatorCount) (leaves-outside mutatorCount) mark
-      go mark = leaves-traces (traceCount m)
-      go sweep = subst (λ o. SameHeap m (sweeps g o m .1)) (sym h) (leaves-control m 0 (phaseNumber idle))
+      go : (p : Phase) → (p ≡ sweep → lowest m (g .segments) ≡ none) → SameHeap m (stepIn p g m .1)
+      go idle h = same-self m
+      go sync1 h = leaves-moves (waiting (outsideAnswered g m mutatorCount) mutatorCount) (outsideAnswered g m mutatorCount) (leaves-outside mutatorCount) sync2
+      go sync2 h = leaves-moves (waiting (outsideAnswered g m mutatorCount) mutatorCount) (outsideAnswered g m mutatorCount) (leaves-outside mutatorCount) mark
+      go mark h = leaves-traces (traceCount m)
+      go sweep h = subst (λ o. SameHeap m (sweeps g o m .1)) (sym (h refl)) (leaves-control m 0 (phaseNumber idle))
+
+  pub leaves-step : lowest m (g .segments) ≡ none → SameHeap m (stepOf g m .1)
+  leaves-step h = leaves-unswept (λ _. h)

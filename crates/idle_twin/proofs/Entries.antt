@@ -20,7 +20,7 @@ use Rattle.layout.specs.Mem.{Mem, setSegment, setStack, setRun, spliced}
 use Rattle.theory.specs.Phases.{newcomer}
 use Rattle.theory.specs.Calls.{shapeIf}
 use Rattle.model.specs.declared.SegmentState.the-variants.{Part}
-use Rattle.model.specs.Fields.{phase, absent, inside, stateAt, acksAt, heldFrom, state, root, holding, placeAt, place}
+use Rattle.model.specs.Fields.{phase, absent, inside, stateAt, acksAt, heldFrom, state, root, holding, placeAt, place, handedAt, handedCount}
 use Rattle.model.specs.Segments.{setSegmentState, partStack, stacked}
 use Rattle.model.specs.Records.{record?, headerShape, shapeOf}
 use Rattle.model.specs.Mutators.{attached, released, releasedOne, detached}
@@ -45,6 +45,9 @@ module _ (m m′ : Mem) (e : SameHeap m m′) where
 
   pub same-place : (s : ℕ) → place m′ s ≡ place m s
   same-place s = ap (λ (l : List ℕ). getD l (s * segmentRecordWords + placeAt) 0) (e .segments)
+
+  pub same-handed-count : (s : ℕ) → handedCount m′ s ≡ handedCount m s
+  same-handed-count s = ap (λ (l : List ℕ). getD l (s * segmentRecordWords + handedAt) 0) (e .segments)
 
   same-shape : (k i : ℕ) → observe m′ .shape k i ≡ observe m .shape k i
   same-shape k i = ap (λ w. shapeIf (not (eqb w absent)) (ltb i rootCount) (Option·map (shapeOf m′) (record? (root m′ k i)))) (same-side k) ∙ go (isAttached m k) (ltb i rootCount) refl

@@ -20,13 +20,13 @@ use Rattle.bitmap_write.specs.Completed.{fresh}
 use Rattle.theory.specs.Phases.{black}
 use Rattle.theory.specs.Calls.{Answer}
 use Rattle.model.specs.declared.SegmentState.the-variants.{Held, Full}
-use Rattle.model.specs.Fields.{phase, acks, place}
+use Rattle.model.specs.Fields.{phase, acks, place, handedCount, setHandedCount}
 use Rattle.model.specs.Segments.{freeStack, partStack, count, top, pop, above, bitmap, free}
 use Rattle.model.specs.Records.{headerOf, headerWord, written, setEntered}
-use Rattle.model.specs.Making.{Source, held, part, unused, noRoom, sourceOf, setHeld, freshened, advanced, blackened, handedOut, inBlock, inSegment, fromSource, made}
+use Rattle.model.specs.Making.{Source, held, part, unused, noRoom, sourceOf, setHeld, freshened, advanced, blackened, countedOut, handedOut, inBlock, inSegment, fromSource, made}
 use Rattle.idle_twin.specs.SameHeap.{SameHeap}
-use Rattle.idle_twin.proofs.Same.{same-self, same-then, same-back, same-mutator, same-stack, same-heap, same-heap-run, same-bitmap, same-state, same-count, leaves-entered}
-use Rattle.idle_twin.proofs.Entries.{same-holding, same-place}
+use Rattle.idle_twin.proofs.Same.{same-self, same-then, same-back, same-mutator, same-stack, same-heap, same-heap-run, same-bitmap, same-segment, same-state, same-count, leaves-entered}
+use Rattle.idle_twin.proofs.Entries.{same-holding, same-place, same-handed-count}
 use Rattle.layout.specs.Region as Region
 
 -- two outcomes with one answer and the same heap
@@ -39,6 +39,10 @@ module _ (g : Geometry) (k d c : ℕ) (shape : RecordShape) where
 
   same-free : (m m′ : Mem) → SameHeap m m′ → (s p : ℕ) → free g m′ s c p ≡ free g m s c p
   same-free m m′ e s p = ap (λ (l : List ℕ). nextFree (bitAt (take (bitmapWords g) (drop (s * bitmapWords g) l))) (blocksIn g c) p) (e .bitmaps)
+
+  same-counted : (m m′ : Mem) → SameHeap m m′ → (s : ℕ) → SameHeap (countedOut m s) (countedOut m′ s)
+  same-counted m m′ e s =
+      subst (λ n. SameHeap (countedOut m s) (setHandedCount m′ s (n + 1))) (sym (same-handed-count m m′ e s)) (same-segment m m′ e _ (handedCount m s + 1))
 
   same-advanced : (m m′ : Mem) → SameHeap m m′ → (s p : ℕ) (f : Found) → SameHeap (advanced g m k c s p f) (advanced g m′ k c s p f)
   same-advanced m m′ e s p (Block b) = same-state g m m′ e s (Held c p k)
@@ -56,9 +60,10 @@ module _ (g : Geometry) (k d c : ℕ) (shape : RecordShape) where
   unfolding handedOut
   same-handed m m′ e s b =
       let at : ℕ = headerOf g s c b in
-      let m₁ : Mem = advanced g m k c s (b + 1) (free g m s c (b + 1)) in
-      let m₁′ : Mem = advanced g m′ k c s (b + 1) (free g m′ s c (b + 1)) in
-      let e₁ : SameHeap m₁ m₁′ = subst (λ f. SameHeap m₁ (advanced g m′ k c s (b + 1) f)) (sym (same-free m m′ e s (b + 1))) (same-advanced m m′ e s (b + 1) (free g m s c (b + 1))) in
+      let m₁ : Mem = advanced g (countedOut m s) k c s (b + 1) (free g m s c (b + 1)) in
+      let m₁′ : Mem = advanced g (countedOut m′ s) k c s (b + 1) (free g m′ s c (b + 1)) in
+      let e₁ : SameHeap m₁ m₁′ = subst (λ f. SameHeap m₁ (advanced g (countedOut m′ s) k c s (b + 1) f)) (sym (same-free m m′ e s (b + 1)))
+      (same-advanced (countedOut m s) (countedOut m′ s) (same-counted m m′ e s) s (b + 1) (free g m s c (b + 1))) in
       let m₂ : Mem = written m₁ at shape in
       let m₂′ : Mem = written m₁′ at shape in
       let e₂ : SameHeap m₂ m₂′ = same-heap-run _ _ (same-heap m₁ m₁′ e₁ at (headerWord shape)) (at + 1) (replicate (fieldCountOf shape) 0) in

@@ -27,7 +27,7 @@ use Rattle.model.specs.Segments.{setSegmentState, freeStack, partStack, pop, fr
 use Rattle.model.specs.Records.{record?, pointer, pointerCount, headerOf, written, setEntered}
 use Rattle.model.specs.Tracing.{push, barrier, pushPointers, popped, traced}
 use Rattle.model.specs.Mutators.{acknowledged, attached, detached}
-use Rattle.model.specs.Making.{Source, held, part, unused, noRoom, sourceOf, setHeld, freshened, advanced, blackened, handedOut, inBlock, fromSource, made}
+use Rattle.model.specs.Making.{Source, held, part, unused, noRoom, sourceOf, setHeld, freshened, advanced, blackened, countedOut, handedOut, inBlock, fromSource, made}
 use Rattle.model.specs.Calls.{observe, ofClass, act, exec}
 use Rattle.model.specs.Collector.{outsideAnswered}
 use Rattle.model_laws.proofs.Pushes.{untouched-push, fold-untouched, pointers-next}
@@ -57,10 +57,10 @@ module _ (g : Geometry) (k d c : ℕ) (shape : RecordShape) where
       go false = refl
 
   still-handed : (m : Mem) (s b : ℕ) → Still m (handedOut g m k d c s b shape)
-  unfolding handedOut setMutator setHeap setRun
+  unfolding handedOut setMutator setSegment setHeap setRun
   still-handed m s b =
-      still-blackened (written (advanced g m k c s (b + 1) (free g m s c (b + 1))) (headerOf g s c b) shape) (headerOf g s c b)
-      ∙ still-advanced m s (b + 1) (free g m s c (b + 1))
+      still-blackened (written (advanced g (countedOut m s) k c s (b + 1) (free g m s c (b + 1))) (headerOf g s c b) shape) (headerOf g s c b)
+      ∙ still-advanced (countedOut m s) s (b + 1) (free g m s c (b + 1))
 
   still-block : (m taken : Mem) → Still m taken → (f : Found) (s : ℕ) → Still m (inBlock g m taken f k d c s shape .1)
   still-block m taken q (Block b) s = still-handed taken s b ∙ q

@@ -67,9 +67,9 @@ mutatorWords = 32
 abbrev pub entryWords : ℕ
 entryWords = rootCount + 2 + classCount
 
--- a segment's record: tag, class, allocation pointer, mutator
+-- a segment's record: tag, class, allocation pointer, mutator; request No. 3: "Each segment record gains two counts"
 abbrev pub segmentRecordWords : ℕ
-segmentRecordWords = 4
+segmentRecordWords = 6
 
 -- the free stack, and a part stack for each class: a count, and as many entries as there are segments
 abbrev pub stackCount : ℕ
@@ -93,7 +93,7 @@ regionCount = 8
 
 -- the number of this layout: a change that moves a word of the lent slice raises it (in no statement: a contract uses it)
 abbrev pub layoutNumber : ℕ
-layoutNumber = 3
+layoutNumber = 4
 
 -- the length of the lent slice
 abbrev pub total : Geometry → ℕ

@@ -19,7 +19,7 @@ pub struct Geometry {
 }
 
 // The number of this layout: a change that moves a word of the lent slice raises it.
-pub const LAYOUT_NUMBER: u32 = 3;
+pub const LAYOUT_NUMBER: u32 = 4;
 
 pub const MAX_SEGMENTS: usize = 256;
 
@@ -41,7 +41,7 @@ pub const MARK_WORDS: usize = 64;
 
 pub const BITMAP_WORDS: usize = 67;
 
-// A segment's record: its tag, its class, its allocation pointer and its mutator, and its length.
+// A segment's record: its tag, its class, its allocation pointer, its mutator and its two counts, and its length.
 pub const TAG_AT: usize = 0;
 
 pub const CLASS_AT: usize = 1;
@@ -50,7 +50,11 @@ pub const PLACE_AT: usize = 2;
 
 pub const OWNER_AT: usize = 3;
 
-pub const SEGMENT_RECORD_WORDS: usize = 4;
+pub const KEPT_AT: usize = 4;
+
+pub const HANDED_AT: usize = 5;
+
+pub const SEGMENT_RECORD_WORDS: usize = 6;
 
 pub const STACKS: usize = 1 + classes::CLASS_COUNT as usize;
 
@@ -80,7 +84,7 @@ pub const MARKS_PER: usize = BITMAPS_PER + BITMAP_WORDS;
 
 pub const TRACE_PER: usize = MARKS_PER + MARK_WORDS;
 
-const TOTAL_PER: usize = TRACE_PER + MOST_BLOCKS;
+pub const TOTAL_PER: usize = TRACE_PER + MOST_BLOCKS;
 
 // The words of a heap of one segment and of two, for programs that have so many.
 pub const WORDS_OF_ONE: usize = TOTAL_PER + FIXED;

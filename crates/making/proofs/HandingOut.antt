@@ -32,13 +32,13 @@ use Rattle.model.specs.declared.Answer.the-variants.{Ok, Refused}
 use Rattle.model.specs.declared.SegmentState.the-variants.{Held, Full}
 use Rattle.model.specs.Answers.{answerOf}
 use Rattle.model.specs.PhaseNumbers.{phaseOf}
-use Rattle.model.specs.Fields.{phase, acks, setHolding, setRoot, class, place, setPlace, ownerAt}
+use Rattle.model.specs.Fields.{phase, acks, setHolding, setRoot, class, place, setPlace, handedAt, handedCount, setHandedCount}
 use Rattle.model.specs.Segments.{setSegmentState, above, bitmap, free}
 use Rattle.model.specs.Records.{headerOf, written, setEntered}
-use Rattle.model.specs.Making.{Source, held, part, unused, noRoom, sourceOf, advanced, blackened, handedOut, inBlock, inSegment, fromSource, made}
+use Rattle.model.specs.Making.{Source, held, part, unused, noRoom, sourceOf, advanced, blackened, countedOut, handedOut, inBlock, inSegment, fromSource, made}
 use Rattle.model.specs.Consistent.{Consistent}
 use Rattle.model_laws.proofs.Blocks.{blocks-most}
-use Rattle.model_laws.proofs.Words.{Recorded, recorded-as, state-there}
+use Rattle.model_laws.proofs.Words.{Recorded, count-state}
 use Rattle.segments.proofs.Records.{place-alone}
 use Rattle.bitmaps.specs.Given.{NearIn}
 use Rattle.marks.specs.Bits.{withMark}
@@ -59,9 +59,23 @@ more-below {n = n} q e = subst (TwoBelow n) e (q .within)
 pub near-at : (g : Geometry) (m : Mem) (s p b : ℕ) (r : Near) → NearIn g m s p r → r ≡ near.More b → NearIn g m s p (near.More b)
 near-at g m s p b r q e = subst (NearIn g m s p) e q
 
--- the words of its record
-held-record : (g : Geometry) (m : Mem) (k c s : ℕ) → SegmentReady g m k c s → Recorded m s Tag.held c (place m s) k
-held-record g m k c s y = record { tag = y .tag; class = y .class; place = refl; owner = y .owner }
+-- the words of its record, where one block more is counted
+held-record : (g : Geometry) (m : Mem) (k c s : ℕ) → SegmentReady g m k c s → Recorded (countedOut m s) s Tag.held c (place m s) k
+held-record g m k c s y =
+    let x = count-state m s handedAt (handedCount m s + 1) (omega arith) (omega arith) s in
+    record { tag = x .tag ∙ y .tag; class = x .class ∙ y .class; place = x .place; owner = x .owner ∙ y .owner }
+
+-- h is its count
+counted-is : (m m₀ : Mem) (s h : ℕ) → h ≡ handedCount m s → m₀ ≡ setHandedCount m s (h + 1) → m₀ ≡ countedOut m s
+counted-is m m₀ s h e f = f ∙ ap (λ x. setHandedCount m s (x + 1)) e
+
+-- none is handed out
+no-block : (g : Geometry) (m : Mem) (k c s : ℕ) → (SegmentReady g m k c s → ⊥) → Advances g m k c s handed.Torn m
+no-block g m k c s f = record { below = λ d u. absurd (let z : _≡_ {A = ℕ} 0 1 = cc in omega arith); exact = λ y. absurd (f y) }
+
+-- its count h can grow no more
+pub advanced-most : (g : Geometry) (m : Mem) (k c s h : ℕ) → h ≡ handedCount m s → h ≡ 4294967295 → Advances g m k c s handed.Torn m
+advanced-most g m k c s h e f = no-block g m k c s (λ y. let l = y .counted in omega arith)
 
 -- ---- the block: r is what the search answers from the place p
 
@@ -72,37 +86,43 @@ module _ (g : Geometry) (m : Mem) (k c s : ℕ) (p : ℕ) (ep : p ≡ place m s)
   scans : SegmentReady g m k c s → (x : Two) → r ≡ x → Says scan scan p x
   scans y x e = two-says scan scan p x (sym e ∙ q .scan (y .tree))
 
-  one-block : (b : ℕ) (after : Mem) → b < blocksIn g c → (SegmentReady g m k c s → (free g m s c (place m s) ≡ Block b) × (after ≡ advanced g m k c s (b + 1) (free g m s c (b + 1))))
+  one-block : (b : ℕ) (after : Mem) → b < blocksIn g c → (SegmentReady g m k c s → (free g m s c (place m s) ≡ Block b) × (after ≡ advanced g (countedOut m s) k c s (b + 1) (free g m s c (b + 1))))
       → Advances g m k c s (handed.Block b) after
   one-block b after l f = record {
     below = λ d u. let z : b ≡ d = cc in omega arith;
     exact = λ y. (b, refl, f y .0, f y .1);
   }
 
-  pub advanced-more : (b : ℕ) → r ≡ two.More b → (m₁ : Mem) → m₁ ≡ setPlace m s (b + 1) → Advances g m k c s (handed.Block b) m₁
-  advanced-more b e m₁ f = one-block b m₁ (more-below q e)
-      (λ y.
-      let v = scans y (two.More b) e in
-      (ap scan (sym ep) ∙ v .0, f ∙ sym (place-alone g m s c (place m s) (b + 1) k (held-record g m k c s y)) ∙ ap (advanced g m k c s (b + 1)) (sym (v .1 .1))))
+  module _ (h : ℕ) (eh : h ≡ handedCount m s) (m₀ : Mem) (e₀ : m₀ ≡ setHandedCount m s (h + 1)) where
+    counted : m₀ ≡ countedOut m s
+    counted = counted-is m m₀ s h eh e₀
 
-  pub advanced-last : (b : ℕ) → r ≡ two.Last b → (m₁ m₂ : Mem) → m₁ ≡ setSegmentState g m s (Full c) → m₂ ≡ setHolding m₁ k c 0 → Advances g m k c s (handed.Block b) m₂
-  advanced-last b e m₁ m₂ f h = one-block b m₂ (subst (TwoBelow (blocksIn g c)) e (q .within))
-      (λ y.
-      let v = scans y (two.Last b) e in
-      (ap scan (sym ep) ∙ v .0, h ∙ ap (λ z. setHolding z k c 0) f ∙ ap (advanced g m k c s (b + 1)) (sym (v .1))))
+    pub advanced-more : (b : ℕ) → r ≡ two.More b → (m₁ : Mem) → m₁ ≡ setPlace m₀ s (b + 1) → Advances g m k c s (handed.Block b) m₁
+    advanced-more b e m₁ f = one-block b m₁ (more-below q e)
+        (λ y.
+        let v = scans y (two.More b) e in (
+          ap scan (sym ep) ∙ v .0,
+          f ∙ ap (λ z. setPlace z s (b + 1)) counted ∙ sym (place-alone g (countedOut m s) s c (place m s) (b + 1) k (held-record g m k c s y))
+              ∙ ap (advanced g (countedOut m s) k c s (b + 1)) (sym (v .1 .1)),
+        ))
 
-  no-block : (SegmentReady g m k c s → ⊥) → Advances g m k c s handed.Torn m
-  no-block f = record { below = λ d u. absurd (let z : _≡_ {A = ℕ} 0 1 = cc in omega arith); exact = λ y. absurd (f y) }
+    pub advanced-last : (b : ℕ) → r ≡ two.Last b → (m₁ m₂ : Mem) → m₁ ≡ setSegmentState g m₀ s (Full c) → m₂ ≡ setHolding m₁ k c 0 → Advances g m k c s (handed.Block b) m₂
+    advanced-last b e m₁ m₂ f h = one-block b m₂ (subst (TwoBelow (blocksIn g c)) e (q .within))
+        (λ y.
+        let v = scans y (two.Last b) e in (
+          ap scan (sym ep) ∙ v .0,
+          h ∙ ap (λ z. setHolding z k c 0) (f ∙ ap (λ z. setSegmentState g z s (Full c)) counted) ∙ ap (advanced g (countedOut m s) k c s (b + 1)) (sym (v .1)),
+        ))
 
   pub advanced-none : r ≡ two.Nothing → Advances g m k c s handed.Torn m
-  advanced-none e = no-block
+  advanced-none e = no-block g m k c s
       (λ y.
       let n = subst (IsNext (bitAt (bitmap g m s)) (blocksIn g c) p) (scans y two.Nothing e) (next-is (bitAt (bitmap g m s)) (blocksIn g c) p) in
       let b = y .remains in
       n (b .0) (subst (λ z. z ≤ b .0) (sym ep) (b .1)) (b .2) (b .3))
 
   pub advanced-torn : r ≡ two.Torn → Advances g m k c s handed.Torn m
-  advanced-torn e = no-block (λ y. never-torn (bitAt (bitmap g m s)) (blocksIn g c) p (sym e ∙ q .scan (y .tree)))
+  advanced-torn e = no-block g m k c s (λ y. never-torn (bitAt (bitmap g m s)) (blocksIn g c) p (sym e ∙ q .scan (y .tree)))
 
 -- ---- born marked: n is the phase's number, a the acknowledgements, t whether that is black
 
@@ -136,16 +156,16 @@ module _ (g : Geometry) (m : Mem) (z : Sizes g m) (k d c s : ℕ) (l : s < g .se
     exact = λ y.
         let x = q .exact y in
         let w : b ≡ x .0 = cc in
-        let h : m₁ ≡ advanced g m k c s (b + 1) (free g m s c (b + 1)) = x .3 ∙ ap (λ v. advanced g m k c s (v + 1) (free g m s c (v + 1))) (sym w) in
+        let h : m₁ ≡ advanced g (countedOut m s) k c s (b + 1) (free g m s c (b + 1)) = x .3 ∙ ap (λ v. advanced g (countedOut m s) k c s (v + 1) (free g m s c (v + 1))) (sym w) in
         (b, refl, x .2 ∙ ap Block (sym w), f ∙ rw h refl);
   }
 
--- ---- out of segment s where the place's own word tells: p is the place, b the block
+-- ---- out of segment s where the place's own word tells: p is the place, b the block, h the count
 
-module _ (g : Geometry) (m : Mem) (k d c s : ℕ) (i : IsClass c) (shape : RecordShape) (p : ℕ) (ep : p ≡ place m s) (b : ℕ) (q : NearIn g m s p (near.More b)) where
-  pub near-out : (m₁ m₂ : Mem) → m₁ ≡ setPlace m s (b + 1) → m₂ ≡ filledAs g m₁ k d c s (b % blocksIn g c) shape → HandsOut g m k d c s shape Ok m₂
+module _ (g : Geometry) (m : Mem) (k d c s : ℕ) (i : IsClass c) (shape : RecordShape) (p : ℕ) (ep : p ≡ place m s) (b : ℕ) (q : NearIn g m s p (near.More b)) (h : ℕ) (eh : h ≡ handedCount m s) where
+  pub near-out : (m₀ m₁ m₂ : Mem) → m₀ ≡ setHandedCount m s (h + 1) → m₁ ≡ setPlace m₀ s (b + 1) → m₂ ≡ filledAs g m₁ k d c s (b % blocksIn g c) shape → HandsOut g m k d c s shape Ok m₂
   unfolding handedOut
-  near-out m₁ m₂ f e = record {
+  near-out m₀ m₁ m₂ e₀ f e = record {
     either = inl refl;
     exact = λ y.
         let bits = bitAt (bitmap g m s) in
@@ -156,9 +176,10 @@ module _ (g : Geometry) (m : Mem) (k d c s : ℕ) (i : IsClass c) (shape : Recor
         let under = r .2 in
         let v = two-says find find p (two.More b) (q .1 n (blocks-most g c i) (omega arith) (tree-level (above g c) n (bitmap g m s) (y .tree))) in
         let same : b % n ≡ b = mod-eq-of-lt (subst (IsNext bits n p) (v .0) (next-is bits n p) .1) in
-        let h : m₁ ≡ advanced g m k c s (b + 1) (free g m s c (b + 1)) = f ∙ sym (place-alone g m s c (place m s) (b + 1) k (held-record g m k c s y)) ∙ ap (advanced g m k c s (b + 1))
-        (sym (v .1 .1)) in
-        (b, refl, ap find (sym ep) ∙ v .0, e ∙ rw (same, h) refl);
+        let moved : m₁ ≡ advanced g (countedOut m s) k c s (b + 1) (free g m s c (b + 1)) =
+        f ∙ ap (λ z. setPlace z s (b + 1)) (counted-is m m₀ s h eh e₀) ∙ sym (place-alone g (countedOut m s) s c (place m s) (b + 1) k (held-record g m k c s y))
+        ∙ ap (advanced g (countedOut m s) k c s (b + 1)) (sym (v .1 .1)) in
+        (b, refl, ap find (sym ep) ∙ v .0, e ∙ rw (same, moved) refl);
   }
 
 -- ---- a make of a class: r is what is taken, m₁ the memory with it

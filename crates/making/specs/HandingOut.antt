@@ -13,28 +13,29 @@ use Rattle.layout.specs.Mem.{Mem}
 use Rattle.model.specs.declared.Answer.{Answer}
 use Rattle.model.specs.declared.Answer.the-variants.{Ok, Refused}
 use Rattle.model.specs.Answers.{answerOf}
-use Rattle.model.specs.Fields.{setRoot, tag, class, place, owner}
+use Rattle.model.specs.Fields.{setRoot, tag, class, place, owner, handedCount}
 use Rattle.model.specs.Segments.{above, bitmap, free}
 use Rattle.model.specs.Records.{headerOf, written}
-use Rattle.model.specs.Making.{advanced, blackened, handedOut, made}
+use Rattle.model.specs.Making.{advanced, blackened, countedOut, handedOut, made}
 use Rattle.model.specs.Consistent.{Consistent}
 use Rattle.making.specs.declared.Handed.{Handed}
 use Rattle.making.specs.declared.Handed.the-variants as handed
 use Rattle.model.specs.Tag as Tag
 
--- segment s is held by mutator k and of class c, its bitmap is a tree, and a free block remains at or after the place
+-- segment s is held by mutator k and of class c, its bitmap is a tree, a free block remains at or after the place, and its count can grow
 pub record SegmentReady (g : Geometry) (m : Mem) (k c s : ℕ) : Type 0 where
   pub tag : tag m s ≡ Tag.held
   pub class : class m s ≡ c
   pub owner : owner m s ≡ k
   pub tree : Tree (above g c) (blocksIn g c) (bitmap g m s)
   pub remains : (b : ℕ) × (place m s ≤ b) × (b < blocksIn g c) × (bitAt (bitmap g m s) b ≡ 0)
+  pub counted : handedCount m s < 4294967295
 
--- the block, one of the segment's, and the memory with the place just past it; a segment that is ready has one
+-- the block, one of the segment's, and the memory with it counted and the place just past it; a segment that is ready has one
 pub record Advances (g : Geometry) (m : Mem) (k c s : ℕ) (r : Handed) (after : Mem) : Type 0 where
   pub below : (b : ℕ) → r ≡ handed.Block b → b < blocksIn g c
   pub exact : SegmentReady g m k c s
-      → (b : ℕ) × (r ≡ handed.Block b) × (free g m s c (place m s) ≡ Block b) × (after ≡ advanced g m k c s (b + 1) (free g m s c (b + 1)))
+      → (b : ℕ) × (r ≡ handed.Block b) × (free g m s c (place m s) ≡ Block b) × (after ≡ advanced g (countedOut m s) k c s (b + 1) (free g m s c (b + 1)))
 
 -- the record of a shape in block b of segment s, born marked or not, into root d
 abbrev pub filledAs : Geometry → Mem → ℕ → ℕ → ℕ → ℕ → ℕ → RecordShape → Mem

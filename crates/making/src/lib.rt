@@ -1,12 +1,11 @@
 // make: a segment to take a block from, the next free block of it, and the record there. The call has no `requires` and keeps the model's promise of it.
-// Over memory that fails the examination a stack or a bitmap may lead astray: then the answer is 13.
+// Over memory that fails the examination a stack, a bitmap or a count may lead astray: then the answer is 13.
 use bitmap_search::Near;
 use bitmap_search::Two;
 use classes::RecordShape;
 use classes::SizeClass;
 use layout::Geometry;
 use model::Answer;
-use model::Segment;
 use model::SegmentState;
 use stacks::Topmost;
 ghost use mathlib.Core.Path.{_≡_};
@@ -64,7 +63,7 @@ fn hold(g: Geometry, mem: &mut [u32], mutator: u32, class: u32, s: usize, place:
         place,
         mutator,
     };
-    segments::write(g, mem, s, Segment { state });
+    segments::write(g, mem, s, state);
     mutators::set_holding(g, mem, mutator, class, s as u32 + 1);
 }
 
@@ -119,20 +118,26 @@ fn take(g: Geometry, mem: &mut [u32], mutator: u32, class: u32) -> Taken
     Taken::Segment(held - 1)
 }
 
-// The next free block of a held segment: the place moves just past it, and where no other remains the segment becomes full.
+// The next free block of a held segment, counted as handed out: the place moves just past it, and where no other remains the segment becomes full.
 fn advance(g: Geometry, mem: &mut [u32], mutator: u32, class: u32, s: usize) -> Handed
     requires { ⌜ (Sized g (length (now mem))) × (mutator < mutatorCount) × (IsClass class) × (s < g .segments) ⌝ }
     ensures { λ r. ⌜ Advances g (memOf g (now (mem .entry))) mutator class s r (memOf g (now (mem .exit))) ⌝ }
 {
+    let handed = segments::handed(g, mem, s);
+    if handed == u32::MAX {
+        return Handed::Torn;
+    }
     let place = segments::place(g, mem, s);
     match bitmaps::next_two(g, mem, s, class, place) {
         Two::More(b) => {
+            segments::set_handed(g, mem, s, handed + 1);
             segments::set_place(g, mem, s, b + 1);
             Handed::Block(b)
         }
         Two::Last(b) => {
-            let state = SegmentState::Full { class };
-            segments::write(g, mem, s, Segment { state });
+            let last = handed + 1;
+            segments::set_handed(g, mem, s, last);
+            segments::write(g, mem, s, SegmentState::Full { class });
             mutators::set_holding(g, mem, mutator, class, 0);
             Handed::Block(b)
         }
@@ -235,7 +240,8 @@ fn hand_out(
     }
 }
 
-// The next free block of segment s gets the record, where the place's own word has it and another after it; else it is to be looked for.
+// The next free block of segment s gets the record, where the place's own word has it and another after it, and the count can grow; else it is to be
+// looked for.
 fn hand_near(
     g: Geometry,
     mem: &mut [u32],
@@ -252,6 +258,11 @@ fn hand_near(
     let place = segments::place(g, mem, s);
     match bitmaps::near(g, mem, s, place) {
         Near::More(x) => {
+            let handed = segments::handed(g, mem, s);
+            if handed == u32::MAX {
+                return Begun::Search(class, s);
+            }
+            segments::set_handed(g, mem, s, handed + 1);
             segments::set_place(g, mem, s, x + 1);
             fill(g, mem, mutator, to, class, s, x, shape);
             Begun::Made
@@ -315,6 +326,11 @@ fn hand_few(
     let place = segments::place(g, mem, s);
     match bitmaps::near(g, mem, s, place) {
         Near::More(block) => {
+            let since = segments::handed(g, mem, s);
+            if since == u32::MAX {
+                return Tried::Search(class, s);
+            }
+            segments::set_handed(g, mem, s, since + 1);
             segments::set_place(g, mem, s, block + 1);
             fill_few(g, mem, mutator, to, class, s, block, shape);
             Tried::Made

@@ -1,20 +1,24 @@
--- What consistency says of a segment's blocks in use, by its state: all blocks of a full or condemned one; of a part or
--- held one some and not all, so that it has two blocks at least.
-use mathlib.Core.Path.{_≡_, _∙_, ap}
-use mathlib.Core.Bool.{Bool}
-use mathlib.Core.Logic.{⊎-elim}
-use Prim.Native.Nat.{ℕ, _≤_, _<_}
+-- What consistency says of a segment's blocks in use: its two counts add up to them. By its state: all blocks of a full
+-- or condemned one; of a part or held one some and not all, so that it has two blocks at least.
+use mathlib.Core.Path.{_≡_, sym, _∙_, ap, ap₂}
+use mathlib.Core.Bool.{Bool, true, false}
+use mathlib.Core.Logic.{_⊎_, inl, inr, ⊎-elim}
+use Prim.Native.Nat.{ℕ, _+_, _-_, _≤_, _<_}
 use native.Mathlib.Omega.{arith}
-use borrow.Author.Tests.{lt-ltb, le-ltb}
+use lib.Dec.{ltb}
+use borrow.Author.Tests.{eq-eqb, ne-eqb, lt-ltb, le-ltb}
 use Rattle.basics.specs.Pick.{pick}
 use Rattle.basics.proofs.Order.{same-or-not}
-use Rattle.words.specs.Bits.{bitAt}
+use Rattle.words.specs.Bits.{bitAt, onesAmong}
+use Rattle.words.proofs.Lists.{at-lt}
+use Rattle.words.proofs.Ones.{among-sum}
+use Rattle.classes.specs.Class.{IsClass}
 use Rattle.layout.specs.declared.Geometry.{Geometry}
 use Rattle.layout.specs.Geometry.{blocksIn}
 use Rattle.layout.specs.Mem.{Mem}
-use Rattle.model.specs.Fields.{tag, class, place}
-use Rattle.model.specs.Segments.{bitmap, usedBit}
-use Rattle.model.specs.Consistent.{SegmentOk, Occupied}
+use Rattle.model.specs.Fields.{tag, class, place, keptCount, handedCount}
+use Rattle.model.specs.Segments.{bitmap, usedBit, handedBit, inUse}
+use Rattle.model.specs.Consistent.{SegmentOk, Occupied, CountsOk}
 use Rattle.model.specs.Tag as Tag
 
 module _ (g : Geometry) (m : Mem) (s : ℕ) where
@@ -24,6 +28,28 @@ module _ (g : Geometry) (m : Mem) (s : ℕ) where
 
   pub used-after : (b : ℕ) → place m s ≤ b → usedBit g m s b ≡ bitAt (bitmap g m s) b
   used-after b l = ap (λ (t : Bool). pick t 1 (bitAt (bitmap g m s) b)) (le-ltb b (place m s) l)
+
+  -- a block in use was kept or handed out since
+  pub used-sum : (b : ℕ) → usedBit g m s b ≡ bitAt (bitmap g m s) b + handedBit g m s b
+  used-sum b = go (ltb b (place m s))
+    where
+      go : (t : Bool) → pick t 1 (bitAt (bitmap g m s) b) ≡ bitAt (bitmap g m s) b + pick t (1 - bitAt (bitmap g m s) b) 0
+      go true = let l = at-lt (bitmap g m s) b in omega arith
+      go false = omega arith
+
+  -- request No. 3: the two counts of a segment
+  pub counts-in-use : CountsOk g m s → ((tag m s ≡ Tag.free → ⊥) → IsClass (class m s)) → inUse g m s ≡ keptCount m s + handedCount m s
+  counts-in-use o k = go (same-or-not (tag m s) Tag.free)
+    where
+      ones : ℕ
+      ones = onesAmong (usedBit g m s) (blocksIn g (class m s))
+
+      go : (tag m s ≡ Tag.free) ⊎ (tag m s ≡ Tag.free → ⊥) → inUse g m s ≡ keptCount m s + handedCount m s
+      go (inl e) = let z = o .free e in let a = z .0 in let b = z .1 in ap (λ (t : Bool). pick t 0 ones) (eq-eqb (tag m s) Tag.free e) ∙ omega arith
+      go (inr f) =
+          ap (λ (t : Bool). pick t 0 ones) (ne-eqb (tag m s) Tag.free f)
+          ∙ among-sum (usedBit g m s) (bitAt (bitmap g m s)) (handedBit g m s) (blocksIn g (class m s)) (λ b l. used-sum b)
+          ∙ ap₂ (λ (x y : ℕ). x + y) (sym (o .kept f (k f))) (sym (o .handed f (k f)))
 
   module _ (o : SegmentOk g m s) where
     pub full-used : tag m s ≡ Tag.full → (b : ℕ) → b < blocksIn g (class m s) → usedBit g m s b ≡ 1

@@ -12,7 +12,7 @@ use Rattle.layout.specs.Mem.{Mem, traceWord, withRegion}
 use Rattle.bitmap_write.specs.Completed.{adopted}
 use Rattle.theory.specs.Phases.{Phase, idle, sync1, sync2, mark, sweep, owes}
 use Rattle.theory.specs.Calls.{Answer, a-ok, a-moved, a-traced, a-done, a-idle, a-no, a-waiting, a-swept}
-use Rattle.model.specs.Fields.{phase, setPhase, setCursor, traceCount, inside, outside, state, acks, setAcks, tag, setTag, class}
+use Rattle.model.specs.Fields.{phase, setPhase, setCursor, traceCount, inside, outside, state, acks, setAcks, tag, setTag, class, setKeptCount, setHandedCount}
 use Rattle.model.specs.Segments.{setSegmentState, freeStack, partStack, stacked, above, bitmap, setBitmap, marksOf, inUse}
 use Rattle.model.specs.Tracing.{traced}
 use Rattle.model.specs.Mutators.{acknowledged}
@@ -98,12 +98,16 @@ markedBlocks g m s = onesAmong (bitAt (marksOf g m s)) (blocksIn g (class m s))
 abbrev pub rebuiltBy : Geometry → Mem → ℕ → Mem
 rebuiltBy g m s = setBitmap g m s (adopted (above g (class m s)) (blocksIn g (class m s)) (marksOf g m s) (bitmap g m s))
 
+-- request No. 3: "blocks kept at its last sweep (0 before one), and blocks handed out since"
+abbrev pub recounted : Geometry → Mem → ℕ → Mem
+recounted g m s = setHandedCount (setKeptCount (rebuiltBy g m s) s (markedBlocks g m s)) s 0
+
 -- "place 0 unless it becomes full. No mark: free. All blocks marked: full. Else part."
 unfoldable pub settledBy : Geometry → Mem → ℕ → Mem
 settledBy g m s =
-    pick (eqb (markedBlocks g m s) 0) (stacked g (setSegmentState g (rebuiltBy g m s) s segment.Free) freeStack s)
-    (pick (eqb (markedBlocks g m s) (blocksIn g (class m s))) (setSegmentState g (rebuiltBy g m s) s (segment.Full (class m s)))
-    (stacked g (setSegmentState g (rebuiltBy g m s) s (segment.Part (class m s) 0)) (partStack (class m s)) s))
+    pick (eqb (markedBlocks g m s) 0) (stacked g (setSegmentState g (recounted g m s) s segment.Free) freeStack s)
+    (pick (eqb (markedBlocks g m s) (blocksIn g (class m s))) (setSegmentState g (recounted g m s) s (segment.Full (class m s)))
+    (stacked g (setSegmentState g (recounted g m s) s (segment.Part (class m s) 0)) (partStack (class m s)) s))
 
 -- and the cursor passes it
 unfoldable pub swept : Geometry → Mem → ℕ → Mem

@@ -1,6 +1,7 @@
 -- The consistency of the memory: what the examination decides, "the consistency definition that an opening
 -- establishes and every call keeps". Two halves: `Summed`, of what can be built again from the other words (the
--- bitmaps' trees over their level 0, the stacks of segments), and `Sound`, which reads nothing of that.
+-- bitmaps' trees over their level 0, the stacks of segments, each segment's two counts), and `Sound`, which reads
+-- nothing of that.
 use mathlib.Core.Path.{_≡_}
 use mathlib.Core.Bool.{Bool, true, _&&_}
 use Prim.Native.Nat.{ℕ, suc, _+_, _*_, _%_, _≤_, _<_}
@@ -15,8 +16,8 @@ use Rattle.layout.specs.Geometry.{mutatorCount, mutatorWords, entryWords, segme
 use Rattle.layout.specs.Mem.{Mem, controlWord, mutatorWord, traceWord}
 use Rattle.theory.specs.Phases.{Phase, idle, sync1, sync2, mark, sweep}
 use Rattle.model.specs.PhaseNumbers.{phaseNumber}
-use Rattle.model.specs.Fields.{phase, traceCount, cursor, absent, outside, state, acks, holding, tag, class, place, owner}
-use Rattle.model.specs.Segments.{freeStack, partStack, count, entry, above, bitmap, usedBit}
+use Rattle.model.specs.Fields.{phase, traceCount, cursor, absent, outside, state, acks, holding, tag, class, place, owner, keptCount, handedCount}
+use Rattle.model.specs.Segments.{freeStack, partStack, count, entry, above, bitmap, usedBit, handedBit}
 use Rattle.model.specs.Records.{shapeOf, blockOf, entered, marked}
 use Rattle.basics.specs.Pick.{oneIf}
 use Rattle.model.specs.Reaching.{IsEntry, Live, Reached, Covered, IsRoot, PointsTo}
@@ -82,15 +83,25 @@ isFree m s = eqb (tag m s) Tag.free
 abbrev pub isPart : Mem → ℕ → ℕ → Bool
 isPart m c s = eqb (tag m s) Tag.part && eqb (class m s) c
 
--- ---- the first half: bitmap trees and stacks
+-- ---- the first half: bitmap trees, stacks and counts
 
 -- "A bit above level 0 is 1 exactly when its word below is all ones. Bits past a level's end are 1." "A free
 -- segment has no place, and its bitmap words bind nothing."
 abbrev pub TreeOk : Geometry → Mem → ℕ → Type 0
 TreeOk g m s = (tag m s ≡ Tag.free → ⊥) → Tree (above g (class m s)) (blocksIn g (class m s)) (bitmap g m s)
 
+-- request No. 3: "kept equals the 1 bits among the segment's blocks, handed out since the 0 bits before its place, and
+-- both are 0 in a free segment". That the class of one that is not free is a class, `SegmentOk` asks.
+pub record CountsOk (g : Geometry) (m : Mem) (s : ℕ) : Type 0 where
+  pub free : tag m s ≡ Tag.free → (keptCount m s ≡ 0) × (handedCount m s ≡ 0)
+  pub kept : (tag m s ≡ Tag.free → ⊥) → IsClass (class m s)
+      → keptCount m s ≡ onesAmong (bitAt (bitmap g m s)) (blocksIn g (class m s))
+  pub handed : (tag m s ≡ Tag.free → ⊥) → IsClass (class m s)
+      → handedCount m s ≡ onesAmong (handedBit g m s) (blocksIn g (class m s))
+
 pub record Summed (g : Geometry) (m : Mem) : Type 0 where
   pub trees : (s : ℕ) → s < g .segments → TreeOk g m s
+  pub counts : (s : ℕ) → s < g .segments → CountsOk g m s
   -- "Free and part segments lie on stacks .. each class has its own part stack."
   pub freeSegments : StackOk g m freeStack (isFree m)
   pub partSegments : (c : ℕ) → IsClass c → StackOk g m (partStack c) (isPart m c)
@@ -164,7 +175,8 @@ InPhase sweep g m =
 abbrev pub Behind : Geometry → Mem → Type 0
 Behind g m = (s : ℕ) → s < g .segments → s < cursor m → tag m s ≡ Tag.condemned → ⊥
 
--- ---- the second half: all the rest; no upper level of a bitmap, no bit past a level's end and no stack of segments
+-- ---- the second half: all the rest; no upper level of a bitmap, no bit past a level's end, no stack of segments and
+-- no count
 
 pub record Sound (g : Geometry) (m : Mem) : Type 0 where
   -- "Phases are idle, roll 1, roll 2, mark and sweep"

@@ -72,7 +72,7 @@ holding m k c = mutatorWord m (k * mutatorWords + heldFrom + (c - firstClass))
 abbrev pub setHolding : Mem → ℕ → ℕ → ℕ → Mem
 setHolding m k c v = setMutator m (k * mutatorWords + heldFrom + (c - firstClass)) v
 
--- ---- segment s: its tag (0 free, 1 part, 2 held, 3 full, 4 condemned), its class, its place, and the mutator that holds it
+-- ---- segment s: its tag (0 free, 1 part, 2 held, 3 full, 4 condemned), its class, its place, the mutator that holds it, and two counts
 
 abbrev pub tagAt : ℕ
 tagAt = 0
@@ -85,6 +85,12 @@ placeAt = classAt + 1
 
 abbrev pub ownerAt : ℕ
 ownerAt = placeAt + 1
+
+abbrev pub keptAt : ℕ
+keptAt = ownerAt + 1
+
+abbrev pub handedAt : ℕ
+handedAt = keptAt + 1
 
 abbrev pub tag : Mem → ℕ → ℕ
 tag m s = segmentRecordWord m (s * segmentRecordWords + tagAt)
@@ -110,3 +116,16 @@ owner m s = segmentRecordWord m (s * segmentRecordWords + ownerAt)
 
 abbrev pub setOwner : Mem → ℕ → ℕ → Mem
 setOwner m s k = setSegment m (s * segmentRecordWords + ownerAt) k
+
+-- request No. 3: "blocks kept at its last sweep (0 before one), and blocks handed out since"
+abbrev pub keptCount : Mem → ℕ → ℕ
+keptCount m s = segmentRecordWord m (s * segmentRecordWords + keptAt)
+
+abbrev pub setKeptCount : Mem → ℕ → ℕ → Mem
+setKeptCount m s n = setSegment m (s * segmentRecordWords + keptAt) n
+
+abbrev pub handedCount : Mem → ℕ → ℕ
+handedCount m s = segmentRecordWord m (s * segmentRecordWords + handedAt)
+
+abbrev pub setHandedCount : Mem → ℕ → ℕ → Mem
+setHandedCount m s n = setSegment m (s * segmentRecordWords + handedAt) n

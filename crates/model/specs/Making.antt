@@ -14,7 +14,7 @@ use Rattle.bitmap_write.specs.Completed.{fresh}
 use Rattle.theory.specs.Phases.{black}
 use Rattle.theory.specs.Calls.{Answer, a-ok, a-no}
 use Rattle.model.specs.declared.SegmentState.the-variants.{Held, Full}
-use Rattle.model.specs.Fields.{phase, acks, holding, setHolding, setRoot, tag, class, place, owner}
+use Rattle.model.specs.Fields.{phase, acks, holding, setHolding, setRoot, tag, class, place, owner, handedCount, setHandedCount}
 use Rattle.model.specs.Segments.{setSegmentState, freeStack, partStack, count, top, pop, above, bitmap, setBitmap, free}
 use Rattle.model.specs.Records.{headerOf, written, setEntered}
 use Rattle.model.specs.Tag as Tag
@@ -55,10 +55,14 @@ advanced g m k c s p Torn = setHolding (setSegmentState g m s (Full c)) k c 0
 abbrev pub blackened : Geometry → Mem → ℕ → ℕ → Mem
 blackened g m k at = pick (black (phase m) (acks m k)) (setEntered g m at) m
 
+-- request No. 3: "blocks handed out since": one more of segment s
+abbrev pub countedOut : Mem → ℕ → Mem
+countedOut m s = setHandedCount m s (handedCount m s + 1)
+
 -- the record of a shape in block b of segment s, into root d
 unfoldable pub handedOut : Geometry → Mem → ℕ → ℕ → ℕ → ℕ → ℕ → RecordShape → Mem
 handedOut g m k d c s b shape =
-    setRoot (blackened g (written (advanced g m k c s (b + 1) (free g m s c (b + 1))) (headerOf g s c b) shape) k (headerOf g s c b)) k d (suc (headerOf g s c b))
+    setRoot (blackened g (written (advanced g (countedOut m s) k c s (b + 1) (free g m s c (b + 1))) (headerOf g s c b) shape) k (headerOf g s c b)) k d (suc (headerOf g s c b))
 
 -- the block at or after the place; a held segment always has one
 abbrev pub inBlock : Geometry → Mem → Mem → Found → ℕ → ℕ → ℕ → ℕ → RecordShape → Answer × Mem

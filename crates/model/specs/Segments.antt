@@ -32,7 +32,7 @@ stateOf (suc (suc (suc (suc t)))) c p k = state.Condemned c
 abbrev pub segment : Mem → ℕ → SegmentState
 segment m s = stateOf (tag m s) (class m s) (place m s) (owner m s)
 
--- the tag, class, place and mutator of a segment's record; a further word of the record stays
+-- the tag, class, place and mutator of a segment's record; its two counts stay
 abbrev pub setRecord : Mem → ℕ → ℕ → ℕ → ℕ → ℕ → Mem
 setRecord m s t c p k = setOwner (setPlace (setClass (setTag m s t) s c) s p) s k
 
@@ -96,6 +96,10 @@ free g m s c p = nextFree (bitAt (bitmap g m s)) (blocksIn g c) p
 -- "A block is in use when it lies before the place or its bit is 1."
 abbrev pub usedBit : Geometry → Mem → ℕ → ℕ → ℕ
 usedBit g m s b = pick (ltb b (place m s)) 1 (bitAt (bitmap g m s) b)
+
+-- request No. 3: "the 0 bits before its place": 1 for a block that lies before the place and whose bit is 0
+abbrev pub handedBit : Geometry → Mem → ℕ → ℕ → ℕ
+handedBit g m s b = pick (ltb b (place m s)) (1 - bitAt (bitmap g m s) b) 0
 
 -- how many blocks of a segment are in use; none of a free one
 abbrev pub inUse : Geometry → Mem → ℕ → ℕ

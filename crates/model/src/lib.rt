@@ -31,9 +31,11 @@ pub enum SegmentState {
     },
 }
 
-// A segment's record.
+// A segment's record: its state, the blocks kept at its last sweep, and the blocks handed out since.
 pub struct Segment {
     pub state: SegmentState,
+    pub kept: u32,
+    pub handed: u32,
 }
 
 // The tags of the states in the words of a record.

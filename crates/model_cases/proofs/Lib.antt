@@ -3,3 +3,4 @@ pub mod Whole
 pub mod Refusals
 pub mod Stacks
 pub mod Long
+pub mod Counted

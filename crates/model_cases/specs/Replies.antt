@@ -17,8 +17,8 @@ use Rattle.theory.specs.Calls.{Call, Answer, a-ok, a-no, require, ifRecord}
 use Rattle.model.specs.declared.Step.{Step}
 use Rattle.model.specs.declared.SegmentState.{SegmentState}
 use Rattle.model.specs.Answers.{stepAnswerOf}
-use Rattle.model.specs.Fields.{phase, traceCount, acks, class}
-use Rattle.model.specs.Segments.{setSegmentState, segment, bitmap}
+use Rattle.model.specs.Fields.{phase, traceCount, acks, class, keptCount, handedCount}
+use Rattle.model.specs.Segments.{setSegmentState, segment, bitmap, inUse}
 use Rattle.model.specs.Records.{headerShape, headerOf, entered, setEntered, onStack, marked}
 use Rattle.model.specs.Tracing.{push, pushRoots, pushPointers}
 use Rattle.model.specs.Mutators.{acknowledged, attached, released, detached}
@@ -28,10 +28,10 @@ use Rattle.model.specs.Collector.{collects, condemned, acksReset, started, star
 use Rattle.model.specs.Opening.{downTo0, opened}
 use Rattle.layout.specs.Region as Region
 
--- an opening, one of the collector's calls, a look, or a mutator's call; and words to be shown: the acknowledgements of the first mutators, a
--- segment's first word of marks, the same with what is on the trace stack, its first word of level 0, and words of the heap
+-- an opening, one of the collector's calls, a look, or a mutator's call; and words to be shown: both counts and the blocks in use of every segment, the
+-- acknowledgements of the first mutators, a segment's first word of marks, the same with what is on the trace stack, its first word of level 0, and words of the heap
 pub data Input : Type 0 where
-  opening start step look : Input
+  opening start step look counts : Input
   call : Call → Input
   acknowledgements : (mutators : ℕ) → Input
   marks : (segment : ℕ) → Input
@@ -53,6 +53,11 @@ states m (suc n) = states m n ++ segment m n ∷ []
 
 abbrev pub shown : Geometry → Mem → Reply
 shown g m = seen (phase m) (states m (g .segments)) (take (traceCount m) (m .trace))
+
+-- kept, handed out since, and in use by place and bits, of each of the first n segments
+abbrev pub countsOf : Geometry → Mem → ℕ → List ℕ
+countsOf g m zero = []
+countsOf g m (suc n) = countsOf g m n ++ keptCount m n ∷ handedCount m n ∷ inUse g m n ∷ []
 
 -- the acknowledgements of the first n mutators
 abbrev pub acksOf : Mem → ℕ → List ℕ
@@ -76,6 +81,7 @@ does g m opening = (answer a-ok, opened g m)
 does g m start = answered (startOf g m)
 does g m step = answered (stepOf g m)
 does g m look = (shown g m, m)
+does g m counts = (words (countsOf g m (g .segments)), m)
 does g m (call c) = answered (exec g m c)
 does g m (acknowledgements n) = (words (acksOf m n), m)
 does g m (marks s) = (words (blockBits g m s (marked g m)), m)

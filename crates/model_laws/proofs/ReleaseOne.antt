@@ -17,7 +17,8 @@ use Rattle.model.specs.Fields.{holding, tag, class, place, owner}
 use Rattle.model.specs.Segments.{setSegmentState, partStack, count, stacked}
 use Rattle.model.specs.Mutators.{releasedOne}
 use Rattle.model.specs.Consistent.{isPart}
-use Rattle.model_laws.proofs.Words.{Recorded, Untouched, untouched-then, untouched-as, recorded-by, recorded-as, state-there, state-other}
+use Rattle.model_laws.proofs.Words.{Recorded, CountsStay, Untouched, untouched-same, untouched-then, untouched-as, counted-then, recorded-by, recorded-as}
+use Rattle.model_laws.proofs.Words.{state-there, state-other, state-counts}
 use Rattle.model_laws.proofs.Stacks.{stack-room}
 use Rattle.model_laws.proofs.Segments.{not-part}
 use Rattle.model_laws.proofs.Parted.{Stacks, parted}
@@ -88,6 +89,9 @@ module _ (g : Geometry) (m : Mem) (s : Sizes g m) (c : Releasable g m) (k : ℕ)
       let apart : q ≡ r → ⊥ = λ x. f (subst (Gone m k (suc n)) (sym x) (held-before .1, held-before .3, let y = held-before .2 in omega arith)) in
       untouched-then (h .stay q (λ z. f (gone-less g m s c k n q z))) (other q apart)
 
+  counts₂ : (q : ℕ) → CountsStay m m₂ q
+  counts₂ q = counted-then (counted-then (h .counts q) (state-counts g m′ r (Part d (place m′ r)) q)) (untouched-same m₁ m₂ q segments-as .counts)
+
   -- ---- the stacks
 
   pub room-for : count g m₁ (partStack d) < g .segments
@@ -104,6 +108,7 @@ module _ (g : Geometry) (m : Mem) (s : Sizes g m) (c : Releasable g m) (k : ℕ)
     frame = frame₂;
     gone = gone₂;
     stay = stay₂;
+    counts = counts₂;
     stacks = stacks₂;
   }
 

@@ -11,7 +11,7 @@ use Rattle.layout.specs.Geometry.{mutatorCount}
 use Rattle.layout.specs.Mem.{Mem, Sizes}
 use Rattle.model.specs.Fields.{holding, tag, class, place, owner}
 use Rattle.model.specs.Consistent.{SegmentOk, MutatorOk}
-use Rattle.model_laws.proofs.Words.{Recorded, Untouched, untouched-same}
+use Rattle.model_laws.proofs.Words.{Recorded, CountsStay, Untouched, untouched-same}
 use Rattle.words.proofs.Counts.{lt-of}
 use Rattle.model_laws.proofs.Segments.{in-range}
 use Rattle.model_laws.proofs.Parted.{Stacks}
@@ -45,6 +45,7 @@ pub record Releasing (g : Geometry) (m m′ : Mem) (k n : ℕ) : Type 0 where
   pub frame : m′ ≡ withRecords m (m′ .segments) (m′ .stacks)
   pub gone : (q : ℕ) → Gone m k n q → Recorded m′ q Tag.part (class m q) (place m q) 0
   pub stay : (q : ℕ) → (Gone m k n q → ⊥) → Untouched m m′ q
+  pub counts : (q : ℕ) → CountsStay m m′ q
   pub stacks : Stacks g m′
 
 module _ (g : Geometry) (m : Mem) (s : Sizes g m) (c : Releasable g m) where
@@ -72,6 +73,7 @@ module _ (g : Geometry) (m : Mem) (s : Sizes g m) (c : Releasable g m) where
     frame = refl;
     gone = λ q z. let a = c .segments q (held-range q (z .0)) .classes (λ e. let y = z .0 in omega arith) .0 in let l : class m q < firstClass + 0 = z .2 in absurd (omega arith);
     stay = λ q f. untouched-same m m q refl;
+    counts = λ q. untouched-same m m q refl .counts;
     stacks = c .stacks;
   }
 
@@ -82,5 +84,6 @@ module _ (g : Geometry) (m : Mem) (s : Sizes g m) (c : Releasable g m) where
     frame = h .frame;
     gone = λ q z. h .gone q (gone-other k n q z (λ y. omega arith));
     stay = λ q f. h .stay q (λ z. f (gone-less k n q z));
+    counts = h .counts;
     stacks = h .stacks;
   }

@@ -2,7 +2,7 @@
 use mathlib.Core.Path.{_≡_, sym, _∙_, ap, subst}
 use mathlib.Core.Logic.{_⊎_, inl, inr, ⊎-elim}
 use mathlib.Core.Bool.{Bool, true, false, _&&_}
-use Prim.Native.Nat.{ℕ, suc, _≤_, _<_}
+use Prim.Native.Nat.{ℕ, suc, _-_, _≤_, _<_}
 use native.Mathlib.Omega.{arith}
 use lib.Dec.{eqb, ltb}
 use lib.ListN.{List·getD-eq-default}
@@ -11,17 +11,17 @@ use Rattle.basics.specs.Pick.{pick}
 use Rattle.basics.proofs.Order.{same-or-not, le-or-lt}
 use Rattle.words.specs.Bits.{bitAt, onesAmong}
 use Rattle.words.proofs.Lists.{at-lt}
-use Rattle.words.proofs.Ones.{among-le}
+use Rattle.words.proofs.Ones.{among-le, among-same}
 use Rattle.words.specs.Tree.{Tree}
 use Rattle.layout.specs.declared.Geometry.{Geometry}
 use Rattle.layout.specs.Geometry.{mutatorCount, blocksIn}
 use Rattle.layout.specs.Mem.{Mem, Sizes}
 use Rattle.model.specs.Fields.{absent, state, holding, tag, class, place, owner}
-use Rattle.model.specs.Segments.{above, bitmap, usedBit, inUse}
+use Rattle.model.specs.Segments.{above, bitmap, usedBit, handedBit, inUse}
 use Rattle.classes.specs.Class.{IsClass}
-use Rattle.model.specs.Consistent.{SegmentOk, Occupied, TreeOk, isFree, isPart}
+use Rattle.model.specs.Consistent.{SegmentOk, Occupied, TreeOk, CountsOk, isFree, isPart}
 use Rattle.model_laws.proofs.Bools.{and-both}
-use Rattle.model_laws.proofs.Words.{Recorded, Untouched, untouched-state}
+use Rattle.model_laws.proofs.Words.{Recorded, CountsStay, Untouched, untouched-state}
 use Rattle.model.specs.Tag as Tag
 
 -- only a segment of the memory has a tag that is not 0
@@ -45,6 +45,13 @@ in-use-le g m s = go (eqb (tag m s) Tag.free)
     go : (x : Bool) → pick x 0 (onesAmong (usedBit g m s) (blocksIn g (class m s))) ≤ blocksIn g (class m s)
     go true = omega arith
     go false = among-le (usedBit g m s) (used-small g m s) (blocksIn g (class m s))
+
+-- as many as before, where the record and the bitmap stay
+pub in-use-by : (g : Geometry) (m m₁ : Mem) (q : ℕ) → Untouched m m₁ q → bitmap g m₁ q ≡ bitmap g m q → inUse g m₁ q ≡ inUse g m q
+in-use-by g m m₁ q x e =
+    ap (λ t. pick (eqb t Tag.free) 0 (onesAmong (usedBit g m₁ q) (blocksIn g (class m₁ q)))) (x .tag)
+    ∙ ap (λ c. pick (eqb (tag m q) Tag.free) 0 (onesAmong (usedBit g m₁ q) (blocksIn g c))) (x .class)
+    ∙ ap (pick (eqb (tag m q) Tag.free) 0) (among-same (usedBit g m₁ q) (usedBit g m q) (blocksIn g (class m q)) (λ b l. used-same g m m₁ q b (x .place) e))
 
 -- if it was held, its mutator is attached and holds it
 abbrev StaysHeld : Mem → Mem → ℕ → Type 0
@@ -79,6 +86,25 @@ segment-same g m m₁ q o x e h = segment-by g m m₁ q o (untouched-state x) (�
 -- a segment whose class and bitmap stay, and that is free if it was, keeps its bitmap's tree
 pub tree-same : (g : Geometry) (m m₁ : Mem) (q : ℕ) → TreeOk g m q → (tag m q ≡ Tag.free → tag m₁ q ≡ Tag.free) → class m₁ q ≡ class m q → bitmap g m₁ q ≡ bitmap g m q → TreeOk g m₁ q
 tree-same g m m₁ q t u c e f = subst (λ z. Tree (above g z) (blocksIn g z) (bitmap g m₁ q)) (sym c) (subst (Tree (above g (class m q)) (blocksIn g (class m q))) (sym e) (t (λ y. f (u y))))
+
+-- a segment whose class, place, counts and bitmap stay, and that is free exactly if it was, keeps its counts right
+pub counts-same : (g : Geometry) (m m₁ : Mem) (q : ℕ) → CountsOk g m q → (tag m₁ q ≡ Tag.free → tag m q ≡ Tag.free) → (tag m q ≡ Tag.free → tag m₁ q ≡ Tag.free)
+    → class m₁ q ≡ class m q → place m₁ q ≡ place m q → CountsStay m m₁ q → bitmap g m₁ q ≡ bitmap g m q → CountsOk g m₁ q
+counts-same g m m₁ q o back on c p x e = record {
+  free = λ f. let y = o .free (back f) in (x .kept ∙ y .0, x .handed ∙ y .1);
+  kept = λ f i. x .kept ∙ o .kept (λ z. f (on z)) (subst IsClass c i) ∙ sym (class-as (bitAt (bitmap g m q)) (bitAt (bitmap g m₁ q)) (λ b. ap (λ l. bitAt l b) e));
+  handed = λ f i. x .handed ∙ o .handed (λ z. f (on z)) (subst IsClass c i) ∙ sym (class-as (handedBit g m q) (handedBit g m₁ q) handed-as);
+}
+  where
+    handed-as : (b : ℕ) → handedBit g m₁ q b ≡ handedBit g m q b
+    handed-as b = ap (λ z. pick (ltb b z) (1 - bitAt (bitmap g m₁ q) b) 0) p ∙ ap (λ l. pick (ltb b (place m q)) (1 - bitAt l b) 0) e
+
+    class-as : (bit cit : ℕ → ℕ) → ((b : ℕ) → cit b ≡ bit b) → onesAmong cit (blocksIn g (class m₁ q)) ≡ onesAmong bit (blocksIn g (class m q))
+    class-as bit cit same = among-same cit bit (blocksIn g (class m₁ q)) (λ b l. same b) ∙ ap (λ z. onesAmong bit (blocksIn g z)) c
+
+-- a segment whose record and bitmap stay keeps its counts right
+pub counts-by : (g : Geometry) (m m₁ : Mem) (q : ℕ) → CountsOk g m q → Untouched m m₁ q → bitmap g m₁ q ≡ bitmap g m q → CountsOk g m₁ q
+counts-by g m m₁ q o x e = counts-same g m m₁ q o (λ z. sym (x .tag) ∙ z) (λ z. x .tag ∙ z) (x .class) (x .place) (x .counts) e
 
 -- a segment whose class, place and bitmap stay, and that was part or held if it is, has a block in use as before
 pub occupied-same : (g : Geometry) (m m₁ : Mem) (q : ℕ) → Occupied g m q

@@ -12,7 +12,7 @@ use Rattle.model.specs.declared.SegmentState.the-variants.{Held}
 use Rattle.model.specs.Fields.{holding, heldFrom}
 use Rattle.model.specs.Segments.{setSegmentState}
 use Rattle.model.specs.Making.{setHeld}
-use Rattle.model_laws.proofs.Words.{Recorded, Untouched, untouched-same, untouched-then, untouched-as, recorded-as, state-there, state-other}
+use Rattle.model_laws.proofs.Words.{Recorded, CountsStay, Untouched, untouched-same, untouched-then, untouched-as, counted-then, recorded-as, state-there, state-other, state-counts}
 use Rattle.model_laws.proofs.Entries.{table-there, table-other}
 use Rattle.model_laws.proofs.Lengths.{sizes-stack, sizes-state, sizes-mutator}
 
@@ -42,6 +42,10 @@ module _ (g : Geometry) (m : Mem) (s : Sizes g m) (n v k cl r p : ℕ) where
   pub set-held-other : (q : ℕ) → (q ≡ r → ⊥) → Untouched m after q
   unfolding setStack
   set-held-other q f = untouched-as segments-as (untouched-then (untouched-same m popped q refl) (state-other g popped r (Held cl p k) q f))
+
+  pub set-held-counts : (q : ℕ) → CountsStay m after q
+  unfolding setStack
+  set-held-counts q = counted-then (counted-then (untouched-same m popped q refl .counts) (state-counts g popped r (Held cl p k) q)) (untouched-same noted after q segments-as .counts)
 
   mutators-as : noted .mutators ≡ m .mutators
   unfolding setStack setSegmentState setSegment

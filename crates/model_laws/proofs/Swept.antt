@@ -13,14 +13,15 @@ use Rattle.words.proofs.Counts.{only-ones}
 use Rattle.classes.specs.Class.{IsClass}
 use Rattle.layout.specs.declared.Geometry.{Geometry}
 use Rattle.layout.specs.Geometry.{blocksIn}
-use Rattle.layout.specs.Mem.{Mem, Sizes, setControl, setRun, setStack}
+use Rattle.layout.specs.Mem.{Mem, Sizes, setControl, setRun, setSegment, setStack}
 use Rattle.model.specs.declared.SegmentState.{SegmentState}
 use Rattle.model.specs.Fields.{class}
 use Rattle.model.specs.Segments.{setSegmentState, freeStack, partStack, stacked, bitmap, inUse}
-use Rattle.model.specs.Collector.{markedBlocks, rebuiltBy, settledBy, swept}
+use Rattle.model.specs.Collector.{markedBlocks, rebuiltBy, recounted, settledBy, swept}
 use Rattle.model_laws.proofs.Words.{Recorded, tagOf, classIn, placeIn, ownerIn, state-there, state-others, recorded-as}
 use Rattle.model_laws.proofs.Bitmaps.{bitmap-by}
 use Rattle.model_laws.proofs.Rebuilding.{rebuilt-mark}
+use Rattle.model_laws.proofs.Lengths.{sizes-bitmap, sizes-segment}
 use Rattle.model.specs.declared.SegmentState.the-variants as segment
 use Rattle.model.specs.Tag as Tag
 
@@ -31,19 +32,25 @@ module _ (g : Geometry) (m : Mem) (s : Sizes g m) (r : ℕ) (l : r < g .segments
   abbrev bit : ℕ → ℕ
   bit = bitAt (bitmap g (rebuiltBy g m r) r)
 
-  -- the segment's state x is set over its rebuilt bitmap, and perhaps it is put on a stack
+  -- the segment's state x is set over its rebuilt bitmap and its counts, and perhaps it is put on a stack
   abbrev settled : SegmentState → Mem
-  settled x = setSegmentState g (rebuiltBy g m r) r x
+  settled x = setSegmentState g (recounted g m r) r x
+
+  counted-sizes : Sizes g (recounted g m r)
+  counted-sizes = sizes-segment g _ (sizes-segment g _ (sizes-bitmap g m s _ _) _ _) _ _
 
   settled-there : (x : SegmentState) → Recorded (settled x) r (tagOf x) (classIn x) (placeIn g x) (ownerIn x)
-  unfolding setRun
-  settled-there x = state-there g (rebuiltBy g m r) r x (let z = s .segments in omega arith)
+  settled-there x = state-there g (recounted g m r) r x (let z = counted-sizes .segments in omega arith)
+
+  bitmaps-as : recounted g m r .bitmaps ≡ rebuiltBy g m r .bitmaps
+  unfolding setSegment
+  bitmaps-as = refl
 
   in-use-as : (x : SegmentState) (m′ : Mem) → m′ .segments ≡ settled x .segments → m′ .bitmaps ≡ settled x .bitmaps
       → inUse g m′ r ≡ pick (eqb (tagOf x) Tag.free) 0 (onesAmong (λ b. pick (ltb b (placeIn g x)) 1 (bit b)) (blocksIn g (classIn x)))
   in-use-as x m′ e f =
       let q = recorded-as (settled x) m′ r (tagOf x) (classIn x) (placeIn g x) (ownerIn x) e (settled-there x) in
-      let y : bitmap g m′ r ≡ bitmap g (rebuiltBy g m r) r = bitmap-by g (rebuiltBy g m r) m′ (f ∙ state-others g (rebuiltBy g m r) r x .bitmaps) r in
+      let y : bitmap g m′ r ≡ bitmap g (rebuiltBy g m r) r = bitmap-by g (rebuiltBy g m r) m′ (f ∙ state-others g (recounted g m r) r x .bitmaps ∙ bitmaps-as) r in
       rw (q .tag, q .class)
       (ap (λ p. pick (eqb (tagOf x) Tag.free) 0 (onesAmong (λ b. pick (ltb b p) 1 (bitAt (bitmap g m′ r) b)) (blocksIn g (classIn x)))) (q .place)
       ∙ ap (λ (w : List ℕ). pick (eqb (tagOf x) Tag.free) 0 (onesAmong (λ b. pick (ltb b (placeIn g x)) 1 (bitAt w b)) (blocksIn g (classIn x)))) y)

@@ -80,5 +80,8 @@ module _ (g : Geometry) (m : Mem) (s : Sizes g m) (r : ℕ) (l : r < g .segments
     pub clean-tree : Tree (above g c) (blocksIn g c) (bitmap g m′ r)
     clean-tree = rw reads-clean (fresh-tree (above g c) (blocksIn g c) (bitmap g m r) room (class-height g c))
 
+    pub clean-bit : (b : ℕ) → b < blocksIn g c → bitAt (bitmap g m′ r) b ≡ 0
+    clean-bit b h = ap (λ z. bitAt z b) reads-clean ∙ fresh-bit (above g c) (blocksIn g c) (bitmap g m r) room b h
+
     pub clean-free : FreeFrom g (bitmap g m′ r) c 0
-    clean-free = (0, omega arith, blocks-some g c k, ap (λ z. bitAt z 0) reads-clean ∙ fresh-bit (above g c) (blocksIn g c) (bitmap g m r) room 0 (blocks-some g c k))
+    clean-free = (0, omega arith, blocks-some g c k, clean-bit 0 (blocks-some g c k))

@@ -1,15 +1,18 @@
 -- One word of a mutator's entry, of a segment's record or of a stack, set and read.
-use mathlib.Core.Path.{_≡_, refl, _∙_, ap}
+use mathlib.Core.Path.{_≡_, refl, sym, _∙_, ap, subst}
+use mathlib.Core.Logic.{⊎-elim}
 use Prim.Native.Nat.{ℕ, _+_, _*_, _/_, _<_}
 use native.Mathlib.Omega.{arith}
 use lib.ListN.{length, getD, length-set}
 use lib.Seq.{getD-set-same, getD-set-other}
+use Rattle.basics.proofs.Order.{same-or-not}
 use Rattle.layout.specs.declared.Geometry.{Geometry}
 use Rattle.layout.specs.Geometry.{mutatorCount, mutatorWords, segmentRecordWords, stackCount, blocksIn}
 use Rattle.layout.specs.Mem.{Mem, mutatorWord, segmentRecordWord, stackWord, setMutator, setSegment, setStack, Sizes}
 use Rattle.layout.proofs.Sizes.{one-way, within}
 use Rattle.model.specs.declared.SegmentState.{SegmentState}
-use Rattle.model.specs.Fields.{tagAt, classAt, placeAt, ownerAt, tag, setTag, class, setClass, place, setPlace, owner}
+use Rattle.model.specs.Fields.{tagAt, classAt, placeAt, ownerAt, keptAt, handedAt, tag, setTag, class, setClass, place, setPlace, owner}
+use Rattle.model.specs.Fields.{keptCount, setKeptCount, handedCount, setHandedCount}
 use Rattle.model.specs.Segments.{setSegmentState, setRecord}
 use Rattle.model.specs.declared.SegmentState.the-variants as state
 use Rattle.model.specs.Tag as Tag
@@ -34,12 +37,25 @@ pub record Recorded (m : Mem) (s t c p k : ℕ) : Type 0 where
   pub place : place m s ≡ p
   pub owner : owner m s ≡ k
 
+-- a segment's two counts
+pub record Counted (m : Mem) (s a b : ℕ) : Type 0 where
+  pub kept : keptCount m s ≡ a
+  pub handed : handedCount m s ≡ b
+
+-- they stay
+abbrev pub CountsStay : Mem → Mem → ℕ → Type 0
+CountsStay m m′ s = Counted m′ s (keptCount m s) (handedCount m s)
+
+pub counted-then : {m₁ m₂ : Mem} {s a b : ℕ} → Counted m₁ s a b → CountsStay m₁ m₂ s → Counted m₂ s a b
+counted-then q r = record { kept = r .kept ∙ q .kept; handed = r .handed ∙ q .handed }
+
 -- a segment's record stays, but for its tag, which is t
 pub record Retagged (m m′ : Mem) (s t : ℕ) : Type 0 where
   pub tag : tag m′ s ≡ t
   pub class : class m′ s ≡ class m s
   pub place : place m′ s ≡ place m s
   pub owner : owner m′ s ≡ owner m s
+  pub counts : CountsStay m m′ s
 
 -- a segment's record stays
 abbrev pub Untouched : Mem → Mem → ℕ → Type 0
@@ -49,14 +65,14 @@ Untouched m m′ s = Retagged m m′ s (tag m s)
 pub untouched-same : (m m′ : Mem) (s : ℕ) → m′ .segments ≡ m .segments → Untouched m m′ s
 untouched-same m m′ s e =
     let w : (i : ℕ) → segmentRecordWord m′ i ≡ segmentRecordWord m i = λ i. ap (λ l. getD l i 0) e in
-    record { tag = w _; class = w _; place = w _; owner = w _ }
+    record { tag = w _; class = w _; place = w _; owner = w _; counts = record { kept = w _; handed = w _ } }
 
 -- one change after another
 pub retagged-then : {m m₁ m₂ : Mem} {s t u : ℕ} → Retagged m m₁ s t → Retagged m₁ m₂ s u → Retagged m m₂ s u
-retagged-then r q = record { tag = q .tag; class = q .class ∙ r .class; place = q .place ∙ r .place; owner = q .owner ∙ r .owner }
+retagged-then r q = record { tag = q .tag; class = q .class ∙ r .class; place = q .place ∙ r .place; owner = q .owner ∙ r .owner; counts = counted-then (r .counts) (q .counts) }
 
 pub retagged-to : {m m′ : Mem} {s t u : ℕ} → Retagged m m′ s t → t ≡ u → Retagged m m′ s u
-retagged-to r e = record { tag = r .tag ∙ e; class = r .class; place = r .place; owner = r .owner }
+retagged-to r e = record { tag = r .tag ∙ e; class = r .class; place = r .place; owner = r .owner; counts = r .counts }
 
 pub untouched-then : {m m₁ m₂ : Mem} {s t : ℕ} → Retagged m m₁ s t → Untouched m₁ m₂ s → Retagged m m₂ s t
 untouched-then r q = retagged-to (retagged-then r q) (r .tag)
@@ -115,7 +131,24 @@ module _ (m : Mem) (s t c p k : ℕ) where
       ∙ segment-word-other m₁ _ c j (λ e. f (omega arith)) ∙ segment-word-other m _ t j (λ e. f (omega arith))
 
   pub record-other : (r : ℕ) → (r ≡ s → ⊥) → Untouched m (setRecord m s t c p k) r
-  record-other r f = record { tag = word-far _ (λ e. f (omega arith)); class = word-far _ (λ e. f (omega arith)); place = word-far _ (λ e. f (omega arith)); owner = word-far _ (λ e. f (omega arith)) }
+  record-other r f = record {
+    tag = word-far _ (λ e. f (omega arith));
+    class = word-far _ (λ e. f (omega arith));
+    place = word-far _ (λ e. f (omega arith));
+    owner = word-far _ (λ e. f (omega arith));
+    counts = record { kept = word-far _ (λ e. f (omega arith)); handed = word-far _ (λ e. f (omega arith)) };
+  }
+
+  word-behind : (j : ℕ) → s * segmentRecordWords + ownerAt < j → segmentRecordWord (setRecord m s t c p k) j ≡ segmentRecordWord m j
+  word-behind j l =
+      segment-word-other m₃ _ k j (λ e. omega arith) ∙ segment-word-other m₂ _ p j (λ e. omega arith)
+      ∙ segment-word-other m₁ _ c j (λ e. omega arith) ∙ segment-word-other m _ t j (λ e. omega arith)
+
+  pub record-counts : (r : ℕ) → CountsStay m (setRecord m s t c p k) r
+  record-counts r = ⊎-elim (λ e. subst (CountsStay m (setRecord m s t c p k)) (sym e) there) (λ f. record-other r f .counts) (same-or-not r s)
+    where
+      there : CountsStay m (setRecord m s t c p k) s
+      there = record { kept = word-behind _ (omega arith); handed = word-behind _ (omega arith) }
 
 -- the tag alone: the rest of the record stays, and other records
 pub tag-there : (m : Mem) (s t : ℕ) → s * segmentRecordWords + tagAt < length (m .segments) → Retagged m (setTag m s t) s t
@@ -124,6 +157,7 @@ tag-there m s t h = record {
   class = segment-word-other m _ t _ (λ e. omega arith);
   place = segment-word-other m _ t _ (λ e. omega arith);
   owner = segment-word-other m _ t _ (λ e. omega arith);
+  counts = record { kept = segment-word-other m _ t _ (λ e. omega arith); handed = segment-word-other m _ t _ (λ e. omega arith) };
 }
 
 pub tag-other : (m : Mem) (s t r : ℕ) → (r ≡ s → ⊥) → Untouched m (setTag m s t) r
@@ -132,6 +166,7 @@ tag-other m s t r f = record {
   class = segment-word-other m _ t _ (λ e. omega arith);
   place = segment-word-other m _ t _ (λ e. omega arith);
   owner = segment-word-other m _ t _ (λ e. omega arith);
+  counts = record { kept = segment-word-other m _ t _ (λ e. omega arith); handed = segment-word-other m _ t _ (λ e. omega arith) };
 }
 
 -- the words of a state
@@ -199,6 +234,59 @@ tag-others m s t = record { control = refl; mutators = refl; stacks = refl; bitm
 
 pub state-others : (g : Geometry) (m : Mem) (s : ℕ) (x : SegmentState) → OtherRegions m (setSegmentState g m s x)
 state-others g m s x = rw (state-is g m s x) (record-others m s (tagOf x) (classIn x) (placeIn g x) (ownerIn x))
+
+-- and so do the counts of every segment
+pub state-counts : (g : Geometry) (m : Mem) (s : ℕ) (x : SegmentState) (r : ℕ) → CountsStay m (setSegmentState g m s x) r
+state-counts g m s x r = rw (state-is g m s x) (record-counts m s (tagOf x) (classIn x) (placeIn g x) (ownerIn x) r)
+
+-- ---- a count set: word o of the record of segment s, behind those of its state
+
+module _ (m : Mem) (s o v : ℕ) (l : ownerAt < o) (h : o < segmentRecordWords) where
+  abbrev counted : Mem
+  counted = setSegment m (s * segmentRecordWords + o) v
+
+  -- no segment's state changes, and nothing of another's record
+  pub count-state : (r : ℕ) → Recorded counted r (tag m r) (class m r) (place m r) (owner m r)
+  count-state r = record {
+    tag = segment-word-other m _ v _ (λ e. omega arith);
+    class = segment-word-other m _ v _ (λ e. omega arith);
+    place = segment-word-other m _ v _ (λ e. omega arith);
+    owner = segment-word-other m _ v _ (λ e. omega arith);
+  }
+
+  pub count-other : (r : ℕ) → (r ≡ s → ⊥) → Untouched m counted r
+  count-other r f = let x = count-state r in record {
+    tag = x .tag;
+    class = x .class;
+    place = x .place;
+    owner = x .owner;
+    counts = record { kept = segment-word-other m _ v _ (λ e. f (omega arith)); handed = segment-word-other m _ v _ (λ e. f (omega arith)) };
+  }
+
+pub handed-there : (m : Mem) (s n : ℕ) → s * segmentRecordWords + handedAt < length (m .segments) → Counted (setHandedCount m s n) s (keptCount m s) n
+handed-there m s n h = record { kept = segment-word-other m _ n _ (λ e. omega arith); handed = segment-word-there m _ n h }
+
+-- both counts
+module _ (m : Mem) (s a b : ℕ) where
+  abbrev recounted : Mem
+  recounted = setHandedCount (setKeptCount m s a) s b
+
+  pub counts-there : s * segmentRecordWords + handedAt < length (m .segments) → Counted recounted s a b
+  counts-there h =
+      let n = word-length m (s * segmentRecordWords + keptAt) a in
+      record {
+        kept = segment-word-other (setKeptCount m s a) _ b _ (λ e. omega arith) ∙ segment-word-there m _ a (omega arith);
+        handed = segment-word-there (setKeptCount m s a) _ b (omega arith);
+      }
+
+  pub counts-other : (r : ℕ) → (r ≡ s → ⊥) → Untouched m recounted r
+  counts-other r f = untouched-then (count-other m s keptAt a (omega arith) (omega arith) r f) (count-other (setKeptCount m s a) s handedAt b (omega arith) (omega arith) r f)
+
+  pub counts-state : (r : ℕ) → Recorded recounted r (tag m r) (class m r) (place m r) (owner m r)
+  counts-state r =
+      let x = count-state m s keptAt a (omega arith) (omega arith) r in
+      let y = count-state (setKeptCount m s a) s handedAt b (omega arith) (omega arith) r in
+      record { tag = y .tag ∙ x .tag; class = y .class ∙ x .class; place = y .place ∙ x .place; owner = y .owner ∙ x .owner }
 
 -- ---- stacks: word j of stack t
 

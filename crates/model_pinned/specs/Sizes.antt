@@ -17,9 +17,9 @@ row n x b = record { segments = n; length = x; refused = b }
 
 abbrev pub rows : List Row
 rows =
-    row 0 1053 true ∷ row 1 7345 false ∷ row 1 7344 true ∷ row 1 7346 true ∷ row 2 7345 true ∷ row 2 13637 false ∷ row 256 1611805 false ∷ row 257 1618097 true
-    -- the lengths of the layout before: ten classes, and so two stacks less
-    ∷ row 1 7341 true ∷ row 2 13631 true ∷ row 256 1611291 true ∷ []
+    row 0 1053 true ∷ row 1 7347 false ∷ row 1 7346 true ∷ row 1 7348 true ∷ row 2 7347 true ∷ row 2 13641 false ∷ row 256 1612317 false ∷ row 257 1618611 true
+    -- the lengths of the layout before: four words in each segment's record
+    ∷ row 1 7345 true ∷ row 2 13637 true ∷ row 256 1611805 true ∷ []
 
 abbrev pub All : List Row → Type 0
 All [] = Unit
@@ -27,7 +27,7 @@ All (r ∷ rs) = (wrongSize (geometry (r .segments)) (r .length) ≡ r .refused)
 
 -- docs/LAYOUT.md: where the regions of a heap of two segments begin, and where the slice ends
 abbrev pub begins : List ℕ
-begins = 0 ∷ 16 ∷ 1040 ∷ 9232 ∷ 9240 ∷ 9279 ∷ 9413 ∷ 9541 ∷ 13637 ∷ []
+begins = 0 ∷ 16 ∷ 1040 ∷ 9232 ∷ 9244 ∷ 9283 ∷ 9417 ∷ 9545 ∷ 13641 ∷ []
 
 abbrev pub Begin : ℕ → List ℕ → Type 0
 Begin k [] = Unit

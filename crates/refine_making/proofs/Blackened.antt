@@ -15,12 +15,12 @@ use Rattle.layout.specs.declared.Geometry.{Geometry}
 use Rattle.layout.specs.Geometry.{mutatorWords, markBit}
 use Rattle.layout.specs.Mem.{Mem, setMutator, setHeap, setRun, Sizes}
 use Rattle.theory.specs.Phases.{black}
-use Rattle.model.specs.Fields.{phase, heldFrom, acks, setRoot}
+use Rattle.model.specs.Fields.{phase, heldFrom, acks, setRoot, keptCount, handedCount}
 use Rattle.model.specs.Records.{headerOf, written, setEntered}
 use Rattle.model.specs.Making.{blackened, handedOut}
 use Rattle.layout.proofs.Sizes.{marks-are, marks-words}
 use Rattle.classes.proofs.Filling.{two-words}
-use Rattle.model_laws.proofs.Words.{Recorded, Untouched, untouched-as, recorded-as}
+use Rattle.model_laws.proofs.Words.{Recorded, Counted, Untouched, untouched-same, untouched-as, counted-then, recorded-as}
 use Rattle.model_laws.proofs.Blocks.{header-inside}
 use Rattle.refine_view.proofs.Frames.{beside}
 use Rattle.model_laws.proofs.Lengths.{sizes-mutator, sizes-heap, sizes-heap-run, sizes-entered}
@@ -68,10 +68,13 @@ module _ (g : Geometry) (m : Mem) (k d cl r b : ℕ) (shape : RecordShape) (q : 
     others-on : (x : ℕ) → (x ≡ r → ⊥) → Untouched m m₄ x
     others-on x f = untouched-as same (v .others x f)
 
-    segment-on : StillHeld g m m₄ k cl r b ⊎ NowFull g m₄ k cl r
+    counts-on : Counted m₄ r (keptCount m r) (handedCount m r + 1)
+    counts-on = counted-then (v .counts) (untouched-same m₁ m₄ r same .counts)
+
+    segment-on : StillHeld g m m₄ k cl r b ⊎ NowFull g m m₄ k cl r b
     segment-on = go (v .segment)
       where
-        go : StillHeld g m m₁ k cl r b ⊎ NowFull g m₁ k cl r → StillHeld g m m₄ k cl r b ⊎ NowFull g m₄ k cl r
+        go : StillHeld g m m₁ k cl r b ⊎ NowFull g m m₁ k cl r b → StillHeld g m m₄ k cl r b ⊎ NowFull g m m₄ k cl r b
         go (inl x) = inl (record {
           recorded = record-on (x .recorded);
           held = ap (λ (ws : List ℕ). getD ws (k * mutatorWords + heldFrom + (cl - firstClass)) 0) table ∙ words.still-held g m k d cl r b shape q m₁ v ∙ x .held;
@@ -83,6 +86,7 @@ module _ (g : Geometry) (m : Mem) (k d cl r b : ℕ) (shape : RecordShape) (q : 
         go (inr x) = inr (record {
           recorded = record-on (x .recorded);
           held = ap (λ (ws : List ℕ). getD ws (k * mutatorWords + heldFrom + (cl - firstClass)) 0) table ∙ words.still-held g m k d cl r b shape q m₁ v ∙ x .held;
+          last = x .last;
         })
 
   -- ---- all the words that a make leaves
@@ -103,6 +107,7 @@ module _ (g : Geometry) (m : Mem) (k d cl r b : ℕ) (shape : RecordShape) (q : 
     words = words.words-on g m k d cl r b shape q m₁ v;
     named = words.at-root g m k d cl r b shape q m₁ v;
     others = others-on _ refl refl;
+    counts = counts-on _ refl refl;
     segment = segment-on _ refl refl;
     header = words.at-header g m k d cl r b shape q m₁ v;
     fields = words.at-field g m k d cl r b shape q m₁ v;

@@ -9,6 +9,7 @@ pub mod Apart
 pub mod Unused
 pub mod Newborn
 pub mod Agreeing
+pub mod Counting
 pub mod Segments
 pub mod Structured
 pub mod Handed

@@ -4,6 +4,7 @@ use mathlib.Core.Bool.{true}
 use Prim.Native.Nat.{ℕ, suc, _+_, _-_, _≤_, _<_}
 use native.Mathlib.Omega.{arith}
 use Rattle.words.specs.Bits.{bitAt}
+use Rattle.words.proofs.FirstZero.{NoZero}
 use Rattle.classes.specs.Class.{IsClass, blockWords}
 use Rattle.classes.specs.declared.SizeClass.the-variants.{Class}
 use Rattle.classes.proofs.Smallest.{class-found, class-holds}
@@ -38,10 +39,11 @@ pub record Request (g : Geometry) (m : Mem) (k d cl r b : ℕ) (shape : RecordSh
   pub after : place m r ≤ b
   pub below : b < blocksIn g cl
   pub unused : bitAt (bitmap g m r) b ≡ 0
+  pub passed : NoZero (bitAt (bitmap g m r)) (place m r) b
 
 -- the scan finds a block where there is one
-found : (bit : ℕ → ℕ) (n p : ℕ) (f : Found) → IsNext bit n p f → (i : ℕ) → p ≤ i → i < n → bit i ≡ 0 → (b : ℕ) × (f ≡ Block b) × (p ≤ b) × (b < n) × (bit b ≡ 0)
-found bit n p (Block b) h i l k z = (b, refl, h .0, h .1, h .2)
+found : (bit : ℕ → ℕ) (n p : ℕ) (f : Found) → IsNext bit n p f → (i : ℕ) → p ≤ i → i < n → bit i ≡ 0 → (b : ℕ) × (f ≡ Block b) × (p ≤ b) × (b < n) × (bit b ≡ 0) × NoZero bit p b
+found bit n p (Block b) h i l k z = (b, refl, h .0, h .1, h .2, h .3)
 found bit n p Nothing h i l k z = absurd (h i l k z)
 found bit n p Torn h i l k z = absurd h
 
@@ -82,5 +84,6 @@ module _ (g : Geometry) (m : Mem) (c : Ordered g m) (k d cl r : ℕ) (shape : Re
                     after = f .2;
                     below = f .3;
                     unused = f .4;
+                    passed = f .5;
                   },
                 )

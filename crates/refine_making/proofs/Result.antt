@@ -4,6 +4,7 @@ use mathlib.Core.Bool.{true, false}
 use mathlib.Core.Logic.{_⊎_}
 use Prim.Native.Nat.{ℕ, suc, _+_, _-_, _*_, _≤_, _<_}
 use Rattle.words.specs.Bits.{bitAt}
+use Rattle.words.proofs.FirstZero.{NoZero}
 use Rattle.classes.specs.Class.{firstClass}
 use Rattle.classes.specs.declared.RecordShape.{RecordShape}
 use Rattle.classes.specs.Record.{fieldCountOf}
@@ -11,10 +12,10 @@ use Rattle.layout.specs.declared.Geometry.{Geometry}
 use Rattle.layout.specs.Geometry.{mutatorWords, blocksIn, markBit}
 use Rattle.layout.specs.Mem.{Mem, mutatorWord, heapWord, Sizes}
 use Rattle.theory.specs.Phases.{black}
-use Rattle.model.specs.Fields.{phase, heldFrom, acks, root, holding}
+use Rattle.model.specs.Fields.{phase, heldFrom, acks, root, holding, keptCount, handedCount}
 use Rattle.model.specs.Segments.{bitmap}
 use Rattle.model.specs.Records.{headerOf, headerWord, entered}
-use Rattle.model_laws.proofs.Words.{Recorded, Untouched}
+use Rattle.model_laws.proofs.Words.{Recorded, Counted, Untouched}
 
 -- the segment is still held, with a free block at or after its place
 pub record StillHeld (g : Geometry) (m m′ : Mem) (k cl r b : ℕ) : Type 0 where
@@ -25,10 +26,11 @@ pub record StillHeld (g : Geometry) (m m′ : Mem) (k cl r b : ℕ) : Type 0 whe
   pub below : next < blocksIn g cl
   pub unused : bitAt (bitmap g m r) next ≡ 0
 
--- the segment has become full
-pub record NowFull (g : Geometry) (m′ : Mem) (k cl r : ℕ) : Type 0 where
+-- the segment has become full: no free block is left behind block b
+pub record NowFull (g : Geometry) (m m′ : Mem) (k cl r b : ℕ) : Type 0 where
   pub recorded : Recorded m′ r 3 cl (blocksIn g cl) 0
   pub held : holding m′ k cl ≡ 0
+  pub last : NoZero (bitAt (bitmap g m r)) (b + 1) (blocksIn g cl)
 
 -- the place has moved: what is left of the segment, of the mutator's table and of the rest
 pub record Moved (g : Geometry) (m m′ : Mem) (k cl r b : ℕ) : Type 0 where
@@ -41,7 +43,8 @@ pub record Moved (g : Geometry) (m m′ : Mem) (k cl r b : ℕ) : Type 0 where
   pub heap : m′ .heap ≡ m .heap
   pub words : (j o : ℕ) → o < mutatorWords → (j ≡ k → o ≡ heldFrom + (cl - firstClass) → ⊥) → mutatorWord m′ (j * mutatorWords + o) ≡ mutatorWord m (j * mutatorWords + o)
   pub others : (x : ℕ) → (x ≡ r → ⊥) → Untouched m m′ x
-  pub segment : StillHeld g m m′ k cl r b ⊎ NowFull g m′ k cl r
+  pub counts : Counted m′ r (keptCount m r) (handedCount m r + 1)
+  pub segment : StillHeld g m m′ k cl r b ⊎ NowFull g m m′ k cl r b
 
 -- a record of a shape in block b of segment r, in root d of mutator k
 pub record Result (g : Geometry) (m m′ : Mem) (k d cl r b : ℕ) (shape : RecordShape) : Type 0 where
@@ -53,7 +56,8 @@ pub record Result (g : Geometry) (m m′ : Mem) (k d cl r b : ℕ) (shape : Reco
   pub words : (j o : ℕ) → o < mutatorWords → (j ≡ k → o ≡ heldFrom + (cl - firstClass) → ⊥) → (j ≡ k → o ≡ d → ⊥) → mutatorWord m′ (j * mutatorWords + o) ≡ mutatorWord m (j * mutatorWords + o)
   pub named : root m′ k d ≡ suc (headerOf g r cl b)
   pub others : (x : ℕ) → (x ≡ r → ⊥) → Untouched m m′ x
-  pub segment : StillHeld g m m′ k cl r b ⊎ NowFull g m′ k cl r
+  pub counts : Counted m′ r (keptCount m r) (handedCount m r + 1)
+  pub segment : StillHeld g m m′ k cl r b ⊎ NowFull g m m′ k cl r b
   pub header : heapWord m′ (headerOf g r cl b) ≡ headerWord shape
   pub fields : (i : ℕ) → i < fieldCountOf shape → heapWord m′ (headerOf g r cl b + 1 + i) ≡ 0
   pub before : (i : ℕ) → i < headerOf g r cl b → heapWord m′ i ≡ heapWord m i

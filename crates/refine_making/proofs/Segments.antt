@@ -12,11 +12,12 @@ use Rattle.layout.specs.Geometry.{mutatorCount, blocksIn}
 use Rattle.layout.specs.Mem.{Mem}
 use Rattle.model.specs.Fields.{state, holding, tag, class, owner}
 use Rattle.classes.specs.Class.{IsClass}
-use Rattle.model.specs.Consistent.{SegmentOk, Occupied, TreeOk}
+use Rattle.model.specs.Consistent.{SegmentOk, Occupied, TreeOk, CountsOk}
 use Rattle.refine_view.specs.Refines.{Ordered, EachOccupied}
-use Rattle.model_laws.proofs.Segments.{segment-same, tree-same, occupied-by}
+use Rattle.model_laws.proofs.Segments.{segment-same, tree-same, counts-by, occupied-by}
 use Rattle.refine_making.proofs.Request.{Request}
 use Rattle.refine_making.proofs.Result.{StillHeld, NowFull, Result}
+use Rattle.refine_making.proofs.Counting.{counts-there}
 use Rattle.refine_making.proofs.Standing as standing
 use Rattle.model.specs.Tag as Tag
 
@@ -46,7 +47,7 @@ module _ (g : Geometry) (m : Mem) (c : Ordered g m) (m′ : Mem) (k d cl r b : �
   class-there : IsClass (class m′ r)
   class-there = subst IsClass (sym (standing.class-there g m m′ k d cl r b shape q a)) (q .isClass)
 
-  same-segment : StillHeld g m m′ k cl r b ⊎ NowFull g m′ k cl r → SegmentOk g m′ r
+  same-segment : StillHeld g m m′ k cl r b ⊎ NowFull g m m′ k cl r b → SegmentOk g m′ r
   same-segment (inl x) =
       let o = x .recorded in
       let t = o .tag in
@@ -92,6 +93,11 @@ module _ (g : Geometry) (m : Mem) (c : Ordered g m) (m′ : Mem) (k d cl r b : �
     where
       free-on : tag m x ≡ Tag.free → tag m′ x ≡ Tag.free
       free-on e = a .others x (λ f. let y : tag m r ≡ Tag.free = ap (tag m) (sym f) ∙ e in let z = q .isHeld in omega arith) .tag ∙ e
+
+  pub counts-ok : (x : ℕ) → x < g .segments → CountsOk g m′ x
+  counts-ok x l =
+      ⊎-elim (λ e. subst (CountsOk g m′) (sym e) (counts-there g m m′ k d cl r b shape q a (c .summed .counts r (q .inside))))
+      (λ f. counts-by g m m′ x (c .summed .counts x l) (a .others x f) (standing.bitmap-same g m m′ k d cl r b shape q a x)) (same-or-not x r)
 
   -- the block handed out is in use, and the other segments are as they were
   pub occupied-ok : ((x : ℕ) → x < g .segments → (x ≡ r → ⊥) → Occupied g m x) → EachOccupied g m′

@@ -74,14 +74,14 @@ module _ (g : Geometry) (m m′ : Mem) (k d cl r b : ℕ) (shape : RecordShape) 
   pub class-there : class m′ r ≡ cl
   class-there = go (a .segment)
     where
-      go : StillHeld g m m′ k cl r b ⊎ NowFull g m′ k cl r → class m′ r ≡ cl
+      go : StillHeld g m m′ k cl r b ⊎ NowFull g m m′ k cl r b → class m′ r ≡ cl
       go (inl x) = x .recorded .class
       go (inr x) = x .recorded .class
 
   pub tag-there : (Tag.held ≤ tag m′ r) × (tag m′ r ≤ Tag.full)
   tag-there = go (a .segment)
     where
-      go : StillHeld g m m′ k cl r b ⊎ NowFull g m′ k cl r → (Tag.held ≤ tag m′ r) × (tag m′ r ≤ Tag.full)
+      go : StillHeld g m m′ k cl r b ⊎ NowFull g m m′ k cl r b → (Tag.held ≤ tag m′ r) × (tag m′ r ≤ Tag.full)
       go (inl x) = let e = x .recorded .tag in (omega arith, omega arith)
       go (inr x) = let e = x .recorded .tag in (omega arith, omega arith)
 
@@ -89,7 +89,7 @@ module _ (g : Geometry) (m m′ : Mem) (k d cl r b : ℕ) (shape : RecordShape) 
   pub place-there : b < place m′ r
   place-there = go (a .segment)
     where
-      go : StillHeld g m m′ k cl r b ⊎ NowFull g m′ k cl r → b < place m′ r
+      go : StillHeld g m m′ k cl r b ⊎ NowFull g m m′ k cl r b → b < place m′ r
       go (inl x) = let e = x .recorded .place in omega arith
       go (inr x) = let e = x .recorded .place in let l = q .below in omega arith
 

@@ -35,7 +35,7 @@ use Rattle.refine_view.proofs.Invariants.{structure-of}
 use Rattle.refine_making.proofs.Request.{Request}
 use Rattle.refine_making.proofs.Result.{StillHeld, NowFull, Result}
 use Rattle.refine_making.proofs.Agreeing.{after, agree, old-or-new, header-on}
-use Rattle.refine_making.proofs.Segments.{segments-ok, trees-ok}
+use Rattle.refine_making.proofs.Segments.{segments-ok, trees-ok, counts-ok}
 use Rattle.refine_making.proofs.Standing as standing
 use Rattle.refine_making.proofs.Newborn as newborn
 use Rattle.model.specs.Tag as Tag
@@ -46,7 +46,7 @@ module _ (g : Geometry) (m : Mem) (s : Sizes g m) (c : Ordered g m) (m′ : Mem)
 
   -- ---- mutators
 
-  new : (y : ℕ) → holding m′ k cl ≡ suc y → StillHeld g m m′ k cl r b ⊎ NowFull g m′ k cl r → (y < g .segments) × (tag m′ y ≡ Tag.held) × (class m′ y ≡ cl) × (owner m′ y ≡ k)
+  new : (y : ℕ) → holding m′ k cl ≡ suc y → StillHeld g m m′ k cl r b ⊎ NowFull g m m′ k cl r b → (y < g .segments) × (tag m′ y ≡ Tag.held) × (class m′ y ≡ cl) × (owner m′ y ≡ k)
   new y e (inl w) =
       let t = w .held in
       let y-is : y ≡ r = omega arith in
@@ -165,7 +165,7 @@ module _ (g : Geometry) (m : Mem) (s : Sizes g m) (c : Ordered g m) (m′ : Mem)
   structure = record {
     phases = subst (λ z. z ≤ 4) (sym (standing.phase-word g m m′ k d cl r b shape q a)) (c .phases);
     segments = segments-ok g m c m′ k d cl r b shape q a;
-    summed = record { trees = trees-ok g m c m′ k d cl r b shape q a; freeSegments = free-ok; partSegments = part-ok };
+    summed = record { trees = trees-ok g m c m′ k d cl r b shape q a; counts = counts-ok g m c m′ k d cl r b shape q a; freeSegments = free-ok; partSegments = part-ok };
     mutators = mutators-ok;
     records = records-ok;
     trace = trace-ok;

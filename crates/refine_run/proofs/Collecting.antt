@@ -12,8 +12,8 @@ use Rattle.model.specs.PhaseNumbers.{phaseNumber}
 use Rattle.model.specs.Fields.{phase, traceCount, outside, state, class}
 use Rattle.model.specs.Segments.{setSegmentState, freeStack, partStack, stacked, above, bitmap, marksOf}
 use Rattle.model.specs.Mutators.{acknowledged}
-use Rattle.model.specs.Collector.{startIn, startOf, outsideAnswered, waiting, movedOrWaiting, traces, lowest, markedBlocks, rebuiltBy, swept, sweeps, stepIn, stepOf, settledBy}
-use Rattle.model_laws.proofs.Lengths.{sizes-control, sizes-bitmap, sizes-state}
+use Rattle.model.specs.Collector.{startIn, startOf, outsideAnswered, waiting, movedOrWaiting, traces, lowest, markedBlocks, rebuiltBy, recounted, swept, sweeps, stepIn, stepOf, settledBy}
+use Rattle.model_laws.proofs.Lengths.{sizes-control, sizes-bitmap, sizes-segment, sizes-state}
 use Rattle.model_laws.proofs.Operations.{sizes-pick, sizes-traced, sizes-acknowledged, sizes-stacked, sizes-started}
 use Rattle.model.specs.declared.SegmentState.the-variants as segment
 
@@ -52,8 +52,10 @@ module _ (g : Geometry) where
   unfolding settledBy
   sizes-settled m z s =
       let c : ℕ = class m s in
-      let m₁ : Mem = rebuiltBy g m s in
-      let z₁ : Sizes g m₁ = sizes-bitmap g m z (s * bitmapWords g) (adopted (above g c) (blocksIn g c) (marksOf g m s) (bitmap g m s)) in
+      let m₀ : Mem = rebuiltBy g m s in
+      let z₀ : Sizes g m₀ = sizes-bitmap g m z (s * bitmapWords g) (adopted (above g c) (blocksIn g c) (marksOf g m s) (bitmap g m s)) in
+      let m₁ : Mem = recounted g m s in
+      let z₁ : Sizes g m₁ = sizes-segment g _ (sizes-segment g m₀ z₀ _ (markedBlocks g m s)) _ 0 in
       let unused : Mem = stacked g (setSegmentState g m₁ s segment.Free) freeStack s in
       let full : Mem = setSegmentState g m₁ s (segment.Full c) in
       let part : Mem = stacked g (setSegmentState g m₁ s (segment.Part c 0)) (partStack c) s in

@@ -11,7 +11,7 @@ use Rattle.classes.specs.declared.SizeClass.the-variants.{Class, TooBig}
 use Rattle.classes.specs.Record.{ofCounts, fieldCountOf, classOfRecord}
 use Rattle.classes.specs.declared.RecordShape.{RecordShape}
 use Rattle.layout.specs.declared.Geometry.{Geometry}
-use Rattle.layout.specs.Geometry.{mutatorWords, rootCount, blocksIn, bitmapWords}
+use Rattle.layout.specs.Geometry.{mutatorWords, segmentRecordWords, rootCount, blocksIn, bitmapWords}
 use Rattle.layout.specs.Mem.{Mem, setHeap, Sizes}
 use Rattle.bitmap_search.specs.declared.Found.{Found}
 use Rattle.bitmap_search.specs.declared.Found.the-variants.{Block, Nothing, Torn}
@@ -20,13 +20,13 @@ use Rattle.theory.specs.Phases.{newcomer, duty, black, inHandshake}
 use Rattle.theory.specs.Calls.{Call, c-attach, c-detach, c-check, c-leave, c-enter, c-spawn, c-make, c-load, c-store, c-copy, c-clear, c-put, c-get}
 use Rattle.theory.specs.Calls.{c-same, c-shape, Answer, unless, refuse, refusal, onRecord}
 use Rattle.model.specs.declared.SegmentState.the-variants.{Part, Held, Full}
-use Rattle.model.specs.Fields.{phase, acks, inside, outside, holding, place, root, stateAt, heldFrom}
+use Rattle.model.specs.Fields.{phase, acks, inside, outside, holding, place, root, stateAt, heldFrom, handedAt, handedCount}
 use Rattle.model.specs.Segments.{partStack, freeStack, stacked, count, pop, bitmap, above, free}
 use Rattle.model.specs.Records.{record?, pointerCount, pointer, headerOf, written, headerWord}
 use Rattle.model.specs.Mutators.{acknowledged, attached, detached, released, releasedOne}
-use Rattle.model.specs.Making.{Source, held, part, unused, noRoom, sourceOf, setHeld, freshened, advanced, blackened, handedOut, inBlock, fromSource, made}
+use Rattle.model.specs.Making.{Source, held, part, unused, noRoom, sourceOf, setHeld, freshened, advanced, blackened, countedOut, handedOut, inBlock, fromSource, made}
 use Rattle.model.specs.Calls.{observe, ofClass, act, exec}
-use Rattle.model_laws.proofs.Lengths.{sizes-mutator, sizes-entry, sizes-stack, sizes-bitmap, sizes-entered, sizes-heap, sizes-heap-run, sizes-state}
+use Rattle.model_laws.proofs.Lengths.{sizes-mutator, sizes-entry, sizes-segment, sizes-stack, sizes-bitmap, sizes-entered, sizes-heap, sizes-heap-run, sizes-state}
 use Rattle.model_laws.proofs.Operations.{sizes-pick, sizes-barrier, sizes-acknowledged, sizes-stacked}
 use Rattle.model.specs.Segments as segments
 
@@ -72,8 +72,10 @@ module _ (g : Geometry) where
   unfolding handedOut
   sizes-handed m z k d c s b shape =
       let at : ℕ = headerOf g s c b in
-      let m₁ : Mem = advanced g m k c s (b + 1) (free g m s c (b + 1)) in
-      let z₁ : Sizes g m₁ = sizes-advanced m z k c s (b + 1) (free g m s c (b + 1)) in
+      let m₀ : Mem = countedOut m s in
+      let z₀ : Sizes g m₀ = sizes-segment g m z (s * segmentRecordWords + handedAt) (handedCount m s + 1) in
+      let m₁ : Mem = advanced g m₀ k c s (b + 1) (free g m s c (b + 1)) in
+      let z₁ : Sizes g m₁ = sizes-advanced m₀ z₀ k c s (b + 1) (free g m s c (b + 1)) in
       let m₂ : Mem = written m₁ at shape in
       let z₂ : Sizes g m₂ = sizes-written m₁ z₁ at shape in
       sizes-mutator g (blackened g m₂ k at) (sizes-blackened m₂ z₂ k at) (k * mutatorWords + d) (suc at)

@@ -19,7 +19,7 @@ use Rattle.theory.proofs.Graph.{reach-empty}
 use Rattle.theory.proofs.Invariant.{none-some}
 use Rattle.theory.proofs.CallKeeps.{Coupled}
 use Rattle.model.specs.PhaseNumbers.{phaseOf}
-use Rattle.model.specs.Fields.{phase, traceCount, stateAt, acksAt, heldFrom, state, tagAt, classAt, placeAt, ownerAt, tag}
+use Rattle.model.specs.Fields.{phase, traceCount, stateAt, acksAt, heldFrom, state, tagAt, classAt, placeAt, ownerAt, keptAt, handedAt, tag}
 use Rattle.model.specs.Calls.{isAttached}
 use Rattle.model.specs.Opening.{openStacks, opened}
 use Rattle.model.specs.Reaching.{IsRoot, IsEntry, PointsTo, Live}
@@ -125,6 +125,11 @@ pub opened-consistent : (g : Geometry) (m : Mem) → Sizes g m → Consistent g 
 opened-consistent g m s = record {
   summed = record {
     trees = λ r l f. absurd (f (opened-segment g m (r * segmentRecordWords + tagAt)));
+    counts = λ r l. record {
+      free = λ _. (opened-segment g m (r * segmentRecordWords + keptAt), opened-segment g m (r * segmentRecordWords + handedAt));
+      kept = λ f _. absurd (f (opened-segment g m (r * segmentRecordWords + tagAt)));
+      handed = λ f _. absurd (f (opened-segment g m (r * segmentRecordWords + tagAt)));
+    };
     freeSegments = free-open g (opened g m) (opened-stacks g m) (isFree (opened g m)) (λ r l. eq-eqb _ _ (opened-segment g m (r * segmentRecordWords + tagAt)));
     partSegments = λ c h. part-open g (opened g m) (opened-stacks g m) (c - firstClass) (isPart (opened g m) c) (λ r l. not-part g m c r);
   };

@@ -33,7 +33,7 @@ use Rattle.model_laws.proofs.OtherStacks.{stack-by}
 use Rattle.refine_view.proofs.Carried.{block-by, record-by}
 use Rattle.model_laws.proofs.Marked.{unentered}
 use Rattle.model_laws.proofs.Entries.{holding-by, table-below}
-use Rattle.model_laws.proofs.Segments.{segment-same, tree-same, occupied-same, part-same, used-same, in-range}
+use Rattle.model_laws.proofs.Segments.{segment-same, tree-same, counts-same, occupied-same, part-same, used-same, in-range}
 use Rattle.model_laws.proofs.Bitmaps.{bitmap-by}
 use Rattle.model_laws.proofs.Words.{retagged-to}
 use Rattle.refine_start.proofs.Beginning.{Begun, begun}
@@ -162,6 +162,8 @@ module _ (g : Geometry) (m m′ : Mem) (z : Sizes g m) (ok : Ordered g m) (quiet
   summed-ok : Summed g m → Summed g m′
   summed-ok o = record {
     trees = λ s l. tree-same g m m′ s (o .trees s l) (tag-on s 0 (omega arith)) (b .segments s .class) (bitmap-by g m m′ (b .bitmaps) s);
+    counts = λ s l. let w = b .segments s in
+        counts-same g m m′ s (o .counts s l) (tag-back s 0 (omega arith)) (tag-on s 0 (omega arith)) (w .class) (w .place) (w .counts) (bitmap-by g m m′ (b .bitmaps) s);
     freeSegments = stack-by g m m′ freeStack (isFree m) (isFree m′) (b .stacks) (o .freeSegments) (λ s l. tag-test s 0 (omega arith));
     partSegments = λ c h. stack-by g m m′ (partStack c) (isPart m c) (isPart m′ c) (b .stacks) (o .partSegments c h) (λ s l. part-test c s);
   }

@@ -10,5 +10,6 @@ pub mod Settled
 pub mod Ends
 pub mod SweptStacks
 pub mod SweepStep
+pub mod MarksUsed
 pub mod LastStep
 pub mod Sweeping

@@ -8,7 +8,7 @@ use Rattle.layout.specs.Mem.{Mem}
 use Rattle.model.specs.Fields.{tag, class}
 use Rattle.model.specs.Segments.{bitmap, usedBit}
 use Rattle.model.specs.Records.{headerOf, entered}
-use Rattle.model.specs.Consistent.{SegmentOk, Occupied, TreeOk}
+use Rattle.model.specs.Consistent.{SegmentOk, Occupied, TreeOk, CountsOk}
 use Rattle.model_laws.proofs.Words.{Untouched}
 use Rattle.model_laws.proofs.Parted.{Stacks}
 use Rattle.model.specs.Tag as Tag
@@ -28,6 +28,7 @@ pub record Outcome (g : Geometry) (m m′ : Mem) (r : ℕ) : Type 0 where
   -- the segment itself: free, part or full; in use is what is marked
   pub segment : SegmentOk g m′ r
   pub tree : TreeOk g m′ r
+  pub counts : CountsOk g m′ r
   pub occupied : Occupied g m′ r
   pub unheld : tag m′ r ≡ Tag.held → ⊥
   pub uncondemned : tag m′ r ≡ Tag.condemned → ⊥

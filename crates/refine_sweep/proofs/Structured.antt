@@ -14,9 +14,9 @@ use Rattle.theory.specs.Phases.{sweep}
 use Rattle.model.specs.Fields.{phase, tag}
 use Rattle.model.specs.Reaching.{Live}
 use Rattle.model.specs.Records.{blockOf}
-use Rattle.model.specs.Consistent.{InPhase, SegmentOk, Occupied, TreeOk, MutatorOk, RecordOk, HeadInUse, bitWord}
+use Rattle.model.specs.Consistent.{InPhase, SegmentOk, Occupied, TreeOk, CountsOk, MutatorOk, RecordOk, HeadInUse, bitWord}
 use Rattle.refine_view.specs.Refines.{Ordered, EachOccupied, Structure, MarksIn, Steady}
-use Rattle.model_laws.proofs.Segments.{segment-same, tree-same, occupied-by}
+use Rattle.model_laws.proofs.Segments.{segment-same, tree-same, counts-by, occupied-by}
 use Rattle.refine_view.proofs.Carried.{record-by, use-by, entries-by}
 use Rattle.refine_view.proofs.Invariants.{structure-of}
 use Rattle.refine_sweep.proofs.Frames.{mutator-same, heap-same}
@@ -39,6 +39,10 @@ module _ (g : Geometry) (m : Mem) (s : Sizes g m) (c : Ordered g m) (ph : phase 
   tree-after : (x : ℕ) → x < g .segments → (x ≡ r) ⊎ (x ≡ r → ⊥) → TreeOk g m′ x
   tree-after x h (inl e) = subst (TreeOk g m′) (sym e) (o .tree)
   tree-after x h (inr d) = let w = o .left .other x d in tree-same g m m′ x (c .summed .trees x h) (λ e. w .tag ∙ e) (w .class) (o .left .bitmaps x d)
+
+  counts-after : (x : ℕ) → x < g .segments → CountsOk g m′ x
+  counts-after x h =
+      ⊎-elim (λ e. subst (CountsOk g m′) (sym e) (o .counts)) (λ d. counts-by g m m′ x (c .summed .counts x h) (o .left .other x d) (o .left .bitmaps x d)) (same-or-not x r)
 
   pub occupied-after : EachOccupied g m → EachOccupied g m′
   occupied-after u x h = ⊎-elim (λ e. subst (Occupied g m′) (sym e) (o .occupied)) (λ d. occupied-by g m m′ x (u x h) (o .left .other x d) (o .left .bitmaps x d)) (same-or-not x r)
@@ -77,7 +81,7 @@ module _ (g : Geometry) (m : Mem) (s : Sizes g m) (c : Ordered g m) (ph : phase 
   structure-after = record {
     phases = subst (λ z. z ≤ 4) (sym (control-same g m s c ph m′ r l t o 0)) (c .phases);
     segments = λ x h. segment-after x h (same-or-not x r);
-    summed = record { trees = λ x h. tree-after x h (same-or-not x r); freeSegments = o .stacks .0; partSegments = o .stacks .1 };
+    summed = record { trees = λ x h. tree-after x h (same-or-not x r); counts = counts-after; freeSegments = o .stacks .0; partSegments = o .stacks .1 };
     mutators = mutator-after;
     records = λ x p. record-after x (live-was g m s c ph m′ r l t o p);
     trace = entries-by g m m′ (structure-of g m c .trace) (control-same g m s c ph m′ r l t o 1) (λ i. ap (λ (z : List ℕ). getD z i 0) (o .left .trace)) (o .left .marks);

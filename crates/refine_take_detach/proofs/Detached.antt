@@ -24,14 +24,14 @@ use Rattle.model.specs.Records.{record?}
 use Rattle.model.specs.Mutators.{released, detached}
 use Rattle.model.specs.Calls.{isAttached, isInside}
 use Rattle.model.specs.Reaching.{IsRoot, Live}
-use Rattle.model.specs.Consistent.{SegmentOk, Occupied, TreeOk, MutatorOk, isFree, isPart}
+use Rattle.model.specs.Consistent.{SegmentOk, Occupied, TreeOk, CountsOk, MutatorOk, isFree, isPart}
 use Rattle.refine_view.specs.View.{view}
 use Rattle.refine_view.specs.Refines.{Ordered, EachOccupied, Structure, Moves}
-use Rattle.model_laws.proofs.Words.{Recorded, Untouched, untouched-as, recorded-as}
+use Rattle.model_laws.proofs.Words.{Recorded, CountsStay, Untouched, untouched-same, untouched-as, counted-then, recorded-as}
 use Rattle.theory.proofs.Updates.{upd-by}
 use Rattle.model_laws.proofs.Entries.{holding-word, holding-by, table-below, entry-in, entry-out}
 use Rattle.model_laws.proofs.Stacks.{stack-same}
-use Rattle.model_laws.proofs.Segments.{segment-same, tree-same, occupied-same, occupied-by}
+use Rattle.model_laws.proofs.Segments.{segment-same, tree-same, counts-same, counts-by, occupied-same, occupied-by}
 use Rattle.model_laws.proofs.Releasing.{Gone, gone?, Releasing}
 use Rattle.model_laws.proofs.Released.{releasing}
 use Rattle.refine_view.proofs.Seeing.{entries-same}
@@ -141,6 +141,20 @@ module _ (g : Geometry) (m : Mem) (s : Sizes g m) (c : Ordered g m) (k : ℕ) (f
       go (inl z) = tree-same g m m₁ q (c .summed .trees q l) (λ e. let y = z .0 in absurd (omega arith)) (gone q z .class) refl
       go (inr f) = tree-same g m m₁ q (c .summed .trees q l) (λ e. stay q f .tag ∙ e) (stay q f .class) refl
 
+  counts-stay : (q : ℕ) → CountsStay m m₁ q
+  counts-stay q = counted-then (parts .counts q) (untouched-same parted m₁ q refl .counts)
+
+  counts-ok : (q : ℕ) → q < g .segments → CountsOk g m₁ q
+  counts-ok q l = go (gone? m k classCount q)
+    where
+      go : Gone m k classCount q ⊎ (Gone m k classCount q → ⊥) → CountsOk g m₁ q
+      go (inl z) =
+          let y = z .0 in
+          let x = gone q z in
+          let w = x .tag in
+          counts-same g m m₁ q (c .summed .counts q l) (λ e. absurd (omega arith)) (λ e. absurd (omega arith)) (x .class) (x .place) (counts-stay q) refl
+      go (inr f) = counts-by g m m₁ q (c .summed .counts q l) (stay q f) refl
+
   -- a held segment that goes to part keeps its block in use
   occupied-ok : EachOccupied g m → EachOccupied g m₁
   occupied-ok u q l = go (gone? m k classCount q)
@@ -212,6 +226,7 @@ module _ (g : Geometry) (m : Mem) (s : Sizes g m) (c : Ordered g m) (k : ℕ) (f
     segments = segments-ok;
     summed = record {
       trees = trees-ok;
+      counts = counts-ok;
       freeSegments = stack-same g parted m₁ freeStack (isFree parted) (isFree m₁) (parts .stacks .0) refl (λ i l. refl) (λ q l. refl);
       partSegments = λ d i. stack-same g parted m₁ (partStack d) (isPart parted d) (isPart m₁ d) (parts .stacks .1 d i) refl (λ j l. refl) (λ q l. refl);
     };

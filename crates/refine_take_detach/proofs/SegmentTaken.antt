@@ -9,6 +9,7 @@ use Rattle.theory.proofs.Agree.{Agree}
 use Rattle.model.specs.Fields.{holding}
 use Rattle.model.specs.Calls.{isAttached}
 use Rattle.model.specs.Consistent.{Occupied, Behind}
+use Rattle.model_laws.proofs.Words.{CountsStay}
 use Rattle.refine_view.specs.View.{view}
 use Rattle.refine_view.specs.Refines.{EachOccupied, Structure, Steady}
 use Rattle.theory.specs.MachineCalls as machine
@@ -23,5 +24,6 @@ pub record SegmentTaken (g : Geometry) (m m₁ : Mem) (k cl r : ℕ) : Type 0 wh
   pub prepared : Agree (segmentOf g) (view g m) (view g m₁)
   pub shows : machine.observe (view g m₁) ≡ machine.observe (view g m)
   pub steady : Steady g m m₁
+  pub counts : (q : ℕ) → CountsStay m m₁ q
   pub holds : holding m₁ k cl ≡ suc r
   pub known : isAttached m₁ k ≡ true

@@ -1,28 +1,31 @@
 -- A free segment taken by a mutator that holds none of its class, with a bitmap of free blocks.
-use mathlib.Core.Path.{_≡_, refl, sym, subst}
+use mathlib.Core.Path.{_≡_, refl, sym, _∙_, subst}
 use mathlib.Core.Bool.{true}
 use mathlib.Core.List.{List}
 use Prim.Native.Nat.{ℕ, _+_, _-_, _*_, _≤_, _<_}
 use native.Mathlib.Omega.{arith}
+use borrow.Author.Tests.{le-ltb}
+use Rattle.words.specs.Bits.{bitAt}
+use Rattle.words.proofs.Counts.{no-ones}
 use Rattle.layout.specs.declared.Geometry.{Geometry}
-use Rattle.layout.specs.Geometry.{mutatorCount, bitmapWords}
+use Rattle.layout.specs.Geometry.{mutatorCount, blocksIn, bitmapWords}
 use Rattle.layout.specs.Mem.{Mem, setStack, setSegment, setMutator, setRun, Sizes, spliced}
-use Rattle.model.specs.Fields.{holding, tag}
-use Rattle.model.specs.Segments.{setSegmentState, freeStack, partStack, count, top, pop}
+use Rattle.model.specs.Fields.{holding, tag, class, place, keptCount, handedCount}
+use Rattle.model.specs.Segments.{setSegmentState, freeStack, partStack, count, top, pop, bitmap, handedBit}
 use Rattle.model.specs.Making.{setHeld, freshened}
 use Rattle.model.specs.Calls.{isAttached}
 use Rattle.classes.specs.Class.{IsClass}
-use Rattle.model.specs.Consistent.{StackOk, isFree, isPart}
+use Rattle.model.specs.Consistent.{CountsOk, StackOk, isFree, isPart}
 use Rattle.refine_view.specs.Refines.{Ordered}
-use Rattle.model_laws.proofs.Words.{Recorded, Untouched, untouched-as, recorded-as}
+use Rattle.model_laws.proofs.Words.{Recorded, CountsStay, Untouched, untouched-same, untouched-as, counted-then, recorded-as}
 use Rattle.model_laws.proofs.Segments.{not-free, free-other, part-left}
 use Rattle.model_laws.proofs.Windows.{window-other}
 use Rattle.model_laws.proofs.Lengths.{sizes-bitmap}
-use Rattle.model_laws.proofs.Topmost.{top-free, free-tag, clean, long-clean, clean-tree, clean-free}
+use Rattle.model_laws.proofs.Topmost.{top-free, free-tag, clean, long-clean, clean-tree, clean-free, clean-bit}
 use Rattle.model_laws.proofs.Stacks.{stack-same, pop-ok}
 use Rattle.model_laws.proofs.OtherStacks.{stack-apart}
 use Rattle.refine_take_detach.proofs.Standing.{over}
-use Rattle.model_laws.proofs.SetHeld.{popped, after, set-held-sizes, set-held-there, set-held-other, set-held-holds, set-held-entries}
+use Rattle.model_laws.proofs.SetHeld.{popped, after, set-held-sizes, set-held-there, set-held-other, set-held-counts, set-held-holds, set-held-entries}
 use Rattle.refine_take_detach.proofs.SegmentTaken.{SegmentTaken}
 use Rattle.refine_take_detach.proofs.Taking.{Took, taken-by}
 use Rattle.model.specs.Tag as Tag
@@ -65,6 +68,23 @@ module _ (g : Geometry) (m : Mem) (s : Sizes g m) (c : Ordered g m) (k cl : ℕ)
   other : (q : ℕ) → (q ≡ r → ⊥) → Untouched m m₁ q
   other q f = untouched-as refl (set-held-other g m s n v k cl r 0 q f)
 
+  counts : CountsStay m m₁ r
+  counts = counted-then (set-held-counts g m s n v k cl r 0 r) (untouched-same taken m₁ r refl .counts)
+
+  -- none was kept and none handed out, and no block's bit is 1 or lies before the place
+  counted : CountsOk g m₁ r
+  counted = record {
+    free = λ e. let z = there .tag in absurd (omega arith);
+    kept = λ f i. counts .kept ∙ was .0 ∙ sym (no-ones (bitAt (bitmap g m₁ r)) (blocksIn g (class m₁ r)) unset);
+    handed = λ f i. counts .handed ∙ was .1 ∙ sym (no-ones (handedBit g m₁ r) (blocksIn g (class m₁ r)) (λ b h. let p = there .place in rw (le-ltb b (place m₁ r) (omega arith)) refl));
+  }
+    where
+      unset : (b : ℕ) → b < blocksIn g (class m₁ r) → bitAt (bitmap g m₁ r) b ≡ 0
+      unset b h = clean-bit g m s r below cl ic m₁ refl b (subst (λ x. b < blocksIn g x) (there .class) h)
+
+      was : (keptCount m r ≡ 0) × (handedCount m r ≡ 0)
+      was = c .summed .counts r below .free top-tag
+
   took : Took g m m₁ k cl r 0
   took = record {
     sizes = subst (Sizes g) same (sizes-bitmap g taken (set-held-sizes g m s n v k cl r 0) _ _);
@@ -74,6 +94,8 @@ module _ (g : Geometry) (m : Mem) (s : Sizes g m) (c : Ordered g m) (k cl : ℕ)
     bitmaps = λ q f. window-other (bitmapWords g) r q tree (m .bitmaps) (long-clean g m s r below cl ic) f;
     tree = clean-tree g m s r below cl ic m₁ refl;
     remains = clean-free g m s r below cl ic m₁ refl;
+    counts = counts;
+    counted = counted;
     holds = set-held-holds g m s n v k cl r 0 few ic;
     entries = set-held-entries g m s n v k cl r 0 few ic;
     before = let z = top-tag in omega arith;

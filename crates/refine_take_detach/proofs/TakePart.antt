@@ -15,13 +15,13 @@ use Rattle.model.specs.Calls.{isAttached}
 use Rattle.classes.specs.Class.{IsClass}
 use Rattle.model.specs.Consistent.{StackOk, isFree, isPart}
 use Rattle.refine_view.specs.Refines.{Ordered}
-use Rattle.model_laws.proofs.Words.{Recorded, Untouched}
-use Rattle.model_laws.proofs.Segments.{not-part, part-other, free-left, part-left}
+use Rattle.model_laws.proofs.Words.{Recorded, CountsStay, Untouched}
+use Rattle.model_laws.proofs.Segments.{counts-same, not-part, part-other, free-left, part-left}
 use Rattle.model_laws.proofs.Topmost.{top-part, part-tag, part-class, part-tree, part-remains}
 use Rattle.model_laws.proofs.Stacks.{stack-same, pop-ok}
 use Rattle.model_laws.proofs.OtherStacks.{part-few, part-apart, stack-apart}
 use Rattle.refine_take_detach.proofs.Standing.{over}
-use Rattle.model_laws.proofs.SetHeld.{popped, after, set-held-sizes, set-held-there, set-held-other, set-held-holds, set-held-entries}
+use Rattle.model_laws.proofs.SetHeld.{popped, after, set-held-sizes, set-held-there, set-held-other, set-held-counts, set-held-holds, set-held-entries}
 use Rattle.refine_take_detach.proofs.SegmentTaken.{SegmentTaken}
 use Rattle.refine_take_detach.proofs.Taking.{Took, taken-by}
 use Rattle.model.specs.Tag as Tag
@@ -65,6 +65,9 @@ module _ (g : Geometry) (m : Mem) (s : Sizes g m) (c : Ordered g m) (k cl : ℕ)
   other : (q : ℕ) → (q ≡ r → ⊥) → Untouched m m₁ q
   other q f = subst (λ z. Untouched m z q) same (set-held-other g m s n v k cl r (place m r) q f)
 
+  counts : CountsStay m m₁ r
+  counts = subst (λ z. CountsStay m z r) same (set-held-counts g m s n v k cl r (place m r) r)
+
   took : Took g m m₁ k cl r (place m r)
   took = record {
     sizes = subst (Sizes g) same (set-held-sizes g m s n v k cl r (place m r));
@@ -74,6 +77,11 @@ module _ (g : Geometry) (m : Mem) (s : Sizes g m) (c : Ordered g m) (k cl : ℕ)
     bitmaps = λ q f. refl;
     tree = part-tree g m cl stack some (c .summed .trees r below);
     remains = part-remains g m cl stack some (c .segments r below);
+    counts = counts;
+    counted =
+        let x = top-tag in
+        let y = there .tag in
+        counts-same g m m₁ r (c .summed .counts r below) (λ e. absurd (omega arith)) (λ e. absurd (omega arith)) (there .class ∙ sym top-class) (there .place) counts refl;
     holds = subst (λ z. holding z k cl ≡ suc r) same (set-held-holds g m s n v k cl r (place m r) few ic);
     entries = set-held-entries g m s n v k cl r (place m r) few ic;
     before = let z = top-tag in omega arith;

@@ -24,13 +24,13 @@ use Rattle.model.specs.Segments.{freeStack, partStack, above, bitmap}
 use Rattle.model.specs.Records.{record?}
 use Rattle.model.specs.Calls.{isAttached, isInside}
 use Rattle.model.specs.Reaching.{IsRoot}
-use Rattle.model.specs.Consistent.{SegmentOk, TreeOk, MutatorOk, StackOk, isFree, isPart}
+use Rattle.model.specs.Consistent.{SegmentOk, TreeOk, CountsOk, MutatorOk, StackOk, isFree, isPart}
 use Rattle.refine_view.specs.Refines.{Ordered}
 use Rattle.refine_view.specs.View.{view}
 use Rattle.model_laws.proofs.Bools.{not-eq}
-use Rattle.model_laws.proofs.Words.{Recorded, Untouched}
+use Rattle.model_laws.proofs.Words.{Recorded, CountsStay, Untouched}
 use Rattle.model_laws.proofs.Entries.{holding-by, table-below, mutators-table}
-use Rattle.model_laws.proofs.Segments.{segment-same, tree-same, occupied-by}
+use Rattle.model_laws.proofs.Segments.{segment-same, tree-same, counts-by, occupied-by}
 use Rattle.refine_view.proofs.Seeing.{entries-same, root-was}
 use Rattle.refine_view.proofs.Invariants.{to-live}
 use Rattle.refine_take_detach.proofs.Standing.{over, SegmentStays, SegmentsStay, marked-live, marked-condemned, collect-same, used-live, steady, records-stand, trace-stands, marks-stand}
@@ -48,6 +48,8 @@ pub record Took (g : Geometry) (m m₁ : Mem) (k cl r p : ℕ) : Type 0 where
   pub bitmaps : (q : ℕ) → (q ≡ r → ⊥) → bitmap g m₁ q ≡ bitmap g m q
   pub tree : Tree (above g cl) (blocksIn g cl) (bitmap g m₁ r)
   pub remains : (b : ℕ) × (p ≤ b) × (b < blocksIn g cl) × (bitAt (bitmap g m₁ r) b ≡ 0)
+  pub counts : CountsStay m m₁ r
+  pub counted : CountsOk g m₁ r
   pub holds : holding m₁ k cl ≡ suc r
   pub entries : (k′ o : ℕ) → o < mutatorWords → (k′ ≡ k → o ≡ heldFrom + (cl - firstClass) → ⊥) → mutatorWord m₁ (k′ * mutatorWords + o) ≡ mutatorWord m (k′ * mutatorWords + o)
   pub before : tag m r ≤ Tag.part
@@ -129,6 +131,20 @@ module _ (g : Geometry) (m : Mem) (s : Sizes g m) (c : Ordered g m) (mu se st bi
       go (inl e) = subst (TreeOk g m₁) (sym e) there
       go (inr f) = let x = t .other q f in tree-same g m m₁ q (c .summed .trees q l) (λ e. x .tag ∙ e) (x .class) (t .bitmaps q f)
 
+  counts-ok : (q : ℕ) → q < g .segments → CountsOk g m₁ q
+  counts-ok q l = go (same-or-not q r)
+    where
+      go : (q ≡ r) ⊎ (q ≡ r → ⊥) → CountsOk g m₁ q
+      go (inl e) = subst (CountsOk g m₁) (sym e) (t .counted)
+      go (inr f) = counts-by g m m₁ q (c .summed .counts q l) (t .other q f) (t .bitmaps q f)
+
+  counts-stay : (q : ℕ) → CountsStay m m₁ q
+  counts-stay q = go (same-or-not q r)
+    where
+      go : (q ≡ r) ⊎ (q ≡ r → ⊥) → CountsStay m m₁ q
+      go (inl e) = subst (CountsStay m m₁) (sym e) (t .counts)
+      go (inr f) = t .other q f .counts
+
   -- ---- mutators
 
   new : (q : ℕ) → holding m₁ k cl ≡ suc q → (q < g .segments) × (tag m₁ q ≡ Tag.held) × (class m₁ q ≡ cl) × (owner m₁ q ≡ k)
@@ -207,7 +223,7 @@ module _ (g : Geometry) (m : Mem) (s : Sizes g m) (c : Ordered g m) (mu se st bi
     structure = record {
       phases = c .phases;
       segments = segments-ok;
-      summed = record { trees = trees-ok; freeSegments = free; partSegments = part };
+      summed = record { trees = trees-ok; counts = counts-ok; freeSegments = free; partSegments = part };
       mutators = mutators-ok;
       records = records-stand g m s c mu se st bi stands roots-before;
       trace = trace-stands g m s c mu se st bi stands;
@@ -218,6 +234,7 @@ module _ (g : Geometry) (m : Mem) (s : Sizes g m) (c : Ordered g m) (mu se st bi
     prepared = agree;
     shows = face-same;
     steady = steady g m s c mu se st bi stands;
+    counts = counts-stay;
     holds = t .holds;
     known = attached-same k ∙ here;
   }

@@ -9,7 +9,7 @@ use Rattle.classes.specs.Class.{IsClass}
 use Rattle.classes.specs.Record.{classOfRecord}
 use Rattle.model_laws.proofs.Headers.{shape-by}
 use Rattle.model_laws.proofs.Words.{untouched-same}
-use Rattle.model_laws.proofs.Segments.{segment-same}
+use Rattle.model_laws.proofs.Segments.{segment-same, counts-by}
 use Rattle.layout.specs.declared.Geometry.{Geometry}
 use Rattle.layout.specs.Geometry.{mutatorCount}
 use Rattle.layout.specs.Mem.{Mem, heapWord}
@@ -50,7 +50,12 @@ module _ (g : Geometry) (m : Mem) (co mu ma tr he : List ℕ) where
   stack-beside t test o = record { number = o .number; members = o .members; once = o .once; all = o .all }
 
   pub summed-beside : Summed g m → Summed g now
-  summed-beside o = record { trees = o .trees; freeSegments = stack-beside _ _ (o .freeSegments); partSegments = λ c i. stack-beside _ _ (o .partSegments c i) }
+  summed-beside o = record {
+    trees = o .trees;
+    counts = λ s l. counts-by g m now s (o .counts s l) (untouched-same m now s refl) refl;
+    freeSegments = stack-beside _ _ (o .freeSegments);
+    partSegments = λ c i. stack-beside _ _ (o .partSegments c i);
+  }
 
   pub record-beside : (at : ℕ) → heapWord now at ≡ heapWord m at → RecordOk g m at → RecordOk g now at
   record-beside at e r = record { inside = r .inside; used = r .used; aligned = r .aligned; block = r .block; sized = ap classOfRecord (shape-by m now at e) ∙ r .sized }

@@ -1,4 +1,4 @@
-// Segment records in the lent slice: a segment's state, read from the words of its record and written to them, and single words of a record.
+// Segment records in the lent slice: read whole; a segment's state written to the words of its record, its two counts, and single words.
 use layout::Geometry;
 use model::Segment;
 use model::SegmentState;
@@ -7,7 +7,7 @@ ghost use Prim.Native.Nat.{_<_};
 ghost use lib.ListN.{length};
 ghost use Rattle.layout.specs.Geometry.{Sized, blocksIn};
 ghost use Rattle.layout.specs.Mem.{memOf};
-ghost use Rattle.model.specs.Fields.{tag, setTag, class, place, setPlace, owner};
+ghost use Rattle.model.specs.Fields.{tag, setTag, class, place, setPlace, owner, keptCount, setKeptCount, handedCount, setHandedCount};
 ghost use Rattle.model.specs.Segments.{segment, setSegmentState, setRecord};
 
 // The tag of segment s.
@@ -61,14 +61,58 @@ pub fn owner(g: Geometry, mem: &[u32], s: usize) -> u32
     layout::segment(g, mem, s * layout::SEGMENT_RECORD_WORDS + layout::OWNER_AT)
 }
 
+// The blocks of segment s that were kept at its last sweep.
+pub fn kept(g: Geometry, mem: &[u32], s: usize) -> u32
+    requires { ⌜ (Sized g (length (now mem))) × (s < g .segments) ⌝ }
+    ensures { λ r. ⌜ r ≡ keptCount (memOf g (now (mem .entry))) s ⌝ }
+{
+    layout::segment(g, mem, s * layout::SEGMENT_RECORD_WORDS + layout::KEPT_AT)
+}
+
+// The blocks of segment s that were handed out since.
+pub fn handed(g: Geometry, mem: &[u32], s: usize) -> u32
+    requires { ⌜ (Sized g (length (now mem))) × (s < g .segments) ⌝ }
+    ensures { λ r. ⌜ r ≡ handedCount (memOf g (now (mem .entry))) s ⌝ }
+{
+    layout::segment(g, mem, s * layout::SEGMENT_RECORD_WORDS + layout::HANDED_AT)
+}
+
+pub fn set_handed(g: Geometry, mem: &mut [u32], s: usize, v: u32)
+    requires { ⌜ (Sized g (length (now mem))) × (s < g .segments) ⌝ }
+    ensures { λ _. ⌜ memOf g (now (mem .exit)) ≡ setHandedCount (memOf g (now (mem .entry))) s v ⌝ }
+{
+    layout::set_segment(
+        g,
+        mem,
+        s * layout::SEGMENT_RECORD_WORDS + layout::HANDED_AT,
+        v,
+    );
+}
+
+// The two counts of segment s written.
+pub fn write_counts(g: Geometry, mem: &mut [u32], s: usize, kept: u32, handed: u32)
+    requires { ⌜ (Sized g (length (now mem))) × (s < g .segments) ⌝ }
+    ensures { λ _. ⌜ memOf g (now (mem .exit)) ≡ setHandedCount (setKeptCount (memOf g (now (mem .entry))) s kept) s handed ⌝ }
+{
+    layout::set_segment(
+        g,
+        mem,
+        s * layout::SEGMENT_RECORD_WORDS + layout::KEPT_AT,
+        kept,
+    );
+    set_handed(g, mem, s, handed);
+}
+
 // The record of segment s, whatever its words hold.
 pub fn read(g: Geometry, mem: &[u32], s: usize) -> Segment
     requires { ⌜ (Sized g (length (now mem))) × (s < g .segments) ⌝ }
-    ensures { λ r. ⌜ r .state ≡ segment (memOf g (now (mem .entry))) s ⌝ }
+    ensures { λ r. ⌜ (r .state ≡ segment (memOf g (now (mem .entry))) s) × (r .kept ≡ keptCount (memOf g (now (mem .entry))) s) × (r .handed ≡ handedCount (memOf g (now (mem .entry))) s) ⌝ }
 {
     let class = class(g, mem, s);
     let place = place(g, mem, s);
     let mutator = owner(g, mem, s);
+    let kept = kept(g, mem, s);
+    let handed = handed(g, mem, s);
     let state = match tag(g, mem, s) {
         Segment::TAG_FREE => SegmentState::Free,
         Segment::TAG_PART => SegmentState::Part { class, place },
@@ -80,10 +124,14 @@ pub fn read(g: Geometry, mem: &[u32], s: usize) -> Segment
         Segment::TAG_FULL => SegmentState::Full { class },
         _ => SegmentState::Condemned { class },
     };
-    Segment { state }
+    Segment {
+        state,
+        kept,
+        handed,
+    }
 }
 
-// The words of a record.
+// The words of a state.
 fn write_as(g: Geometry, mem: &mut [u32], s: usize, tag: u32, class: u32, place: u32, owner: u32)
     requires { ⌜ (Sized g (length (now mem))) × (s < g .segments) ⌝ }
     ensures { λ _. ⌜ memOf g (now (mem .exit)) ≡ setRecord (memOf g (now (mem .entry))) s tag class place owner ⌝ }
@@ -95,7 +143,7 @@ fn write_as(g: Geometry, mem: &mut [u32], s: usize, tag: u32, class: u32, place:
     layout::set_segment(g, mem, at + layout::OWNER_AT, owner);
 }
 
-// The words of a record whose allocation pointer is the number of blocks.
+// The words of a state whose allocation pointer is the number of blocks.
 fn write_filled(g: Geometry, mem: &mut [u32], s: usize, tag: u32, class: u32)
     requires { ⌜ (Sized g (length (now mem))) × (s < g .segments) ⌝ }
     ensures { λ _. ⌜ memOf g (now (mem .exit)) ≡ setRecord (memOf g (now (mem .entry))) s tag class (blocksIn g class) 0 ⌝ }
@@ -103,12 +151,11 @@ fn write_filled(g: Geometry, mem: &mut [u32], s: usize, tag: u32, class: u32)
     write_as(g, mem, s, tag, class, layout::blocks_in(g, class), 0);
 }
 
-// The record of segment s written; what its state has not is 0.
-pub fn write(g: Geometry, mem: &mut [u32], s: usize, segment: Segment)
+// The state of segment s written; what it has not is 0, and the two counts stay.
+pub fn write(g: Geometry, mem: &mut [u32], s: usize, state: SegmentState)
     requires { ⌜ (Sized g (length (now mem))) × (s < g .segments) ⌝ }
-    ensures { λ _. ⌜ memOf g (now (mem .exit)) ≡ setSegmentState g (memOf g (now (mem .entry))) s (segment .state) ⌝ }
+    ensures { λ _. ⌜ memOf g (now (mem .exit)) ≡ setSegmentState g (memOf g (now (mem .entry))) s state ⌝ }
 {
-    let state = segment.state;
     match state {
         SegmentState::Free => write_as(g, mem, s, Segment::TAG_FREE, 0, 0, 0),
         SegmentState::Part { class, place } => write_as(

@@ -4,7 +4,7 @@ use mathlib.Core.Path.{_≡_}
 use mathlib.Core.Bool.{Bool, true, false}
 use mathlib.Core.Logic.{_⊎_}
 use mathlib.Core.Option.{Option, none, some}
-use Prim.Native.Nat.{ℕ, suc, _-_, _≤_, _<_}
+use Prim.Native.Nat.{ℕ, suc, _+_, _-_, _≤_, _<_}
 use lib.Dec.{eqb}
 use Rattle.basics.specs.Pick.{pick}
 use Rattle.classes.specs.Class.{IsClass}
@@ -14,8 +14,8 @@ use Rattle.layout.specs.Mem.{Mem}
 use Rattle.model.specs.declared.SegmentState.{SegmentState}
 use Rattle.model.specs.declared.Step.{Step}
 use Rattle.model.specs.declared.Step.the-variants.{Swept, Refused}
-use Rattle.model.specs.Fields.{class, tag, setCursor}
-use Rattle.model.specs.Segments.{setSegmentState, freeStack, partStack, count, stacked, inUse}
+use Rattle.model.specs.Fields.{class, tag, setCursor, keptCount, setKeptCount, handedCount, setHandedCount}
+use Rattle.model.specs.Segments.{setSegmentState, freeStack, partStack, count, stacked}
 use Rattle.model.specs.Collector.{markedBlocks, swept, lowest}
 use Rattle.sweeping.specs.declared.Lowest.{Lowest}
 use Rattle.sweeping.specs.declared.Lowest.the-variants.{Segment, Nothing}
@@ -62,11 +62,21 @@ pub record Settles (g : Geometry) (m : Mem) (s c n : ℕ) (r : Bool) (after : Me
 pub record Finishes (g : Geometry) (m : Mem) (s c used n : ℕ) (r : Step) (after : Mem) : Type 0 where
   pub either : ((r ≡ Swept s (used - n)) × (after ≡ setCursor (settled g m s c n) (suc s))) ⊎ ((r ≡ Refused 13) × (g .segments ≤ count g m (stackAfter c n)))
 
--- what hinders a sweep: the segment has no class, or its stack no room
-abbrev pub SweepFails : Geometry → Mem → ℕ → Type 0
-SweepFails g m s = (IsClass (class m s) → ⊥) ⊎ (g .segments ≤ count g m (stackAfter (class m s) (markedBlocks g m s)))
+-- the two counts of a segment together: in memory that passes the examination, its blocks in use
+abbrev pub countedUse : Mem → ℕ → ℕ
+countedUse m s = keptCount m s + handedCount m s
 
--- Swept, the segment and how many blocks in use became free, and the memory swept; or 13 where something hinders it
+-- n blocks are kept, and none has been handed out since
+abbrev pub recountedAs : Mem → ℕ → ℕ → Mem
+recountedAs m s n = setHandedCount (setKeptCount m s n) s 0
+
+-- what hinders a sweep: the segment has no class, its stack no room, or its counts tell more blocks than it has
+pub data SweepFails (g : Geometry) (m : Mem) (s : ℕ) : Type 0 where
+  noClass : (IsClass (class m s) → ⊥) → SweepFails g m s
+  noRoom : g .segments ≤ count g m (stackAfter (class m s) (markedBlocks g m s)) → SweepFails g m s
+  tooMany : IsClass (class m s) → blocksIn g (class m s) < countedUse m s → SweepFails g m s
+
+-- Swept, the segment and how many blocks in use, by its counts, became free, and the memory swept; or 13 where something hinders it
 pub record Sweeps (g : Geometry) (m : Mem) (s : ℕ) (r : Step) (after : Mem) : Type 0 where
-  pub either : ((r ≡ Swept s (inUse g m s - inUse g (swept g m s) s)) × (after ≡ swept g m s) × IsClass (class m s))
+  pub either : ((r ≡ Swept s (countedUse m s - markedBlocks g m s)) × (after ≡ swept g m s) × IsClass (class m s) × (countedUse m s ≤ blocksIn g (class m s)))
       ⊎ ((r ≡ Refused 13) × SweepFails g m s)

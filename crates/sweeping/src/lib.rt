@@ -1,17 +1,18 @@
 // step in sweep: the lowest condemned segment is swept, or, with none left, the cycle is done. Over memory that fails the examination a segment
-// may have no class, or a stack no room: then the answer is 13.
+// may have no class, its counts may be too large, or a stack may have no room: then the answer is 13.
 use layout::Geometry;
 use model::Phase;
 use model::Segment;
 use model::SegmentState;
 use model::Step;
 ghost use mathlib.Core.Path.{_≡_};
-ghost use Prim.Native.Nat.{_<_, _-_};
+ghost use Prim.Native.Nat.{ℕ, _<_, _-_};
 ghost use lib.ListN.{length};
 ghost use Rattle.classes.specs.Class.{IsClass};
 ghost use Rattle.layout.specs.Geometry.{Sized};
 ghost use Rattle.layout.specs.Mem.{memOf};
-ghost use Rattle.model.specs.Fields.{tag, class};
+ghost use Rattle.model.specs.declared.SegmentState.the-variants.{Condemned};
+ghost use Rattle.model.specs.Fields.{tag};
 ghost use Rattle.model.specs.Collector.{lowest, sweeps};
 ghost use Rattle.model.specs.StepParts.{StepsAs};
 ghost use Rattle.model.specs.Tag as Tag;
@@ -82,7 +83,7 @@ fn settle(g: Geometry, mem: &mut [u32], s: usize, class: u32, kept: u32) -> bool
     ensures { λ r. ⌜ Settles g (memOf g (now (mem .entry))) s class kept r (memOf g (now (mem .exit))) ⌝ }
 {
     let state = state_after(g, class, kept);
-    segments::write(g, mem, s, Segment { state });
+    segments::write(g, mem, s, state);
     if kept == layout::blocks_in(g, class) {
         return true;
     }
@@ -99,14 +100,10 @@ fn less(a: u32, b: u32) -> u32
     a - b
 }
 
-// The class of segment s, which is condemned, by its state.
-fn condemned_class(g: Geometry, mem: &[u32], s: usize) -> u32
-    requires { ⌜ (Sized g (length (now mem))) × (s < g .segments) ⌝ }
-    requires { ⌜ tag (memOf g (now mem)) s ≡ Tag.condemned ⌝ }
-    ensures { λ r. ⌜ r ≡ class (memOf g (now (mem .entry))) s ⌝ }
+// The class of the state of a condemned segment.
+fn condemned_class(state: SegmentState) -> u32
+    ensures { λ r. ⌜ ((c : ℕ) → state ≡ Condemned c → r ≡ c) ⌝ }
 {
-    let segment = segments::read(g, mem, s);
-    let state = segment.state;
     match state {
         SegmentState::Condemned { class } => class,
         SegmentState::Full { class } => class,
@@ -133,23 +130,30 @@ fn finish(g: Geometry, mem: &mut [u32], s: usize, class: u32, used: u32, kept: u
     Step::Refused(13)
 }
 
-// Segment s is swept: its level 0 becomes the marks, it is free, full or part by their number, and the cursor passes it. One without a mark gets a
-// tree of free blocks by whole words, and no bit is looked at.
+// Segment s is swept: its level 0 becomes the marks, it is free, full or part by their number, they are its count of blocks kept, and the cursor
+// passes it. Its two counts tell what was in use. One without a mark gets a tree of free blocks by whole words, and no bit is looked at.
 fn sweep_segment(g: Geometry, mem: &mut [u32], s: usize) -> Step
     requires { ⌜ (Sized g (length (now mem))) × (s < g .segments) ⌝ }
     requires { ⌜ tag (memOf g (now mem)) s ≡ Tag.condemned ⌝ }
     ensures { λ r. ⌜ Sweeps g (memOf g (now (mem .entry))) s r (memOf g (now (mem .exit))) ⌝ }
 {
-    let class = condemned_class(g, mem, s);
+    let segment = segments::read(g, mem, s);
+    let state = segment.state;
+    let class = condemned_class(state);
     if classes::is_class(class) {
-        let place = segments::place(g, mem, s);
-        let used = bitmaps::in_use(g, mem, s, class, place);
+        let last = segment.kept;
+        let used = last as u64 + segment.handed as u64;
+        if used > layout::blocks_in(g, class) as u64 {
+            return Step::Refused(13);
+        }
         if bitmaps::unmarked(g, mem, s) {
             bitmaps::fresh(g, mem, s, class);
-            return finish(g, mem, s, class, used, 0);
+            segments::write_counts(g, mem, s, 0, 0);
+            return finish(g, mem, s, class, used as u32, 0);
         }
         let kept = bitmaps::adopt(g, mem, s, class);
-        return finish(g, mem, s, class, used, kept);
+        segments::write_counts(g, mem, s, kept, 0);
+        return finish(g, mem, s, class, used as u32, kept);
     }
     Step::Refused(13)
 }

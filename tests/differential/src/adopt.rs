@@ -43,6 +43,7 @@ fn records(memory: &[u32], segments: u32, adopted: &mut Adopted) -> Vec<Referenc
     for segment in 0..segments {
         let [state, class, ..] = layout::segment(memory, segments, segment);
         let blocks = if state == 0 { 0 } else { layout::blocks(class) };
+        adopted.blocks.adopt_segment(segment, class, layout::counts_due(memory, segments, segment).unwrap_or_default());
         for block in (0..blocks).filter(|&block| layout::in_use(memory, segments, segment, block)) {
             let at = segment as usize * layout::SEGMENT_WORDS + ((block as usize) << class) / 4;
             let header = if live[at] { memory[layout::HEAP + at] } else { 0 };

@@ -1,5 +1,6 @@
 //! The second half of demand 3: a block of a segment that was full when a cycle began, and that no mutator could then reach, is free
-//! once that segment is swept. Which record a block holds is seen from the root that a make fills (docs/LAYOUT.md).
+//! once that segment is swept. Which record a block holds is seen from the root that a make fills (docs/LAYOUT.md). So are the blocks in use
+//! and each segment's two counts, by calls alone: a make adds a block, a sweep leaves those whose records are marked.
 
 use crate::layout;
 use crate::unbounded::{Reference, UnboundedHeap};
@@ -10,23 +11,65 @@ pub struct Blocks {
     segments: u32,
     /// The record last put into each block, 0 for none: 2048 to a segment.
     held: Vec<Reference>,
+    /// For each block whether it is in use, and how many are.
+    used: Vec<bool>,
+    in_use: u64,
+    /// By segment: the class of the record last put into it, 0 before one, and the two counts.
+    classes: Vec<u32>,
+    counts: Vec<[u32; 2]>,
     /// Of the cycle that runs: for each block, whether it was full and unreached when the cycle began.
     dead: Vec<bool>,
 }
 
+/// Where a make put its record, and whether the segment was one of another class before.
+pub struct Put {
+    pub segment: u32,
+    pub other_class: bool,
+}
+
 impl Blocks {
     pub fn new(segments: u32) -> Blocks {
-        let words = segments as usize * PER_SEGMENT;
-        Blocks { segments, held: vec![0; words], dead: vec![false; words] }
+        let (count, words) = (segments as usize, segments as usize * PER_SEGMENT);
+        Blocks {
+            segments,
+            held: vec![0; words],
+            used: vec![false; words],
+            in_use: 0,
+            classes: vec![0; count],
+            counts: vec![[0, 0]; count],
+            dead: vec![false; words],
+        }
     }
 
-    /// The block is found to have the record.
+    /// The block is found to be in use, with the record.
     pub fn adopt(&mut self, segment: u32, block: u32, record: Reference) {
-        self.held[segment as usize * PER_SEGMENT + block as usize] = record;
+        self.fill(segment as usize * PER_SEGMENT + block as usize, record);
     }
 
-    /// A make that was not refused put record `record` into the block that its root now names. Answers the segment.
-    pub fn put(&mut self, memory: &[u32], class: u32, root: u32, record: Reference) -> Result<u32, String> {
+    /// The segment is found with the class and the counts.
+    pub fn adopt_segment(&mut self, segment: u32, class: u32, counts: [u32; 2]) {
+        self.classes[segment as usize] = class;
+        self.counts[segment as usize] = counts;
+    }
+
+    fn fill(&mut self, at: usize, record: Reference) {
+        self.held[at] = record;
+        self.used[at] = true;
+        self.in_use += 1;
+    }
+
+    /// How many blocks are in use.
+    pub fn in_use(&self) -> u64 {
+        self.in_use
+    }
+
+    /// The two counts of a segment.
+    pub fn counts(&self, segment: usize) -> [u32; 2] {
+        self.counts[segment]
+    }
+
+    /// A make that was not refused put record `record` into the block that its root now names.
+    pub fn put(&mut self, memory: &[u32], class: u32, root: u32, record: Reference) -> Result<Put, String> {
         if root == 0 || root as usize > self.segments as usize * layout::SEGMENT_WORDS {
             return Err(format!("make left reference {root} in its root"));
         }
@@ -38,9 +81,28 @@ impl Blocks {
         if within & (size - 1) != 0 || of_class != class || !matches!(state, 2 | 3) {
             return Err(format!("make of class {class} took word {within} of segment {segment}, state {state}, class {of_class}"));
         }
-        let block = (within / size) as u32;
-        self.held[segment as usize * PER_SEGMENT + block as usize] = record;
-        Ok(segment)
+        let block = within / size;
+        let at = segment as usize * PER_SEGMENT + block;
+        if self.used[at] {
+            return Err(format!("make took block {block} of segment {segment}, which was in use"));
+        }
+        self.fill(at, record);
+        self.counts[segment as usize][1] += 1;
+        let before = std::mem::replace(&mut self.classes[segment as usize], class);
+        Ok(Put { segment, other_class: before != 0 && before != class })
+    }
+
+    /// A segment of the class is swept: the blocks whose records are marked stay in use, and are those kept.
+    pub fn keep(&mut self, segment: u32, class: u32, marked: impl Fn(Reference) -> bool) {
+        let at = segment as usize * PER_SEGMENT;
+        let mut kept = 0;
+        for at in at..at + layout::blocks(class) as usize {
+            self.in_use -= u64::from(self.used[at]);
+            self.used[at] &= marked(self.held[at]);
+            kept += u32::from(self.used[at]);
+        }
+        self.in_use += u64::from(kept);
+        self.counts[segment as usize] = [kept, 0];
     }
 
     /// The records last put into the blocks of a segment of the class.
@@ -65,7 +127,7 @@ impl Blocks {
     pub fn start(&mut self, states: &[u32], heap: &mut UnboundedHeap) {
         heap.search();
         self.dead.fill(false);
-        for (segment, state) in states.chunks_exact(4).enumerate() {
+        for (segment, state) in layout::each_segment(states).enumerate() {
             if state[0] != 3 {
                 continue;
             }

@@ -59,7 +59,7 @@ pub enum Length {
     Of(u32),
     Longer(u32),
     Shorter(u32),
-    /// The length that the memory had before request No. 2.
+    /// The length that the memory, or the output of the look at the states, had before request No. 3.
     Former,
 }
 

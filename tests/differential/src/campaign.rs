@@ -6,13 +6,15 @@ use crate::choose::Chooser;
 use crate::coverage::Coverage;
 use crate::damage;
 use crate::interface::{independent, verified};
+use crate::layout;
 use crate::lent::Lent;
 use crate::list::{List, Pair};
 use crate::options::Options;
 use crate::profile::Plan;
 use crate::progress::Progress;
 use crate::rng::{mix, Rng};
-use crate::torn::{Torn, TornCounts};
+use crate::tally::Tally;
+use crate::torn::Torn;
 use crate::watchdog;
 use std::collections::BTreeMap;
 
@@ -23,7 +25,9 @@ pub struct Campaign {
     pub torn: Coverage,
     /// Lists that go on from memory that passes the examination after it was changed.
     pub adopted: Coverage,
-    pub counts: TornCounts,
+    /// Heaps changed in places or bits of which the examination said no with the counts as they were, and yes with those of the change.
+    pub recounted: u64,
+    pub tally: Tally,
     pub by_count: BTreeMap<u32, u64>,
     progress: Progress,
 }
@@ -38,7 +42,7 @@ const USUAL_TORN: [u32; 40] =
 pub fn lengths_agree() -> Result<(), String> {
     for count in (0..=300).chain([0x1_0001, 1 << 31, u32::MAX]) {
         let n = if (1..=256).contains(&count) { count as usize } else { 0 };
-        let right = [if n == 0 { 0 } else { 6292 * n + 1053 }, 4 * n, 2176 * n];
+        let right = [if n == 0 { 0 } else { 6294 * n + 1053 }, layout::RECORD_WORDS * n, 2176 * n];
         let said = [verified().length(count), verified().states_length(count), verified().scratch_length(count)];
         if said != right || independent().states_length(count) != right[1] || (independent().length(count) == 0) != (n == 0) {
             return Err(format!("lengths for {count} segments: {said:?}, the header says {right:?}"));
@@ -56,7 +60,8 @@ impl Campaign {
             lists: Coverage::new(),
             torn: Coverage::new(),
             adopted: Coverage::new(),
-            counts: TornCounts::default(),
+            recounted: 0,
+            tally: Tally::default(),
             by_count: BTreeMap::new(),
             progress,
         }
@@ -168,7 +173,7 @@ impl Campaign {
         for _ in 0..times {
             let calls = rng.pick(&[10, 40, 40, 120]);
             let case = Rng::new(rng.next());
-            let mut torn = Torn::new(count, lent, &mut self.torn, &mut self.counts, case, longer);
+            let mut torn = Torn::new(count, lent, &mut self.torn, &mut self.tally, case, longer);
             torn.play(&base, calls)?;
         }
         (0..times).try_for_each(|_| self.play_adopted(count, &base, &mut rng))
@@ -176,16 +181,42 @@ impl Campaign {
 
     /// Changes the memory and, where it still passes the examination, goes on with a list from there.
     fn play_adopted(&mut self, count: u32, base: &[u32], rng: &mut Rng) -> Result<(), String> {
-        let pair = self.pairs.get_mut(&count).expect("its list was played");
-        damage::tweak(rng, pair.verified.memory.words_mut(), base, count);
-        if pair.verified.play(&Call::new(Examine, count, [0; 4])) != 1 << 32 {
+        let lent = &mut self.pairs.get_mut(&count).expect("its list was played").verified;
+        damage::tweak(rng, lent.memory.words_mut(), base, count);
+        if !self.passes(count)? && !self.passes_recounted(count, base)? {
             return Ok(());
         }
+        let pair = self.pairs.get_mut(&count).expect("its list was played");
         let calls = rng.pick(&[20, 100, 100, 400]);
         let seed = rng.next();
         let mut list_rng = Rng::new(seed);
         let plan = Plan::draw(&mut list_rng, count, calls, self.options.guard > 0);
         let list = List::new(pair, &mut self.adopted, Chooser::new(plan, list_rng), seed, 64);
         list.adopt().play().map_err(|fault| format!("gone on from changed memory, {fault}"))
+    }
+
+    /// Whether the memory passes the examination, which asks that every count is right.
+    fn passes(&mut self, count: u32) -> Result<bool, String> {
+        let lent = &mut self.pairs.get_mut(&count).expect("its list was played").verified;
+        let yes = lent.play(&Call::new(Examine, count, [0; 4])) == 1 << 32;
+        match yes && !layout::all_counts_right(lent.memory.words(), count) {
+            true => Err("changed memory passes the examination, and a count is wrong".into()),
+            false => Ok(yes),
+        }
+    }
+
+    /// Whether the memory, which does not pass the examination, passes it with the counts that its places and bits ask for. Where those are
+    /// not the counts of `base`, places or bits were changed.
+    fn passes_recounted(&mut self, count: u32, base: &[u32]) -> Result<bool, String> {
+        let memory = self.pairs.get_mut(&count).expect("its list was played").verified.memory.words_mut();
+        if layout::all_counts_right(memory, count) {
+            return Ok(false);
+        }
+        damage::recount(memory, count);
+        let counts = |words: &[u32]| layout::each_segment(layout::all_records(words, count)).map(layout::counts_of).collect::<Vec<_>>();
+        let changed = counts(memory) != counts(base);
+        let yes = self.passes(count)?;
+        self.recounted += u64::from(yes && changed);
+        Ok(yes)
     }
 }

@@ -1,4 +1,4 @@
-//! What a list compares beside answers: phase, states, the trace stack, the examination, and words that may not change.
+//! What a list compares beside answers: phase, states, counts, the trace stack, the examination, and words that may not change.
 
 use crate::calls::*;
 use crate::layout;
@@ -68,16 +68,45 @@ impl List<'_> {
         let first = self.pair.verified.output.words();
         let second = if self.alone { first } else { self.pair.independent.output.words() };
         if first != second {
-            let at = first.iter().zip(second).take_while(|(a, b)| a == b).count() / 4;
-            let (first, second) = (&first[4 * at..4 * at + 4], &second[4 * at..4 * at + 4]);
+            let at = first.iter().zip(second).take_while(|(a, b)| a == b).count() / layout::RECORD_WORDS;
+            let [first, second] = [first, second].map(|states| layout::each_segment(states).nth(at).unwrap_or_default());
             return Err(format!("state of segment {at}: verified {first:?}, independent {second:?}"));
         }
-        if let Some(at) = first.chunks_exact(4).position(layout::shared_of_one_block) {
+        if let Some(at) = layout::each_segment(first).position(layout::shared_of_one_block) {
             return Err(format!("segment {at} has one block and is part or held"));
         }
+        self.same_counts(first)?;
         self.nothing.looked(&self.states, first)?;
         self.states.copy_from_slice(first);
         Ok(())
+    }
+
+    /// The counts of each segment are those of the calls, and all together they are the blocks handed out less those freed.
+    fn same_counts(&self, states: &[u32]) -> Result<(), String> {
+        let mut sum = 0;
+        for (segment, record) in layout::each_segment(states).enumerate() {
+            let (counts, due) = (layout::counts_of(record), self.blocks.counts(segment));
+            if counts != due {
+                return Err(format!("segment {segment} is {record:?}, and its counts are {due:?} by the calls"));
+            }
+            sum += u64::from(counts[0]) + u64::from(counts[1]);
+        }
+        self.totals.agree(sum, "the counts")
+    }
+
+    /// The blocks in use by the calls are those handed out less those freed; by samples, so are those that places and bits tell.
+    pub fn compare_totals(&mut self) -> Result<(), String> {
+        self.totals.agree(self.blocks.in_use(), "the calls")?;
+        match self.rng.below(8 * self.n) {
+            0 => self.count_blocks(),
+            _ => Ok(()),
+        }
+    }
+
+    fn count_blocks(&mut self) -> Result<(), String> {
+        self.coverage.counted += 1;
+        let in_use = layout::blocks_in_use(self.pair.verified.memory.words(), self.n);
+        self.totals.agree(in_use, "places and bits")
     }
 
     /// The verified library's trace stack has as many entries as document 01 says, and the same last one.
@@ -112,6 +141,7 @@ impl List<'_> {
         let call = self.right(Examine);
         self.unexamined = 0;
         self.compare_stack()?;
+        self.count_blocks()?;
         if self.rng.chance(64) {
             let word = self.rng.word();
             self.pair.verified.scratch.words_mut().fill(word);

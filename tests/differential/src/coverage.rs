@@ -35,6 +35,8 @@ situations! {
     MakeClass13,
     MakeClass14,
     MakeFullAtOnce,
+    MakeBesideKept,
+    FreedTakenByAnotherClass,
     AttachIdle,
     AttachMark,
     AttachSweep,
@@ -63,6 +65,10 @@ situations! {
     SweptToFree,
     SweptToPart,
     SweptToFull,
+    CountsSweptToFree,
+    CountsSweptToPart,
+    CountsSweptToFull,
+    SweptKeptAndHandedOut,
     WaitingForOne,
     WaitingForMany,
     CycleOverManySegments,
@@ -90,12 +96,15 @@ pub struct Coverage {
     pub watched: u64,
     pub compared_states: u64,
     pub compared_stacks: u64,
+    /// How often the blocks in use were counted by places and bits.
+    pub counted: u64,
     pub longest_stack: usize,
     /// By class from 3 on: segments swept that became free, part and full.
     pub by_class: [[u64; 3]; layout::CLASSES],
     pub by_kind: [[u64; 14]; KINDS],
-    /// By kind: calls with the length that the memory had before request No. 2.
+    /// By kind: calls with the length that the memory had before request No. 3; and looks at the states with the output's.
     pub former: [u64; KINDS],
+    pub former_output: u64,
     pub steps: [u64; 6],
     pub situations: Vec<u64>,
 }
@@ -113,10 +122,12 @@ impl Coverage {
             watched: 0,
             compared_states: 0,
             compared_stacks: 0,
+            counted: 0,
             longest_stack: 0,
             by_class: [[0; 3]; layout::CLASSES],
             by_kind: [[0; 14]; KINDS],
             former: [0; KINDS],
+            former_output: 0,
             steps: [0; 6],
             situations: vec![0; SITUATIONS.len()],
         }
@@ -132,6 +143,19 @@ impl Coverage {
         if kind == Step && refusal(answer) == 0 {
             self.steps[(step_kind(answer) as usize).min(5)] += 1;
         }
+    }
+
+    /// Counts a length of the former layout.
+    pub fn count_former(&mut self, call: &Call) {
+        self.former[call.kind as usize] += u64::from(call.length == Length::Former);
+        self.former_output += u64::from(call.kind == States && call.extra == Length::Former);
+    }
+
+    /// The kinds of call that never met a length of the former layout.
+    pub fn missing_former(&self) -> Vec<String> {
+        let never = ALL_KINDS.into_iter().filter(|&kind| self.former[kind as usize] == 0);
+        let output = (self.former_output == 0).then(|| "States with the former layout's output".into());
+        never.map(|kind| format!("{kind:?} with the former layout's length")).chain(output).collect()
     }
 
     fn refusals(&self) -> [u64; 14] {
@@ -156,10 +180,8 @@ impl Coverage {
             if self.by_kind[kind as usize][0] == 0 {
                 missing.push(format!("{kind:?} not refused"));
             }
-            if self.former[kind as usize] == 0 {
-                missing.push(format!("{kind:?} with the former layout's length"));
-            }
         }
+        missing.extend(self.missing_former());
         for (class, [free, part, full]) in (layout::LOWEST..).zip(self.by_class) {
             // That all of more than 256 blocks are reached is rare; a segment of one block is never part.
             if free == 0 || part == 0 && layout::blocks(class) > 1 || class > 5 && full == 0 {
@@ -204,8 +226,8 @@ impl Coverage {
             self.unreached
         );
         println!(
-            "  {} looks at the states compared, {} examinations, {} calls watched to change no word",
-            self.compared_states, self.examined, self.watched
+            "  {} looks at the states compared, {} examinations, {} calls watched to change no word, blocks in use counted by places and bits {} times",
+            self.compared_states, self.examined, self.watched, self.counted
         );
     }
 
@@ -213,7 +235,8 @@ impl Coverage {
     pub fn print_lists(&self) {
         self.print_cycles();
         println!("  {} trace stacks compared, the longest of {} entries", self.compared_stacks, self.longest_stack);
-        let classes: Vec<String> = (layout::LOWEST..).zip(self.by_class).map(|(class, [free, part, full])| format!("{class}: {free}/{part}/{full}")).collect();
+        let classes: Vec<String> =
+            (layout::LOWEST..).zip(self.by_class).map(|(class, [free, part, full])| format!("{class}: {free}/{part}/{full}")).collect();
         println!("  swept to free/part/full by class: {}", classes.join(", "));
         let met: Vec<String> = SITUATIONS.iter().map(|&situation| format!("{situation:?} {}", self.situations[situation as usize])).collect();
         for line in met.chunks(5) {

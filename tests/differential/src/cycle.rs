@@ -3,6 +3,7 @@
 
 use crate::blocks::Blocks;
 use crate::calls::*;
+use crate::layout;
 use crate::unbounded::{Reference, UnboundedHeap};
 
 pub struct Cycle {
@@ -29,6 +30,11 @@ impl Cycle {
     pub fn adopt(&mut self, phase: u32, acknowledged: [u32; 32], stack: Vec<Reference>) {
         self.number = 1;
         (self.phase, self.acknowledged, self.stack) = (phase, acknowledged, stack);
+    }
+
+    /// Whether the record is marked, once nothing is left to trace: it was entered in this cycle, or born marked.
+    pub fn is_marked(&self, reference: Reference) -> bool {
+        reference != 0 && self.entered[reference as usize - 1] == self.number
     }
 
     fn enter(&mut self, reference: Reference) {
@@ -124,13 +130,12 @@ impl Cycle {
     }
 
     fn sweep(&mut self, blocks: &Blocks, states: &[u32]) -> (u32, u32, u32) {
-        let Some(segment) = states.chunks_exact(4).position(|state| state[0] == 4) else {
+        let Some(segment) = layout::each_segment(states).position(|state| state[0] == 4) else {
             self.phase = IDLE;
             return (DONE, 0, 0);
         };
-        let marked = |record: &&Reference| **record != 0 && self.entered[**record as usize - 1] == self.number;
-        let records = blocks.records(segment, states[4 * segment + 1]);
-        let freed = records.len() - records.iter().filter(marked).count();
+        let records = blocks.records(segment, states[layout::RECORD_WORDS * segment + 1]);
+        let freed = records.iter().filter(|record| !self.is_marked(**record)).count();
         (SWEPT, segment as u32, freed as u32)
     }
 }

@@ -73,7 +73,7 @@ fn set_bits(rng: &mut Rng, memory: &mut [u32], region: usize, segments: u32) {
 
 /// A segment's place moves, or its state changes.
 fn segment_word(rng: &mut Rng, memory: &mut [u32], segments: u32) {
-    let at = layout::regions(segments)[3] + 4 * rng.below(segments) as usize;
+    let at = layout::record_at(segments, rng.below(segments));
     match rng.below(3) {
         0 => memory[at] = rng.below(5),
         _ => memory[at + 2] = memory[at + 2].wrapping_sub(rng.below(9)).wrapping_add(4),
@@ -95,16 +95,16 @@ fn hollow(rng: &mut Rng, memory: &mut [u32], segments: u32) {
     let state = if !inside.is_empty() && rng.chance(512) {
         let m = rng.pick(&inside);
         memory[layout::held_at(m, layout::HIGHEST)] = 1 + segment;
-        [2, layout::HIGHEST, 0, m]
+        [2, layout::HIGHEST, 0, m, 0, 0]
     } else {
         let stack = free + (layout::STACKS - 1) * (1 + segments as usize);
         let top = 1 + memory[stack].min(segments - 1);
         memory[stack] = top;
         memory[stack + top as usize] = segment;
-        [1, layout::HIGHEST, 0, 0]
+        [1, layout::HIGHEST, 0, 0, 0, 0]
     };
-    let record = starts[3] + 4 * segment as usize;
-    memory[record..record + 4].copy_from_slice(&state);
+    let record = layout::record_at(segments, segment);
+    memory[record..record + layout::RECORD_WORDS].copy_from_slice(&state);
 }
 
 /// Class words: of no class, of the last ones, past them, and at the bounds of shifts and of the 32 bits.
@@ -114,11 +114,70 @@ pub const CLASS_WORDS: [u32; 16] = [0, 1, 2, 3, 12, 13, 14, 15, 16, 31, 32, 33, 
 pub fn tear_class(rng: &mut Rng, memory: &mut [u32], segments: u32) -> (usize, usize) {
     let which = rng.below(CLASS_WORDS.len() as u32) as usize;
     let (one, all) = (rng.below(segments), rng.chance(512));
-    let at = |segment: u32| layout::regions(segments)[3] + 4 * segment as usize + 1;
+    let at = |segment: u32| layout::record_at(segments, segment) + 1;
     for segment in (0..segments).filter(|&segment| all || segment == one) {
         memory[at(segment)] = CLASS_WORDS[which];
     }
     (which, at(one))
+}
+
+/// Values of torn counts: numbers by themselves, by the segment's blocks and by the right count, and words at random.
+pub const COUNT_VALUES: [&str; 9] = ["0", "1", "all", "one more than all", "2^31", "2^32 - 1", "one too many", "one too few", "any number of"];
+const ONE_TOO_MANY: usize = 6;
+
+/// A count in a segment's record that was torn.
+#[derive(Clone, Copy)]
+pub struct TornCount {
+    pub segment: u32,
+    /// The word of the record, 0 for the first of the two counts.
+    pub which: usize,
+    /// Which of the values it has, and what that is.
+    pub value: usize,
+    pub word: u32,
+}
+
+/// A segment in a state drawn before, where there is one.
+fn of_some_state(rng: &mut Rng, memory: &[u32], segments: u32) -> u32 {
+    let (state, turn) = (rng.below(layout::STATES as u32), rng.below(segments));
+    let alike = |segment: &u32| layout::segment(memory, segments, *segment)[0] == state;
+    (0..segments).map(|number| (number + turn) % segments).find(alike).unwrap_or(turn)
+}
+
+/// The value as a word, in a segment; the right count is taken for 0 where none is asked.
+fn count_value(rng: &mut Rng, memory: &[u32], segments: u32, segment: u32, which: usize, value: usize) -> u32 {
+    let class = layout::segment(memory, segments, segment)[1];
+    let blocks = layout::blocks(if layout::is_class(class) { class } else { layout::LOWEST });
+    let due = layout::counts_due(memory, segments, segment).unwrap_or_default()[which];
+    [0, 1, blocks, blocks + 1, 1 << 31, u32::MAX, due.wrapping_add(1), due.wrapping_sub(1), rng.word()][value]
+}
+
+/// One of the two counts of a segment, or of every one, becomes one of those values. Where it is one too many the other may be one too few:
+/// then their sum is right.
+pub fn tear_count(rng: &mut Rng, memory: &mut [u32], segments: u32) -> TornCount {
+    let (one, all) = (of_some_state(rng, memory, segments), rng.chance(128));
+    let (which, value) = (rng.below(2) as usize, rng.below(COUNT_VALUES.len() as u32) as usize);
+    let mut torn = TornCount { segment: one, which, value, word: 0 };
+    for segment in (0..segments).filter(|&segment| all || segment == one) {
+        let at = layout::record_at(segments, segment) + layout::KEPT;
+        memory[at + which] = count_value(rng, memory, segments, segment, which, value);
+        if value == ONE_TOO_MANY && rng.chance(512) {
+            memory[at + 1 - which] = memory[at + 1 - which].wrapping_sub(1);
+        }
+        if segment == one {
+            torn.word = memory[at + which];
+        }
+    }
+    torn
+}
+
+/// The counts of every segment become what its place and its bits ask for.
+pub fn recount(memory: &mut [u32], segments: u32) {
+    for segment in 0..segments {
+        if let Some(due) = layout::counts_due(memory, segments, segment) {
+            let at = layout::record_at(segments, segment) + layout::KEPT;
+            memory[at..at + 2].copy_from_slice(&due);
+        }
+    }
 }
 
 /// A block's bit at level 0 of a bitmap.

@@ -1,5 +1,5 @@
-//! Where docs/LAYOUT.md puts the verified library's words: for damage to torn memory, for coverage counters, and to see which block a
-//! make handed out.
+//! Where docs/LAYOUT.md puts the verified library's words: for damage to torn memory, for coverage counters, to see which block a make
+//! handed out, and to count blocks in use by places and bits.
 
 /// The word of the sweep's cursor.
 pub const CURSOR: usize = 2;
@@ -14,6 +14,18 @@ pub const CLASSES: usize = (HIGHEST - LOWEST) as usize + 1;
 /// The stacks: the free one, then a part stack for each class.
 pub const STACKS: usize = 1 + CLASSES;
 
+/// The words of a segment's record, which the look at the states gives as they are: state, class, place, mutator, and the two counts.
+pub const RECORD_WORDS: usize = 6;
+/// The counts: of the blocks kept at the segment's last sweep, and of those handed out since.
+pub const KEPT: usize = 4;
+pub const HANDED_OUT: usize = 5;
+/// The states: free, part, held, full, condemned.
+pub const STATES: usize = 5;
+
+pub fn is_class(class: u32) -> bool {
+    (LOWEST..=HIGHEST).contains(&class)
+}
+
 /// The number of blocks in a segment of the class.
 pub fn blocks(class: u32) -> u32 {
     16384 >> class
@@ -27,7 +39,7 @@ pub fn class_of(fields: u32) -> u32 {
 /// The regions in order: where each begins for n segments, and behind the last one the end.
 pub fn regions(segments: u32) -> [usize; 9] {
     let n = segments as usize;
-    [0, MUTATORS, HEAP, 1040 + 4096 * n, 1040 + 4100 * n, 1053 + 4113 * n, 1053 + 4180 * n, 1053 + 4244 * n, 1053 + 6292 * n]
+    [0, MUTATORS, HEAP, 1040 + 4096 * n, 1040 + 4102 * n, 1053 + 4115 * n, 1053 + 4182 * n, 1053 + 4246 * n, 1053 + 6294 * n]
 }
 
 pub fn acknowledgements(memory: &[u32], mutator: u32) -> u32 {
@@ -74,10 +86,39 @@ pub fn trace_entry(memory: &[u32], segments: u32, number: usize) -> u32 {
     memory[regions(segments)[7] + number]
 }
 
-/// The four words of a segment's record: state, class, place, mutator.
-pub fn segment(memory: &[u32], segments: u32, number: u32) -> [u32; 4] {
-    let at = regions(segments)[3] + 4 * number as usize;
-    [memory[at], memory[at + 1], memory[at + 2], memory[at + 3]]
+/// Where a segment's record begins.
+pub fn record_at(segments: u32, number: u32) -> usize {
+    regions(segments)[3] + RECORD_WORDS * number as usize
+}
+
+/// The words of a segment's record.
+pub fn segment(memory: &[u32], segments: u32, number: u32) -> [u32; RECORD_WORDS] {
+    let at = record_at(segments, number);
+    std::array::from_fn(|word| memory[at + word])
+}
+
+/// The segments' records in the memory, one after the other.
+pub fn all_records(memory: &[u32], segments: u32) -> &[u32] {
+    &memory[record_at(segments, 0)..record_at(segments, segments)]
+}
+
+/// Record by record, of a look at the states.
+pub fn each_segment(states: &[u32]) -> std::slice::ChunksExact<'_, u32> {
+    states.chunks_exact(RECORD_WORDS)
+}
+
+/// The two counts of a segment's record.
+pub fn counts_of(record: &[u32]) -> [u32; 2] {
+    [record[KEPT], record[HANDED_OUT]]
+}
+
+/// The segment on top of a stack: stack 0 is the free one, 1 + (c - 3) the part stack of class c.
+pub fn top(memory: &[u32], segments: u32, stack: usize) -> Option<u32> {
+    let at = regions(segments)[4] + stack * (1 + segments as usize);
+    match memory[at] as usize {
+        0 => None,
+        count => memory.get(at + count).copied(),
+    }
 }
 
 /// Whether a segment of one block is part or held: it is full from its first block.
@@ -93,6 +134,62 @@ pub fn block_bit(memory: &[u32], segments: u32, segment: u32, block: u32) -> boo
 
 /// Whether the block lies before its segment's place or its bit is 1, in a segment that is not free.
 pub fn in_use(memory: &[u32], segments: u32, number: u32, block: u32) -> bool {
-    let [state, _, place, _] = segment(memory, segments, number);
+    let [state, _, place, ..] = segment(memory, segments, number);
     state != 0 && (block < place || block_bit(memory, segments, number, block))
+}
+
+/// So many of the lowest bits of a word.
+fn lowest(bits: u32) -> u32 {
+    if bits < 32 {
+        (1 << bits) - 1
+    } else {
+        u32::MAX
+    }
+}
+
+/// Of a segment whose class is one, each word of level 0, its bits that stand for blocks, and those of them that lie before the place.
+fn level0(memory: &[u32], segments: u32, number: u32) -> impl Iterator<Item = (u32, u32, u32)> + '_ {
+    let [_, class, place, ..] = segment(memory, segments, number);
+    let words = &memory[regions(segments)[5] + 67 * number as usize..];
+    (0..blocks(class)).step_by(32).zip(words).map(move |(first, &word)| {
+        let here = lowest(blocks(class) - first);
+        (word, here, here & lowest(place.saturating_sub(first)))
+    })
+}
+
+/// What the two counts of a segment are to be by its place and its bits: the 1 bits among its blocks, and the 0 bits before its place; both
+/// are 0 in a free segment, and where the class is none nothing is asked.
+pub fn counts_due(memory: &[u32], segments: u32, number: u32) -> Option<[u32; 2]> {
+    let [state, class, ..] = segment(memory, segments, number);
+    if state == 0 {
+        return Some([0, 0]);
+    }
+    is_class(class).then(|| {
+        level0(memory, segments, number)
+            .fold([0, 0], |[kept, handed_out], (word, here, before)| [kept + (word & here).count_ones(), handed_out + (!word & before).count_ones()])
+    })
+}
+
+/// Whether the counts of a segment are what they are to be.
+pub fn counts_right(memory: &[u32], segments: u32, number: u32) -> bool {
+    let counts = counts_of(&segment(memory, segments, number));
+    counts_due(memory, segments, number).is_none_or(|due| due == counts)
+}
+
+/// Whether those of every segment are.
+pub fn all_counts_right(memory: &[u32], segments: u32) -> bool {
+    (0..segments).all(|number| counts_right(memory, segments, number))
+}
+
+/// How many blocks of a segment are in use: they lie before its place, or their bit is 1; none of a free one.
+fn used_in(memory: &[u32], segments: u32, number: u32) -> u64 {
+    if segment(memory, segments, number)[0] == 0 {
+        return 0;
+    }
+    level0(memory, segments, number).map(|(word, here, before)| u64::from((word & here | before).count_ones())).sum()
+}
+
+/// How many blocks are in use in all segments that are not free. No count is read.
+pub fn blocks_in_use(memory: &[u32], segments: u32) -> u64 {
+    (0..segments).map(|number| used_in(memory, segments, number)).sum()
 }

@@ -74,8 +74,9 @@ impl Lent {
         }
     }
 
-    /// The words that `length` names, where `right` says the right length by count; never more than is there.
-    fn named(&self, length: Length, right: fn(&Interface, u32) -> usize, present: usize) -> usize {
+    /// The words that `length` names, where `right` says the right length by count and `former` is the one before request No. 3; never more
+    /// than is there.
+    fn named(&self, length: Length, right: fn(&Interface, u32) -> usize, former: usize, present: usize) -> usize {
         let whole = right(self.interface, self.segments);
         let named = match length {
             Length::Right => whole,
@@ -83,21 +84,22 @@ impl Lent {
             Length::Of(count) => right(self.interface, count),
             Length::Longer(by) => whole + by as usize,
             Length::Shorter(by) => whole.saturating_sub(by as usize),
-            Length::Former => 6290 * self.segments as usize + 1051,
+            Length::Former => former,
         };
         named.min(present + self.guard)
     }
 
     pub fn play(&mut self, call: &Call) -> u64 {
-        let length = self.named(call.length, Interface::length, self.memory.len());
+        let n = self.segments as usize;
+        let length = self.named(call.length, Interface::length, 6292 * n + 1053, self.memory.len());
         let memory = self.memory.slice(length);
         let extra = match call.kind {
             Kind::States => {
-                let words = self.named(call.extra, Interface::states_length, self.output.len());
+                let words = self.named(call.extra, Interface::states_length, 4 * n, self.output.len());
                 self.output.slice(words)
             }
             Kind::Examine => {
-                let words = self.named(call.extra, Interface::scratch_length, self.scratch.len());
+                let words = self.named(call.extra, Interface::scratch_length, 0, self.scratch.len());
                 self.scratch.slice(words)
             }
             _ => Slice(std::ptr::NonNull::dangling().as_ptr(), 0),

@@ -2,7 +2,7 @@
 //! a mutator's, on the unbounded heap; answers and looks are compared.
 
 use crate::adopt::{adopt, Adopted};
-use crate::blocks::Blocks;
+use crate::blocks::{Blocks, Put};
 use crate::calls::*;
 use crate::choose::Chooser;
 use crate::coverage::{Coverage, Situation};
@@ -13,6 +13,7 @@ use crate::nothing::OverNothing;
 use crate::recent::Recent;
 use crate::rng::Rng;
 use crate::situations::Facts;
+use crate::totals::Totals;
 use crate::unbounded::UnboundedHeap;
 
 /// What both implementations are lent; it is kept from list to list, so that an opening meets used memory.
@@ -30,6 +31,7 @@ pub struct List<'a> {
     pub blocks: Blocks,
     pub cycle: Cycle,
     pub nothing: OverNothing,
+    pub totals: Totals,
     pub phase: u32,
     /// The segments' states at the last comparison.
     pub states: Vec<u32>,
@@ -64,8 +66,9 @@ impl<'a> List<'a> {
             blocks: Blocks::new(n),
             cycle: Cycle::new(),
             nothing: OverNothing::default(),
+            totals: Totals::new(0),
             phase: IDLE,
-            states: vec![0; 4 * n as usize],
+            states: vec![0; layout::RECORD_WORDS * n as usize],
             shadow: Vec::new(),
             recent: Recent::new(),
             rng: Rng::new(!seed),
@@ -85,8 +88,10 @@ impl<'a> List<'a> {
 
     /// The list goes on from the memory as it is, which passes the examination.
     pub fn adopt(mut self) -> List<'a> {
-        let Adopted { heap, blocks, cycle } = adopt(self.pair.verified.memory.words(), self.n);
+        let memory = self.pair.verified.memory.words();
+        let Adopted { heap, blocks, cycle } = adopt(memory, self.n);
         (self.heap, self.blocks, self.cycle) = (heap, blocks, cycle);
+        self.totals = Totals::new(layout::blocks_in_use(memory, self.n));
         self.alone = true;
         self
     }
@@ -122,6 +127,7 @@ impl<'a> List<'a> {
             } else {
                 self.play_one(&call)?;
             }
+            self.compare_totals()?;
             self.unexamined += 1;
             if self.unexamined == self.examine_every {
                 self.examine()?;
@@ -134,7 +140,7 @@ impl<'a> List<'a> {
     /// Whether a segment was full at the last look; with many segments only eight of them are asked.
     fn some_full(&mut self) -> bool {
         let from = if self.n > 8 { self.rng.below(self.n - 7) as usize } else { 0 };
-        self.states.chunks_exact(4).skip(from).take(8).any(|state| state[0] == 3)
+        layout::each_segment(&self.states).skip(from).take(8).any(|state| state[0] == 3)
     }
 
     pub fn right(&self, kind: Kind) -> Call {
@@ -186,6 +192,7 @@ impl<'a> List<'a> {
         let facts = Facts::see(self.pair.verified.memory.words(), self.phase, call, &self.heap);
         let answer = self.both(call)?;
         self.chooser.heard(call, answer);
+        self.totals.heard(call, answer);
         if let Some(expected) = expected {
             self.compare_unbounded(call, expected, answer)?;
         }
@@ -217,7 +224,7 @@ impl<'a> List<'a> {
         if answer != u64::from(SIZE) {
             return Err(format!("{call}: {}, not refused 1", answer_words(call.kind, answer)));
         }
-        self.coverage.former[call.kind as usize] += u64::from(call.length == Length::Former);
+        self.coverage.count_former(call);
         if watched {
             self.unchanged(call)?;
         }
@@ -262,7 +269,7 @@ impl<'a> List<'a> {
                 self.compare_states()?;
                 let (m, class) = (call.args[0], layout::class_of(call.args[2] + call.args[3]));
                 let room = |state: &[u32]| state[0] == 0 || state[..2] == [1, class] || (state[..2] == [2, class] && state[3] == m);
-                !self.states.chunks_exact(4).any(room)
+                !layout::each_segment(&self.states).any(room)
             }
             _ => true,
         };
@@ -286,7 +293,7 @@ impl<'a> List<'a> {
 
     fn started(&mut self) -> Result<(), String> {
         self.coverage.cycles += 1;
-        let full = self.states.chunks_exact(4).filter(|state| state[0] == 3).count();
+        let full = layout::each_segment(&self.states).filter(|state| state[0] == 3).count();
         match full {
             0 => self.coverage.met(Situation::StartOverNothing),
             1 => {}
@@ -299,15 +306,15 @@ impl<'a> List<'a> {
         self.compare_states()
     }
 
-    /// What the mutator held, at most eleven segments, is part with its class and place; every other segment is as it was.
+    /// What the mutator held, at most eleven segments, is part with its class, place and counts; every other segment is as it was.
     fn detached(&mut self, m: u32) -> Result<(), String> {
         let before = self.states.clone();
         self.compare_states()?;
         let mut given = 0;
-        for (segment, (was, is)) in before.chunks_exact(4).zip(self.states.chunks_exact(4)).enumerate() {
+        for (segment, (was, is)) in layout::each_segment(&before).zip(layout::each_segment(&self.states)).enumerate() {
             let held = was[0] == 2 && was[3] == m;
-            let due = if held { [1, was[1], was[2], 0] } else { [was[0], was[1], was[2], was[3]] };
-            if is != due {
+            let part = [1, was[1], was[2], 0, was[4], was[5]];
+            if is != if held { &part[..] } else { was } {
                 return Err(format!("detach({m}): segment {segment} was {was:?} and is {is:?}"));
             }
             given += u32::from(held);
@@ -325,9 +332,10 @@ impl<'a> List<'a> {
         let class = layout::class_of(pointers + values);
         let memory = self.pair.verified.memory.words();
         let root = layout::root(memory, m, to);
-        let segment = self.blocks.put(memory, class, root, self.heap.records.len() as u32)?;
+        let Put { segment, other_class } = self.blocks.put(memory, class, root, self.heap.records.len() as u32)?;
         let state = layout::segment(memory, self.n, segment);
-        let at = 4 * segment as usize;
+        let at = layout::RECORD_WORDS * segment as usize;
+        self.counted_out(call, segment, &state, other_class)?;
         if layout::blocks(class) == 1 {
             if state[0] != 3 {
                 return Err(format!("{call}: segment {segment} has one block and is {state:?}"));
@@ -339,6 +347,22 @@ impl<'a> List<'a> {
         }
         if state[0] != self.states[at] || state[3] != self.states[at + 3] {
             self.compare_states()?;
+        }
+        Ok(())
+    }
+
+    /// The segment of a make has the counts of the calls. One that was of another class before was free: nothing in it is kept, and this is
+    /// its first block.
+    fn counted_out(&mut self, call: &Call, segment: u32, state: &[u32], other_class: bool) -> Result<(), String> {
+        let (counts, due) = (layout::counts_of(state), self.blocks.counts(segment as usize));
+        if counts != due || other_class && counts != [0, 1] {
+            return Err(format!("{call}: segment {segment} is {state:?}, and its counts are {due:?} by the calls"));
+        }
+        if other_class {
+            self.coverage.met(Situation::FreedTakenByAnotherClass);
+        }
+        if counts[0] > 0 {
+            self.coverage.met(Situation::MakeBesideKept);
         }
         Ok(())
     }
@@ -366,14 +390,15 @@ impl<'a> List<'a> {
     }
 
     fn swept(&mut self, segment: u32, freed: u32) -> Result<(), String> {
-        let condemned = self.states.chunks_exact(4).position(|state| state[0] == 4);
+        let condemned = layout::each_segment(&self.states).position(|state| state[0] == 4);
         if condemned != Some(segment as usize) {
             return Err(format!("segment {segment} swept, the lowest condemned one is {condemned:?}"));
         }
-        let at = 4 * segment as usize;
-        let before: Vec<u32> = self.states[at..at + 4].to_vec();
+        let at = layout::RECORD_WORDS * segment as usize;
+        let before: Vec<u32> = self.states[at..at + layout::RECORD_WORDS].to_vec();
         let memory = self.pair.verified.memory.words();
         let due = self.blocks.swept(memory, segment, &before, freed)?;
+        self.blocks.keep(segment, before[1], |record| self.cycle.is_marked(record));
         self.coverage.swept += 1;
         self.coverage.freed += u64::from(freed);
         self.coverage.unreached += u64::from(due);
@@ -391,6 +416,26 @@ impl<'a> List<'a> {
             1 => Situation::SweptToPart,
             _ => Situation::SweptToFull,
         });
+        self.recounted(segment, &before, freed)
+    }
+
+    /// The counts after a sweep: kept is what was in use, less what was freed, and nothing is handed out since.
+    fn recounted(&mut self, segment: u32, before: &[u32], freed: u32) -> Result<(), String> {
+        let after = &self.states[layout::RECORD_WORDS * segment as usize..][..layout::RECORD_WORDS];
+        let [kept, handed_out] = layout::counts_of(before);
+        if layout::counts_of(after) != [(kept + handed_out).wrapping_sub(freed), 0] {
+            return Err(format!("segment {segment}, of which {freed} blocks were freed, was {before:?} and is {after:?}"));
+        }
+        if kept > 0 && handed_out > 0 {
+            self.coverage.met(Situation::SweptKeptAndHandedOut);
+        }
+        if handed_out > 0 {
+            self.coverage.met(match after[0] {
+                0 => Situation::CountsSweptToFree,
+                1 => Situation::CountsSweptToPart,
+                _ => Situation::CountsSweptToFull,
+            });
+        }
         Ok(())
     }
 }

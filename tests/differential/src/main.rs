@@ -6,6 +6,7 @@ mod calls;
 mod campaign;
 mod choose;
 mod compare;
+mod counts;
 mod coverage;
 mod cycle;
 mod damage;
@@ -23,7 +24,9 @@ mod recent;
 mod rng;
 mod situations;
 mod sizes;
+mod tally;
 mod torn;
+mod totals;
 mod unbounded;
 mod watchdog;
 
@@ -46,15 +49,11 @@ fn summary(campaign: &Campaign, seconds: f64) {
     campaign.lists.print_lists();
     print_counts(campaign);
     campaign.torn.print("torn memory");
-    let torn = &campaign.counts;
-    println!(
-        "  {} cases; the examination said yes {} times and no {} times; {} calls on memory that passed it; {} refused calls that changed no word",
-        torn.cases, torn.said_yes, torn.said_no, torn.consistent_calls, torn.refused_unchanged
-    );
-    let fewest = torn.class_words.iter().flatten().min().unwrap_or(&0);
-    println!("  {} class words in torn records, each met by every kind of call, at least {fewest} times", torn.class_words.len());
+    campaign.tally.print();
     campaign.adopted.print("lists gone on from changed memory that passes the examination");
     campaign.adopted.print_cycles();
+    let said = "the examination said no with the counts as they were, and yes with those of the change";
+    println!("  {} heaps changed in places or bits, of which {said}", campaign.recounted);
     let calls = campaign.calls();
     println!("{calls} calls in {seconds:.1} s ({:.2} million a second)", calls as f64 / seconds / 1e6);
 }
@@ -70,13 +69,10 @@ fn missing(campaign: &Campaign) -> Vec<String> {
             missing.push(format!("{kind:?} refused 13 on torn memory"));
         }
     }
-    for (word, counts) in damage::CLASS_WORDS.iter().zip(campaign.counts.class_words) {
-        for kind in ALL_KINDS.into_iter().filter(|&kind| counts[kind as usize] == 0) {
-            missing.push(format!("{kind:?} over torn memory with the class word {word}"));
-        }
-    }
-    for kind in ALL_KINDS.into_iter().filter(|&kind| campaign.torn.former[kind as usize] == 0) {
-        missing.push(format!("{kind:?} over torn memory with the former layout's length"));
+    missing.extend(campaign.torn.missing_former().into_iter().map(|what| format!("{what}, over torn memory")));
+    missing.extend(campaign.tally.missing());
+    if campaign.recounted == 0 {
+        missing.push("memory changed in places or bits that passes the examination with its counts, and not without".into());
     }
     for (name, _) in STEP_KINDS.iter().zip(campaign.adopted.steps).filter(|(_, count)| *count == 0) {
         missing.push(format!("Step answered {name} on changed memory"));

@@ -48,7 +48,7 @@ impl OverNothing {
             return Ok(());
         }
         let wrong = |(before, now): (&[u32], &[u32])| now[0] == 4 || before[0] != 0 && now[0] == 0;
-        match before.chunks_exact(4).zip(now.chunks_exact(4)).position(wrong) {
+        match layout::each_segment(before).zip(layout::each_segment(now)).position(wrong) {
             Some(segment) => Err(format!("segment {segment} was condemned or became free in a cycle over nothing")),
             None => Ok(()),
         }

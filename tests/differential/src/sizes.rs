@@ -14,6 +14,7 @@ impl Chooser {
         let n = self.plan.segments;
         match self.rng.below(4) {
             0 => call.segments = self.other_count(),
+            1 if call.kind == States && self.rng.chance(512) => call.extra = Length::Former,
             1 if call.has_extra() => call.extra = self.wrong_length(),
             2 if self.rng.chance(512) => call.length = Length::Former,
             2 => {

@@ -1,31 +1,22 @@
 //! Torn memory: every call over memory of any content ends with its kind of result or a refusal that it may give; refused 1 changes
-//! nothing; looks keep the memory. Where the examination says yes, no call is refused 13 and no refusal changes a word.
+//! nothing; looks keep the memory. Where the examination says yes, no call is refused 13 and no refusal changes a word. Where only counts are
+//! torn, it says yes exactly where they are right again, and each call goes by them as they are.
 
 use crate::calls::*;
+use crate::counts::Around;
 use crate::coverage::Coverage;
-use crate::damage;
+use crate::damage::{self, TornCount};
 use crate::layout;
 use crate::lent::Lent;
 use crate::recent::Recent;
 use crate::rng::Rng;
-
-/// Counters beside those by kind and answer.
-#[derive(Default)]
-pub struct TornCounts {
-    pub cases: u64,
-    pub said_yes: u64,
-    pub said_no: u64,
-    pub consistent_calls: u64,
-    pub refused_unchanged: u64,
-    /// By class word and kind: calls while a segment's record had that class word.
-    pub class_words: [[u64; KINDS]; damage::CLASS_WORDS.len()],
-}
+use crate::tally::Tally;
 
 pub struct Torn<'a> {
     n: u32,
     lent: &'a mut Lent,
     coverage: &'a mut Coverage,
-    counts: &'a mut TornCounts,
+    tally: &'a mut Tally,
     rng: Rng,
     /// Memory, output and scratch as they were before the call.
     memory: Vec<u32>,
@@ -33,51 +24,88 @@ pub struct Torn<'a> {
     scratch: Vec<u32>,
     /// The last examination said yes, and every call since keeps that.
     consistent: bool,
+    /// All but the counts is in order: the memory passed an examination, and since then only counts were torn.
+    in_order: bool,
+    /// In this case nothing but counts is torn.
+    counts_only: bool,
     longer: bool,
     /// The class word that was put into a segment's record, by number, and where.
     class_word: Option<(usize, usize)>,
+    /// The count that was torn last.
+    torn_count: Option<TornCount>,
     recent: Recent,
 }
 
 impl<'a> Torn<'a> {
-    pub fn new(n: u32, lent: &'a mut Lent, coverage: &'a mut Coverage, counts: &'a mut TornCounts, rng: Rng, longer: bool) -> Torn<'a> {
+    pub fn new(n: u32, lent: &'a mut Lent, coverage: &'a mut Coverage, tally: &'a mut Tally, rng: Rng, longer: bool) -> Torn<'a> {
         let scratch = vec![0; lent.scratch.len()];
         lent.scratch.words_mut().fill(0);
         Torn {
             n,
             lent,
             coverage,
-            counts,
+            tally,
             rng,
             memory: Vec::new(),
             output: Vec::new(),
             scratch,
             consistent: false,
+            in_order: false,
+            counts_only: false,
             longer,
             class_word: None,
+            torn_count: None,
             recent: Recent::new(),
         }
     }
 
     /// One case: the memory is torn, then `calls` calls are played.
     pub fn play(&mut self, base: &[u32], calls: u32) -> Result<(), String> {
-        self.counts.cases += 1;
+        self.tally.cases += 1;
         self.coverage.lists += 1;
-        damage::tear(&mut self.rng, self.lent.memory.words_mut(), base, self.n);
-        self.class_word = self.rng.chance(256).then(|| damage::tear_class(&mut self.rng, self.lent.memory.words_mut(), self.n));
+        self.tear(base);
         self.lent.output.words_mut().fill_with(|| self.rng.word());
         self.remember();
         self.play_calls(calls).map_err(|fault| format!("{fault}\nthe last calls:\n{}", self.recent))
     }
 
+    /// The memory becomes `base`, which passes the examination, torn: in its counts alone, or anywhere.
+    fn tear(&mut self, base: &[u32]) {
+        self.counts_only = self.rng.chance(192);
+        self.in_order = self.counts_only;
+        let memory = self.lent.memory.words_mut();
+        if self.counts_only {
+            memory.copy_from_slice(base);
+        } else {
+            damage::tear(&mut self.rng, memory, base, self.n);
+            self.class_word = self.rng.chance(256).then(|| damage::tear_class(&mut self.rng, memory, self.n));
+        }
+        if self.counts_only || self.rng.chance(128) {
+            self.tear_count();
+        }
+    }
+
+    fn tear_count(&mut self) {
+        self.torn_count = Some(damage::tear_count(&mut self.rng, self.lent.memory.words_mut(), self.n));
+        self.consistent = false;
+    }
+
+    /// Now and then the memory is torn further.
+    fn tear_again(&mut self) {
+        if self.counts_only && self.rng.chance(24) {
+            self.tear_count();
+            self.remember();
+        } else if !self.counts_only && self.rng.chance(8) {
+            damage::damage(&mut self.rng, self.lent.memory.words_mut(), self.n);
+            (self.consistent, self.in_order) = (false, false);
+            self.remember();
+        }
+    }
+
     fn play_calls(&mut self, calls: u32) -> Result<(), String> {
         self.play_one(&Call::new(Examine, self.n, [0; 4]))?;
         for _ in 0..calls {
-            if self.rng.chance(8) {
-                damage::damage(&mut self.rng, self.lent.memory.words_mut(), self.n);
-                self.consistent = false;
-                self.remember();
-            }
+            self.tear_again();
             let call = self.choose();
             self.play_one(&call)?;
             if self.consistent && self.rng.chance(100) {
@@ -108,17 +136,16 @@ impl<'a> Torn<'a> {
         let answer = self.lent.play(call);
         self.recent.push(call, answer);
         self.coverage.count(call.kind, answer);
-        if let Some((which, at)) = self.class_word.filter(|_| !call.wrong_size(self.n)) {
-            let stands = self.memory[at] == damage::CLASS_WORDS[which];
-            self.counts.class_words[which][call.kind as usize] += u64::from(stands);
-        }
-        self.coverage.former[call.kind as usize] += u64::from(call.length == Length::Former);
+        self.meet(call);
         let fault = |what: &str| Err(format!("{call}: {}: {what}", answer_words(call.kind, answer)));
         if !plausible(call, self.n, answer) {
             return fault("an answer that the call may not give");
         }
         if call.wrong_size(self.n) != (refusal(answer) == SIZE) {
             return fault("refused 1 is given exactly for a wrong count or length");
+        }
+        if self.in_order && !self.goes_by_counts(call, answer) {
+            return fault("only counts are wrong, and it does not go by them");
         }
         if !self.kept(call, answer) {
             return fault("memory, output or scratch changed, or a state that is none");
@@ -129,9 +156,50 @@ impl<'a> Torn<'a> {
         if call.kind == Examine && refusal(answer) == 0 {
             return self.examined(result(answer) == 1);
         }
-        self.counts.consistent_calls += u64::from(self.consistent);
-        self.consistent |= call.kind == Open && answer == 0;
+        self.tally.consistent_calls += u64::from(self.consistent);
+        let opened = call.kind == Open && answer == 0;
+        self.consistent |= opened;
+        self.in_order |= opened;
         Ok(())
+    }
+
+    /// Counts what a call met: a class word, a torn count, a length of the former layout.
+    fn meet(&mut self, call: &Call) {
+        self.coverage.count_former(call);
+        if call.wrong_size(self.n) {
+            return;
+        }
+        let kind = call.kind as usize;
+        if let Some((which, at)) = self.class_word {
+            self.tally.class_words[which][kind] += u64::from(self.memory[at] == damage::CLASS_WORDS[which]);
+        }
+        if let Some((torn, state)) = self.wrong_count() {
+            self.tally.values[torn.which][torn.value][kind] += 1;
+            self.tally.states[state][kind] += 1;
+        }
+    }
+
+    /// The torn count and the state of its segment, where it still stands, the state is one, and the count is wrong.
+    fn wrong_count(&self) -> Option<(TornCount, usize)> {
+        let torn = self.torn_count?;
+        let record = layout::segment(&self.memory, self.n, torn.segment);
+        let due = layout::counts_due(&self.memory, self.n, torn.segment)?[torn.which];
+        let wrong = layout::counts_of(&record)[torn.which] == torn.word && torn.word != due;
+        (wrong && (record[0] as usize) < layout::STATES).then_some((torn, record[0] as usize))
+    }
+
+    /// What the call does with the counts, where all else is in order. Refused 13, it may leave more than counts out of order.
+    fn goes_by_counts(&mut self, call: &Call, answer: u64) -> bool {
+        let around = Around { segments: self.n, before: &self.memory, after: self.lent.memory.words() };
+        if !around.goes_by_counts(call, answer) {
+            return false;
+        }
+        self.tally.alone_calls += u64::from(!self.consistent);
+        if refusal(answer) == TORN {
+            self.tally.alone_refused[usize::from(call.kind == Step)] += 1;
+            self.in_order = false;
+        }
+        true
     }
 
     /// What the call may not change is unchanged; what it may change is remembered.
@@ -141,12 +209,12 @@ impl<'a> Torn<'a> {
         if no_word && self.lent.memory.words() != self.memory {
             return false;
         }
-        self.counts.refused_unchanged += u64::from(no_word && refused != 0);
+        self.tally.refused_unchanged += u64::from(no_word && refused != 0);
         let shows = call.kind == States && refused == 0;
-        let known = layout::LOWEST..=layout::HIGHEST;
         let shared = |words: &[u32]| self.consistent && layout::shared_of_one_block(words);
-        let state = |words: &[u32]| words[0] == 0 || words[0] <= 4 && known.contains(&words[1]) && !shared(words);
-        if shows && !self.lent.output.words().chunks_exact(4).all(state) {
+        let state = |words: &[u32]| words[0] == 0 || words[0] <= 4 && layout::is_class(words[1]) && !shared(words);
+        let output = self.lent.output.words();
+        if shows && (!layout::each_segment(output).all(state) || output != layout::all_records(&self.memory, self.n)) {
             return false;
         }
         if !shows && self.lent.output.words() != self.output {
@@ -173,15 +241,35 @@ impl<'a> Torn<'a> {
         if self.consistent && !yes {
             return Err("the examination says no after calls on memory that passed it".into());
         }
+        let right = layout::all_counts_right(&self.memory, self.n);
+        if yes && !right {
+            return Err("the examination says yes, and a count is wrong".into());
+        }
+        if self.in_order && !yes && right {
+            return Err("the examination says no, and all is in order".into());
+        }
+        if self.in_order {
+            self.examined_alone(yes);
+        }
         self.consistent = yes;
-        self.counts.said_yes += u64::from(yes);
-        self.counts.said_no += u64::from(!yes);
+        self.in_order |= yes;
+        self.tally.said_yes += u64::from(yes);
+        self.tally.said_no += u64::from(!yes);
         Ok(())
+    }
+
+    /// Counts what the examination said of memory that is in order but for its counts.
+    fn examined_alone(&mut self, yes: bool) {
+        self.tally.alone[usize::from(yes)] += 1;
+        if let Some((torn, state)) = self.wrong_count() {
+            self.tally.alone_values[torn.which][torn.value] += 1;
+            self.tally.alone_states[state] += 1;
+        }
     }
 
     fn choose(&mut self) -> Call {
         let kind = match self.rng.below(64) {
-            0 if self.rng.chance(100) => Open,
+            0 if self.rng.chance(if self.counts_only { 250 } else { 100 }) => Open,
             1 => Examine,
             2..=11 => Step,
             12..=17 => Make,
@@ -269,6 +357,7 @@ impl<'a> Torn<'a> {
         };
         match self.rng.below(4) {
             0 => call.segments = self.rng.pick(&[0, n + 1, 257, u32::MAX, n | 0x100]),
+            1 if call.kind == States && self.rng.chance(512) => call.extra = Length::Former,
             1 if call.has_extra() => call.extra = length,
             2 => call.length = Length::Former,
             _ => call.length = length,

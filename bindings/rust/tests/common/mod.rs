@@ -5,6 +5,7 @@ use borvukhai::{MutatorId, Segments, Shape, raw};
 
 pub const ONE: Segments = Segments::MIN;
 pub const SHAPE: Shape = Shape::new(1, 600);
+pub const STATES: usize = ONE.states_length();
 pub const SCRATCH: usize = ONE.scratch_length();
 
 /// A mutator's number that is known to be one.
@@ -39,11 +40,13 @@ pub mod at {
     pub const HOLDS: usize = 16 + 18;
     /// That of class 12.
     pub const HELD: usize = HOLDS + 9;
-    /// The tag, and the mutator, of segment 0's record.
+    /// The tag, the mutator and the two counts of segment 0's record.
     pub const TAG: usize = 1040 + 4096;
     pub const HOLDER: usize = TAG + 3;
+    pub const KEPT: usize = TAG + 4;
+    pub const HANDED_OUT: usize = TAG + 5;
     /// The count of the free stack.
-    pub const FREE_COUNT: usize = 1040 + 4100;
+    pub const FREE_COUNT: usize = 1040 + 4102;
     /// The part stacks, each a count and an entry, by class from 3 on.
     pub const PARTS: usize = FREE_COUNT + 2;
 }
@@ -61,6 +64,19 @@ pub fn torn_classes() -> impl Iterator<Item = Vec<u32>> {
         for stack in words[at::PARTS..at::PARTS + 2 * 12].chunks_exact_mut(2) {
             stack.copy_from_slice(&[1 - held, 0]);
         }
+        words
+    })
+}
+
+/// The words of `full` with one or both counts of segment 0 another number, in any phase.
+pub fn torn_counts() -> impl Iterator<Item = Vec<u32>> {
+    let numbers = [1, 4, 5, 1 << 31, u32::MAX];
+    let counts = numbers.into_iter().flat_map(|n| [(n, 4), (0, n), (n, n), (n, u32::MAX - n)]).filter(|&counts| counts != (0, 4));
+    counts.flat_map(|counts| (0..5).map(move |phase| (counts, phase))).map(|((kept, handed_out), phase)| {
+        let mut words = full();
+        words[at::PHASE] = phase;
+        words[at::TAG] = if phase == 0 { 3 } else { 4 };
+        (words[at::KEPT], words[at::HANDED_OUT]) = (kept, handed_out);
         words
     })
 }

@@ -14,39 +14,60 @@ place-requires c κs = search needs
 owner-requires : tie.Need-owner-requires
 owner-requires c κs = search needs
 
+kept-requires : tie.Need-kept-requires
+kept-requires c κs = search needs
+
+handed-requires : tie.Need-handed-requires
+handed-requires c κs = search needs
+
 tag-requires : tie.Need-tag-requires
 tag-requires c κs = search needs
 
 returns : tie.Need-returns
 returns c =
-    let place-told = c .before .before .before in
-    let class-told = place-told .before in
-    tag-read (c .before .tag .ensures) (class-told .class .ensures) (place-told .place .ensures) (c .before .before .owner .ensures) Tag.free (c .match .keys1)
+    let kept-told = c .before .before .before in
+    let place-told = kept-told .before .before in (
+      tag-read (c .before .tag .ensures) (place-told .before .class .ensures) (place-told .place .ensures) (kept-told .before .owner .ensures) Tag.free (c .match .keys1),
+      kept-told .kept .ensures,
+      c .before .before .handed .ensures,
+    )
 
 returns-2 : tie.Need-returns-2
 returns-2 c =
-    let place-told = c .before .before .before in
-    let class-told = place-told .before in
-    tag-read (c .before .tag .ensures) (class-told .class .ensures) (place-told .place .ensures) (c .before .before .owner .ensures) Tag.part (c .match .keys2)
+    let kept-told = c .before .before .before in
+    let place-told = kept-told .before .before in (
+      tag-read (c .before .tag .ensures) (place-told .before .class .ensures) (place-told .place .ensures) (kept-told .before .owner .ensures) Tag.part (c .match .keys2),
+      kept-told .kept .ensures,
+      c .before .before .handed .ensures,
+    )
 
 returns-3 : tie.Need-returns-3
 returns-3 c =
-    let place-told = c .before .before .before in
-    let class-told = place-told .before in
-    tag-read (c .before .tag .ensures) (class-told .class .ensures) (place-told .place .ensures) (c .before .before .owner .ensures) Tag.held (c .match .keys3)
+    let kept-told = c .before .before .before in
+    let place-told = kept-told .before .before in (
+      tag-read (c .before .tag .ensures) (place-told .before .class .ensures) (place-told .place .ensures) (kept-told .before .owner .ensures) Tag.held (c .match .keys3),
+      kept-told .kept .ensures,
+      c .before .before .handed .ensures,
+    )
 
 returns-4 : tie.Need-returns-4
 returns-4 c =
-    let place-told = c .before .before .before in
-    let class-told = place-told .before in
-    tag-read (c .before .tag .ensures) (class-told .class .ensures) (place-told .place .ensures) (c .before .before .owner .ensures) Tag.full (c .match .keys4)
+    let kept-told = c .before .before .before in
+    let place-told = kept-told .before .before in (
+      tag-read (c .before .tag .ensures) (place-told .before .class .ensures) (place-told .place .ensures) (kept-told .before .owner .ensures) Tag.full (c .match .keys4),
+      kept-told .kept .ensures,
+      c .before .before .handed .ensures,
+    )
 
 returns-5 : tie.Need-returns-5
 returns-5 c =
-    let place-told = c .before .before .before in
-    let class-told = place-told .before in
-    rest-read (c .before .tag .ensures) (class-told .class .ensures) (place-told .place .ensures) (c .before .before .owner .ensures)
-    (c .match .rest .0 .0 .0 .1) (c .match .rest .0 .0 .1) (c .match .rest .0 .1) (c .match .rest .1)
+    let kept-told = c .before .before .before in
+    let place-told = kept-told .before .before in (
+      rest-read (c .before .tag .ensures) (place-told .before .class .ensures) (place-told .place .ensures) (kept-told .before .owner .ensures)
+          (c .match .rest .0 .0 .0 .1) (c .match .rest .0 .0 .1) (c .match .rest .0 .1) (c .match .rest .1),
+      kept-told .kept .ensures,
+      c .before .before .handed .ensures,
+    )
 
 pub read-spec : {M : Type 1} → statement M
 read-spec =
@@ -55,6 +76,8 @@ read-spec =
     class-requires
     place-requires
     owner-requires
+    kept-requires
+    handed-requires
     tag-requires
     returns
     returns-2

@@ -1,12 +1,27 @@
 -- `sweeping::condemned_class` meets its contract.
+use mathlib.Core.Path.{_≡_, sym, _∙_}
+use Prim.Native.Nat.{ℕ}
+use Rattle.model.specs.declared.SegmentState.{SegmentState}
+use Rattle.model.specs.declared.SegmentState.the-variants.{Free, Part, Held, Full, Condemned}
 use borrow.Author.Needs.{needs}
-use Rattle.layout.specs.Mem.{memOf}
-use Rattle.sweeping.proofs.Sweeping.{class-read}
 use Rattle.sweeping.proofs.condemned_class.Statement.{statement}
 use Rattle.sweeping.proofs.condemned_class.Tie as tie
 
-read-requires : tie.Need-read-requires
-read-requires c κs = search needs
+-- a state is no other
+only-full : (x : SegmentState) (d c : ℕ) → x ≡ Full d → x ≡ Condemned c → d ≡ c
+only-full x d c e f = let z : Full d ≡ Condemned c = sym e ∙ f in cc
+
+only-held : (x : SegmentState) (d p k c : ℕ) → x ≡ Held d p k → x ≡ Condemned c → d ≡ c
+only-held x d p k c e f = let z : Held d p k ≡ Condemned c = sym e ∙ f in cc
+
+only-part : (x : SegmentState) (d p c : ℕ) → x ≡ Part d p → x ≡ Condemned c → d ≡ c
+only-part x d p c e f = let z : Part d p ≡ Condemned c = sym e ∙ f in cc
+
+only-free : (x : SegmentState) (c : ℕ) → x ≡ Free → x ≡ Condemned c → 0 ≡ c
+only-free x c e f = let z : Free ≡ Condemned c = sym e ∙ f in cc
+
+itself : (x : SegmentState) (d c : ℕ) → x ≡ Condemned d → x ≡ Condemned c → d ≡ c
+itself x d c e f = let z : Condemned d ≡ Condemned c = sym e ∙ f in cc
 
 enum-known-state : tie.Need-enum-known-state
 enum-known-state c = search needs
@@ -24,39 +39,24 @@ enum-told : tie.Need-enum-told
 enum-told c = search needs
 
 returns : tie.Need-returns
-returns c =
-    let read = c .before .before .before in
-    let entry = read .before .before in
-    class-read (memOf (entry .args .g) (entry .args .mem .now)) (entry .args .s) _ (read .read .ensures) (entry .pre .1) _ (c .before .state .given .1)
+returns c d f = itself _ _ d (c .before .state .given .1) f
 
 returns-2 : tie.Need-returns-2
-returns-2 c =
-    let read = c .before .before .before in
-    let entry = read .before .before in
-    class-read (memOf (entry .args .g) (entry .args .mem .now)) (entry .args .s) _ (read .read .ensures) (entry .pre .1) _ (c .before .state2 .given .1)
+returns-2 c d f = only-full _ _ d (c .before .state2 .given .1) f
 
 returns-3 : tie.Need-returns-3
-returns-3 c =
-    let read = c .before .before .before in
-    let entry = read .before .before in
-    class-read (memOf (entry .args .g) (entry .args .mem .now)) (entry .args .s) _ (read .read .ensures) (entry .pre .1) _ (c .before .state3 .given .1)
+returns-3 c d f = only-held _ _ _ _ d (c .before .state3 .given .1) f
 
 returns-4 : tie.Need-returns-4
-returns-4 c =
-    let read = c .before .before .before in
-    let entry = read .before .before in
-    class-read (memOf (entry .args .g) (entry .args .mem .now)) (entry .args .s) _ (read .read .ensures) (entry .pre .1) _ (c .before .state4 .given .1)
+returns-4 c d f = only-part _ _ _ d (c .before .state4 .given .1) f
 
 returns-5 : tie.Need-returns-5
-returns-5 c =
-    let entry = c .before .before .before .before in
-    class-read (memOf (entry .args .g) (entry .args .mem .now)) (entry .args .s) _ (c .before .before .read .ensures) (entry .pre .1) _ (c .enum-told .given .1)
+returns-5 c d f = only-free _ d (c .enum-told .given .1) f
 
 pub condemned-class-spec : {M : Type 1} → statement M
 condemned-class-spec =
     tie.close
     (tie.spec
-    read-requires
     enum-known-state
     enum-known-state-2
     enum-known-state-3

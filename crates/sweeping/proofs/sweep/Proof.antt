@@ -1,6 +1,7 @@
 -- `sweeping::sweep` meets its contract.
 use mathlib.Core.Path.{subst}
 use borrow.Author.Needs.{needs}
+use Rattle.model_laws.proofs.Lengths.{sizes-of}
 use Rattle.sweeping.proofs.Sweeping.{lowest-condemned, sweep-sweeps, sweep-done}
 use Rattle.sweeping.specs.Sweeping.{Finds}
 use Rattle.sweeping.proofs.sweep.Tie as tie
@@ -34,7 +35,8 @@ returns c =
     let swept = c .before .before in
     let known = swept .before .before .before in
     let found = known .before .before in
-    sweep-sweeps _ _ _ (subst (Finds _ _) (known .s .given .1) (found .lowest-condemned .ensures)) _ _ (swept .sweep-segment .ensures)
+    let entry = found .before .before .before in
+    sweep-sweeps _ _ _ (subst (Finds _ _) (known .s .given .1) (found .lowest-condemned .ensures)) (sizes-of _ _ (entry .pre)) _ _ (swept .sweep-segment .ensures)
 
 same-length-2 : tie.Need-same-length-2
 same-length-2 c = search needs

@@ -9,7 +9,7 @@ use crate::layout::{
     part_top, Heap, ACKNOWLEDGED, CLASS, CONDEMNED_TOP, FREE_TOP, LEVEL0, MARKS, MUTATORS, MUTATOR_WORDS, NEXT, NUMBER, PHASE, PLACE, SIDE, STATE,
 };
 use crate::mutators::{ABSENT, OUTSIDE};
-use crate::segments::{self, fill_up, set_summary, Descriptor};
+use crate::segments::{self, fill_up, recount, set_summary, Descriptor};
 
 impl<M: DerefMut<Target = [u32]>> Heap<M> {
     /// Every full segment, where there is one, is condemned, stacked so that the lowest comes off first.
@@ -66,7 +66,7 @@ impl<M: DerefMut<Target = [u32]>> Heap<M> {
         }
     }
 
-    /// Level 0 of the segment becomes its marks; it is then free, full or part.
+    /// Level 0 of the segment becomes its marks, which are the blocks kept; it is then free, full or part.
     fn sweep(&mut self, descriptor: usize) -> Answer<Step> {
         let segment = self.word(descriptor + NUMBER)?;
         let class = self.word(descriptor + CLASS)?;
@@ -76,11 +76,13 @@ impl<M: DerefMut<Target = [u32]>> Heap<M> {
         let blocks = classes::blocks(class);
         if marks.iter().fold(0, |any, word| any | word) == 0 {
             head[STATE] = segments::FREE;
+            recount(head, 0);
             self.push(FREE_TOP, descriptor)?;
             return Ok(Step::Swept { segment, freed: blocks });
         }
         let Moved { marked, summary } = bitmap::move_marks(&mut head[LEVEL0..], marks, class);
         let freed = blocks.wrapping_sub(marked);
+        recount(head, marked);
         head[LEVEL0] |= classes::padding(class);
         set_summary(words, if freed == 0 { u64::MAX } else { summary });
         if freed == 0 {

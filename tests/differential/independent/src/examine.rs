@@ -7,8 +7,8 @@ use crate::answers::{refuse, Answer, Refusal, IDLE, MARK, SWEEP, SYNC1, SYNC2};
 use crate::bitmap::summarize;
 use crate::classes::{self, class_of};
 use crate::layout::{
-    held_of, part_top, scratch_length, Heap, ACKNOWLEDGED, BITMAP_WORDS, BLOCKS, CLASS, CONDEMNED_TOP, DESCRIPTOR_WORDS, FREE_TOP, LEVEL0, MARKS,
-    MOST_BLOCKS, MUTATORS, MUTATOR_WORDS, NEXT, NUMBER, PLACE, ROOTS, SEGMENT_WORDS, SIDE, STATE, TIE, TRACE_HEIGHT,
+    held_of, part_top, scratch_length, Heap, ACKNOWLEDGED, BITMAP_WORDS, BLOCKS, CLASS, CONDEMNED_TOP, DESCRIPTOR_WORDS, FREE_TOP, HANDED_OUT, KEPT,
+    LEVEL0, MARKS, MOST_BLOCKS, MUTATORS, MUTATOR_WORDS, NEXT, NUMBER, PLACE, ROOTS, SEGMENT_WORDS, SIDE, STATE, TIE, TRACE_HEIGHT,
 };
 use crate::mutators::{in_handshake, ABSENT, OUTSIDE};
 use crate::segments::{tree, Descriptor, CONDEMNED, FREE, FULL, HELD, PART};
@@ -108,11 +108,12 @@ impl Examination<'_> {
         let words = self.segment(segment)?;
         must(words[NUMBER] as usize == segment && words[STATE] <= CONDEMNED)?;
         if words[STATE] == FREE {
-            return Some(());
+            return must(words[KEPT] == 0 && words[HANDED_OUT] == 0);
         }
         let class = words[CLASS];
         must(classes::is_class(class))?;
         self.bitmap(words, class)?;
+        self.counts(words, class)?;
         let blocks = classes::blocks(class);
         if words[STATE] == FULL || words[STATE] == CONDEMNED {
             must(words[PLACE] == blocks && words[NEXT] == blocks)?;
@@ -128,6 +129,18 @@ impl Examination<'_> {
         let tree = tree(words).ok()?;
         let padding = classes::padding(class);
         must(words[LEVEL0] & padding == padding && tree.summary == summarize(tree.level0, class))
+    }
+
+    /// The blocks kept are those whose bit is 1; those handed out since lie before the place, and their bit is 0.
+    fn counts(&self, words: &Descriptor, class: u32) -> Option<()> {
+        let level0 = tree(words).ok()?.level0;
+        let mut counts = [0; 2];
+        for block in 0..classes::blocks(class) {
+            let kept = level0[block as usize / 32] >> (block % 32) & 1;
+            counts[0] += kept;
+            counts[1] += u32::from(kept == 0 && block < words[PLACE]);
+        }
+        must(counts == [words[KEPT], words[HANDED_OUT]])
     }
 
     /// Does the mutator hold the segment?

@@ -34,8 +34,9 @@ pub const MOST_BLOCKS: usize = 2048;
 pub const BITMAP_WORDS: usize = 64;
 
 /// A descriptor: these words, then level 0 of the bitmap tree, then the mark bitmap. The tie is the mutator that holds the segment, or the
-/// descriptor below it on its stack. The summary has two words, the lower half first.
-pub const DESCRIPTOR_WORDS: usize = 136;
+/// descriptor below it on its stack. The summary has two words, the lower half first. The counts are of the blocks kept at the last sweep and
+/// of those handed out since.
+pub const DESCRIPTOR_WORDS: usize = 138;
 pub const STATE: usize = 0;
 pub const CLASS: usize = 1;
 pub const PLACE: usize = 2;
@@ -43,8 +44,13 @@ pub const NEXT: usize = 3;
 pub const TIE: usize = 4;
 pub const NUMBER: usize = 5;
 pub const SUMMARY: usize = 6;
-pub const LEVEL0: usize = 8;
-pub const MARKS: usize = 72;
+pub const KEPT: usize = 8;
+pub const HANDED_OUT: usize = 9;
+pub const LEVEL0: usize = 10;
+pub const MARKS: usize = 74;
+
+/// The words that the look at the states gives of a segment: state, class, place, mutator, and the two counts.
+pub const STATE_WORDS: usize = 6;
 
 const WORDS_PER_SEGMENT: usize = SEGMENT_WORDS + BITMAP_WORDS + DESCRIPTOR_WORDS + MOST_BLOCKS;
 
@@ -71,7 +77,7 @@ pub const fn fits(segments: u32, length: usize) -> bool {
     is_count(segments) && length == WORDS_PER_SEGMENT * segments as usize + BLOCKS
 }
 
-/// The words of the lent slice: 6344 n + 1040, or 0 for a count not 1 to 256.
+/// The words of the lent slice: 6346 n + 1040, or 0 for a count not 1 to 256.
 #[inline(always)]
 pub const fn length(segments: u32) -> usize {
     if is_count(segments) {
@@ -81,11 +87,11 @@ pub const fn length(segments: u32) -> usize {
     }
 }
 
-/// The words of the look at the segments' states: 4 n, or 0.
+/// The words of the look at the segments' states: 6 n, or 0.
 #[inline(always)]
 pub const fn states_length(segments: u32) -> usize {
     if is_count(segments) {
-        4 * segments as usize
+        STATE_WORDS * segments as usize
     } else {
         0
     }
@@ -188,6 +194,8 @@ pub fn open(segments: u32, mem: &mut [u32]) -> Answer<()> {
         let descriptor = heap.descriptor(segment);
         heap.set(descriptor + NUMBER, segment as u32)?;
         heap.set(descriptor + STATE, segments::FREE)?;
+        heap.set(descriptor + KEPT, 0)?;
+        heap.set(descriptor + HANDED_OUT, 0)?;
         heap.push(FREE_TOP, descriptor)?;
     }
     Ok(())

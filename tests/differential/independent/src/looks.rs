@@ -3,7 +3,7 @@
 use core::ops::Deref;
 
 use crate::answers::{refuse, Answer, Refusal, SWEEP};
-use crate::layout::{states_length, Heap, CLASS, PLACE, STATE, TIE};
+use crate::layout::{states_length, Heap, CLASS, HANDED_OUT, KEPT, PLACE, STATE, STATE_WORDS, TIE};
 use crate::segments::{CONDEMNED, FREE, HELD};
 
 /// The phase.
@@ -16,19 +16,20 @@ pub fn phase(segments: u32, mem: &[u32]) -> Answer<u32> {
 }
 
 impl<M: Deref<Target = [u32]>> Heap<M> {
-    /// A segment's state, class, place and mutator; 0 for what its state does not have.
-    fn state(&self, segment: usize) -> Answer<[u32; 4]> {
+    /// A segment's state, class, place and mutator, 0 for what its state does not have, and its two counts.
+    fn state(&self, segment: usize) -> Answer<[u32; STATE_WORDS]> {
         let descriptor = self.described(self.descriptor(segment))?;
-        match descriptor[STATE] {
-            FREE => Ok([FREE, 0, 0, 0]),
-            HELD => Ok([HELD, descriptor[CLASS], descriptor[PLACE], descriptor[TIE]]),
-            state if state <= CONDEMNED => Ok([state, descriptor[CLASS], descriptor[PLACE], 0]),
-            _ => refuse(Refusal::TORN),
-        }
+        let [class, place, mutator] = match descriptor[STATE] {
+            FREE => [0; 3],
+            HELD => [descriptor[CLASS], descriptor[PLACE], descriptor[TIE]],
+            state if state <= CONDEMNED => [descriptor[CLASS], descriptor[PLACE], 0],
+            _ => return refuse(Refusal::TORN),
+        };
+        Ok([descriptor[STATE], class, place, mutator, descriptor[KEPT], descriptor[HANDED_OUT]])
     }
 }
 
-/// Four words for each segment into the output, which a refusal leaves as it was.
+/// Six words for each segment into the output, which a refusal leaves as it was.
 pub fn states(segments: u32, mem: &[u32], output: &mut [u32]) -> Answer<()> {
     let heap = Heap::over(segments, mem)?;
     if output.len() != states_length(segments) {
@@ -37,7 +38,7 @@ pub fn states(segments: u32, mem: &[u32], output: &mut [u32]) -> Answer<()> {
     for segment in 0..heap.segments {
         heap.state(segment)?;
     }
-    for (segment, words) in output.chunks_exact_mut(4).enumerate() {
+    for (segment, words) in output.chunks_exact_mut(STATE_WORDS).enumerate() {
         words.copy_from_slice(&heap.state(segment)?);
     }
     Ok(())

@@ -6,7 +6,8 @@ use crate::answers::{or_torn, Answer, Refusal};
 use crate::bitmap::{self, Tree};
 use crate::classes;
 use crate::layout::{
-    part_top, Heap, BITMAP_WORDS, BLOCKS, CLASS, DESCRIPTOR_WORDS, FREE_TOP, LEVEL0, MARKS, NEXT, NUMBER, PLACE, SEGMENT_WORDS, STATE, SUMMARY, TIE,
+    part_top, Heap, BITMAP_WORDS, BLOCKS, CLASS, DESCRIPTOR_WORDS, FREE_TOP, HANDED_OUT, KEPT, LEVEL0, MARKS, NEXT, NUMBER, PLACE, SEGMENT_WORDS,
+    STATE, SUMMARY, TIE,
 };
 
 /// States, as the look gives them.
@@ -78,11 +79,12 @@ impl<M: DerefMut<Target = [u32]>> Heap<M> {
         Ok(descriptor)
     }
 
-    /// The place moves just past the block just taken; where no free block remains the segment is full and no longer held. The one search is
-    /// for the block that the next make takes.
+    /// The block just taken is counted and the place moves just past it; where no free block remains the segment is full and no longer held.
+    /// The one search is for the block that the next make takes.
     #[inline(always)]
     pub fn advance(&mut self, descriptor: usize, held: usize, class: u32) -> Answer<()> {
         let words: &mut Descriptor = self.array_mut(descriptor)?;
+        words[HANDED_OUT] = words[HANDED_OUT].wrapping_add(1);
         let block = words[NEXT];
         let word = words[LEVEL0 + block as usize / 32 % BITMAP_WORDS];
         if let Some(next) = bitmap::next_in_word(word, block) {
@@ -94,7 +96,7 @@ impl<M: DerefMut<Target = [u32]>> Heap<M> {
     }
 }
 
-/// The same where the next free block is in another word, if there is one.
+/// The place where the next free block is in another word, if there is one.
 #[inline(never)]
 fn advance_further(segments: usize, mem: &mut [u32], descriptor: usize, held: usize, class: u32) -> Answer<()> {
     let mut heap = Heap { mem, segments };
@@ -130,6 +132,13 @@ pub fn fill_up(descriptor: &mut Descriptor, class: u32) {
     descriptor[PLACE] = classes::blocks(class);
     descriptor[NEXT] = classes::blocks(class);
     descriptor[TIE] = 0;
+}
+
+/// A sweep has kept so many blocks, and none is handed out since.
+#[inline(always)]
+pub fn recount(descriptor: &mut [u32], kept: u32) {
+    descriptor[KEPT] = kept;
+    descriptor[HANDED_OUT] = 0;
 }
 
 #[inline(always)]

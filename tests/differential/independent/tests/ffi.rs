@@ -6,14 +6,14 @@ use independent::ffi::*;
 
 #[test]
 fn size_is_refused_before_memory_is_touched() {
-    for (segments, length) in [(0, 0), (257, 0), (1, 0), (1, 7383), (2, 7384), (u32::MAX, usize::MAX)] {
+    for (segments, length) in [(0, 0), (257, 0), (1, 0), (1, 7385), (2, 7386), (u32::MAX, usize::MAX)] {
         unsafe {
             assert_eq!(independent_open(segments, null_mut(), length), 1);
             assert_eq!(independent_make(segments, null_mut(), length, 99, 99, 9999, 0), 1);
             assert_eq!(independent_step(segments, null_mut(), length), 1);
             assert_eq!(independent_get(segments, null(), length, 99, 99, 0), 1);
             assert_eq!(independent_phase(segments, null(), length), 1);
-            assert_eq!(independent_states(segments, null(), length, null_mut(), 4), 1);
+            assert_eq!(independent_states(segments, null(), length, null_mut(), 6), 1);
             assert_eq!(independent_examine(segments, null(), length, null_mut(), 2176), 1);
         }
     }
@@ -21,7 +21,7 @@ fn size_is_refused_before_memory_is_touched() {
 
 #[test]
 fn lengths() {
-    assert_eq!((independent_length(1), independent_states_length(1), independent_scratch_length(1)), (7384, 4, 2176));
+    assert_eq!((independent_length(1), independent_states_length(1), independent_scratch_length(1)), (7386, 6, 2176));
     assert_eq!((independent_length(0), independent_states_length(0), independent_scratch_length(0)), (0, 0, 0));
 }
 
@@ -30,7 +30,7 @@ fn lengths() {
 fn packed_answers() {
     let mut mem = vec![77; independent_length(1)];
     let (mem, length) = (mem.as_mut_ptr(), mem.len());
-    let (mut states, mut scratch) = ([9; 4], vec![9; independent_scratch_length(1)]);
+    let (mut states, mut scratch) = ([9; 6], vec![9; independent_scratch_length(1)]);
     unsafe {
         assert_eq!(independent_open(1, mem, length), 0);
         assert_eq!(independent_attach(1, mem, length, 3), 0);
@@ -57,8 +57,9 @@ fn packed_answers() {
         assert_eq!(independent_step(1, mem, length), 2 << 32);
         assert_eq!(independent_step(1, mem, length), (1 << 48) | (4 << 32));
         assert_eq!(independent_step(1, mem, length), 5 << 32);
-        assert_eq!(independent_states(1, mem, length, states.as_mut_ptr(), 4), 0);
-        assert_eq!(states, [1, 12, 0, 0]);
+        assert_eq!(independent_states(1, mem, length, states.as_mut_ptr(), 4), 1);
+        assert_eq!(independent_states(1, mem, length, states.as_mut_ptr(), 6), 0);
+        assert_eq!(states, [1, 12, 0, 0, 3, 0]);
         assert_eq!(independent_examine(1, mem, length, scratch.as_mut_ptr(), scratch.len()), 1 << 32);
     }
     assert!(scratch.iter().all(|word| *word == 0));

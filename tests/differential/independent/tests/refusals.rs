@@ -21,7 +21,7 @@ fn size() {
     assert!(mem.iter().all(|word| *word == 9));
     assert_eq!(independent::open(2, &mut mem), Ok(()));
     assert_eq!(independent::attach(2, &mut mem[1..], 99), Err(Refusal::SIZE));
-    assert_eq!(independent::states(2, &mem, &mut [0; 7]), Err(Refusal::SIZE));
+    assert_eq!(independent::states(2, &mem, &mut [0; 8]), Err(Refusal::SIZE));
     assert_eq!(independent::examine(2, &mem, &mut [0; 7]), Err(Refusal::SIZE));
     assert_eq!(independent::step(2, &mut mem[1..]), Err(Refusal::SIZE));
     assert_eq!(independent::phase(3, &mem), Err(Refusal::SIZE));
@@ -34,8 +34,8 @@ fn lengths() {
         assert_eq!(independent::states_length(wrong), 0);
         assert_eq!(independent::scratch_length(wrong), 0);
     }
-    assert_eq!(independent::length(3), 6344 * 3 + 1040);
-    assert_eq!(independent::states_length(256), 1024);
+    assert_eq!(independent::length(3), 6346 * 3 + 1040);
+    assert_eq!(independent::states_length(256), 1536);
 }
 
 #[test]

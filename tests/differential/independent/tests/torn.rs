@@ -71,7 +71,7 @@ fn other_classes() {
         assert_eq!(independent::attach(2, &mut mem, 0), Ok(()));
         play_many(&mut random, 2, &mut mem, 100);
         for segment in 0..2 {
-            mem[1040 + 4160 * 2 + 136 * segment + 1] = [0, 2, 13, 14, 15, 16, 31, 32, 33, u32::MAX][round % 10];
+            mem[1040 + 4160 * 2 + 138 * segment + 1] = [0, 2, 13, 14, 15, 16, 31, 32, 33, u32::MAX][round % 10];
         }
         play_many(&mut random, 2, &mut mem, 100);
     }

@@ -82,10 +82,23 @@ impl World {
         independent::phase(self.segments, &self.mem).expect("a phase")
     }
 
-    pub fn state(&self, segment: usize) -> [u32; 4] {
+    /// The six words of each segment.
+    pub fn states(&self) -> Vec<[u32; 6]> {
         let mut output = vec![0; independent::states_length(self.segments)];
         assert_eq!(independent::states(self.segments, &self.mem, &mut output), Ok(()));
-        output[4 * segment..][..4].try_into().expect("four words")
+        output.chunks_exact(6).map(|words| words.try_into().expect("six words")).collect()
+    }
+
+    /// State, class, place and mutator.
+    pub fn state(&self, segment: usize) -> [u32; 4] {
+        let [state, class, place, mutator, ..] = self.states()[segment];
+        [state, class, place, mutator]
+    }
+
+    /// The blocks kept at the last sweep, and those handed out since.
+    pub fn counts(&self, segment: usize) -> [u32; 2] {
+        let [.., kept, handed_out] = self.states()[segment];
+        [kept, handed_out]
     }
 
     /// Fills a segment of class 12 with records of one pointer and 600 values in roots 0 to 3 of the mutator.

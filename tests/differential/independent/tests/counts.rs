@@ -1,0 +1,136 @@
+//! Request No. 3: the two counts of a segment by calls, what the examination asks of them, and the totals that they stand for.
+
+mod common;
+
+use common::World;
+use independent::{Step, CONDEMNED, FREE, FULL, HELD, PART};
+
+/// A record of so many values, which the root then names.
+fn make(world: &mut World, root: u32, values: u32) {
+    assert_eq!(world.make(0, root, 1, values), Ok(()));
+}
+
+/// A whole cycle in which mutator 0 checks whenever it owes: what it swept.
+fn cycle(world: &mut World) -> Vec<(u32, u32)> {
+    assert_eq!(world.start(), Ok(()));
+    world.play_to_mark(&[0]);
+    world.trace_all();
+    let mut swept = Vec::new();
+    while let Ok(Step::Swept { segment, freed }) = world.step() {
+        swept.push((segment, freed));
+    }
+    swept
+}
+
+#[test]
+fn an_opening_leaves_none() {
+    let world = World::new(3);
+    for segment in 0..3 {
+        assert_eq!(world.counts(segment), [0, 0]);
+    }
+}
+
+/// A make adds one, also where it fills the segment; who holds the segment and a start change nothing.
+#[test]
+fn makes_are_counted() {
+    let mut world = World::new(2);
+    assert_eq!(world.attach(0), Ok(()));
+    for made in 1..=3 {
+        make(&mut world, made, 600);
+        assert_eq!(world.counts(0), [0, made]);
+    }
+    assert_eq!(world.spawn(1, 0, 1), Ok(()));
+    assert_eq!(world.detach(0), Ok(()));
+    assert_eq!(world.states()[0], [PART, 12, 3, 0, 0, 3]);
+    assert_eq!(world.make(1, 4, 1, 600), Ok(()));
+    assert_eq!(world.states()[0], [FULL, 12, 4, 0, 0, 4]);
+    assert_eq!(world.start(), Ok(()));
+    assert_eq!(world.states()[0], [CONDEMNED, 12, 4, 0, 0, 4]);
+    assert_eq!(world.counts(1), [0, 0]);
+}
+
+/// A segment of four blocks is swept to part, to full and to free, and then taken by another class.
+#[test]
+fn sweeps_set_both() {
+    let mut world = World::new(1);
+    assert_eq!(world.attach(0), Ok(()));
+    world.fill_segment(0);
+    assert_eq!(world.clear(0, 2), Ok(()));
+    assert_eq!(cycle(&mut world), [(0, 1)]);
+    assert_eq!(world.states()[0], [PART, 12, 0, 0, 3, 0]);
+    make(&mut world, 2, 600);
+    assert_eq!(world.states()[0], [FULL, 12, 4, 0, 3, 1]);
+    assert_eq!(cycle(&mut world), [(0, 0)]);
+    assert_eq!(world.states()[0], [FULL, 12, 4, 0, 4, 0]);
+    for root in 0..4 {
+        assert_eq!(world.clear(0, root), Ok(()));
+    }
+    assert_eq!(cycle(&mut world), [(0, 4)]);
+    assert_eq!(world.states()[0], [FREE, 0, 0, 0, 0, 0]);
+    make(&mut world, 0, 0);
+    assert_eq!(world.states()[0], [HELD, 3, 1, 0, 0, 1]);
+}
+
+/// All blocks handed out, less all freed, are the sum of the counts.
+#[test]
+fn totals() {
+    let mut world = World::new(4);
+    assert_eq!(world.attach(0), Ok(()));
+    let (mut made, mut freed) = (0, 0);
+    for round in 0..12 {
+        for root in 0..16 {
+            made += u32::from(world.make(0, root, 1, [600, 300, 2000][(root + round) as usize % 3]).is_ok());
+        }
+        for root in (0..16).filter(|root| (root * 7 + round) % 3 != 0) {
+            assert_eq!(world.clear(0, root), Ok(()));
+        }
+        freed += cycle(&mut world).into_iter().map(|(_, freed)| freed).sum::<u32>();
+        let counted: u32 = (0..4).map(|segment| world.counts(segment).into_iter().sum::<u32>()).sum();
+        assert_eq!(made - freed, counted);
+    }
+    assert!(made > 40 && freed > 20, "{made} made, {freed} freed");
+}
+
+/// Any other count fails the examination, in a free, a part, a held, a full and a condemned segment; the look shows it all the same.
+#[test]
+fn other_counts_fail() {
+    let mut world = World::new(5);
+    assert_eq!(world.attach(0), Ok(()));
+    world.fill_segment(0);
+    assert_eq!(world.clear(0, 1), Ok(()));
+    assert_eq!(cycle(&mut world), [(0, 1)]);
+    for class in [11_u32, 10, 9] {
+        make(&mut world, 4 + class - 9, (1 << (class - 2)) - 2);
+    }
+    assert_eq!(world.detach(0), Ok(()));
+    assert_eq!(world.attach(0), Ok(()));
+    make(&mut world, 0, 126);
+    world.fill_segment(0);
+    assert_eq!(world.start(), Ok(()));
+    let states: Vec<u32> = world.states().iter().map(|state| state[0]).collect();
+    assert_eq!(states, [CONDEMNED, PART, PART, HELD, HELD]);
+    for segment in 0..5 {
+        tear(&mut world, segment);
+    }
+    let mut world = World::new(2);
+    assert_eq!(world.attach(0), Ok(()));
+    world.fill_segment(0);
+    tear(&mut world, 0);
+    tear(&mut world, 1);
+}
+
+/// Each of the two counts of a segment becomes other numbers.
+fn tear(world: &mut World, segment: usize) {
+    let segments = world.segments as usize;
+    for word in 8..10 {
+        let at = 1040 + 4160 * segments + 138 * segment + word;
+        let right = world.mem[at];
+        for wrong in [0, 1, right.wrapping_sub(1), right + 1, 2048, 2049, 1 << 31, u32::MAX] {
+            world.mem[at] = wrong;
+            assert_eq!(world.consistent(), wrong == right, "segment {segment}, word {word}: {wrong}");
+            assert_eq!(world.counts(segment)[word - 8], wrong);
+        }
+        world.mem[at] = right;
+        world.examine();
+    }
+}
