@@ -34,7 +34,7 @@ static void build_live(const struct churn *c) {
         for (uint32_t field = 1; field < c->pointers; field++) record[field] = recent[below(&random, 12)];
         recent[below(&random, 12)] = record;
         head = record;
-        make(c);
+        if (i % 4 < 3) make(c);
     }
     memset(recent, 0, sizeof recent);
     GC_gcollect();

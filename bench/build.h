@@ -1,4 +1,5 @@
-/* Heaps in a wanted state: records of many pointers, full segments, a graph that fills the heap, a handshake answered. */
+/* Heaps in a wanted state: records of many pointers, full and part segments, a graph that fills the heap, a handshake
+ * answered, a whole cycle. */
 #ifndef BENCH_BUILD_H
 #define BENCH_BUILD_H
 
@@ -79,6 +80,50 @@ static inline u32 build_marked(struct heap *h) {
     while ((answer = HEAP(step)(OVER(h))) == STEP(TRACED)) traced++;
     MUST(answer, STEP(MOVED));
     return traced;
+}
+
+/* A whole cycle with mutator 0 alone. */
+static inline void build_cycle(struct heap *h) {
+    u64 answer;
+    MUST(HEAP(start)(OVER(h)), 0);
+    build_handshakes(h);
+    build_marked(h);
+    while (borvukhai_step_kind(answer = HEAP(step)(OVER(h))) == BORVUKHAI_STEP_SWEPT) continue;
+    MUST(answer, STEP(DONE));
+}
+
+/* Every segment part, of class 3, each second block in use and reached from root 0: a list of records of 1 + 0, after
+ * each of which a dead one was made and swept. */
+static inline void build_parts(struct heap *h) {
+    u32 refusal;
+    while ((refusal = HEAP(make)(OVER(h), 0, 1, 1, 0)) == 0) {
+        MUST(HEAP(store)(OVER(h), 0, 1, 0, 0), 0);
+        MUST(HEAP(copy)(OVER(h), 0, 0, 1), 0);
+        MUST(HEAP(make)(OVER(h), 0, 1, 1, 0), 0);
+    }
+    MUST(refusal, BORVUKHAI_NO_ROOM);
+    MUST(HEAP(clear)(OVER(h), 0, 1), 0);
+    build_cycle(h);
+}
+
+/* Every segment part, half of its blocks in use, by two graphs of records of 4 + 11 as build_graph's: root 0 reaches
+ * the one, root 1 the other. Answers how many records each has. */
+static inline u32 build_two_graphs(struct heap *h) {
+    u64 random = SEED;
+    u32 made = 0, refusal;
+    for (;; made++) {
+        u32 graph = made % 4, recent = 2 + 6 * graph;
+        if ((refusal = HEAP(make)(OVER(h), 0, 14, 4, 11)) != 0) break;
+        if (graph >= 2) continue;
+        MUST(HEAP(store)(OVER(h), 0, 14, 0, graph), 0);
+        for (u32 field = 1; field < 4; field++) MUST(HEAP(store)(OVER(h), 0, 14, field, recent + below(&random, 6)), 0);
+        MUST(HEAP(copy)(OVER(h), 0, recent + below(&random, 6), 14), 0);
+        MUST(HEAP(copy)(OVER(h), 0, graph, 14), 0);
+    }
+    MUST(refusal, BORVUKHAI_NO_ROOM);
+    for (u32 root = 2; root < 15; root++) MUST(HEAP(clear)(OVER(h), 0, root), 0);
+    build_cycle(h);
+    return made / 4;
 }
 
 #endif

@@ -116,10 +116,16 @@ static void rows_store(struct heap *h) {
     ROW(probe_store(h, 0, 0, 0, 3), 0, "store: old is on the stack already");
 }
 
+/* Over segments that are all full, all part, or all free. */
 static void rows_start(u32 segments) {
     struct heap h = heap_with_mutator(segments);
     build_dead(&h, 0, 1);
     ROW(probe_start(&h), 0, "start, %u full", segments);
+    heap_reopen(&h);
+    build_parts(&h);
+    ROW(probe_start(&h), 0, "start, %u part", segments);
+    heap_reopen(&h);
+    ROW(probe_start(&h), 0, "start, %u free", segments);
     heap_close(&h);
 }
 

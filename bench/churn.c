@@ -27,7 +27,7 @@ static void build_live(struct heap *h, const struct churn *c) {
     u64 random = SEED;
     for (u32 i = 0; i < c->live; i++) {
         make_live(h, c, &random);
-        MUST(HEAP(make)(OVER(h), 0, NEW, c->pointers, c->values), 0);
+        if (i % 4 < 3) MUST(HEAP(make)(OVER(h), 0, NEW, c->pointers, c->values), 0);
     }
     for (u32 root = NEW; root < 16; root++) MUST(HEAP(clear)(OVER(h), 0, root), 0);
     MUST(HEAP(start)(OVER(h)), 0);

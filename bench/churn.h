@@ -1,6 +1,8 @@
-/* The churn workload, of which churn.c is the heap's side and boehm.c Boehm's: a live set of half of the heap's blocks, made
- * with a dead record after each live one, and then short-lived records of the same shape, the last eight of which are
- * held. Either the whole is timed, or every single call; then the run is repeated, and a call's length is the least that it
+/* The churn workload, of which churn.c is the heap's side and boehm.c Boehm's: a live set of half of the heap's blocks,
+ * and then short-lived records of the same shape, the last eight of which are held. A dead record is made after three
+ * of four live ones, so an eighth of the segments is free of live ones. With one after each of them no segment would
+ * ever be free; a start condemns the part ones too, so the makes would wait for the first sweep.
+ * Either the whole is timed, or every single call; then the run is repeated, and a call's length is the least that it
  * took, which leaves out what else the machine did: every run makes the same calls. */
 #ifndef BENCH_CHURN_H
 #define BENCH_CHURN_H

@@ -1,5 +1,6 @@
-/* Instructions of whole cycles, from start to done with one mutator, at 1, 64 and 256 segments that are all full: dead heaps,
- * heaps of which half is live, live ones. The rows are dumps of callgrind's; prints the live records of each row. */
+/* Instructions of whole cycles, from start to done with one mutator, at 1, 64 and 256 segments. All of them full: dead
+ * heaps, heaps of which half is live, live ones; all of them part, half of their blocks in use: half live and dead.
+ * The rows are dumps of callgrind's; prints the live records of each row. */
 #include "build.h"
 #include "count.h"
 
@@ -31,9 +32,23 @@ static void rows_cycle(u32 segments) {
     heap_close(&h);
 }
 
+/* Segments that are half empty: half of their records live, so that they are swept to part; then none, so that they
+ * are swept to free. */
+static void rows_parts(u32 segments) {
+    struct heap h = heap_with_mutator(segments);
+    u32 live = build_two_graphs(&h);
+    MUST(HEAP(clear)(OVER(&h), 0, 1), 0);
+    ROW(probe_cycle(&h), live, "cycle, %u segments, half empty, half live", segments);
+    printf("live records: cycle, %u segments, half empty, half live\t%u\n", segments, live);
+    MUST(HEAP(clear)(OVER(&h), 0, 0), 0);
+    ROW(probe_cycle(&h), 0, "cycle, %u segments, half empty, dead", segments);
+    heap_close(&h);
+}
+
 int main(void) {
-    rows_cycle(1);
-    rows_cycle(64);
-    rows_cycle(256);
+    for (u32 segments = 1; segments <= 256; segments = segments == 1 ? 64 : segments * 4) {
+        rows_cycle(segments);
+        rows_parts(segments);
+    }
     return 0;
 }

@@ -3,25 +3,15 @@
 #include "build.h"
 #include "count.h"
 
-/* Mutator 0 runs a whole cycle alone. */
-static void run_cycle(struct heap *h) {
-    u64 answer;
-    MUST(HEAP(start)(OVER(h)), 0);
-    build_handshakes(h);
-    build_marked(h);
-    while (borvukhai_step_kind(answer = HEAP(step)(OVER(h))) == BORVUKHAI_STEP_SWEPT) continue;
-    MUST(answer, STEP(DONE));
-}
-
-/* A part segment of class 3 in which blocks 0 and 2,047 alone are free; records of 1,023 pointers hold the rest. */
+/* A part segment of class 3 in which blocks 0, 1 and 2,047 alone are free; records of many pointers hold the rest. */
 static void build_almost_full(struct heap *h) {
     heap_reopen(h);
-    MUST(HEAP(make)(OVER(h), 0, 0, 0, 1), 0);
+    for (u32 i = 0; i < 2; i++) MUST(HEAP(make)(OVER(h), 0, 0, 0, 1), 0);
     build_fan(h, 0, 14, 1023, 0);
-    build_fan(h, 0, 15, 1023, 0);
+    build_fan(h, 0, 15, 1022, 0);
     MUST(HEAP(make)(OVER(h), 0, 0, 0, 1), 0);
     MUST(HEAP(clear)(OVER(h), 0, 0), 0);
-    run_cycle(h);
+    build_cycle(h);
 }
 
 /* A cycle in mark, where a new record is born marked. The roots 14 and 15 stay. */
@@ -31,9 +21,16 @@ static void begin_mark(struct heap *h) {
     build_handshakes(h);
 }
 
+/* A start leaves no segment part: mutator 1, outside in the handshakes, takes that one with its block 0, and hands it
+ * back in mark. */
 static void rows_make_long(struct heap *h) {
     build_almost_full(h);
+    MUST(HEAP(attach)(OVER(h), 1), 0);
+    MUST(HEAP(make)(OVER(h), 1, 0, 0, 1), 0);
+    MUST(HEAP(leave)(OVER(h), 1), 0);
     begin_mark(h);
+    MUST(HEAP(enter)(OVER(h), 1), 0);
+    MUST(HEAP(detach)(OVER(h), 1), 0);
     ROW(probe_make(h, 0, 0, 0, 1), 0, "make in mark, takes a part segment, next free block is the last");
     ROW(probe_make(h, 0, 0, 0, 1), 0, "make in mark, climbs to the last block, segment becomes full");
     ROW(probe_make(h, 0, 0, 0, 1), 0, "make in mark, 0+1, takes a free segment");

@@ -20,7 +20,9 @@ struct mutate {
     int running;
 };
 
-/* Whether a segment is full: a cycle would have one to collect. */
+/* Whether a segment is full: makes have used one up since it was swept. A start condemns part segments as well, but is
+ * not made for these alone: after the first sweep some segment is always part, so cycle would follow cycle without a
+ * pause, whether or not makes need room. */
 static inline int some_full(const struct heap *h) {
     u32 states[BORVUKHAI_STATES_LENGTH(256)];
     MUST(HEAP(states)(OVER(h), states, HEAP(states_length)(h->segments)), 0);

@@ -5,10 +5,12 @@ import os
 import re
 import subprocess
 import sys
+import textwrap
 from array import array
 from statistics import median
 
-from rows import AT_MOST, BELOW_BOEHM, FILLED, FRAME, GROWTH, LONGEST, NO_MORE, NO_MORE_2, NO_MORE_3, PACES, POINTERS, RAISED, RATIOS, SINGLE, VALUES, YARDSTICK
+from rows import AT_MOST, BELOW_BOEHM, FILLED, FRAME, GROWTH, HALF_EMPTY, LONGEST, NO_MORE, NO_MORE_2, NO_MORE_3
+from rows import NO_MORE_5, PACES, POINTERS, RAISED, RATIOS, SINGLE, START_MORE, START_TIMES, VALUES, YARDSTICK
 
 PART = re.compile(r"(<!-- measured, (\w+): written by bench/run -->\n).*?(<!-- end of measured -->)", re.S)
 STORED = os.path.join(os.path.dirname(os.path.abspath(__file__)), "before-8d90607.txt")
@@ -82,7 +84,8 @@ def derive(counts, said):
     for kind, begins in LONGEST:
         all_rows[f"longest: {kind}"] = max(count for name, count in counts.items() if name.startswith(tuple(begins)))
     for name, many in said.items():
-        all_rows[name + (": a live record" if name.startswith("cycle") else ": a call")] = counts[name] / many
+        if name in counts:
+            all_rows[name + (": a live record" if name.startswith("cycle") else ": a call")] = counts[name] / many
     return all_rows
 
 
@@ -149,14 +152,42 @@ def growth_table(c, what, kinds, each, shown):
     return table(head, rows)
 
 
+def half_empty_table(c):
+    """Cycles over part segments: dead ones for each segment, half live ones for each live record."""
+    rows = []
+    for segments in HALF_EMPTY:
+        name = f"cycle, {segments} segments, half empty"
+        dead = [f"{counts[f'{name}, dead'] / segments:,.0f}" for counts in (c.now, c.independent)]
+        live = [f"{counts[f'{name}, half live: a live record']:.1f}" for counts in (c.now, c.independent)]
+        rows.append([str(segments)] + dead + live)
+    head = ["segments, all part: instructions", "dead, for each segment: verified", "independent",
+            "half live, for each live record: verified", "independent"]
+    return table(head, rows)
+
+
 def growth_tables(c):
     dead = lambda counts, segments, kind: counts[f"cycle, {segments} segments, {kind}"] / segments
     live = lambda counts, segments, kind: counts[f"cycle, {segments} segments, {kind}: a live record"]
     return [growth_table(c, "segments: instructions for each segment", ("dead, class 3", "dead, class 4"), dead, "{:,.0f}"),
-            growth_table(c, "segments: instructions for each live record", ("live", "half live"), live, "{:.1f}")]
+            growth_table(c, "segments: instructions for each live record", ("live", "half live"), live, "{:.1f}"),
+            half_empty_table(c)]
 
 
 # The limits.
+
+
+def limit_rows_5(c):
+    """Those of request No. 5."""
+    name, before, more = START_MORE
+    out = [("start over one full segment", f"{more} more than at 39d67b6", name, c.now[name], before + more,
+            c.now[name] <= before + more)]
+    name, before, times = START_TIMES
+    out.append(("start over 256 full segments", f"{times} of 39d67b6", name, c.now[name], before,
+                c.now[name] <= times * before))
+    for group, rows in NO_MORE_5:
+        for name, most in rows.items():
+            out.append((group, "no more than at 39d67b6", name, c.now[name], most, c.now[name] <= most))
+    return out
 
 
 def limit_rows(c):
@@ -172,6 +203,7 @@ def limit_rows(c):
         out += [(group, "no more than at 83a14ee", name, c.now[name], most, c.now[name] <= most) for name, most in rows.items()]
     for group, rows in NO_MORE_3:
         out += [(group, f"{RAISED} more than at 778de55", name, c.now[name], most + RAISED, c.now[name] <= most + RAISED) for name, most in rows.items()]
+    out += limit_rows_5(c)
     for group, most, rows in AT_MOST:
         out += [(group, f"at most {most:,}", name, c.now[name], most, c.now[name] <= most) for name in rows]
     return out
@@ -372,8 +404,7 @@ def machine():
         model = next((row.split(":", 1)[1].strip() for row in file if row.startswith("model name")), "unknown")
     parts = [f"{model}, {os.cpu_count()} cores", said_by("gcc", "--version"), said_by("rustc", "--version"), said_by("valgrind", "--version"),
              "libgc " + said_by("pkg-config", "--modversion", "bdw-gc"), said_by("date", "-u", "+%Y-%m-%d")]
-    half = len(parts) // 2
-    return "Machine: " + "; ".join(parts[:half]) + ";\n" + "; ".join(parts[half:]) + ".\n"
+    return textwrap.fill("Machine: " + "; ".join(parts) + ".", 120) + "\n"
 
 
 def rounds_of(folder):

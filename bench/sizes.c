@@ -87,18 +87,40 @@ static void end_cycle(struct heap *h) {
     while (borvukhai_step_kind(HEAP(step)(OVER(h))) != BORVUKHAI_STEP_DONE) continue;
 }
 
-/* Part segments of class 3 in which every second block is free, filled: the place climbs, words and segments end. */
-static void make_in_parts(struct heap *h) {
+/* Two part segments of class 3 in which every second block is free, filled: the place climbs, words and segments end.
+ * A start leaves no segment part, so for mark mutators 1 and 2, outside in the handshakes, hold them and hand them
+ * back. */
+static void make_in_parts(struct heap *h, int mark) {
     heap_reopen(h);
     build_fan(h, 0, 14, 1023, 1);
     build_fan(h, 0, 15, 1023, 1);
     for (u32 i = 0; i < 4; i++) MUST(HEAP(make)(OVER(h), 0, 0, 0, 1), 0);
-    begin_mark(h);
-    end_cycle(h);
+    build_cycle(h);
     measure_examine(h);
-    build_full_segment(h, 0);
-    begin_mark(h);
+    if (mark) {
+        for (u32 m = 1; m < 3; m++) {
+            MUST(HEAP(attach)(OVER(h), m), 0);
+            MUST(HEAP(make)(OVER(h), m, 0, 0, 1), 0);
+            MUST(HEAP(leave)(OVER(h), m), 0);
+        }
+        build_full_segment(h, 0);
+        begin_mark(h);
+        for (u32 m = 1; m < 3; m++) {
+            MUST(HEAP(enter)(OVER(h), m), 0);
+            MUST(HEAP(detach)(OVER(h), m), 0);
+        }
+    }
     for (u32 i = 0; i < 2100; i++) measure_make(h, 0, 1);
+    measure_examine(h);
+}
+
+/* Part segments that are condemned. */
+static void examine_condemned_parts(struct heap *h) {
+    heap_reopen(h);
+    build_parts(h);
+    begin_mark(h);
+    measure_examine(h);
+    end_cycle(h);
     measure_examine(h);
 }
 
@@ -109,7 +131,9 @@ int main(void) {
     measure_examine(&h);
     make_all(&h, 0);
     make_all(&h, 1);
-    make_in_parts(&h);
+    make_in_parts(&h, 0);
+    make_in_parts(&h, 1);
+    examine_condemned_parts(&h);
     heap_reopen(&h);
     u32 live = build_graph(&h, 0);
     begin_mark(&h);

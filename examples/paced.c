@@ -11,7 +11,7 @@
 #include <time.h>
 
 #define SEGMENTS 8u
-#define STEPS 48u
+#define STEPS 128u
 #define OPERATIONS 10000000u
 #define ROUNDS 5u
 #define WORDS BORVUKHAI_LENGTH(SEGMENTS)

@@ -33,7 +33,7 @@ extern "C" {
 /* The version of this interface, and the number of the layout of the lent slice. A landing that moves a word of the
  * layout raises the number: lengths are compiled into callers, and memory may outlive a restart into a program that was
  * linked with another library. CHANGELOG.md has an entry for each. */
-#define BORVUKHAI_VERSION "0.5.0"
+#define BORVUKHAI_VERSION "0.6.0"
 #define BORVUKHAI_LAYOUT 4u
 
 /* Refusals, by document 01's words. The lowest number that applies is given. On memory that passes the examination a refusal
@@ -49,10 +49,12 @@ enum {
     BORVUKHAI_DARK = 7,      /* nil in the root whose record is wanted */
     BORVUKHAI_FIELD = 8,     /* the record has no such pointer or value */
     BORVUKHAI_TOO_BIG = 9,   /* make with more than 4,095 pointers and values together */
-    BORVUKHAI_NO_ROOM = 10,  /* make: no segment of the class has room for this mutator, and none is free. Memory of
+    BORVUKHAI_NO_ROOM = 10,  /* make: no segment of the class has room for this mutator, and none is free; one that is
+                              * condemned is no room before its sweep. A cycle that runs may help, and a whole one may;
+                              * where the look shows no full, part or condemned segment, no cycle can help. Memory of
                               * zeros that was never opened looks so too: attach is not refused, and every make is */
     BORVUKHAI_NOT_NOW = 11,  /* attach, spawn or detach in a handshake; start while a cycle runs */
-    /* 12 is a number that no call gives: a start while no segment is full is not refused. */
+    /* 12 is a number that no call gives: a start while no segment is full or part is not refused. */
     BORVUKHAI_TORN = 13      /* memory that fails the examination led the call astray */
 };
 
@@ -134,7 +136,8 @@ enum {
 #define BORVUKHAI_STATE_WORDS 6u
 #define BORVUKHAI_STATE_TAG 0u        /* its state, one of those below */
 #define BORVUKHAI_STATE_CLASS 1u      /* its class, 3 to 14 */
-#define BORVUKHAI_STATE_PLACE 2u      /* the next block to look at; the number of blocks where it is full or condemned */
+#define BORVUKHAI_STATE_PLACE 2u      /* the next block to look at; the number of blocks where it is full. A condemned
+                                       * one keeps the place that it had: any number up to that of its blocks */
 #define BORVUKHAI_STATE_MUTATOR 3u    /* the mutator that holds it */
 #define BORVUKHAI_STATE_KEPT 4u       /* the blocks kept at its last sweep, 0 before one */
 #define BORVUKHAI_STATE_HANDED_OUT 5u /* the blocks handed out since */
@@ -218,8 +221,9 @@ uint32_t borvukhai_leave(uint32_t segments, uint32_t *mem, size_t length, uint32
 /* Inside again. Refused SIZE, BAD_MUTATOR, ABSENT, SIDE (it is inside), TORN. */
 uint32_t borvukhai_enter(uint32_t segments, uint32_t *mem, size_t length, uint32_t mutator);
 
-/* A cycle begins: every full segment is condemned. Where none is full it is a cycle over no segment: both handshakes and the marking are
- * held as usual, the first step in sweep answers done, and nothing is freed. Refused SIZE, NOT_NOW, TORN. */
+/* A cycle begins: every full and every part segment is condemned, and no make takes it before its sweep; held ones are
+ * not. Where none is full or part it is a cycle over no segment: both handshakes and the marking are held as usual, the
+ * first step in sweep answers done, and nothing is freed. Refused SIZE, NOT_NOW, TORN. */
 uint32_t borvukhai_start(uint32_t segments, uint32_t *mem, size_t length);
 
 /* The segments' records, six words each (BORVUKHAI_STATE_TAG to BORVUKHAI_STATE_HANDED_OUT), into `output` of

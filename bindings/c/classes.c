@@ -194,7 +194,8 @@ static void store_first_and_last(uint32_t pointers, uint32_t values) {
 }
 
 /* A record of 4,095 fields, from its make to the sweep that frees it. A cycle keeps it while a root has it, and what its
- * pointers have; when it is cleared, the next cycle makes its segment free. */
+ * pointers have; when it is cleared, the next cycle makes its segment free, and that of what was behind its pointers,
+ * be it full or part. */
 static void longest(uint32_t pointers, uint32_t values) {
     uint32_t kept = pointers < 2 ? pointers : 2;
     uint32_t first[] = {0, 2 - kept}, second[] = {1, kept};
@@ -217,12 +218,12 @@ static void longest(uint32_t pointers, uint32_t values) {
     state(1, kept == 2 ? BORVUKHAI_SEGMENT_FULL : kept == 1 ? BORVUKHAI_SEGMENT_PART : BORVUKHAI_SEGMENT_FREE,
           kept == 0 ? 0 : 13, kept == 2 ? 2 : 0, 0);
     ok("clear", borvukhai_clear(HEAP, 0, 0));
-    cycle(0, kept == 2 ? 2 : 1, second);
+    cycle(0, kept == 0 ? 1 : 2, second);
     look();
     state(0, BORVUKHAI_SEGMENT_FREE, 0, 0, 0);
-    state(1, kept == 1 ? BORVUKHAI_SEGMENT_PART : BORVUKHAI_SEGMENT_FREE, kept == 1 ? 13 : 0, 0, 0);
+    state(1, BORVUKHAI_SEGMENT_FREE, 0, 0, 0);
     counts(0, 0, 0);
-    counts(1, kept == 1 ? 1 : 0, 0);
+    counts(1, 0, 0);
 }
 
 static void longest_records(void) {

@@ -1,7 +1,7 @@
 /* The two counts of a segment, blocks kept at its last sweep and blocks handed out since, against figures that were
- * reckoned by hand from document 01 and request No. 3: after an opening, makes, a fill, a detach, a start, and sweeps
- * to part, to full and to free; and over memory whose counts are torn. It prints a line for each part, and says on the
- * error output what was expected where something else came. */
+ * reckoned by hand from document 01 and requests No. 3 and 5: after an opening, makes, a fill, a detach, a start, and
+ * sweeps to part, to full and to free, of segments that were full and that were part; and over memory whose counts are
+ * torn. It prints a line for each part, and says on the error output what was expected where something else came. */
 #include "borvukhai.h"
 
 #include <stdio.h>
@@ -10,7 +10,7 @@
 #define FIRST 3u
 #define LAST 14u
 #define CLASSES (LAST - FIRST + 1)
-#define MOST 5u /* segments */
+#define MOST 6u /* segments */
 #define MANY 0xffffffffu
 
 /* Document 01's table of blocks, with the two classes of request No. 2. */
@@ -90,16 +90,26 @@ static void step(uint32_t kind) {
     expect("kind of step", kind, did.kind, kind);
 }
 
-/* A started cycle up to its sweep, mutator 0 inside: so many records are marked. */
-static void to_sweep(uint32_t traced) {
+/* Both handshakes, mutator 0 inside. */
+static void handshakes(void) {
     ok("check", borvukhai_check(HEAP, 0));
     step(BORVUKHAI_STEP_MOVED);
     ok("check", borvukhai_check(HEAP, 0));
     step(BORVUKHAI_STEP_MOVED);
+}
+
+/* The phase mark: so many records are marked. */
+static void mark(uint32_t traced) {
     while (traced-- != 0) {
         step(BORVUKHAI_STEP_TRACED);
     }
     step(BORVUKHAI_STEP_MOVED);
+}
+
+/* A started cycle up to its sweep. */
+static void to_sweep(uint32_t traced) {
+    handshakes();
+    mark(traced);
 }
 
 /* A step that sweeps this segment and frees so many of its blocks. */
@@ -327,46 +337,107 @@ static void four_parts(void) {
     is(2, BORVUKHAI_SEGMENT_PART, 11, 0, 0, 2, 0);
     is(3, BORVUKHAI_SEGMENT_PART, 12, 0, 0, 3, 0);
     is_free(4);
+    is_free(5);
 }
 
-/* A segment in each of the five states, each but the free one with blocks kept and blocks handed out.
- *   3  one make gets block 2, between 1 and 3: full with 3 and 1. The start condemns it.
+/* All four with blocks kept and blocks handed out, none condemned.
+ *   3  one make by mutator 0 gets block 2, between 1 and 3: full with 3 and 1.
+ *   1  one more gets block 0; block 2 remains: held with 2 and 1, the place 1.
  *   2  mutator 1 makes two, blocks 1 and 2 past block 0, and is detached: part with 2 and 2, the place 3.
- *   1  after the start mutator 0 makes two, blocks 0 and 2: full with 2 and 2, and not condemned.
- *   0  it makes one more, block 0; blocks 1 and 3 remain: held with 1 and 1, the place 1. */
-static void five_states(void) {
+ *   0  mutator 2 makes one, block 0; blocks 1 and 3 remain: held with 1 and 1, the place 1. It goes outside. */
+static void in_idle(void) {
     four_parts();
     ok("make", make(0, 10, 12));
+    ok("make", make(0, 4, 12));
     ok("enter", borvukhai_enter(HEAP, 1));
     ok("make", make(1, 1, 11));
     ok("make", make(1, 2, 11));
     ok("detach", borvukhai_detach(HEAP, 1));
+    ok("attach", borvukhai_attach(HEAP, 2));
+    ok("make", make(2, 0, 12));
+    ok("leave", borvukhai_leave(HEAP, 2));
     ok("clear", borvukhai_clear(HEAP, 0, 9));
-    ok("start", borvukhai_start(HEAP));
-    ok("make", make(0, 4, 12));
-    ok("make", make(0, 6, 12));
-    ok("make", make(0, 0, 12));
     look();
-    is(0, BORVUKHAI_SEGMENT_HELD, 12, 1, 0, 1, 1);
-    is(1, BORVUKHAI_SEGMENT_FULL, 12, 4, 0, 2, 2);
+    is(0, BORVUKHAI_SEGMENT_HELD, 12, 1, 2, 1, 1);
+    is(1, BORVUKHAI_SEGMENT_HELD, 12, 1, 0, 2, 1);
     is(2, BORVUKHAI_SEGMENT_PART, 11, 3, 0, 2, 2);
-    is(3, BORVUKHAI_SEGMENT_CONDEMNED, 12, 4, 0, 3, 1);
+    is(3, BORVUKHAI_SEGMENT_FULL, 12, 4, 0, 3, 1);
     is_free(4);
+    is_free(5);
 }
 
-/* The rest of that cycle: roots 0, 2, 4 to 8, 10 and 11 have records, nine are marked. Of segment 3 root 9 had block 1:
- * blocks 0, 2 and 3 are kept, and 3 + 1 - 3 becomes free. No other segment's counts change. */
+/* Segments 1 to 5 of the cycle below. */
+static void beside(void) {
+    is(1, BORVUKHAI_SEGMENT_FULL, 12, 4, 0, 2, 2);
+    is(2, BORVUKHAI_SEGMENT_CONDEMNED, 11, 3, 0, 2, 2);
+    is(3, BORVUKHAI_SEGMENT_CONDEMNED, 12, 4, 0, 3, 1);
+    is(4, BORVUKHAI_SEGMENT_HELD, 5, 1, 0, 0, 1);
+    is_free(5);
+}
+
+/* A start condemns the full segment 3 and the part segment 2, each with its place and counts. Mutator 0 then makes one
+ * of class 12, block 2 of segment 1, which is full with 2 and 2 and not condemned; and one of class 5 in segment 4. */
+static void in_sync1(void) {
+    in_idle();
+    ok("start", borvukhai_start(HEAP));
+    ok("make", make(0, 6, 12));
+    ok("make", make(0, 0, 5));
+    look();
+    is(0, BORVUKHAI_SEGMENT_HELD, 12, 1, 2, 1, 1);
+    beside();
+}
+
+/* All five states, in mark: mutator 2 is detached, and segment 0, which it held, is part with its place and counts. */
+static void five_states(void) {
+    in_sync1();
+    handshakes();
+    ok("enter", borvukhai_enter(HEAP, 2));
+    ok("detach", borvukhai_detach(HEAP, 2));
+    look();
+    is(0, BORVUKHAI_SEGMENT_PART, 12, 1, 0, 1, 1);
+    beside();
+}
+
+/* The rest of that cycle: roots 0, 2, 4 to 8, 10 and 11 of mutator 0 have records, and root 0 of mutator 2 had one: ten
+ * are marked. Segment 2 had mutator 1's alone: its 2 + 2 blocks become free. Of segment 3 root 9 had block 1: blocks 0,
+ * 2 and 3 are kept, and 3 + 1 - 3 becomes free. No other segment's counts change, and segment 0 is not swept. */
 static void five_then(void) {
     five_states();
-    to_sweep(9);
+    mark(10);
+    swept(2, 4);
     swept(3, 1);
     step(BORVUKHAI_STEP_DONE);
     look();
-    is(0, BORVUKHAI_SEGMENT_HELD, 12, 1, 0, 1, 1);
+    is(0, BORVUKHAI_SEGMENT_PART, 12, 1, 0, 1, 1);
     is(1, BORVUKHAI_SEGMENT_FULL, 12, 4, 0, 2, 2);
-    is(2, BORVUKHAI_SEGMENT_PART, 11, 3, 0, 2, 2);
+    is_free(2);
     is(3, BORVUKHAI_SEGMENT_PART, 12, 0, 0, 3, 0);
-    is_free(4);
+    is(4, BORVUKHAI_SEGMENT_HELD, 5, 1, 0, 0, 1);
+    is_free(5);
+}
+
+/* The cycle after it, with no record alive: segments 0, 1 and 3 are swept, and their 1 + 1, 2 + 2 and 3 + 0 blocks
+ * become free, of the two part ones no more than that. Segment 4 stays held. */
+static void parts_to_free(void) {
+    uint32_t root;
+    five_then();
+    for (root = 0; root < 16; root++) {
+        ok("clear", borvukhai_clear(HEAP, 0, root));
+    }
+    ok("start", borvukhai_start(HEAP));
+    look();
+    is(0, BORVUKHAI_SEGMENT_CONDEMNED, 12, 1, 0, 1, 1);
+    is(3, BORVUKHAI_SEGMENT_CONDEMNED, 12, 0, 0, 3, 0);
+    to_sweep(0);
+    swept(0, 2);
+    swept(1, 4);
+    swept(3, 3);
+    step(BORVUKHAI_STEP_DONE);
+    look();
+    is_free(0);
+    is_free(1);
+    is_free(3);
+    is(4, BORVUKHAI_SEGMENT_HELD, 5, 1, 0, 0, 1);
 }
 
 /* The word `at` of a segment's record in the memory, where docs/LAYOUT.md puts it. */
@@ -485,19 +556,24 @@ static void moved_between(uint32_t s) {
 
 /* A segment in each state, in each phase of a cycle; and one whose blocks were all handed out, and then all kept. */
 static void torn(void) {
-    uint32_t s, then;
-    five_states();
-    for (s = 0; s < 4; s++) {
+    uint32_t s, now;
+    in_idle();
+    torn_counts();
+    in_sync1();
+    for (s = 0; s < 5; s++) {
         moved_between(s);
     }
-    for (then = BORVUKHAI_SYNC1; then <= BORVUKHAI_MARK; then++) {
+    for (now = BORVUKHAI_SYNC1; now <= BORVUKHAI_SYNC2; now++) {
         torn_counts();
         ok("check", borvukhai_check(HEAP, 0));
-        step(then < BORVUKHAI_MARK ? BORVUKHAI_STEP_MOVED : BORVUKHAI_STEP_TRACED);
+        step(BORVUKHAI_STEP_MOVED);
     }
-    torn_counts();
     five_states();
-    to_sweep(9);
+    moved_between(0);
+    torn_counts();
+    step(BORVUKHAI_STEP_TRACED);
+    torn_counts();
+    mark(9);
     torn_counts();
     five_then();
     torn_counts();
@@ -511,10 +587,11 @@ static void torn(void) {
 }
 
 /* A make whose segment counts 4,294,967,295 blocks handed out is refused 13. In the heap with all five states a make of
- * class 12 takes its block from segment 0, one of class 11 from 2, and one of class 5 from 4. It asks for no other
- * segment's count, and for none of blocks kept. One less than that number is counted on. */
+ * class 12 takes its block from segment 0, which is part, one of class 11 from 5, which is free, and one of class 5
+ * from 4, which is held. It asks for no other segment's count, and for none of blocks kept. One less than that number
+ * is counted on. */
 static void torn_makes(void) {
-    static const uint32_t takes[3][2] = {{12, 0}, {11, 2}, {5, 4}};
+    static const uint32_t takes[3][2] = {{12, 0}, {11, 5}, {5, 4}};
     uint32_t s, i;
     five_states();
     keep();
@@ -587,11 +664,14 @@ static void torn_sweeps_of(uint32_t s, uint32_t of, uint32_t marked) {
     }
 }
 
-/* Segment 3 of the heap with all five states; and a full segment of each class, with no record marked, or one. */
+/* Segments 2 and 3 of the heap with all five states, of which 2 was part; and a full segment of each class, with no
+ * record marked, or one. */
 static void torn_sweeps(void) {
     uint32_t c, alive;
     five_states();
-    to_sweep(9);
+    mark(10);
+    torn_sweeps_of(2, 8, 0);
+    swept(2, 4);
     torn_sweeps_of(3, 4, 3);
     for (c = FIRST; c <= LAST; c++) {
         for (alive = 0; alive <= 1; alive++) {
@@ -613,23 +693,21 @@ static void torn_and_kept(void) {
         *stored(s, BORVUKHAI_STATE_KEPT) = 70 + s;
         *stored(s, BORVUKHAI_STATE_HANDED_OUT) = 80 + s;
     }
-    ok("make", make(0, 0, 11)); /* from segment 2, which was part */
-    ok("make", make(0, 0, 5));  /* from segment 4, which was free */
+    ok("make", make(0, 0, 12)); /* from segment 3, the last swept to part: block 1, its last */
+    ok("make", make(0, 0, 11)); /* from segment 2, the last swept to free */
     ok("start", borvukhai_start(HEAP));
     ok("states", borvukhai_states(HEAP, output, STATES));
+    is(0, BORVUKHAI_SEGMENT_CONDEMNED, 12, 1, 0, 70, 80);
     is(1, BORVUKHAI_SEGMENT_CONDEMNED, 12, 4, 0, 71, 81);
-    is(2, BORVUKHAI_SEGMENT_HELD, 11, 4, 0, 72, 83);
-    is(4, BORVUKHAI_SEGMENT_HELD, 5, 1, 0, 74, 85);
-    for (s = BORVUKHAI_SYNC1; s <= BORVUKHAI_SYNC2; s++) {
-        ok("check", borvukhai_check(HEAP, 0));
-        step(BORVUKHAI_STEP_MOVED);
-    }
+    is(2, BORVUKHAI_SEGMENT_HELD, 11, 1, 0, 72, 83);
+    is(3, BORVUKHAI_SEGMENT_CONDEMNED, 12, 4, 0, 73, 84);
+    is(4, BORVUKHAI_SEGMENT_HELD, 5, 1, 0, 74, 84);
+    is(5, BORVUKHAI_SEGMENT_FREE, 0, 0, 0, 75, 85);
+    handshakes();
     ok("detach", borvukhai_detach(HEAP, 0)); /* in mark it may */
     ok("states", borvukhai_states(HEAP, output, STATES));
-    is(0, BORVUKHAI_SEGMENT_PART, 12, 1, 0, 70, 80);
-    is(2, BORVUKHAI_SEGMENT_PART, 11, 4, 0, 72, 83);
-    is(3, BORVUKHAI_SEGMENT_PART, 12, 0, 0, 73, 83);
-    is(4, BORVUKHAI_SEGMENT_PART, 5, 1, 0, 74, 85);
+    is(2, BORVUKHAI_SEGMENT_PART, 11, 1, 0, 72, 83);
+    is(4, BORVUKHAI_SEGMENT_PART, 5, 1, 0, 74, 84);
 }
 
 int main(void) {
@@ -644,6 +722,7 @@ int main(void) {
                  {"a sweep to free, and another class", sweep_to_free},
                  {"a bitmap of three levels", three_levels},
                  {"all five states", five_then},
+                 {"part segments, swept to free", parts_to_free},
                  {"torn counts: looks, examination, every call", torn},
                  {"torn counts: makes", torn_makes},
                  {"torn counts: makes at every place", torn_places},

@@ -1,5 +1,6 @@
-/* Provokes each refusal number of include/borvukhai.h, from every call that gives it, and tries the lengths, the looks and cycles over
- * nothing. It prints a line for each part, and says on the error output what was expected where something else came. */
+/* Provokes each refusal number of include/borvukhai.h, from every call that gives it, and tries the lengths, the looks,
+ * cycles over nothing and a long record after short ones. It prints a line for each part, and says on the error output
+ * what was expected where something else came. */
 #include "borvukhai.h"
 
 #include <stdio.h>
@@ -32,7 +33,9 @@ enum {
     HOLDS_AT = 16 + 18,            /* the segments that mutator 0 holds, by class */
     HELD_AT = HOLDS_AT + 9,        /* that of class 12 */
     TAG_AT = 1040 + 4096 * SEGMENTS,
+    FREE_AT = 1040 + 4102 * SEGMENTS,  /* the free stack */
     PARTS_AT = 1041 + 4103 * SEGMENTS, /* the part stacks, by class */
+    MARKS_AT = 1053 + 4182 * SEGMENTS, /* the marks, a bit for 8 bytes */
     OFF_HEAP = 4096 * SEGMENTS + 1 /* a reference one past the last word of the heap */
 };
 
@@ -441,7 +444,7 @@ static void states_and_phases(void) {
     step("idle", BORVUKHAI_STEP_IDLE, BORVUKHAI_IDLE);
 }
 
-/* A start with nothing full and no mutator: each phase has one step. */
+/* A start with nothing full or part and no mutator: each phase has one step. */
 static void cycle_over_nothing(void) {
     fresh();
     ok("detach", borvukhai_detach(HEAP, 0));
@@ -480,6 +483,43 @@ static void cycle_over_nothing_with_a_mutator(void) {
 static void over_nothing(void) {
     cycle_over_nothing();
     cycle_over_nothing_with_a_mutator();
+}
+
+/* A make of a long record, class 13: 2,001 words. */
+static void long_one(const char *who, uint32_t wanted) {
+    expect("a long record", who, borvukhai_make(HEAP, 1, 0, 0, 2000), wanted);
+}
+
+/* A venue plays long chases after short ones. Three short records, class 5, are dead in the one segment, since their
+ * mutator is gone; it is part, none is full, and a long record finds no room, before the cycle and in it, until the
+ * segment is swept: its three blocks in use become free, none is left, and the segment is free for any class. */
+static void long_after_short(void) {
+    uint64_t answer;
+    fresh();
+    ok("make", borvukhai_make(HEAP, 0, 0, 1, 5));
+    ok("make", borvukhai_make(HEAP, 0, 1, 1, 5));
+    ok("make", borvukhai_make(HEAP, 0, 2, 1, 5));
+    ok("detach", borvukhai_detach(HEAP, 0));
+    ok("attach", borvukhai_attach(HEAP, 1));
+    state("part", BORVUKHAI_SEGMENT_PART, 5, 3, 0, 0, 3);
+    long_one("before the cycle", BORVUKHAI_NO_ROOM);
+    ok("start", borvukhai_start(HEAP));
+    state("condemned", BORVUKHAI_SEGMENT_CONDEMNED, 5, 3, 0, 0, 3);
+    ok("leave", borvukhai_leave(HEAP, 1));
+    step("to sync 2", BORVUKHAI_STEP_MOVED, BORVUKHAI_SYNC2);
+    step("to mark", BORVUKHAI_STEP_MOVED, BORVUKHAI_MARK);
+    step("to sweep", BORVUKHAI_STEP_MOVED, BORVUKHAI_SWEEP);
+    ok("enter", borvukhai_enter(HEAP, 1));
+    long_one("before the sweep", BORVUKHAI_NO_ROOM);
+    expect("a short record", "before the sweep", borvukhai_make(HEAP, 1, 0, 1, 5), BORVUKHAI_NO_ROOM);
+    answer = borvukhai_step(HEAP);
+    expect("swept", "kind", borvukhai_step_kind(answer), BORVUKHAI_STEP_SWEPT);
+    expect("swept", "segment", borvukhai_step_segment(answer), 0);
+    expect("swept", "freed", borvukhai_step_freed(answer), 3);
+    state("free", BORVUKHAI_SEGMENT_FREE, 0, 0, 0, 0, 0);
+    long_one("after the sweep", BORVUKHAI_OK);
+    state("held", BORVUKHAI_SEGMENT_HELD, 13, 1, 1, 0, 1);
+    step("done", BORVUKHAI_STEP_DONE, BORVUKHAI_IDLE);
 }
 
 /* The answers that carry a result: get, same, shape and a sweep's step. */
@@ -540,6 +580,75 @@ static void examination(void) {
     examined("all ones", 0);
 }
 
+/* The one segment part, place 3, with records of class 5 whose mutator is gone, in this phase; mutator 0 is inside. */
+static void part_in(uint32_t now) {
+    uint32_t root, moved;
+    fresh();
+    for (root = 0; root < 3; root++) {
+        ok("make", borvukhai_make(HEAP, 0, root, 1, 5));
+    }
+    ok("detach", borvukhai_detach(HEAP, 0));
+    ok("attach", borvukhai_attach(HEAP, 0));
+    if (now != BORVUKHAI_IDLE) {
+        ok("start", borvukhai_start(HEAP));
+        ok("leave", borvukhai_leave(HEAP, 0));
+    }
+    for (moved = BORVUKHAI_SYNC1; moved < now; moved++) {
+        step("moved", BORVUKHAI_STEP_MOVED, moved + 1);
+    }
+    if (now != BORVUKHAI_IDLE) {
+        ok("enter", borvukhai_enter(HEAP, 0));
+    }
+    examined("a part segment", 1);
+}
+
+/* One word of the memory is another number: the examination says no, and every call ends as it may. */
+static void torn_word(const char *who, int at, uint32_t number) {
+    memory[at] = number;
+    examined(who, 0);
+    memcpy(before, memory, LENT);
+    torn_class();
+}
+
+/* The condemned segment's place is past its 512 blocks; it is on its class's part stack, or on the free stack, where its
+ * entry still stands; block 3, or 511, which is not in use, has a mark. */
+static void torn_condemned(void) {
+    static const uint32_t places[] = {513, 1024, 2049, 0x80000000u, MANY};
+    uint32_t now;
+    size_t i;
+    for (now = BORVUKHAI_SYNC1; now <= BORVUKHAI_SWEEP; now++) {
+        for (i = 0; i < sizeof places / sizeof places[0]; i++) {
+            part_in(now);
+            torn_word("a place past the blocks", TAG_AT + BORVUKHAI_STATE_PLACE, places[i]);
+        }
+        part_in(now);
+        torn_word("condemned, on a part stack", PARTS_AT + (int)(1 + SEGMENTS) * 2, 1);
+        part_in(now);
+        torn_word("condemned, on the free stack", FREE_AT, 1);
+        part_in(now);
+        torn_word("a mark of block 3", MARKS_AT, 1u << 12);
+        part_in(now);
+        torn_word("a mark of block 511", MARKS_AT + 63, 1u << 28);
+    }
+}
+
+/* The count of a part stack is another number: a start makes all of them 0, and what it leaves passes. */
+static void torn_part_stacks(void) {
+    static const uint32_t numbers[] = {0, 1, 2, 3, 0x80000000u, MANY};
+    uint32_t c;
+    size_t i;
+    for (c = 0; c < CLASSES; c++) {
+        for (i = 0; i < sizeof numbers / sizeof numbers[0]; i++) {
+            part_in(BORVUKHAI_IDLE);
+            memory[PARTS_AT + (int)(1 + SEGMENTS) * (int)c] = numbers[i];
+            examined("a part stack's count", numbers[i] == (c == 2));
+            ok("start", borvukhai_start(HEAP));
+            state("condemned", BORVUKHAI_SEGMENT_CONDEMNED, 5, 3, 0, 0, 3);
+            examined("after the start", 1);
+        }
+    }
+}
+
 int main(void) {
     static const struct {
         const char *name;
@@ -550,7 +659,10 @@ int main(void) {
                  {"10 no room", no_room},  {"11 not now", not_now},     {"13 torn", torn},
                  {"13 torn classes", torn_classes},
                  {"lengths", lengths},     {"results", results},        {"states and phases", states_and_phases},
-                 {"examination", examination},                          {"over nothing", over_nothing}};
+                 {"examination", examination},                          {"over nothing", over_nothing},
+                 {"long records after short ones", long_after_short},
+                 {"13 torn condemned segments", torn_condemned},
+                 {"torn counts of part stacks", torn_part_stacks}};
     size_t i;
     for (i = 0; i < sizeof parts / sizeof parts[0]; i++) {
         int failed = failures;

@@ -12,7 +12,7 @@ NODES = {
     "held": (450, 120, 190, "class, place, mutator"),
     "full": (800, 120, 190, "class; no block free"),
     "part": (450, 340, 190, "class, place"),
-    "condemned": (800, 340, 190, "class; to be swept"),
+    "condemned": (800, 340, 190, "class, place; to be swept"),
 }
 # from, to, call: the path, where the call stands and where its words do, and what it does
 EDGES = {
@@ -22,9 +22,10 @@ EDGES = {
     ("held", "part", "detach"): ("M415 156V302", (406, 236), (406, 252), "end", "place kept"),
     ("part", "full", "make"): ("M545 318C640 290 690 220 728 158", (668, 262), (668, 278), "start", "takes it and fills it"),
     ("full", "condemned", "start"): ("M785 156V302", (776, 200), None, "end", ""),
+    ("part", "condemned", "start"): ("M545 362H703", (625, 379), None, "middle", ""),
     ("free", "full", "make"): ("M110 84V66H800V82", (810, 60), (810, 76), "start", "class 14, its one block"),
     ("condemned", "full", "step"): ("M825 304V158", (834, 236), (834, 252), "start", "all blocks marked"),
-    ("condemned", "part", "step"): ("M705 345H547", (626, 335), (626, 363), "middle", "some blocks marked"),
+    ("condemned", "part", "step"): ("M705 336H547", (626, 328), (626, 352), "middle", "some blocks marked"),
     ("condemned", "free", "step"): ("M800 376C800 455 110 455 110 158", (222, 398), (222, 414), "end", "no block marked"),
 }
 # three moves that the longer runs have not: a part segment's last free block is handed out, a segment is swept whose blocks are all marked, and one of

@@ -10,7 +10,7 @@ use std::time::Instant;
 use borvukhai::{Heap, MutatorId, Pacer, Refusal, Result, Root, SegmentRecord, Segments, Shape};
 
 pub(crate) const SEGMENTS: Segments = Segments::new(8).unwrap();
-pub(crate) const STEPS: u32 = 48;
+pub(crate) const STEPS: u32 = 128;
 const OPERATIONS: u32 = 10_000_000;
 const ROUNDS: u32 = 3;
 

@@ -43,8 +43,9 @@ impl Step {
 }
 
 impl<M: AsRef<[u32]> + AsMut<[u32]>> Heap<M> {
-    /// A cycle begins: every full segment is condemned. Where none is full it is a cycle over no segment: both handshakes and the marking
-    /// are held as usual, the first step in sweep answers [`Step::Done`], and nothing is freed. Refused NotNow while a cycle runs.
+    /// A cycle begins: every full and every part segment is condemned, and no make takes it before its sweep; held ones
+    /// are not. Where none is full or part it is a cycle over no segment: both handshakes and the marking are held as
+    /// usual, the first step in sweep answers [`Step::Done`], and nothing is freed. Refused NotNow while a cycle runs.
     pub fn start(&mut self) -> Result<()> {
         raw::start(self.segments().count(), self.words())
     }

@@ -90,7 +90,7 @@
 //!
 //! # Pacing the collector
 //!
-//! [`Heap::start`] when segments have become full, then a few [`Heap::step`]s between the mutators' calls until one answers
+//! [`Heap::start`] when segments have become full or part, then a few [`Heap::step`]s between the mutators' calls until one answers
 //! [`Step::Done`]. A cycle needs the mutators: each one that is inside must [`check`](Mutator::check) now and then, or
 //! [`leave`](Mutator::leave) when it will be away for long. [`Heap::finish_cycle`] runs a cycle to its end in one call, which is the
 //! pause that steps avoid. A [`Pacer`] does all of it after each make: it decides when a cycle begins, and takes a bounded number of

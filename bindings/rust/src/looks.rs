@@ -36,7 +36,7 @@ impl Phase {
 }
 
 /// What a segment is used for. A class is 3 to 14: its blocks have 2^class bytes. A place is the next block to look at, and the number of
-/// blocks where the segment is full or condemned.
+/// blocks where the segment is full; one that is condemned keeps the place that it had.
 #[derive(Clone, Copy, Debug, PartialEq, Eq, Hash)]
 pub enum SegmentState {
     /// It has no record.
@@ -64,11 +64,11 @@ pub enum SegmentState {
         /// The number of blocks.
         place: u32,
     },
-    /// It was full when the cycle began: it is in the collect set, not swept yet.
+    /// It was full or part when the cycle began: it is in the collect set, not swept yet, and no make takes it.
     Condemned {
         /// The size class.
         class: u32,
-        /// The number of blocks.
+        /// The place that it had when the cycle began.
         place: u32,
     },
 }
@@ -133,7 +133,7 @@ pub struct States<'o> {
 
 impl<'o> States<'o> {
     /// The records in these words, if every six of them are one.
-    fn of(words: &'o [u32]) -> Result<States<'o>> {
+    pub(crate) fn of(words: &'o [u32]) -> Result<States<'o>> {
         let words = words.chunks_exact(STATE_WORDS);
         for record in words.clone() {
             SegmentRecord::unpack(record)?;

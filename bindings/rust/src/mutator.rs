@@ -48,8 +48,9 @@ impl<'h> Mutator<'h> {
 
     /// A new record, its pointers nil and its values 0, into root `to`. Refused TooBig and NoRoom.
     ///
-    /// On NoRoom, a cycle may help: it hands back blocks that nobody reached when it began, of segments that were full then. Where
-    /// [`states`](crate::Heap::states) shows no full and no condemned segment, none can.
+    /// On NoRoom, a cycle may help: it hands back blocks that nobody reached when it began, of segments that were full
+    /// or part then; until its sweep such a segment is no room. Where [`states`](crate::Heap::states) shows no full,
+    /// part or condemned segment, no cycle can help.
     #[inline]
     pub fn make(&mut self, to: Root, shape: Shape) -> Result<()> {
         raw::make(self.count(), self.memory, self.id.number(), to.number(), shape.pointers, shape.values)

@@ -4,26 +4,26 @@ use core::fmt;
 
 use crate::collector::Step;
 use crate::heap::Heap;
-use crate::looks::{Phase, SegmentState};
+use crate::looks::{Phase, SegmentRecord, SegmentState, States};
 use crate::numbers::{MutatorId, Root, Shape};
 use crate::refusal::{Refusal, Result};
-use crate::segments::{CLASS_AT, STATE_WORDS};
 
 /// Runs the collector beside the makes: at most so many steps after each of them, and a cycle begun as late as that
 /// pace allows, so that it finds the most to free. docs/PACING.md says why and when this holds.
 ///
-/// It counts the blocks in use of each class: makes, less what sweeps freed. (From an opening on, the counts of a look
-/// add up to the same.) And it looks at the segments' states now and then, through an output that it keeps. So it has
-/// two bounds: the makes that are certain to find room, in any order, by any of the mutators and of any class in play,
-/// and the steps that a cycle begun now can take. Once the makes times the pace are no more than the steps, it starts a
-/// cycle.
+/// It looks at the segments' states now and then, through an output that it keeps; their counts say how many blocks are
+/// in use. So it has two bounds: the makes that are certain to find room, in any order, by any of the mutators and of
+/// any class in play, and the steps that a cycle begun now can take. A start condemns the part segments too, which are
+/// then no room before their sweep: so the first bound is what the held and the free segments have. Once these makes
+/// times the pace are no more than the steps, it starts a cycle.
 ///
 /// [`room`](Pacer::room) says the first bound, and [`kept`](Pacer::kept) whether the pace promises that a cycle ends
 /// before that room is used up. Where not, makes may be refused NoRoom: lend more segments, take more steps, say by
-/// [`makers`](Pacer::makers) that fewer mutators make a class, or call [`finish`](Pacer::finish).
+/// [`makers`](Pacer::makers) that fewer mutators make a class, or call [`finish`](Pacer::finish). A detach makes part
+/// what the mutator held: what it takes from both, the next look says, and no cycle starts before that look.
 ///
-/// Every make, and every step of the heap, goes through it. Records of a class that is no longer made may lie dead in
-/// segments that are not full, which no cycle collects: such a mix no pace can hold.
+/// Every make, and every step of the heap, goes through it. A segment that a mutator holds is in no collect set:
+/// records of a class that it makes no more may lie dead there until it is detached.
 ///
 /// ```
 /// use borvukhai::{Heap, MutatorId, Pacer, Root, Segments, Shape};
@@ -44,7 +44,6 @@ pub struct Pacer<O> {
     steps: u32,
     mutators: u32,
     makers: [u32; CLASSES],
-    in_use: [u32; CLASSES],
     room: u32,
     wait: u32,
     kept: bool,
@@ -62,76 +61,63 @@ const fn blocks(class: usize) -> u32 {
     16384 >> class
 }
 
-/// What the look says of the segments of one class.
+/// What the look says of the segments of one class. Open are those that a make may take a block of: held ones, and part
+/// ones where no start comes before.
 #[derive(Clone, Copy, Default)]
 struct Class {
-    /// The blocks of them all.
-    blocks: u32,
-    /// Bounds of those in use: of a segment that is not full, one at least, and all but one.
-    least: u32,
-    most: u32,
-    /// The segments that mutators hold, and those that nobody does.
+    /// How many there are, and how many of them mutators hold.
+    segments: u32,
     held: u32,
-    parts: u32,
-    /// What one segment that is not full can have left once every part segment is taken: the largest, falling.
+    /// The blocks that the open ones have left.
+    left: u32,
+    /// What an open one has left once every part one is taken: the largest, falling.
     most_left: [u16; MUTATORS],
 }
 
 /// What the look says of all segments.
 #[derive(Default)]
 struct Look {
+    /// Whether part segments are open.
+    parts: bool,
     free: u32,
-    full: u32,
+    /// The segments that a start condemns: those full or part.
+    due: u32,
+    /// Blocks in use.
+    in_use: u32,
     classes: [Class; CLASSES],
 }
 
 impl Look {
-    fn see(&mut self, state: SegmentState) {
-        match state {
+    fn see(&mut self, record: SegmentRecord) {
+        let due = matches!(record.state, SegmentState::Full { .. } | SegmentState::Part { .. });
+        self.due += u32::from(due);
+        match record.state {
             SegmentState::Free => self.free += 1,
-            SegmentState::Part { class, place } => self.part(class, place),
-            SegmentState::Held { class, place, .. } => self.held(class, place),
-            SegmentState::Full { class, .. } => {
-                self.full += 1;
-                self.closed(class);
+            SegmentState::Held { class, .. } => self.open(class, &record, true),
+            SegmentState::Part { class, .. } if self.parts => self.open(class, &record, false),
+            SegmentState::Part { class, .. } | SegmentState::Full { class, .. } | SegmentState::Condemned { class, .. } => {
+                self.used(class, &record);
             }
-            SegmentState::Condemned { class, .. } => self.closed(class),
         }
     }
 
-    /// The class of a number of the look. Torn memory may have any; its segments then count for the last class.
-    fn class(&mut self, class: u32) -> (&mut Class, u32) {
+    /// A segment's class and the blocks that it has left, its blocks in use being counted. Torn memory may have any
+    /// class, which is then the last one, and any counts: no more than all are in use.
+    fn used(&mut self, class: u32, record: &SegmentRecord) -> (&mut Class, u32) {
         let class = (class as usize).min(CLASSES - 1);
-        (&mut self.classes[class], blocks(class))
+        let used = record.kept.saturating_add(record.handed_out).min(blocks(class));
+        self.in_use += used;
+        let of = &mut self.classes[class];
+        of.segments += 1;
+        (of, blocks(class) - used)
     }
 
-    /// Of a class of one block no segment is open but in torn memory, and there it counts as used.
-    fn open(&mut self, class: u32, left: u32) {
-        let (of, blocks) = self.class(class);
-        of.blocks += blocks;
-        of.least += 1;
-        of.most += (blocks - 1).max(1);
-        of.insert(left.min(blocks) as u16);
-    }
-
-    /// All can be left from the place on but the block that its taker uses.
-    fn part(&mut self, class: u32, place: u32) {
-        let (of, blocks) = self.class(class);
-        of.parts += 1;
-        self.open(class, blocks.saturating_sub(place).saturating_sub(1));
-    }
-
-    fn held(&mut self, class: u32, place: u32) {
-        let (of, blocks) = self.class(class);
-        of.held += 1;
-        self.open(class, blocks.saturating_sub(place));
-    }
-
-    fn closed(&mut self, class: u32) {
-        let (of, blocks) = self.class(class);
-        of.blocks += blocks;
-        of.least += blocks;
-        of.most += blocks;
+    /// Of a part one its taker uses a block.
+    fn open(&mut self, class: u32, record: &SegmentRecord, held: bool) {
+        let (of, left) = self.used(class, record);
+        of.held += u32::from(held);
+        of.left += left;
+        of.insert(left.saturating_sub(u32::from(!held)) as u16);
     }
 }
 
@@ -145,15 +131,15 @@ impl Class {
     }
 
     /// The most free blocks that so many mutators can hold while no segment of the class is part.
-    fn left(&self, mutators: u32, in_use: u32) -> u32 {
-        let spare = (self.blocks - in_use).saturating_sub(self.parts);
-        self.most_left.iter().take(mutators as usize).map(|&left| u32::from(left)).sum::<u32>().min(spare)
+    fn left(&self, mutators: u32) -> u32 {
+        self.most_left.iter().take(mutators as usize).map(|&left| u32::from(left)).sum()
     }
 
     /// What it costs, in makes, that its makers take one free segment more, `makers` of them being without one: one
     /// make, and before it those that fill the segment held.
-    fn cost(&self, makers: u32, in_use: u32) -> u32 {
-        1 + self.left(makers, in_use) - self.left(makers.saturating_sub(1), in_use)
+    fn cost(&self, makers: u32) -> u32 {
+        let last = (makers as usize).wrapping_sub(1);
+        1 + self.most_left.get(last).map_or(0, |&left| u32::from(left))
     }
 }
 
@@ -166,10 +152,10 @@ struct Costs {
 }
 
 impl Costs {
-    fn add(&mut self, of: &Class, makers: u32, in_use: u32) {
+    fn add(&mut self, of: &Class, makers: u32) {
         for turn in (1..=makers).rev() {
             if let Some(cost) = self.cost.get_mut(self.count) {
-                *cost = of.cost(turn, in_use) as u16;
+                *cost = of.cost(turn) as u16;
                 self.count += 1;
             }
         }
@@ -189,16 +175,15 @@ impl<O> fmt::Debug for Pacer<O> {
 }
 
 impl<O: AsRef<[u32]> + AsMut<[u32]>> Pacer<O> {
-    /// A pacer of a heap that was opened, or taken up from memory, in a cycle or not: there every block that may be
-    /// in use counts so until a sweep says more. `output` has
+    /// A pacer of a heap that was opened, or taken up from memory, in a cycle or not. `output` has
     /// [`Segments::states_length`](crate::Segments::states_length) words, `steps` is the most after a make, and
     /// `mutators` how many are attached at most; while inside, each checks at least once in so many makes. Refused
     /// Size where the output has another length, and Torn.
     pub fn new<M: AsRef<[u32]> + AsMut<[u32]>>(heap: &Heap<M>, output: O, steps: u32, mutators: u32) -> Result<Pacer<O>> {
         let running = heap.phase()? != Phase::Idle;
         let mutators = mutators.clamp(1, MUTATORS as u32);
-        let (in_use, makers) = ([u32::MAX; CLASSES], [0; CLASSES]);
-        let mut pacer = Pacer { output, steps, mutators, makers, in_use, room: 0, wait: 0, kept: false, running };
+        let makers = [0; CLASSES];
+        let mut pacer = Pacer { output, steps, mutators, makers, room: 0, wait: 0, kept: false, running };
         pacer.look(heap)?;
         Ok(pacer)
     }
@@ -231,7 +216,7 @@ impl<O: AsRef<[u32]> + AsMut<[u32]>> Pacer<O> {
 
     /// A whole cycle before the next make, or the rest of the one that runs: what helps where a make was refused
     /// NoRoom, and in a small heap where the pace is not [`kept`](Pacer::kept). Every mutator that is inside checks. A
-    /// cycle that ran already has not collected what became full since: still refused, call it again.
+    /// cycle that ran already has not collected what became full or part since: still refused, call it again.
     pub fn finish<M: AsRef<[u32]> + AsMut<[u32]>>(&mut self, heap: &mut Heap<M>) -> Result<()> {
         if !self.running {
             self.look(heap)?;
@@ -262,27 +247,24 @@ impl<O: AsRef<[u32]> + AsMut<[u32]>> Pacer<O> {
     /// told.
     pub fn made<M: AsRef<[u32]> + AsMut<[u32]>>(&mut self, heap: &mut Heap<M>, shape: Shape) -> Result<()> {
         self.room = self.room.saturating_sub(1);
-        if let Some(class) = shape.class().map(|class| class as usize) {
-            self.in_use[class] = self.in_use[class].saturating_add(1);
-            if self.makers[class] == 0 {
-                self.look(heap)?; // a class that the last look knew nothing of
-                self.wait = 0;
-            }
+        if shape.class().is_some_and(|class| self.makers[class as usize] == 0) {
+            self.look(heap)?; // a class that the last look knew nothing of
+            self.wait = 0;
         }
         if self.running {
             return self.step(heap);
         }
-        if self.wait != 0 {
+        if self.wait > 1 {
             self.wait -= 1;
             return Ok(());
         }
         self.start(heap)
     }
 
-    /// A look, and the start of a cycle where no make may pass and a segment is full.
+    /// A look, and the start of a cycle where no make may pass and a segment is full or part.
     fn start<M: AsRef<[u32]> + AsMut<[u32]>>(&mut self, heap: &mut Heap<M>) -> Result<()> {
         let look = self.look(heap)?;
-        if self.wait != 0 || look.full == 0 {
+        if self.wait != 0 || look.due == 0 {
             return Ok(());
         }
         heap.start()?;
@@ -290,23 +272,42 @@ impl<O: AsRef<[u32]> + AsMut<[u32]>> Pacer<O> {
         Ok(())
     }
 
-    /// The states, and how many makes may pass before the next look: each takes at most one of the room, whoever
-    /// makes, and adds one to the work.
+    /// The states, and how many makes may pass before the next look: each takes at most one of the room that a start
+    /// leaves, whoever makes, and adds one to the work.
     fn look<M: AsRef<[u32]> + AsMut<[u32]>>(&mut self, heap: &Heap<M>) -> Result<Look> {
-        let mut look = Look::default();
         (self.room, self.wait, self.kept) = (0, 0, false);
-        heap.states(self.output.as_mut())?.for_each(|record| look.see(record.state));
-        for (class, of) in look.classes.iter().enumerate() {
-            self.in_use[class] = self.in_use[class].clamp(of.least, of.most);
-            let makers = &mut self.makers[class];
-            *makers = if *makers == 0 && of.blocks != 0 { self.mutators } else { *makers };
+        heap.states(self.output.as_mut())?;
+        let look = self.seen(false)?;
+        for (makers, of) in self.makers.iter_mut().zip(&look.classes) {
+            *makers = if *makers == 0 && of.segments != 0 { self.mutators } else { *makers };
             *makers = (*makers).max(of.held).min(MUTATORS as u32);
         }
         self.room = self.certain(&look);
-        let work = u64::from(self.work(heap.segments().count()));
-        let ahead = u64::from(self.room.saturating_sub(2 * self.mutators)) * u64::from(self.steps);
+        let (ahead, work) = (self.ahead(self.room), self.work(&look, heap.segments().count()));
         self.kept = ahead >= work;
         self.wait = u32::try_from(ahead.saturating_sub(work) / (u64::from(self.steps) + 1)).unwrap_or(u32::MAX);
+        if !self.kept {
+            let room = self.certain(&self.seen(true)?);
+            self.open_parts(room, work);
+        }
+        Ok(look)
+    }
+
+    /// Where the room that a start leaves is too little for a cycle, but part segments have room too. A cycle that runs
+    /// already leaves them open. In idle, where nearly all of the room is theirs, makes pass first, which take them: the
+    /// next look is after as many as the other room has, as it cannot grow before, and a few.
+    fn open_parts(&mut self, room: u32, work: u64) {
+        if self.running {
+            self.kept = self.ahead(room) >= work;
+        } else if room / 6 > self.room {
+            self.wait = self.room + 3;
+        }
+    }
+
+    /// What the states say that the output has, the part segments open or not.
+    fn seen(&self, parts: bool) -> Result<Look> {
+        let mut look = Look { parts, ..Look::default() };
+        States::of(self.output.as_ref())?.for_each(|record| look.see(record));
         Ok(look)
     }
 
@@ -317,22 +318,26 @@ impl<O: AsRef<[u32]> + AsMut<[u32]>> Pacer<O> {
         let mut costs = Costs { count: 0, cost: [0; MUTATORS * (CLASSES - 3)], smallest: 0 };
         let played = (0..CLASSES).filter(|&class| self.makers[class] != 0);
         for class in played.clone() {
-            costs.add(&look.classes[class], self.makers[class], self.in_use[class]);
+            costs.add(&look.classes[class], self.makers[class]);
             costs.smallest = blocks(class);
         }
         costs.cost[..costs.count].sort_unstable();
         let (all, beside) = (costs.sum(look.free), costs.sum(look.free + 1));
         let rooms = played.map(|class| {
-            let (of, makers, in_use) = (&look.classes[class], self.makers[class], self.in_use[class]);
-            let own = of.blocks - in_use - of.left(makers - 1, in_use);
-            own + all.max(beside.saturating_sub(of.cost(makers, in_use)))
+            let (of, makers) = (&look.classes[class], self.makers[class]);
+            of.left - of.left(makers - 1) + all.max(beside.saturating_sub(of.cost(makers)))
         });
         rooms.min().unwrap_or(0)
     }
 
+    /// The steps that the pace takes while this room lasts, once every mutator has acknowledged twice.
+    fn ahead(&self, room: u32) -> u64 {
+        u64::from(room.saturating_sub(2 * self.mutators)) * u64::from(self.steps)
+    }
+
     /// Steps that a cycle begun now can take: one for each record, one for each segment, and six beside.
-    fn work(&self, segments: u32) -> u32 {
-        self.in_use.iter().fold(2 * self.mutators + segments + 6, |work, &in_use| work.saturating_add(in_use))
+    fn work(&self, look: &Look, segments: u32) -> u64 {
+        u64::from(2 * self.mutators + segments + 6 + look.in_use)
     }
 
     /// The steps of one turn, fewer where the cycle ends, or waits for a mutator.
@@ -349,21 +354,12 @@ impl<O: AsRef<[u32]> + AsMut<[u32]>> Pacer<O> {
     fn one<M: AsRef<[u32]> + AsMut<[u32]>>(&mut self, heap: &mut Heap<M>) -> Result<bool> {
         let step = heap.step()?;
         match step {
-            Step::Swept { segment, freed } => self.swept(segment, freed),
-            Step::Moved | Step::Traced | Step::Waiting(_) => {}
+            Step::Moved | Step::Traced | Step::Waiting(_) | Step::Swept { .. } => {}
             Step::Done | Step::Idle => {
                 self.running = false;
                 self.look(heap)?;
             }
         }
         Ok(matches!(step, Step::Waiting(_)))
-    }
-
-    /// Blocks became free; the segment's class is that of a look before this sweep.
-    fn swept(&mut self, segment: u32, freed: u32) {
-        let class = self.output.as_ref().get(STATE_WORDS * segment as usize + CLASS_AT).copied().unwrap_or_default();
-        if let Some(in_use) = self.in_use.get_mut(class as usize) {
-            *in_use = in_use.saturating_sub(freed);
-        }
     }
 }

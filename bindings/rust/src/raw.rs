@@ -150,7 +150,7 @@ pub fn enter(segments: u32, memory: &mut [u32], mutator: u32) -> Result<()> {
     plain(unsafe { sys::borvukhai_enter(segments, memory.as_mut_ptr(), memory.len(), mutator) })
 }
 
-/// A cycle begins, over no segment where none is full. Refused Size, NotNow, Torn.
+/// A cycle begins, over no segment where none is full or part. Refused Size, NotNow, Torn.
 #[inline]
 pub fn start(segments: u32, memory: &mut [u32]) -> Result<()> {
     // SAFETY: a slice, borrowed for this call alone.

@@ -5,7 +5,7 @@ use core::fmt;
 /// Why a call was refused, by document 01's words and numbers. The lowest number that applies is given.
 ///
 /// On memory that passes the examination a refused call changes no word, and [`Torn`](Refusal::Torn) does not come. 12 is a number that
-/// no call gives: a start while no segment is full is not refused.
+/// no call gives: a start while no segment is full or part is not refused.
 #[derive(Clone, Copy, Debug, PartialEq, Eq, PartialOrd, Ord, Hash)]
 #[repr(u32)]
 pub enum Refusal {
@@ -27,8 +27,8 @@ pub enum Refusal {
     Field = 8,
     /// A make with more than 4,095 pointers and values together.
     TooBig = 9,
-    /// A make for which no segment of the class has room for this mutator, and none is free. Memory of zeros that was never opened, taken up
-    /// without examination, looks so too.
+    /// A make for which no segment of the class has room for this mutator, and none is free; one that is condemned is no
+    /// room before its sweep. Memory of zeros that was never opened, taken up without examination, looks so too.
     NoRoom = 10,
     /// An attach, a spawn or a detach in a handshake, or a start while a cycle runs.
     NotNow = 11,

@@ -20,9 +20,8 @@ pub struct Segments(u16);
 const FIXED: usize = 1053;
 /// Words of a heap for each segment.
 const PER_SEGMENT: usize = 6294;
-/// Words of a segment's record in the output of states, and where its class stands in them.
+/// Words of a segment's record in the output of states.
 pub(crate) const STATE_WORDS: usize = 6;
-pub(crate) const CLASS_AT: usize = 1;
 const SCRATCH_PER_SEGMENT: usize = 2176;
 
 impl Segments {

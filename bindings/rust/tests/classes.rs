@@ -141,7 +141,7 @@ fn is_kept(heap: &mut Heap<Vec<u32>>, shape: Shape) -> Result<()> {
 }
 
 /// A record of 4,095 fields, from its make to the sweep that frees it. A cycle keeps it while a root has it, and what its pointers have;
-/// when it is cleared, the next cycle makes its segment free.
+/// when it is cleared, the next cycle makes its segment free, and that of what was behind its pointers, be it full or part.
 #[test]
 fn records_of_the_most_fields() -> Result<()> {
     let long = SegmentState::Full { class: 14, place: 1 };
@@ -159,12 +159,12 @@ fn records_of_the_most_fields() -> Result<()> {
         is_kept(&mut heap, shape)?;
         assert_eq!(look(&heap), [long, beside[kept as usize]]);
         heap.mutator(id(0)).clear(Root::R0)?;
-        let (swept, then) = match kept {
-            2 => (vec![(0, 1), (1, 2)], SegmentState::Free),
-            _ => (vec![(0, 1)], beside[kept as usize]),
+        let swept = match kept {
+            0 => vec![(0, 1)],
+            _ => vec![(0, 1), (1, kept)],
         };
         assert_eq!(cycle(&mut heap)?, (0, swept));
-        assert_eq!(look(&heap), [SegmentState::Free, then]);
+        assert_eq!(look(&heap), [SegmentState::Free; 2]);
     }
     Ok(())
 }

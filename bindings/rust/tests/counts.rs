@@ -1,13 +1,13 @@
 //! The two counts of a segment, blocks kept at its last sweep and blocks handed out since, against figures that were reckoned by hand from
-//! document 01 and request No. 3; over memory whose counts are torn; and over lists of calls, where the makes less the blocks that sweeps
-//! freed are the blocks in use.
+//! document 01 and requests No. 3 and 5; over memory whose counts are torn; and over lists of calls, where the makes less the blocks that
+//! sweeps freed are the blocks in use.
 
 mod common;
 
 use borvukhai::{Heap, MutatorId, Phase, Refusal, Result, Root, SegmentRecord, SegmentState, Segments, Shape, Step, raw};
 use common::{ONE, id};
 
-const FIVE: Segments = Segments::new(5).unwrap();
+const SIX: Segments = Segments::new(6).unwrap();
 
 /// Document 01's table of blocks, by class from 3 on, with the two classes of request No. 2.
 const BLOCKS: [u32; 12] = [2048, 1024, 512, 256, 128, 64, 32, 16, 8, 4, 2, 1];
@@ -64,43 +64,53 @@ fn full(class: u32, kept: u32, handed_out: u32) -> SegmentRecord {
     SegmentRecord { state: SegmentState::Full { class, place: BLOCKS[class as usize - 3] }, kept, handed_out }
 }
 
-fn condemned(class: u32, kept: u32, handed_out: u32) -> SegmentRecord {
-    SegmentRecord { state: SegmentState::Condemned { class, place: BLOCKS[class as usize - 3] }, kept, handed_out }
+fn condemned(class: u32, place: u32, kept: u32, handed_out: u32) -> SegmentRecord {
+    SegmentRecord { state: SegmentState::Condemned { class, place }, kept, handed_out }
 }
 
-/// A started cycle up to its sweep, mutator 0 inside: so many records are marked.
-fn to_sweep(heap: &mut Words, traced: u32) -> Result<()> {
+/// Both handshakes of a started cycle, mutator 0 inside.
+fn handshakes(heap: &mut Words) -> Result<()> {
     for _ in 0..2 {
         heap.mutator(id(0)).check()?;
         assert_eq!(heap.step(), Ok(Step::Moved));
     }
+    Ok(())
+}
+
+/// The phase mark: so many records are marked.
+fn mark(heap: &mut Words, traced: u32) {
     for _ in 0..traced {
         assert_eq!(heap.step(), Ok(Step::Traced));
     }
     assert_eq!(heap.step(), Ok(Step::Moved));
-    Ok(())
 }
 
-/// A whole cycle: so many records are marked, and these segments are swept, each with the blocks that become free.
-fn cycle(heap: &mut Words, traced: u32, swept: &[(u32, u32)]) -> Result<Vec<SegmentRecord>> {
-    heap.start()?;
-    to_sweep(heap, traced)?;
+/// The sweep: these segments, each with the blocks that become free.
+fn sweep(heap: &mut Words, swept: &[(u32, u32)]) -> Vec<SegmentRecord> {
     for &(segment, freed) in swept {
         assert_eq!(heap.step(), Ok(Step::Swept { segment, freed }));
     }
     assert_eq!(heap.step(), Ok(Step::Done));
-    Ok(look(heap))
+    look(heap)
+}
+
+/// A whole cycle: so many records are marked, and these segments are swept.
+fn cycle(heap: &mut Words, traced: u32, swept: &[(u32, u32)]) -> Result<Vec<SegmentRecord>> {
+    heap.start()?;
+    handshakes(heap)?;
+    mark(heap, traced);
+    Ok(sweep(heap, swept))
 }
 
 /// After an opening both counts of every segment are 0, also where a heap with counts was there.
 #[test]
 fn an_opening() -> Result<()> {
-    let mut heap = opened(FIVE)?;
-    assert_eq!(look(&heap), [FREE; 5]);
+    let mut heap = opened(SIX)?;
+    assert_eq!(look(&heap), [FREE; 6]);
     makes(&mut heap, 12, 5)?;
-    assert_eq!(look(&heap), [full(12, 0, 4), held(0, 12, 1, 0, 1), FREE, FREE, FREE]);
-    let heap = Heap::open(FIVE, heap.into_memory())?;
-    assert_eq!(look(&heap), [FREE; 5]);
+    assert_eq!(look(&heap), [full(12, 0, 4), held(0, 12, 1, 0, 1), FREE, FREE, FREE, FREE]);
+    let heap = Heap::open(SIX, heap.into_memory())?;
+    assert_eq!(look(&heap), [FREE; 6]);
     Ok(())
 }
 
@@ -108,19 +118,19 @@ fn an_opening() -> Result<()> {
 /// leaves the place at n, so n blocks before it have a 0 bit, and none was kept. A detach keeps places and counts.
 #[test]
 fn makes_in_three_classes() -> Result<()> {
-    let mut heap = opened(FIVE)?;
+    let mut heap = opened(SIX)?;
     heap.attach(id(1))?;
     for (mutator, class, count) in [(0, 3, 3), (0, 4, 2), (0, 12, 1), (1, 4, 1)] {
         for _ in 0..count {
             heap.mutator(id(mutator)).make(Root::R0, shape_of(class))?;
         }
     }
-    let made = [held(0, 3, 3, 0, 3), held(0, 4, 2, 0, 2), held(0, 12, 1, 0, 1), held(1, 4, 1, 0, 1), FREE];
+    let made = [held(0, 3, 3, 0, 3), held(0, 4, 2, 0, 2), held(0, 12, 1, 0, 1), held(1, 4, 1, 0, 1), FREE, FREE];
     assert_eq!(look(&heap), made);
     assert_eq!(heap.mutator(id(0)).make(Root::R0, Shape::new(0, 4096)), Err(Refusal::TooBig));
     assert_eq!(look(&heap), made);
     heap.mutator(id(0)).detach()?;
-    assert_eq!(look(&heap), [part(3, 3, 0, 3), part(4, 2, 0, 2), part(12, 1, 0, 1), held(1, 4, 1, 0, 1), FREE]);
+    assert_eq!(look(&heap), [part(3, 3, 0, 3), part(4, 2, 0, 2), part(12, 1, 0, 1), held(1, 4, 1, 0, 1), FREE, FREE]);
     heap.mutator(id(1)).make(Root::R0, shape_of(3))?; // from segment 0, block 3
     assert_eq!(look(&heap)[0], held(1, 3, 4, 0, 4));
     Ok(())
@@ -139,7 +149,7 @@ fn a_fill_of_each_class() -> Result<()> {
         assert_eq!(makes(&mut heap, class, 1), Err(Refusal::NoRoom));
         assert_eq!(look(&heap), [full(class, 0, blocks)]);
         heap.start()?;
-        assert_eq!(look(&heap), [condemned(class, 0, blocks)]);
+        assert_eq!(look(&heap), [condemned(class, blocks, 0, blocks)]);
     }
     Ok(())
 }
@@ -215,7 +225,7 @@ fn a_bitmap_of_three_levels() -> Result<()> {
 /// roots 0 to 7. With these roots cleared the sweeps keep block 2 of segment 0, blocks 1 and 3 of segment 1, blocks 0 and 4 of segment 2
 /// and blocks 0, 1 and 3 of segment 3, and free 4 - 1, 4 - 2, 8 - 2 and 4 - 3. All four are part, 3 on top of class 12's stack.
 fn four_parts() -> Result<Words> {
-    let mut heap = opened(FIVE)?;
+    let mut heap = opened(SIX)?;
     heap.attach(id(1))?;
     for (mutator, class, mut roots) in [(0, 12, 0..8), (1, 11, 0..8), (0, 12, 8..12)] {
         roots.try_for_each(|to| heap.mutator(id(mutator)).make(root(to), shape_of(class)))?;
@@ -225,47 +235,74 @@ fn four_parts() -> Result<Words> {
     }
     heap.mutator(id(1)).leave()?;
     let swept = cycle(&mut heap, 8, &[(0, 3), (1, 2), (2, 6), (3, 1)])?;
-    assert_eq!(swept, [part(12, 0, 1, 0), part(12, 0, 2, 0), part(11, 0, 2, 0), part(12, 0, 3, 0), FREE]);
+    assert_eq!(swept, [part(12, 0, 1, 0), part(12, 0, 2, 0), part(11, 0, 2, 0), part(12, 0, 3, 0), FREE, FREE]);
     Ok(heap)
 }
 
-/// The first three and the last segment of the heap below.
-fn beside_the_condemned() -> [SegmentRecord; 4] {
-    [held(0, 12, 1, 1, 1), full(12, 2, 2), part(11, 3, 2, 2), FREE]
-}
-
-/// A segment in each of the five states, each but the free one with blocks kept and blocks handed out.
+/// All four with blocks kept and blocks handed out, none condemned.
 ///
-/// - 3: one make gets block 2, between 1 and 3, and fills it with 3 and 1. The start condemns it.
+/// - 3: one make by mutator 0 gets block 2, between 1 and 3: full with 3 and 1.
+/// - 1: one more gets block 0; block 2 remains: held with 2 and 1, the place 1.
 /// - 2: mutator 1 makes two, blocks 1 and 2 past block 0, and is detached: part with 2 and 2, the place 3.
-/// - 1: after the start mutator 0 makes two, blocks 0 and 2: full with 2 and 2, and not condemned.
-/// - 0: it makes one more, block 0; blocks 1 and 3 remain: held with 1 and 1, the place 1.
-fn five_states() -> Result<Words> {
+/// - 0: mutator 2 makes one, block 0; blocks 1 and 3 remain: held with 1 and 1, the place 1. It goes outside.
+fn in_idle() -> Result<Words> {
     let mut heap = four_parts()?;
-    heap.mutator(id(0)).make(root(10), shape_of(12))?;
+    [10, 4].into_iter().try_for_each(|to| heap.mutator(id(0)).make(root(to), shape_of(12)))?;
     let mut second = heap.mutator(id(1));
     second.enter()?;
     second.make(root(1), shape_of(11))?;
     second.make(root(2), shape_of(11))?;
     second.detach()?;
+    let mut third = heap.attach(id(2))?;
+    third.make(Root::R0, shape_of(12))?;
+    third.leave()?;
     heap.mutator(id(0)).clear(root(9))?;
-    heap.start()?;
-    [4, 6, 0].into_iter().try_for_each(|to| heap.mutator(id(0)).make(root(to), shape_of(12)))?;
-    let [first, second, third, last] = beside_the_condemned();
-    assert_eq!(look(&heap), [first, second, third, condemned(12, 3, 1), last]);
+    assert_eq!(look(&heap), [held(2, 12, 1, 1, 1), held(0, 12, 1, 2, 1), part(11, 3, 2, 2), full(12, 3, 1), FREE, FREE]);
     Ok(heap)
 }
 
-/// The rest of that cycle: roots 0, 2, 4 to 8, 10 and 11 have records, nine are marked. Of segment 3 root 9 had block 1: blocks 0, 2 and 3
-/// are kept, and 3 + 1 - 3 becomes free. No other segment's counts change.
+/// The cycle below: segment 0, and what the others are.
+fn beside(first: SegmentRecord) -> [SegmentRecord; 6] {
+    [first, full(12, 2, 2), condemned(11, 3, 2, 2), condemned(12, 4, 3, 1), held(0, 5, 1, 0, 1), FREE]
+}
+
+/// A start condemns the full segment 3 and the part segment 2, each with its place and counts. Mutator 0 then makes one of class 12, block 2
+/// of segment 1, which is full with 2 and 2 and not condemned; and one of class 5 in segment 4.
+fn in_sync1() -> Result<Words> {
+    let mut heap = in_idle()?;
+    heap.start()?;
+    heap.mutator(id(0)).make(root(6), shape_of(12))?;
+    heap.mutator(id(0)).make(root(0), shape_of(5))?;
+    assert_eq!(look(&heap), beside(held(2, 12, 1, 1, 1)));
+    Ok(heap)
+}
+
+/// All five states, in mark: mutator 2 is detached, and segment 0, which it held, is part with its place and counts.
+fn five_states() -> Result<Words> {
+    let mut heap = in_sync1()?;
+    handshakes(&mut heap)?;
+    heap.mutator(id(2)).enter()?;
+    heap.mutator(id(2)).detach()?;
+    assert_eq!(look(&heap), beside(part(12, 1, 1, 1)));
+    Ok(heap)
+}
+
+/// The rest of that cycle: roots 0, 2, 4 to 8, 10 and 11 of mutator 0 have records, and root 0 of mutator 2 had one: ten are marked. Segment
+/// 2 had mutator 1's alone: its 2 + 2 blocks become free. Of segment 3 root 9 had block 1: blocks 0, 2 and 3 are kept, and 3 + 1 - 3
+/// becomes free. No other segment's counts change, and segment 0 is not swept.
+///
+/// The cycle after it, with no record alive: segments 0, 1 and 3 are swept, and their 1 + 1, 2 + 2 and 3 + 0 blocks become free, of the two
+/// part ones no more than that. Segment 4 stays held.
 #[test]
 fn all_five_states() -> Result<()> {
     let mut heap = five_states()?;
-    to_sweep(&mut heap, 9)?;
-    assert_eq!(heap.step(), Ok(Step::Swept { segment: 3, freed: 1 }));
-    assert_eq!(heap.step(), Ok(Step::Done));
-    let [first, second, third, last] = beside_the_condemned();
-    assert_eq!(look(&heap), [first, second, third, part(12, 0, 3, 0), last]);
+    mark(&mut heap, 10);
+    let last = held(0, 5, 1, 0, 1);
+    let swept = sweep(&mut heap, &[(2, 4), (3, 1)]);
+    assert_eq!(swept, [part(12, 1, 1, 1), full(12, 2, 2), FREE, part(12, 0, 3, 0), last, FREE]);
+
+    Root::all().try_for_each(|at| heap.mutator(id(0)).clear(at))?;
+    assert_eq!(cycle(&mut heap, 0, &[(0, 2), (1, 4), (3, 3)])?, [FREE, FREE, FREE, FREE, last, FREE]);
     Ok(())
 }
 
@@ -310,8 +347,10 @@ fn torn_counts(heap: &Words) {
     for (segment, right) in records(heap).into_iter().enumerate() {
         let blocks = match right.state {
             SegmentState::Free => 4,
-            SegmentState::Part { class, .. } | SegmentState::Held { class, .. } => BLOCKS[class as usize - 3],
-            SegmentState::Full { place, .. } | SegmentState::Condemned { place, .. } => place,
+            SegmentState::Part { class, .. }
+            | SegmentState::Held { class, .. }
+            | SegmentState::Full { class, .. }
+            | SegmentState::Condemned { class, .. } => BLOCKS[class as usize - 3],
         };
         let [kept_at, handed_out_at] = counts_at(heap.segments(), segment);
         for number in [0, 1, 2, 3, blocks, blocks + 1, 1 << 31, u32::MAX] {
@@ -327,17 +366,24 @@ fn torn_counts(heap: &Words) {
     }
 }
 
-/// A segment in each state, in each phase of a cycle; and one whose blocks were all handed out, and then all kept.
-#[test]
-fn torn_counts_in_every_state() -> Result<()> {
-    let mut heap = five_states()?;
-    for then in [Phase::Sync1, Phase::Sync2, Phase::Mark, Phase::Sweep, Phase::Idle] {
+/// The heap from its phase on, and in each of these phases of the cycle.
+fn torn_counts_in(mut heap: Words, phases: &[Phase]) -> Result<()> {
+    for &then in phases {
         while heap.phase()? != then {
             heap.mutator(id(0)).check()?;
             heap.step()?;
         }
         torn_counts(&heap);
     }
+    Ok(())
+}
+
+/// A segment in each state, in each phase of a cycle; and one whose blocks were all handed out, and then all kept.
+#[test]
+fn torn_counts_in_every_state() -> Result<()> {
+    torn_counts(&in_idle()?);
+    torn_counts_in(in_sync1()?, &[Phase::Sync1, Phase::Sync2])?;
+    torn_counts_in(five_states()?, &[Phase::Mark, Phase::Sweep, Phase::Idle])?;
     let mut heap = opened(ONE)?;
     (0..4).try_for_each(|to| heap.mutator(id(0)).make(root(to), shape_of(12)))?;
     assert_eq!(look(&heap), [full(12, 0, 4)]);
@@ -351,8 +397,8 @@ fn torn_counts_in_every_state() -> Result<()> {
 #[test]
 fn the_sum_alone_is_not_enough() -> Result<()> {
     let heap = five_states()?;
-    for segment in 0..4 {
-        let [kept, handed_out] = counts_at(FIVE, segment);
+    for segment in 0..5 {
+        let [kept, handed_out] = counts_at(SIX, segment);
         let torn = with(&with(&heap, kept, heap.memory()[kept] + 1), handed_out, heap.memory()[handed_out] - 1);
         assert_eq!(records(&torn)[segment].in_use(), records(&heap)[segment].in_use());
         assert!(!sound(&torn));
@@ -361,14 +407,14 @@ fn the_sum_alone_is_not_enough() -> Result<()> {
 }
 
 /// A make whose segment counts 4,294,967,295 blocks handed out is refused Torn. In the heap with all five states a make of class 12 takes
-/// its block from segment 0, one of class 11 from 2, and one of class 5 from 4. It asks for no other segment's count, and for none of
-/// blocks kept. One less than that number is counted on.
+/// its block from segment 0, which is part, one of class 11 from 5, which is free, and one of class 5 from 4, which is held. It asks for no
+/// other segment's count, and for none of blocks kept. One less than that number is counted on.
 #[test]
 fn makes_over_torn_counts() -> Result<()> {
     let heap = five_states()?;
-    let takes = [(12, 0), (11, 2), (5, 4)];
-    for segment in 0..5 {
-        let [kept, handed_out] = counts_at(FIVE, segment);
+    let takes = [(12, 0), (11, 5), (5, 4)];
+    for segment in 0..6 {
+        let [kept, handed_out] = counts_at(SIX, segment);
         for (class, from) in takes {
             let expected = if from == segment { Err(Refusal::Torn) } else { Ok(()) };
             assert_eq!(makes(&mut with(&heap, handed_out, u32::MAX), class, 1), expected);
@@ -378,7 +424,7 @@ fn makes_over_torn_counts() -> Result<()> {
         }
     }
     for (class, from) in takes {
-        let [_, handed_out] = counts_at(FIVE, from);
+        let [_, handed_out] = counts_at(SIX, from);
         let mut torn = with(&heap, handed_out, u32::MAX - 1);
         assert_eq!(makes(&mut torn, class, 1), Ok(()));
         assert_eq!(torn.memory()[handed_out], u32::MAX);
@@ -418,11 +464,13 @@ fn torn_sweeps(heap: &Words, segment: usize, blocks: u32, marked: u32) {
     }
 }
 
-/// Segment 3 of the heap with all five states; and a full segment of each class, with no record marked, or one.
+/// Segments 2 and 3 of the heap with all five states, of which 2 was part; and a full segment of each class, with no record marked, or one.
 #[test]
 fn sweeps_over_torn_counts() -> Result<()> {
     let mut heap = five_states()?;
-    to_sweep(&mut heap, 9)?;
+    mark(&mut heap, 10);
+    torn_sweeps(&heap, 2, 8, 0);
+    assert_eq!(heap.step(), Ok(Step::Swept { segment: 2, freed: 4 }));
     torn_sweeps(&heap, 3, 4, 3);
     for (class, blocks) in (3..).zip(BLOCKS) {
         for alive in 0..2 {
@@ -430,7 +478,8 @@ fn sweeps_over_torn_counts() -> Result<()> {
             makes(&mut heap, class, blocks)?;
             heap.mutator(id(0)).clear(root(alive))?; // root 0 has the last record, root 1 none
             heap.start()?;
-            to_sweep(&mut heap, alive)?;
+            handshakes(&mut heap)?;
+            mark(&mut heap, alive);
             torn_sweeps(&heap, 0, blocks, alive);
         }
     }
@@ -600,9 +649,10 @@ fn made_less_freed_is_in_use() -> Result<()> {
 #[test]
 fn the_words_of_the_look() -> Result<()> {
     let heap = five_states()?;
-    let mut output = [9; FIVE.states_length()];
-    raw::states(5, heap.memory(), &mut output)?;
-    let expected = [[2, 12, 1, 0, 1, 1], [3, 12, 4, 0, 2, 2], [1, 11, 3, 0, 2, 2], [4, 12, 4, 0, 3, 1], [0; 6]];
-    assert_eq!(&output[..], expected.as_flattened());
+    let mut output = [9; SIX.states_length()];
+    raw::states(6, heap.memory(), &mut output)?;
+    let used = [[1, 12, 1, 0, 1, 1], [3, 12, 4, 0, 2, 2], [4, 11, 3, 0, 2, 2], [4, 12, 4, 0, 3, 1], [2, 5, 1, 0, 0, 1]];
+    assert_eq!(output[..30], *used.as_flattened());
+    assert_eq!(output[30..], [0; 6]);
     Ok(())
 }

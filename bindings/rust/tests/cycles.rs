@@ -6,7 +6,7 @@ mod common;
 
 use std::collections::VecDeque;
 
-use borvukhai::{Heap, Mutator, Refusal, Result, Root, Segments, Shape, Step};
+use borvukhai::{Heap, Mutator, Refusal, Result, Root, SegmentRecord, SegmentState, Segments, Shape, Step};
 use common::id;
 
 const SEGMENTS: Segments = Segments::new(4).unwrap();
@@ -109,7 +109,7 @@ fn lists_live_through_cycles() -> Result<()> {
         for (number, queue) in queues.iter_mut().enumerate() {
             turn(queue, &mut heap.mutator(id(number as u32)), made)?;
             made += 1;
-            let _ = heap.start(); // where no cycle runs; over nothing where no segment is full
+            let _ = heap.start(); // where no cycle runs; over nothing where no segment is full or part
             cycles.run(&mut heap)?;
         }
     }
@@ -136,6 +136,35 @@ fn a_cycle_in_one_call_makes_room() -> Result<()> {
         assert!(made - freed <= 4);
     }
     assert_eq!(heap.finish_cycle(), Ok(0), "no cycle runs");
+    Ok(())
+}
+
+/// A venue plays long chases after short ones. Three short records, class 5, are dead in the one segment, since their mutator is gone; it is
+/// part, none is full, and a long record, class 13, finds no room, before the cycle and in it, until the segment is swept: its three blocks
+/// in use become free, none is left, and the segment is free for any class.
+#[test]
+fn long_records_after_short_ones() -> Result<()> {
+    let (short, long) = (Shape::new(1, 5), Shape::new(0, 2000));
+    let mut heap = Heap::new(Segments::MIN);
+    let state = |heap: &Heap<Box<[u32]>>| heap.states(&mut [0; 6]).unwrap().next().unwrap();
+    let mut mutator = heap.attach(id(0))?;
+    [FIRST, LAST, NEW].into_iter().try_for_each(|to| mutator.make(to, short))?;
+    mutator.detach()?;
+    assert_eq!(state(&heap), SegmentRecord { state: SegmentState::Part { class: 5, place: 3 }, kept: 0, handed_out: 3 });
+
+    assert_eq!(heap.attach(id(1))?.make(FIRST, long), Err(Refusal::NoRoom));
+    heap.start()?;
+    assert_eq!(state(&heap), SegmentRecord { state: SegmentState::Condemned { class: 5, place: 3 }, kept: 0, handed_out: 3 });
+    heap.mutator(id(1)).leave()?;
+    for _ in 0..3 {
+        assert_eq!(heap.step(), Ok(Step::Moved));
+    }
+    heap.mutator(id(1)).enter()?;
+    assert_eq!(heap.mutator(id(1)).make(FIRST, long), Err(Refusal::NoRoom));
+    assert_eq!(heap.mutator(id(1)).make(FIRST, short), Err(Refusal::NoRoom));
+    assert_eq!(heap.step(), Ok(Step::Swept { segment: 0, freed: 3 }));
+    assert_eq!(heap.mutator(id(1)).make(FIRST, long), Ok(()));
+    assert_eq!(heap.step(), Ok(Step::Done));
     Ok(())
 }
 

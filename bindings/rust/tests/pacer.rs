@@ -17,7 +17,7 @@ const STATES: usize = SEGMENTS.states_length();
 #[test]
 fn no_make_is_refused_in_a_steady_mix() -> Result<()> {
     for seed in [1, 22, 333, 4444] {
-        for steps in [STEPS, 64, 256] {
+        for steps in [96, STEPS, 256] {
             let mut play = Play::new(Some(steps), seed)?;
             play.run(500_000)?;
             assert_eq!(play.no_room, 0);
@@ -311,8 +311,30 @@ fn a_small_heap_by_whole_cycles() -> Result<()> {
     Ok(())
 }
 
-/// Which mix no pace can hold: segments of a class that is no longer made, not full and all dead, are in no collect
-/// set.
+/// A venue plays long chases after short ones: 200 acts, each with a mutator that makes one class, of 3 to 13 in turn, one
+/// and a half segments of it. What an act held is part then, and all dead; a part segment of each class that no act makes
+/// for ten acts would fill the heap. No make is refused.
+#[test]
+fn acts_of_changing_classes() -> Result<()> {
+    const SIX: Segments = Segments::new(6).unwrap();
+    let mut heap = Heap::new(SIX);
+    let mut pacer = Pacer::new(&heap, [0; SIX.states_length()], 64, 1)?;
+    for act in 0..200 {
+        let class = 3 + act * 7 % 11;
+        heap.attach(id(0))?;
+        for at in 0..(16384 >> class) * 3 / 2 {
+            pacer.make(&mut heap, id(0), Root::new(at % 16).unwrap(), Shape::new(0, (1 << class) / 4 - 1))?;
+        }
+        if heap.mutator(id(0)).detach() == Err(Refusal::NotNow) {
+            pacer.finish(&mut heap)?;
+            heap.mutator(id(0)).detach()?;
+        }
+    }
+    Ok(())
+}
+
+/// Which mix no pace can hold: a segment that a mutator holds of a class that it makes no more, all dead, is in no collect
+/// set. Once the mutator is detached it is part, and the next cycle makes it free.
 #[test]
 fn a_class_that_is_no_longer_made() -> Result<()> {
     const TWO: Segments = Segments::new(2).unwrap();
@@ -328,7 +350,11 @@ fn a_class_that_is_no_longer_made() -> Result<()> {
     assert_eq!(heap.finish_cycle(), Ok(0));
     assert_eq!(heap.mutator(id(0)).make(NEW, Shape::new(1, 14)), Err(Refusal::NoRoom));
     assert!(heap.states(&mut [0; TWO.states_length()])?.all(|record| matches!(record.state, SegmentState::Held { .. })));
-    Ok(())
+    heap.mutator(id(0)).detach()?;
+    heap.attach(id(0))?;
+    heap.start()?;
+    assert_eq!(heap.finish_cycle(), Ok(2));
+    heap.mutator(id(0)).make(NEW, Shape::new(1, 14))
 }
 
 #[test]

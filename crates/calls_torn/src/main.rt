@@ -1,7 +1,7 @@
 // Some thousand calls over random words, over small words, over an opened heap in use, which never answers 13, and over that heap with words and bits of it
-// changed; and over slices and segment counts of other sizes. In the end a start with each phase and each tag, over such memory. Each answer is printed, and BAD with it where it
-// is not of its call's kind and range, or a number that the call may not give (12 is given by none). The expected output is the program's own; that no BAD stands in it is what it
-// shows.
+// changed; and over slices and segment counts of other sizes. In the end, over such memory, a start with each phase, each tag and any count of a part stack,
+// and a step in sweep with a condemned segment of any place. Each answer is printed, and BAD with it where it is not of its call's kind and range, or a number
+// that the call may not give (12 is given by none). The expected output is the program's own; that no BAD stands in it is what it shows.
 use classes::RecordShape;
 use layout::Geometry;
 use model::Answer;
@@ -415,8 +415,12 @@ fn games(mem: &mut [u32]) {
     }
 }
 
-// Where the segments region of a heap of one segment begins, with the segment's tag.
-const TAG: usize = layout::SEGMENT_WORDS + layout::HEAP_FROM + layout::TAG_AT;
+// In a heap of one segment: the segment's record, and the stacks, each with a count and one entry.
+const RECORD: usize = layout::SEGMENT_WORDS + layout::HEAP_FROM;
+
+const TAG: usize = RECORD + layout::TAG_AT;
+
+const STACKS: usize = layout::STACKS_PER + layout::HEAP_FROM;
 
 // A number below 6 as it is, any other as the largest there is.
 fn odd(n: u32) -> u32 {
@@ -432,11 +436,57 @@ fn set(mem: &mut [u32], i: usize, w: u32) {
     }
 }
 
-// A start with a phase and a tag.
+// The count of the part stack of class 3 + n.
+fn part_count(n: u32) -> usize {
+    STACKS + 2 * (1 + n as usize)
+}
+
+// BAD where a word is not 0.
+fn at_zero(mem: &[u32], i: usize) {
+    if i < mem.len() {
+        at_most(0, mem[i]);
+    }
+}
+
+// A start with a phase and a tag, the count of a part stack any number: not refused, it empties that stack.
 fn start_over(mem: &mut [u32], phase: u32, tag: u32, d: Dice) {
+    let at = part_count(d.below(12));
     set(mem, 0, phase);
     set(mem, TAG, tag);
+    set(mem, at, odd(d.next().below(8)));
     call(mem, 1, 15, true, d);
+    if phase == 0 {
+        at_zero(mem, at);
+    }
+}
+
+// The segment is condemned with a class and a place, and one block handed out.
+fn condemned(mem: &mut [u32], class: u32, place: u32) {
+    set(mem, TAG, 4);
+    set(mem, RECORD + layout::CLASS_AT, class);
+    set(mem, RECORD + layout::PLACE_AT, place);
+    set(mem, RECORD + layout::KEPT_AT, 0);
+    set(mem, RECORD + layout::HANDED_AT, 1);
+}
+
+// A step in sweep, the cursor at the segment, which is condemned with any place and whatever marks; its class is 8 to 14. The free stack has room, and that
+// class's part stack has room or has a segment on it, this one or none that there is.
+fn sweep_over(mem: &mut [u32], i: u32, d: Dice) {
+    let n = i / 7 % 7;
+    condemned(mem, 8 + n, odd(i % 7));
+    set(mem, 0, 4);
+    set(mem, 2, 0);
+    set(mem, STACKS, 0);
+    set(mem, part_count(5 + n), d.next().below(2));
+    call(mem, 1, 17, true, d);
+}
+
+fn over(mem: &mut [u32], sweep: bool, i: u32, d: Dice) {
+    if sweep {
+        sweep_over(mem, i, d);
+        return;
+    }
+    start_over(mem, odd(i / 7), odd(i % 7), d);
 }
 
 // New words, random or small; or the memory as it is.
@@ -446,30 +496,32 @@ fn renew(mem: &mut [u32], d: Dice, new: bool, small: bool) {
     }
 }
 
-// A start with each phase and each tag, 0 to 5 and the largest number, on a line: over new words each, or over the memory as it is.
-fn starts(mem: &mut [u32], d: Dice, new: bool, small: bool) {
+// A start with each phase and each tag, 0 to 5 and the largest number, or a step in sweep with each of these as the place and each of seven classes, on a
+// line: over new words each, or over the memory as it is.
+fn overs(mem: &mut [u32], d: Dice, sweep: bool, new: bool, small: bool) {
     let mut e = d;
     let mut i: u32 = 0;
     while i < 49 {
         e = e.next();
         renew(mem, e, new, small);
-        start_over(mem, odd(i / 7), odd(i % 7), e);
+        over(mem, sweep, i, e);
         i += 1;
     }
     word(b"\n");
 }
 
 // Over random words, over small words, and over a heap in use.
-fn start_games(mem: &mut [u32], d: Dice) {
-    starts(mem, d, true, false);
-    starts(mem, d, true, true);
+fn over_games(mem: &mut [u32], d: Dice, sweep: bool) {
+    overs(mem, d, sweep, true, false);
+    overs(mem, d, sweep, true, true);
     settle(mem, d);
     play(mem, d.next(), 160, false, false);
-    starts(mem, d, false, false);
+    overs(mem, d, sweep, false, false);
 }
 
 fn main() {
     let mut mem = [0u32; layout::WORDS_OF_ONE];
     games(&mut mem);
-    start_games(&mut mem, Dice { x: 97 });
+    over_games(&mut mem, Dice { x: 97 }, false);
+    over_games(&mut mem, Dice { x: 98 }, true);
 }

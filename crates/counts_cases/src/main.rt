@@ -1,6 +1,6 @@
 // Request No. 3's two counts, played on the calls themselves over memory that holds junk at first: the look at the segments' states after an opening,
-// after makes in three classes, after fills, after each sweep, after makes out of a swept segment, after a freed one is taken by another class, after
-// a second sweep, and after a detach. Each line is a segment's six words: tag, class, place, mutator, blocks kept, blocks handed out since.
+// after makes in three classes, fills, each sweep, makes out of a swept segment, a take by another class, a second sweep, a detach, and a start and sweeps
+// of part segments (request No. 5). Each line is a segment's six words: tag, class, place, mutator, blocks kept, blocks handed out since.
 use layout::Geometry;
 use model::Answer;
 use model::Step;
@@ -169,7 +169,7 @@ fn drop_again(mem: &mut [u32]) {
     expect_ok(starting::start(heap(), mem));
 }
 
-// What a sweep left is swept again, to part and to full; and who holds the rest goes.
+// What a sweep left is swept again, to part and to full.
 fn end(mem: &mut [u32]) {
     step(mem);
     look(mem, b"to part again\n");
@@ -186,9 +186,39 @@ fn second_cycle(mem: &mut [u32]) {
     end(mem);
 }
 
+// The record of class 11 gets another mutator, outside; who holds the rest goes.
 fn leave(mem: &mut [u32]) {
+    ask(
+        mem,
+        Request::Spawn {
+            new: 1,
+            parent: 0,
+            root: 2,
+        },
+    );
+    ask(mem, Request::Leave { mutator: 1 });
     ask(mem, Request::Detach { mutator: 0 });
     look(mem, b"detached\n");
+}
+
+// A third cycle, over part segments: a start keeps their places and their counts.
+fn third_cycle(mem: &mut [u32]) {
+    expect_ok(starting::start(heap(), mem));
+    look(mem, b"part ones condemned\n");
+    step(mem);
+    step(mem);
+    step(mem);
+    step(mem);
+}
+
+// Its sweeps: to free but for that of class 11, which is part again.
+fn last_sweep(mem: &mut [u32]) {
+    step(mem);
+    step(mem);
+    step(mem);
+    step(mem);
+    step(mem);
+    look(mem, b"part ones swept\n");
 }
 
 fn cycle(mem: &mut [u32]) {
@@ -209,4 +239,6 @@ fn main() {
     again(&mut mem);
     second_cycle(&mut mem);
     leave(&mut mem);
+    third_cycle(&mut mem);
+    last_sweep(&mut mem);
 }

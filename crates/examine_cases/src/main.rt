@@ -15,9 +15,10 @@ fn heap() -> Geometry {
 }
 
 // A line: what was changed, and the answer.
-fn say(mem: &[u32], scratch: &mut [u32], text: &[u8]) {
+fn say(mem: &[u32], text: &[u8]) {
+    let mut scratch = [7u32; SCRATCH];
     word(text);
-    match examining::examine(heap(), mem, scratch) {
+    match examining::examine(heap(), mem, &mut scratch) {
         Examined::Yes => word(b": yes\n"),
         Examined::No => word(b": no\n"),
         Examined::Refused(n) => word(b": refused\n"),
@@ -25,13 +26,13 @@ fn say(mem: &[u32], scratch: &mut [u32], text: &[u8]) {
 }
 
 // The word at i of the slice becomes v, is examined, and is put back.
-fn broken(mem: &mut [u32], scratch: &mut [u32], i: usize, v: u32, text: &[u8]) {
+fn broken(mem: &mut [u32], i: usize, v: u32, text: &[u8]) {
     if i < mem.len() {
         let kept = mem[i];
         mem[i] = v;
-        say(mem, scratch, text);
+        say(mem, text);
         mem[i] = kept;
-        say(mem, scratch, b"  put back");
+        say(mem, b"  put back");
     }
 }
 
@@ -58,39 +59,23 @@ fn second_counts(mem: &mut [u32], kept: u32, handed: u32) {
 }
 
 // A word of segment 0 becomes v, with counts that fit it, so that these are not what is wrong; then all is put back.
-fn first_broken(
-    mem: &mut [u32],
-    scratch: &mut [u32],
-    kept: u32,
-    handed: u32,
-    i: usize,
-    v: u32,
-    text: &[u8],
-) {
+fn first_broken(mem: &mut [u32], kept: u32, handed: u32, i: usize, v: u32, text: &[u8]) {
     first_counts(mem, kept, handed);
     let old = put(mem, i, v);
-    say(mem, scratch, text);
+    say(mem, text);
     put(mem, i, old);
     first_counts(mem, 0, 4);
-    say(mem, scratch, b"  put back");
+    say(mem, b"  put back");
 }
 
 // The same of segment 1.
-fn second_broken(
-    mem: &mut [u32],
-    scratch: &mut [u32],
-    kept: u32,
-    handed: u32,
-    i: usize,
-    v: u32,
-    text: &[u8],
-) {
+fn second_broken(mem: &mut [u32], kept: u32, handed: u32, i: usize, v: u32, text: &[u8]) {
     second_counts(mem, kept, handed);
     let old = put(mem, i, v);
-    say(mem, scratch, text);
+    say(mem, text);
     put(mem, i, old);
     second_counts(mem, 0, 2);
-    say(mem, scratch, b"  put back");
+    say(mem, b"  put back");
 }
 
 fn ask(mem: &mut [u32], request: Request) {
@@ -192,7 +177,7 @@ const MARKS: usize = 2 * layout::MARKS_PER + layout::FIXED;
 
 const TRACE: usize = 2 * layout::TRACE_PER + layout::FIXED;
 
-// Segment 1's record, its bitmap and its marks, and the record in block 2 of segment 0.
+// Segment 1's record, its bitmap and its marks, and the record in block 2 of segment 0 and its mark; the part stack of class 12, the eleventh stack.
 const SECOND: usize = SEGMENTS + layout::SEGMENT_RECORD_WORDS;
 
 const SECOND_BITMAP: usize = BITMAPS + layout::BITMAP_WORDS;
@@ -201,16 +186,19 @@ const SECOND_MARKS: usize = MARKS + layout::MARK_WORDS;
 
 const THIRD_RECORD: usize = HEAP + layout::SEGMENT_WORDS / 2;
 
+const THIRD_MARK: usize = MARKS + layout::MARK_WORDS / 2;
+
+const PARTS_OF_12: usize = STACKS + 10 * 3;
+
 // The examination's scratch: two bits for each block, and a stack with an entry for each.
 const SCRATCH: usize = 2 * (layout::MARK_WORDS + layout::MARK_WORDS + layout::MOST_BLOCKS);
 
 // The phase, and the bitmap trees.
-fn tree_cases(mem: &mut [u32], scratch: &mut [u32]) {
-    say(mem, scratch, b"a heap in idle");
-    broken(mem, scratch, 0, 5, b"a phase over sweep");
+fn tree_cases(mem: &mut [u32]) {
+    say(mem, b"a heap in idle");
+    broken(mem, 0, 5, b"a phase over sweep");
     second_broken(
         mem,
-        scratch,
         32,
         0,
         SECOND_BITMAP,
@@ -220,17 +208,15 @@ fn tree_cases(mem: &mut [u32], scratch: &mut [u32]) {
 }
 
 // A full segment's bits bind nothing but its tree and its counts.
-fn bit_counts(mem: &mut [u32], scratch: &mut [u32]) {
+fn bit_counts(mem: &mut [u32]) {
     broken(
         mem,
-        scratch,
         BITMAPS,
         4294967294,
         b"a full segment's bits without its counts",
     );
     first_broken(
         mem,
-        scratch,
         3,
         1,
         BITMAPS,
@@ -240,24 +226,21 @@ fn bit_counts(mem: &mut [u32], scratch: &mut [u32]) {
 }
 
 // The two counts by themselves.
-fn count_cases(mem: &mut [u32], scratch: &mut [u32]) {
+fn count_cases(mem: &mut [u32]) {
     broken(
         mem,
-        scratch,
         SEGMENTS + layout::KEPT_AT,
         1,
         b"a full segment's count of blocks kept",
     );
     broken(
         mem,
-        scratch,
         SEGMENTS + layout::HANDED_AT,
         4294967295,
         b"a full segment's count of blocks handed out",
     );
     broken(
         mem,
-        scratch,
         SECOND + layout::HANDED_AT,
         1,
         b"a held segment's count of blocks handed out",
@@ -265,10 +248,9 @@ fn count_cases(mem: &mut [u32], scratch: &mut [u32]) {
 }
 
 // Segment records and stacks.
-fn segment_cases(mem: &mut [u32], scratch: &mut [u32]) {
+fn segment_cases(mem: &mut [u32]) {
     first_broken(
         mem,
-        scratch,
         0,
         3,
         SEGMENTS + layout::PLACE_AT,
@@ -277,7 +259,6 @@ fn segment_cases(mem: &mut [u32], scratch: &mut [u32]) {
     );
     second_broken(
         mem,
-        scratch,
         0,
         1024,
         SECOND + layout::PLACE_AT,
@@ -286,42 +267,32 @@ fn segment_cases(mem: &mut [u32], scratch: &mut [u32]) {
     );
     second_broken(
         mem,
-        scratch,
         0,
         0,
         SECOND + layout::PLACE_AT,
         0,
         b"a held segment with nothing in use",
     );
-    broken(mem, scratch, STACKS, 1, b"a count of the free stack");
+    broken(mem, STACKS, 1, b"a count of the free stack");
 }
 
 // What mutators hold, and what an absent one keeps.
-fn mutator_cases(mem: &mut [u32], scratch: &mut [u32]) {
+fn mutator_cases(mem: &mut [u32]) {
     broken(
         mem,
-        scratch,
         SECOND + layout::OWNER_AT,
         1,
         b"a held segment's mutator",
     );
     broken(
         mem,
-        scratch,
         MUTATORS + layout::HELD_FROM + 1,
         0,
         b"the table of held segments",
     );
+    broken(mem, MUTATORS + layout::STATE_AT, 3, b"a state over outside");
     broken(
         mem,
-        scratch,
-        MUTATORS + layout::STATE_AT,
-        3,
-        b"a state over outside",
-    );
-    broken(
-        mem,
-        scratch,
         MUTATORS + 2 * layout::MUTATOR_WORDS,
         1,
         b"a root of an absent mutator",
@@ -329,74 +300,41 @@ fn mutator_cases(mem: &mut [u32], scratch: &mut [u32]) {
 }
 
 // Live records, and the trace stack in idle.
-fn record_cases(mem: &mut [u32], scratch: &mut [u32]) {
-    broken(
-        mem,
-        scratch,
-        MUTATORS,
-        2,
-        b"a root that names no record's head",
-    );
-    broken(
-        mem,
-        scratch,
-        HEAP,
-        65636,
-        b"a live record's header of another class",
-    );
-    broken(mem, scratch, HEAP + 1, 5000, b"a live record's pointer");
-    broken(mem, scratch, 1, 1, b"an entry of the trace stack in idle");
+fn record_cases(mem: &mut [u32]) {
+    broken(mem, MUTATORS, 2, b"a root that names no record's head");
+    broken(mem, HEAP, 65636, b"a live record's header of another class");
+    broken(mem, HEAP + 1, 5000, b"a live record's pointer");
+    broken(mem, 1, 1, b"an entry of the trace stack in idle");
 }
 
 // The spare words of the control bind nothing, nor does the sweep's cursor in idle.
-fn free_control(mem: &mut [u32], scratch: &mut [u32]) {
+fn free_control(mem: &mut [u32]) {
     broken(
         mem,
-        scratch,
         layout::CONTROL_WORDS - 1,
         4294967295,
         b"junk in the spare words of the control",
     );
-    broken(mem, scratch, 2, 4294967295, b"the sweep's cursor in idle");
+    broken(mem, 2, 4294967295, b"the sweep's cursor in idle");
 }
 
 // Words that bind nothing.
-fn free_words(mem: &mut [u32], scratch: &mut [u32]) {
+fn free_words(mem: &mut [u32]) {
     broken(
         mem,
-        scratch,
         MUTATORS + layout::ENTRY_WORDS,
         4294967295,
         b"junk in the spare words of an entry",
     );
-    broken(
-        mem,
-        scratch,
-        STACKS + 1,
-        4294967295,
-        b"junk past a stack's count",
-    );
-    broken(
-        mem,
-        scratch,
-        TRACE,
-        4294967295,
-        b"junk past the trace stack's count",
-    );
+    broken(mem, STACKS + 1, 4294967295, b"junk past a stack's count");
+    broken(mem, TRACE, 4294967295, b"junk past the trace stack's count");
 }
 
 // Marks in idle and blocks without a record bind nothing.
-fn free_blocks(mem: &mut [u32], scratch: &mut [u32]) {
+fn free_blocks(mem: &mut [u32]) {
+    broken(mem, MARKS, 4294967295, b"junk in the marks in idle");
     broken(
         mem,
-        scratch,
-        MARKS,
-        4294967295,
-        b"junk in the marks in idle",
-    );
-    broken(
-        mem,
-        scratch,
         SEGMENTS - 1,
         4294967295,
         b"junk in a block that holds no record",
@@ -404,7 +342,7 @@ fn free_blocks(mem: &mut [u32], scratch: &mut [u32]) {
 }
 
 // A record that is dropped: dead records are not examined.
-fn dead_cases(mem: &mut [u32], scratch: &mut [u32]) {
+fn dead_cases(mem: &mut [u32]) {
     ask(
         mem,
         Request::Clear {
@@ -412,45 +350,36 @@ fn dead_cases(mem: &mut [u32], scratch: &mut [u32]) {
             root: 2,
         },
     );
-    say(mem, scratch, b"a record dropped");
+    say(mem, b"a record dropped");
     broken(
         mem,
-        scratch,
         THIRD_RECORD + 1,
         4294967295,
         b"a dead record's pointer",
     );
-    broken(
-        mem,
-        scratch,
-        THIRD_RECORD,
-        4294967295,
-        b"a dead record's header",
-    );
+    broken(mem, THIRD_RECORD, 4294967295, b"a dead record's header");
 }
 
 // A bit among the marks is of an entry only, and at most one acknowledgement.
-fn first_handshake(mem: &mut [u32], scratch: &mut [u32]) {
+fn first_handshake(mem: &mut [u32]) {
     begin(mem);
-    say(mem, scratch, b"in handshake 1");
+    say(mem, b"in handshake 1");
     broken(
         mem,
-        scratch,
         MUTATORS + layout::ACKS_AT,
         2,
         b"two acknowledgements in handshake 1",
     );
-    broken(mem, scratch, MARKS, 1, b"a mark in handshake 1");
+    broken(mem, MARKS, 1, b"a mark in handshake 1");
 }
 
 // One acknowledgement at least.
-fn second_handshake(mem: &mut [u32], scratch: &mut [u32]) {
+fn second_handshake(mem: &mut [u32]) {
     check(mem);
     step(mem);
-    say(mem, scratch, b"in handshake 2");
+    say(mem, b"in handshake 2");
     broken(
         mem,
-        scratch,
         MUTATORS + layout::ACKS_AT,
         0,
         b"no acknowledgement in handshake 2",
@@ -458,42 +387,29 @@ fn second_handshake(mem: &mut [u32], scratch: &mut [u32]) {
 }
 
 // The trace stack, its bits, and covered roots.
-fn trace_cases(mem: &mut [u32], scratch: &mut [u32]) {
+fn trace_cases(mem: &mut [u32]) {
     check(mem);
-    say(mem, scratch, b"with its roots on the trace stack");
-    broken(mem, scratch, MARKS, 0, b"an entry's bit");
-    broken(
-        mem,
-        scratch,
-        MUTATORS + 2,
-        2049,
-        b"a root that is not covered",
-    );
-    broken(
-        mem,
-        scratch,
-        1,
-        1,
-        b"entries taken off, which are marked then",
-    );
+    say(mem, b"with its roots on the trace stack");
+    broken(mem, MARKS, 0, b"an entry's bit");
+    broken(mem, MUTATORS + 2, 2049, b"a root that is not covered");
+    broken(mem, 1, 1, b"entries taken off, which are marked then");
 }
 
 // No entry twice; then the phase is mark, and two records are traced.
-fn entry_cases(mem: &mut [u32], scratch: &mut [u32]) {
-    broken(mem, scratch, TRACE + 1, 1, b"an entry twice");
+fn entry_cases(mem: &mut [u32]) {
+    broken(mem, TRACE + 1, 1, b"an entry twice");
     step(mem);
     step(mem);
     step(mem);
 }
 
 // Marks of blocks in use only, and covered roots.
-fn mark_cases(mem: &mut [u32], scratch: &mut [u32]) {
+fn mark_cases(mem: &mut [u32]) {
     step(mem);
     step(mem);
-    say(mem, scratch, b"in mark, with records traced");
+    say(mem, b"in mark, with records traced");
     broken(
         mem,
-        scratch,
         MARKS + 1,
         4294967295,
         b"bits inside a block of a large class",
@@ -501,22 +417,15 @@ fn mark_cases(mem: &mut [u32], scratch: &mut [u32]) {
 }
 
 // Blocks 0 and 1 of segment 1, of class 4, are in use: their bits are 0 and 2.
-fn bit_cases(mem: &mut [u32], scratch: &mut [u32]) {
-    broken(
-        mem,
-        scratch,
-        SECOND_MARKS,
-        21,
-        b"a bit of a block not in use",
-    );
-    broken(mem, scratch, SECOND_MARKS, 7, b"a bit inside a block");
+fn bit_cases(mem: &mut [u32]) {
+    broken(mem, SECOND_MARKS, 21, b"a bit of a block not in use");
+    broken(mem, SECOND_MARKS, 7, b"a bit inside a block");
 }
 
 // Then the last record is traced, and the phase is sweep.
-fn covered_cases(mem: &mut [u32], scratch: &mut [u32]) {
+fn covered_cases(mem: &mut [u32]) {
     broken(
         mem,
-        scratch,
         SECOND_MARKS,
         0,
         b"marks of traced records with covered roots",
@@ -526,85 +435,106 @@ fn covered_cases(mem: &mut [u32], scratch: &mut [u32]) {
 }
 
 // In sweep the marks of the collect set bind.
-fn sweep_cases(mem: &mut [u32], scratch: &mut [u32]) {
-    say(mem, scratch, b"in sweep");
-    broken(mem, scratch, 2, 1, b"a condemned segment before the cursor");
+fn sweep_cases(mem: &mut [u32]) {
+    say(mem, b"in sweep");
+    broken(mem, 2, 1, b"a condemned segment before the cursor");
     broken(
         mem,
-        scratch,
         2,
         4294967295,
         b"a cursor past all segments, one of them condemned",
     );
     broken(
         mem,
-        scratch,
         MARKS,
         0,
         b"marks of reached records in the collect set",
     );
     broken(
         mem,
-        scratch,
         SECOND_MARKS,
         0,
         b"marks outside the collect set, which bind nothing",
     );
 }
 
-fn condemned_counts(mem: &mut [u32], scratch: &mut [u32]) {
+fn condemned_counts(mem: &mut [u32]) {
     broken(
         mem,
-        scratch,
         SEGMENTS + layout::KEPT_AT,
         1,
         b"a condemned segment's count of blocks kept",
     );
 }
 
-fn idle(mem: &mut [u32], scratch: &mut [u32]) {
-    tree_cases(mem, scratch);
-    bit_counts(mem, scratch);
-    count_cases(mem, scratch);
-    segment_cases(mem, scratch);
-    mutator_cases(mem, scratch);
-    record_cases(mem, scratch);
+// A condemned segment's place is at its end or before it, not past it.
+fn condemned_places(mem: &mut [u32]) {
+    broken(
+        mem,
+        SEGMENTS + layout::PLACE_AT,
+        5,
+        b"a condemned segment's place past its blocks",
+    );
+    put(mem, BITMAPS, 4294967291);
+    put(mem, SEGMENTS + layout::PLACE_AT, 0);
+    first_counts(mem, 3, 0);
+    say(mem, b"a condemned segment that was part");
 }
 
-fn unbound(mem: &mut [u32], scratch: &mut [u32]) {
-    free_control(mem, scratch);
-    free_words(mem, scratch);
-    free_blocks(mem, scratch);
-    dead_cases(mem, scratch);
+// Its place is 0 then, and the bits of blocks 0, 1 and 3 are 1: block 2 is not in use.
+fn condemned_parts(mem: &mut [u32]) {
+    broken(mem, THIRD_MARK, 1, b"a mark of its block not in use");
+    broken(mem, PARTS_OF_12, 1, b"a condemned segment on a part stack");
 }
 
-fn handshakes(mem: &mut [u32], scratch: &mut [u32]) {
-    first_handshake(mem, scratch);
-    second_handshake(mem, scratch);
-    trace_cases(mem, scratch);
-    entry_cases(mem, scratch);
+fn idle(mem: &mut [u32]) {
+    tree_cases(mem);
+    bit_counts(mem);
+    count_cases(mem);
+    segment_cases(mem);
+    mutator_cases(mem);
+    record_cases(mem);
 }
 
-fn marking(mem: &mut [u32], scratch: &mut [u32]) {
-    mark_cases(mem, scratch);
-    bit_cases(mem, scratch);
-    covered_cases(mem, scratch);
-    sweep_cases(mem, scratch);
-    condemned_counts(mem, scratch);
+fn unbound(mem: &mut [u32]) {
+    free_control(mem);
+    free_words(mem);
+    free_blocks(mem);
+    dead_cases(mem);
 }
 
-fn cases(mem: &mut [u32], scratch: &mut [u32]) {
-    idle(mem, scratch);
-    unbound(mem, scratch);
-    handshakes(mem, scratch);
-    marking(mem, scratch);
+fn handshakes(mem: &mut [u32]) {
+    first_handshake(mem);
+    second_handshake(mem);
+    trace_cases(mem);
+    entry_cases(mem);
+}
+
+fn marking(mem: &mut [u32]) {
+    mark_cases(mem);
+    bit_cases(mem);
+    covered_cases(mem);
+}
+
+fn sweeping(mem: &mut [u32]) {
+    sweep_cases(mem);
+    condemned_counts(mem);
+    condemned_places(mem);
+    condemned_parts(mem);
+}
+
+fn cases(mem: &mut [u32]) {
+    idle(mem);
+    unbound(mem);
+    handshakes(mem);
+    marking(mem);
+    sweeping(mem);
 }
 
 fn main() {
     let mut mem = [3735928559u32; layout::WORDS_OF_TWO];
-    let mut scratch = [7u32; SCRATCH];
     fill(&mut mem);
     fill_further(&mut mem);
     hold(&mut mem);
-    cases(&mut mem, &mut scratch);
+    cases(&mut mem);
 }

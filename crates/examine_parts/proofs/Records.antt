@@ -4,12 +4,12 @@ use mathlib.Core.Bool.{Bool, true, false, not}
 use mathlib.Core.Logic.{_⊎_, inl, inr}
 use Prim.Native.Nat.{ℕ, _+_, _≤_, _<_}
 use native.Mathlib.Omega.{arith}
-use lib.Dec.{eqb}
+use lib.Dec.{eqb, leb}
 use borrow.Author.Tests.{lt-ltb, le-ltb}
 use Rattle.basics.specs.Decides.{Decides}
 use Rattle.basics.specs.Pick.{pick}
 use Rattle.basics.proofs.Deciding.{fails, via, refuted}
-use Rattle.basics.proofs.Order.{le-or-lt, same-or-not}
+use Rattle.basics.proofs.Order.{le-or-lt}
 use Rattle.words.specs.Bits.{bitAt, onesAmong}
 use Rattle.words.proofs.Counts.{zero-less, one-missing, one-there, none-one}
 use Rattle.classes.specs.Class.{firstClass, classCount}
@@ -22,7 +22,7 @@ use Rattle.model.specs.Consistent.{SegmentOk, Occupied}
 use Rattle.model_laws.proofs.Segments.{used-small}
 use Rattle.bitmaps.specs.Given.{usedBits}
 use Rattle.examine_parts.specs.Parts.{Cleared, Open, Owned, Used, SegmentParts}
-use Rattle.examine_parts.proofs.Tests.{eq-decides, ne-decides}
+use Rattle.examine_parts.proofs.Tests.{eq-decides, le-decides, ne-decides}
 use Rattle.model.specs.Tag as Tag
 
 -- ---- a free segment's words; c, p and o are its class, its place and its mutator
@@ -96,19 +96,55 @@ module _ (g : Geometry) (m : Mem) (s t c : ℕ) where
     used-owner f = fails (λ q. f (x ∙ q .unowned other))
 
     pub used-part : k ≡ 0 → t ≡ Tag.part → (r : Bool) → Decides r (Open g m s c) → Decides r (Used g m s t c)
-    used-part e h r d = via (λ o. record { held = λ a. absurd (other a); unowned = λ _. sym x ∙ e; opened = λ _. o; filled = λ l. absurd (omega arith) }) (λ q. q .opened (omega arith)) d
+    used-part e h r d =
+        via
+        (λ o. record {
+          held = λ a. absurd (other a);
+          unowned = λ _. sym x ∙ e;
+          opened = λ _. o;
+          filled = λ l. absurd (omega arith);
+          within = λ l. absurd (omega arith);
+        })
+        (λ q. q .opened (omega arith)) d
 
-    pub used-full : k ≡ 0 → (t ≡ Tag.part → ⊥) → (p b : ℕ) → p ≡ place m s → b ≡ blocksIn g c → Decides (eqb p b) (Used g m s t c)
+    pub used-full : k ≡ 0 → t ≡ Tag.full → (p b : ℕ) → p ≡ place m s → b ≡ blocksIn g c → Decides (eqb p b) (Used g m s t c)
     used-full e h p b y z =
         via
-        (λ o. record { held = λ a. absurd (other a); unowned = λ _. sym x ∙ e; opened = λ l. absurd (omega arith); filled = λ _. sym y ∙ o ∙ z })
-        (λ q. y ∙ q .filled (omega arith) ∙ sym z) (eq-decides p b)
+        (λ o. record {
+          held = λ a. absurd (other a);
+          unowned = λ _. sym x ∙ e;
+          opened = λ l. absurd (omega arith);
+          filled = λ _. sym y ∙ o ∙ z;
+          within = λ l. absurd (omega arith);
+        })
+        (λ q. y ∙ q .filled h ∙ sym z) (eq-decides p b)
+
+    pub used-condemned : k ≡ 0 → (t ≡ Tag.part → ⊥) → (t ≡ Tag.full → ⊥) → (p b : ℕ) → p ≡ place m s → b ≡ blocksIn g c → Decides (leb p b) (Used g m s t c)
+    used-condemned e h f p b y z =
+        via
+        (λ o. record {
+          held = λ a. absurd (other a);
+          unowned = λ _. sym x ∙ e;
+          opened = λ l. absurd (omega arith);
+          filled = λ a. absurd (f a);
+          within = λ _. omega arith;
+        })
+        (λ q. let l = q .within (omega arith) in omega arith) (le-decides p b)
 
   pub used-stranger : t ≡ Tag.held → (r : Bool) → Decides r (Owned m s c) → r ≡ false → Decides false (Used g m s t c)
   used-stranger e r d h = fails (λ q. refuted d h (q .held e))
 
   pub used-held : t ≡ Tag.held → (r : Bool) → Decides r (Owned m s c) → r ≡ true → (b : Bool) → Decides b (Open g m s c) → Decides b (Used g m s t c)
-  used-held e r d h b o = via (λ w. record { held = λ _. d .sound h; unowned = λ f. absurd (f e); opened = λ _. w; filled = λ l. absurd (omega arith) }) (λ q. q .opened (omega arith)) o
+  used-held e r d h b o =
+      via
+      (λ w. record {
+        held = λ _. d .sound h;
+        unowned = λ f. absurd (f e);
+        opened = λ _. w;
+        filled = λ l. absurd (omega arith);
+        within = λ l. absurd (omega arith);
+      })
+      (λ q. q .opened (omega arith)) o
 
 -- ---- a segment; t is its tag
 
@@ -154,8 +190,8 @@ module _ (g : Geometry) (m : Mem) (s t : ℕ) (x : t ≡ tag m s) where
           unowned = λ f. q .unowned (λ e. f (sym x ∙ e));
           classes = λ _. (omega arith, omega arith);
           remains = λ i j. at (λ v. (b : ℕ) × (place m s ≤ b) × (b < blocksIn g v) × (bitAt (bitmap g m s) b ≡ 0)) (q .opened (omega arith) .remains);
-          full = λ e. at (λ v. place m s ≡ blocksIn g v) (q .filled (omega arith));
-          condemned = λ e. at (λ v. place m s ≡ blocksIn g v) (q .filled (omega arith));
+          full = λ e. at (λ v. place m s ≡ blocksIn g v) (q .filled (x ∙ e));
+          condemned = λ e. at (λ v. place m s ≤ blocksIn g v) (q .within (omega arith));
           held = λ e. at (λ v. Owned m s v) (q .held (x ∙ e));
         }
 
@@ -165,10 +201,6 @@ module _ (g : Geometry) (m : Mem) (s t : ℕ) (x : t ≡ tag m s) where
         part-or : (t ≤ Tag.held) → (Tag.part ≤ tag m s) × (tag m s ≤ Tag.held)
         part-or h = (omega arith, omega arith)
 
-        full-or : Tag.full ≤ t → (t ≡ Tag.full) ⊎ (t ≡ Tag.full → ⊥) → SegmentOk g m s → place m s ≡ blocksIn g (class m s)
-        full-or h (inl e) o = o .full (sym x ∙ e)
-        full-or h (inr f) o = o .condemned (omega arith)
-
         from : SegmentParts g m s → Used g m s t c
         from q = record {
           held = λ e. back (λ v. Owned m s v) (q .0 .held (sym x ∙ e));
@@ -177,5 +209,6 @@ module _ (g : Geometry) (m : Mem) (s t : ℕ) (x : t ≡ tag m s) where
             remains = back (λ v. (b : ℕ) × (place m s ≤ b) × (b < blocksIn g v) × (bitAt (bitmap g m s) b ≡ 0)) (q .0 .remains (part-or h .0) (part-or h .1));
             occupied = back (λ v. (b : ℕ) × (b < blocksIn g v) × (usedBit g m s b ≡ 1)) (q .1 (part-or h .0) (part-or h .1));
           };
-          filled = λ h. back (λ v. place m s ≡ blocksIn g v) (full-or h (same-or-not t Tag.full) (q .0));
+          filled = λ e. back (λ v. place m s ≡ blocksIn g v) (q .0 .full (sym x ∙ e));
+          within = λ h. back (λ v. place m s ≤ blocksIn g v) (q .0 .condemned (omega arith));
         }

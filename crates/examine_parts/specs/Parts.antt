@@ -41,7 +41,8 @@ pub record Used (g : Geometry) (m : Mem) (s t c : ℕ) : Type 0 where
   pub held : t ≡ Tag.held → Owned m s c
   pub unowned : (t ≡ Tag.held → ⊥) → owner m s ≡ 0
   pub opened : t ≤ Tag.held → Open g m s c
-  pub filled : Tag.full ≤ t → place m s ≡ blocksIn g c
+  pub filled : t ≡ Tag.full → place m s ≡ blocksIn g c
+  pub within : Tag.full < t → place m s ≤ blocksIn g c
 
 -- a segment is as its record asks
 abbrev pub SegmentParts : Geometry → Mem → ℕ → Type 0

@@ -66,8 +66,8 @@ fn owned(g: Geometry, mem: &[u32], s: usize, class: u32) -> bool
     holding == s + 1
 }
 
-// Whether a part segment has no mutator, a free block and one in use; and a full or condemned one no mutator and its allocation pointer at the
-// end.
+// Whether a segment that is not held has no mutator, and a part one a free block and one in use, a full one its allocation pointer at the end, and
+// a condemned one it not past that.
 fn unheld(g: Geometry, mem: &[u32], s: usize, tag: u32, class: u32) -> bool
     requires { ⌜ (Sized g (length (now mem))) × (s < g .segments) ⌝ }
     requires { ⌜ IsClass class ⌝ }
@@ -82,7 +82,11 @@ fn unheld(g: Geometry, mem: &[u32], s: usize, tag: u32, class: u32) -> bool
         return open(g, mem, s, class);
     }
     let place = segments::place(g, mem, s);
-    place == layout::blocks_in(g, class)
+    let blocks = layout::blocks_in(g, class);
+    if tag == Segment::TAG_FULL {
+        return place == blocks;
+    }
+    place <= blocks
 }
 
 // Whether a segment that is not free is as its tag asks; a held one has its mutator, a free block and one in use.

@@ -21,8 +21,7 @@ use Rattle.model.specs.declared.Step.{Step}
 use Rattle.model.specs.Answers.{stepAnswerOf}
 use Rattle.model.specs.Fields.{phase, traceCount, tag}
 use Rattle.model.specs.Calls.{observe, act, exec}
-use Rattle.model.specs.Collector.{isFull, started, stepOf, stepIn, movedOrWaiting, traces, sweeps, lowest, waiting, outsideAnswered}
-use Rattle.model.proofs.Collecting.{collects-full}
+use Rattle.model.specs.Collector.{collects, started, stepOf, stepIn, movedOrWaiting, traces, sweeps, lowest, waiting, outsideAnswered}
 use Rattle.model.specs.Consistent.{Consistent}
 use Rattle.model.specs.Lists.{Event, startCall, stepCall}
 use Rattle.model.specs.Run.{declaredStep}
@@ -142,6 +141,6 @@ module _ (g : Geometry) (m : Mem) (z : Sizes g m) (k : Consistent g m) (s : ℕ)
   done-condemned i m′ (wrong n h) = none-some n
   done-condemned i m′ (steps e h) = done-none i e
 
-  -- at a start the condemned segments are the full ones
-  pub start-condemned : phase m ≡ idle → isCondemned (started g m) s ≡ isFull m s
-  start-condemned q = all-refine .starts g m z k q .agree .condemned s ∙ collects-full m s
+  -- at a start the condemned segments are those that it collects
+  pub start-condemned : phase m ≡ idle → isCondemned (started g m) s ≡ collects m s
+  start-condemned q = all-refine .starts g m z k q .agree .condemned s

@@ -1,15 +1,16 @@
 -- The cycle over no segments: from its start on no segment is condemned, and the heap is the one that the mutators' calls would have made in idle.
 use mathlib.Core.Path.{_≡_, refl, sym, _∙_, ap, subst}
 use mathlib.Core.Logic.{_⊎_, inl, inr}
-use mathlib.Core.Bool.{Bool, true, false, true≢false}
+use mathlib.Core.Bool.{Bool, true, false, _&&_, true≢false}
 use mathlib.Core.Option.{Option, none, some, Option·map, Option·none-ne-some, Option·some-injective}
 use mathlib.Core.List.{List, [], _∷_, _++_}
 use Prim.Native.Nat.{ℕ, zero, suc, _+_, _-_}
 use native.Mathlib.Omega.{arith}
 use lib.Dec.{eqb}
 use lib.ListN.{length}
-use borrow.Author.Tests.{eqb-true, eq-eqb}
+use borrow.Author.Tests.{eqb-true, eq-eqb, ne-eqb}
 use Rattle.basics.specs.Pick.{pick}
+use Rattle.classes.specs.Class.{IsClass}
 use Rattle.layout.specs.declared.Geometry.{Geometry}
 use Rattle.layout.specs.Geometry.{wrongSize, mutatorCount}
 use Rattle.layout.specs.Mem.{Mem, memOf, Sizes, traceWord}
@@ -21,17 +22,19 @@ use Rattle.model.specs.declared.Answer.the-variants.{Ok}
 use Rattle.model.specs.declared.Step.{Step}
 use Rattle.model.specs.declared.Step.the-variants.{Waiting, Moved, Traced, Swept, Done, Idle, Refused}
 use Rattle.model.specs.Answers.{answerOf, refusalOf}
-use Rattle.model.specs.Fields.{phase, traceCount, tag}
+use Rattle.model.specs.Fields.{phase, traceCount, tag, class}
+use Rattle.model.specs.Segments.{partStack, count}
 use Rattle.model.specs.Calls.{exec}
-use Rattle.model.specs.Collector.{isFull, started, startIn, startOf, outsideAnswered, waiting, movedOrWaiting, traces, lowest, sweeps, stepIn, stepOf}
-use Rattle.model.specs.Consistent.{Consistent}
+use Rattle.model.specs.Collector.{collects, started, startIn, startOf, outsideAnswered, waiting, movedOrWaiting, traces, lowest, sweeps, stepIn, stepOf}
+use Rattle.model.specs.Consistent.{Consistent, isPart}
 use Rattle.model.specs.Lists.{Event, mutatorCall, startCall, stepCall, openingCall, lookCall, Element, startElement, Promised, Meets, KeepsLength}
 use Rattle.model.specs.Lists.{Gets, wrongSized, eventNumber, nextWords, Chain, wordsAfter, prepend, struck, remainingCall, remainingCalls, remainingAnswers}
 use Rattle.model.specs.Run.{declaredStep}
-use Rattle.model.proofs.Collecting.{collects-full}
+use Rattle.model.proofs.Collecting.{collected-used, part-collected}
 use Rattle.model_laws.proofs.Lengths.{sizes-of}
 use Rattle.model_laws.proofs.Lowest.{found-condemned}
 use Rattle.model_laws.proofs.Segments.{in-range}
+use Rattle.model_laws.proofs.Stacks.{none-stacked}
 use Rattle.refine_run.proofs.Collecting.{sizes-answered}
 use Rattle.refine_run.proofs.Elements.{size-number, is-over, ahead}
 use Rattle.idle_twin.specs.SameHeap.{SameHeap, AsInIdle, notNow, same}
@@ -293,14 +296,14 @@ module _ (g : Geometry) where
       let z = sizes words (p .sized) in
       let a = accepted g m _ (o .acts) in
       let y : memOf g after ≡ started g m = ap (memOf g) (sym w) ∙ a .1 in
-      let q : SameHeap m (memOf g after) = subst (SameHeap m) (sym y) (leaves-started g m (p .nothing)) in
+      let q : SameHeap m (memOf g after) = subst (SameHeap m) (sym y) (leaves-started g m (p .nothing) no-parts) in
       record {
         memory = y;
         first = ap phase y ∙ all-refine .starts g m z (p .consistent) (a .0) .agree .phase;
         quiet = record {
           right = subst (λ x. wrongSize g (length x) ≡ false) w (o .sized);
           consistent = subst (λ x. Consistent g (memOf g x)) w (o .consistent);
-          uncondemned = λ s t. none-full s (sym (start-condemned g m z (p .consistent) s (a .0)) ∙ ap (λ x. eqb (tag x s) Tag.condemned) (sym y) ∙ eq-eqb _ _ t);
+          uncondemned = λ s t. none-collected s (sym (start-condemned g m z (p .consistent) s (a .0)) ∙ ap (λ x. eqb (tag x s) Tag.condemned) (sym y) ∙ eq-eqb _ _ t);
           heap = same-back m (memOf g after) q;
           phase = a .0;
         };
@@ -309,10 +312,15 @@ module _ (g : Geometry) where
         next-words-is = w;
       }
     where
-      none-full : (s : ℕ) → isFull (memOf g words) s ≡ true → ⊥
-      none-full s t =
-          let y : tag (memOf g words) s ≡ Tag.full = eqb-true _ _ t in
-          true≢false (sym t ∙ sym (collects-full (memOf g words) s) ∙ p .nothing s (in-range g (memOf g words) (sizes words (p .sized)) s (λ i. omega arith)))
+      none-collected : (s : ℕ) → collects (memOf g words) s ≡ true → ⊥
+      none-collected s t = true≢false (sym t ∙ p .nothing s (in-range g (memOf g words) (sizes words (p .sized)) s (collected-used (memOf g words) s t)))
+
+      -- so no part stack has an entry
+      no-parts : (c : ℕ) → IsClass c → count g (memOf g words) (partStack c) ≡ 0
+      no-parts c k =
+          none-stacked g (memOf g words) (partStack c) (isPart (memOf g words) c)
+          (λ s l. ap (λ x. x && eqb (class (memOf g words) s) c) (ne-eqb _ _ (λ t. true≢false (sym (part-collected (memOf g words) s t) ∙ p .nothing s l))))
+          (p .consistent .summed .partSegments c k)
 
   -- ---- a step in sweep, and a refusal 11
 

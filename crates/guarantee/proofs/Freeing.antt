@@ -1,4 +1,4 @@
--- The second half: garbage in a segment that was full when a cycle began is free once that segment is swept.
+-- The second half: garbage in a segment that was full or part when a cycle began is free once that segment is swept.
 use mathlib.Core.Path.{_≡_, refl, sym, _∙_, ap, subst}
 use mathlib.Core.Logic.{_⊎_, inl, inr}
 use mathlib.Core.Bool.{true}

@@ -1,4 +1,4 @@
--- From a start to its done each segment that was full at the start is swept once: it is condemned until the step that sweeps it, and not again
+-- From a start to its done each segment that was full or part at the start is swept once: it is condemned until the step that sweeps it, and not again
 -- before the next start.
 use mathlib.Core.Path.{_≡_, refl, sym, _∙_, ap, subst}
 use mathlib.Core.Logic.{_⊎_, inl, inr}
@@ -7,7 +7,6 @@ use mathlib.Core.List.{List, [], _∷_, _++_}
 use Prim.Native.Nat.{ℕ, _<_}
 use native.Mathlib.Omega.{arith}
 use lib.ListN.{length}
-use borrow.Author.Tests.{eqb-true}
 use Rattle.basics.proofs.Order.{same-or-not}
 use Rattle.layout.specs.declared.Geometry.{Geometry}
 use Rattle.layout.specs.Geometry.{wrongSize}
@@ -15,8 +14,8 @@ use Rattle.layout.specs.Mem.{memOf, Sizes}
 use Rattle.layout.proofs.Regions.{sized}
 use Rattle.model.specs.declared.Answer.the-variants.{Ok}
 use Rattle.model.specs.declared.Step.the-variants.{Waiting, Moved, Traced, Swept, Done, Idle, Refused}
-use Rattle.model.specs.Collector.{isFull}
-use Rattle.model.specs.Fields.{tag}
+use Rattle.model.specs.Collector.{fullOrPart, collects}
+use Rattle.model.proofs.Collecting.{collects-is, collected-used}
 use Rattle.model.specs.Consistent.{Consistent}
 use Rattle.model.specs.Lists.{Event, mutatorCall, startCall, stepCall, openingCall, lookCall, Element, startElement, stepElement, Meets, KeepsLength}
 use Rattle.model.specs.Lists.{Gets, wrongSized, eventNumber, nextWords, Chain, wordsAfter}
@@ -28,7 +27,6 @@ use Rattle.guarantee.specs.Keeping.{NeverSwept, OnceSwept, SweptOnce}
 use Rattle.guarantee.proofs.Elements.{every-element, not-refused}
 use Rattle.guarantee.proofs.Cycle.{accepted}
 use Rattle.guarantee.proofs.Condemned.{isCondemned, stays-condemned, swept-condemned, done-condemned, start-condemned}
-use Rattle.model.specs.Tag as Tag
 
 -- ---- one element of a list, and the others
 
@@ -155,7 +153,6 @@ swept-once g words es right k ch c s f =
     let o = next g u e (w .0) (w .1 .0) (w .1 .1) (w .1 .2) in
     let z = sizes-of g u (sized g (length u) (w .0 .right)) in
     let a = accepted g (memOf g u) _ (o .1) in
-    let full : isFull (memOf g u) s ≡ true = subst (λ x. isFull (memOf g x) s ≡ true) (h .memory) f in
-    let t : tag (memOf g u) s ≡ Tag.full = eqb-true _ _ full in
-    once-swept g s (in-range g (memOf g u) z s (λ i. omega arith)) (c .during) (c .rest) (c .stepBefore) (c .stepAfter) (nextWords u e) (o .0) (c .oneStart) (w .1 .3)
-    (ap (λ x. isCondemned x s) (a .1) ∙ start-condemned g (memOf g u) z (w .0 .consistent) s (a .0) ∙ full)
+    let t : collects (memOf g u) s ≡ true = collects-is (memOf g u) s ∙ subst (λ x. fullOrPart (memOf g x) s ≡ true) (h .memory) f in
+    once-swept g s (in-range g (memOf g u) z s (collected-used (memOf g u) s t)) (c .during) (c .rest) (c .stepBefore) (c .stepAfter) (nextWords u e) (o .0) (c .oneStart) (w .1 .3)
+    (ap (λ x. isCondemned x s) (a .1) ∙ start-condemned g (memOf g u) z (w .0 .consistent) s (a .0) ∙ t)

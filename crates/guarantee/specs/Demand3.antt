@@ -17,7 +17,7 @@ use Rattle.model.specs.declared.Step.the-variants.{Swept}
 use Rattle.model.specs.Fields.{class}
 use Rattle.model.specs.Segments.{usedBit}
 use Rattle.model.specs.Records.{headerOf}
-use Rattle.model.specs.Collector.{isFull}
+use Rattle.model.specs.Collector.{fullOrPart}
 use Rattle.model.specs.Consistent.{isFree}
 use Rattle.model.specs.Lists.{Element, startElement, stepElement, Chain, Ghost, BlockReached, Begins, remainingCalls, remainingAnswers, ghostAfter}
 
@@ -55,11 +55,12 @@ SameAnswers =
     (g : Geometry) (words : List ℕ) (w : Ghost) (es : List Element) → Begins g words w → Chain g words es
     → remainingAnswers struckOut es ≡ uanswers (w .heap) (remainingCalls struckOut es)
 
--- "a block in a segment that was full when the cycle began, which no script could then reach, is free once that segment is swept"
+-- "a block in a segment that was full when the cycle began, which no script could then reach, is free once that segment is swept". Request No. 5:
+-- it "then covers a block that was in use in a segment full or part at the start"; of one that was not in use the same is said
 abbrev pub GarbageFreed : Type 0
 GarbageFreed =
     (g : Geometry) (words : List ℕ) (w : Ghost) (es : List Element) → Begins g words w → Chain g words es → (c : SweptIn g es) (s b : ℕ)
-    → isFull (memOf g (c .startBefore)) s ≡ true → Unreached g (memOf g (c .startBefore)) (ghostAfter struckOut w (c .before)) s b → s ≡ c .segment
+    → fullOrPart (memOf g (c .startBefore)) s ≡ true → Unreached g (memOf g (c .startBefore)) (ghostAfter struckOut w (c .before)) s b → s ≡ c .segment
     → BlockFree g (memOf g (c .stepAfter)) s b
 
 pub record Demand3 : Type 0 where

@@ -1,5 +1,6 @@
--- Request No. 1: "A start in idle with no full segment now opens a cycle over no segments." What holds from such a start to the next accepted one, over
--- memory that passes the examination and not only along lists from an opening; that a start in idle is accepted; and that no call is refused 12.
+-- Request No. 1: "A start in idle with no full segment now opens a cycle over no segments", which by request No. 5 "now needs a start with neither full
+-- nor part ones". What holds from such a start to the next accepted one, over memory that passes the examination and not only along lists from an
+-- opening; that a start in idle is accepted; and that no call is refused 12.
 use mathlib.Core.Path.{_≡_}
 use mathlib.Core.Bool.{Bool, true, false}
 use mathlib.Core.Option.{some}
@@ -36,8 +37,8 @@ heapAnswers g m (c ∷ cs) = exec g m c .0 ∷ heapAnswers g (exec g m c .1) cs
 abbrev pub leftOut : ℕ → Bool
 leftOut n = pick (eqb n 1) true (eqb n 11)
 
--- "A start .. with no full segment": memory of the right size that passes the examination, of whose segments a start condemns none; a start that is
--- not refused; and further calls of every kind, with no such start among them
+-- "a start with neither full nor part ones": memory of the right size that passes the examination, of whose segments a start condemns none; a start
+-- that is not refused; and further calls of every kind, with no such start among them
 pub record OverNothing (g : Geometry) (words after : List ℕ) (ds : List Element) : Type 0 where
   pub sized : wrongSize g (length words) ≡ false
   pub consistent : Consistent g (memOf g words)

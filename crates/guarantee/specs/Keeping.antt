@@ -1,6 +1,6 @@
 -- What stands beside the guarantee: a refusal is one number of the table, and one that its call may give, 1 exactly for a size; the opening establishes consistency, every call keeps it, over memory
 -- that passes the examination and not only along lists from an opening; such memory never meets 13 and a refusal changes no word of it; "no room" comes
--- exactly when document 01 says so; and a cycle sweeps each full segment once.
+-- exactly when document 01 says so; and a cycle sweeps each segment once that was full or part when it began.
 use mathlib.Core.Path.{_≡_}
 use mathlib.Core.Logic.{_⊎_}
 use mathlib.Core.Bool.{true, false}
@@ -20,7 +20,7 @@ use Rattle.model.specs.declared.Step.the-variants.{Swept, Done}
 use Rattle.model.specs.Answers.{refusalOf, lastNumber}
 use Rattle.model.specs.Calls.{observe}
 use Rattle.model.specs.Making.{NoRoom}
-use Rattle.model.specs.Collector.{isFull}
+use Rattle.model.specs.Collector.{fullOrPart}
 use Rattle.model.specs.Opening.{opened}
 use Rattle.model.specs.Run.{Command, run}
 use Rattle.model.specs.Consistent.{Consistent}
@@ -146,12 +146,12 @@ pub record OnceSwept (g : Geometry) (s : ℕ) (es : List Element) : Type 0 where
   pub notEarlier : NeverSwept s earlier
   pub notLater : NeverSwept s later
 
--- "start: every full segment becomes condemned"; step in sweep takes "the lowest condemned segment .. With none left: idle, and done": from a start
--- to its done each segment that was full at the start is swept once
+-- "start: every full segment becomes condemned", and by request No. 5 "the part segments as well"; step in sweep takes "the lowest condemned segment ..
+-- With none left: idle, and done": from a start to its done each segment that was full or part at the start is swept once
 abbrev pub SweptOnce : Type 0
 SweptOnce =
     (g : Geometry) (words : List ℕ) (es : List Element) → wrongSize g (length words) ≡ false → Consistent g (memOf g words) → Chain g words es
-    → (c : EndedIn g es) (s : ℕ) → isFull (memOf g (c .startBefore)) s ≡ true → OnceSwept g s (c .during)
+    → (c : EndedIn g es) (s : ℕ) → fullOrPart (memOf g (c .startBefore)) s ≡ true → OnceSwept g s (c .during)
 
 -- the model's own run, from the words that its opening leaves, is such a list
 pub record OwnRun (g : Geometry) (content : List ℕ) (rs : List Command) : Type 0 where

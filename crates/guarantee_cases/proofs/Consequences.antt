@@ -8,13 +8,16 @@ use native.Mathlib.Decide.{ℕ-discrete}
 use Prim.Native.Nat.{ℕ}
 use lib.ListN.{length, take, drop}
 use Rattle.layout.specs.declared.Geometry.{Geometry}
+use Rattle.layout.specs.Mem.{memOf}
 use Rattle.layout.proofs.Regions.{right-size}
 use Rattle.theory.specs.Calls.{c-make, require, ifRecord}
 use Rattle.theory.specs.Update.{upd}
 use Rattle.theory.specs.Unbounded.{empty, uanswers}
 use Rattle.theory.proofs.Invariant.{none-some}
 use Rattle.model.specs.declared.Answer.the-variants.{Ok, Refused}
+use Rattle.model.specs.Fields.{tag}
 use Rattle.model.specs.Lists.{Element, callElement, ghostStart, byOpening}
+use Rattle.model.proofs.Collecting.{collects-is, full-collected}
 use Rattle.guarantee.specs.Keeping.{Applied, EndedIn}
 use Rattle.guarantee.proofs.Beginning.{opened-point}
 use Rattle.guarantee.proofs.Guarantee.{guarantee}
@@ -27,8 +30,9 @@ use Rattle.model_cases.proofs.Refusals.{refusals-hold}
 use Rattle.guarantee_cases.specs.Columns.{leftColumn, rightColumn}
 use Rattle.guarantee_cases.specs.Consequences.{Answered, OfWhole, OfRefusals}
 use Rattle.guarantee_cases.proofs.CaseRun.{commandsIn, elementsOf, CaseRun, case-run}
-use Rattle.guarantee_cases.proofs.Instance.{asked, replied, anyStart, has-start, case-from, sizes-sevens, whole-run, whole-case}
+use Rattle.guarantee_cases.proofs.Instance.{asked, replied, anyStart, has-start, case-from, sizes-sevens, whole-run, full-then, whole-case}
 use Rattle.guarantee_cases.proofs.Along.{applied-to, along}
+use Rattle.model.specs.Tag as Tag
 
 -- ---- the columns, by the unbounded heap alone
 
@@ -48,11 +52,11 @@ refusals-answered g words es b ch e = guarantee .answers g words ghostStart es b
 
 -- ---- the whole case
 
-module _ (g : Geometry) (p : CaseRun g asked replied) where
+module _ (g : Geometry) (p : CaseRun g asked replied) (full : tag (memOf g (p .at 9)) 0 ≡ Tag.full) where
   -- from the start (9) to done (20)
-  abbrev ended : EndedIn g (case-from g p .calls)
+  abbrev ended : EndedIn g (case-from g p full .calls)
   ended =
-      let l = case-from g p .calls in
+      let l = case-from g p full .calls in
       record {
         before = take 9 l;
         during = take 10 (drop 10 l);
@@ -65,23 +69,24 @@ module _ (g : Geometry) (p : CaseRun g asked replied) where
         oneStart = λ xs ys u v e. true≢false (sym (has-start g xs ys u v) ∙ ap anyStart (sym e));
       }
 
-  of-whole : OfWhole (case-from g p)
+  of-whole : OfWhole (case-from g p full)
   of-whole =
-      let i = case-from g p in
+      let i = case-from g p full in
+      let collected = sym (collects-is (memOf g (p .at 9)) 0) ∙ full-collected (memOf g (p .at 9)) 0 full in
       let o = opened-point g (i .content) (i .words) (i .opened) in
       record {
         opens = opening-establishes g (i .content) (i .words) (i .opened);
         along = along g (i .words) ghostStart (i .calls) (byOpening (i .opened)) (i .chain);
         calls = refl;
         answers = whole-answered g (i .words) (i .calls) (byOpening (i .opened)) (i .chain) refl;
-        freed = guarantee .frees g (i .words) ghostStart (i .calls) (byOpening (i .opened)) (i .chain) (i .cycle) (i .cycle .segment) (i .block) (i .full) (i .unreached) refl;
+        freed = guarantee .frees g (i .words) ghostStart (i .calls) (byOpening (i .opened)) (i .chain) (i .cycle) (i .cycle .segment) (i .block) collected (i .unreached) refl;
         ended = ended;
         sameStart = refl;
-        once = swept-once g (i .words) (i .calls) (right-size g (length (i .words)) (o .long)) (o .consistent) (i .chain) ended 0 (i .full);
+        once = swept-once g (i .words) (i .calls) (right-size g (length (i .words)) (o .long)) (o .consistent) (i .chain) ended 0 collected;
       }
 
 pub whole-consequences : OfWhole whole-case
-whole-consequences = of-whole (geometry 2) whole-run
+whole-consequences = of-whole (geometry 2) whole-run full-then
 
 -- ---- the refusals
 

@@ -1,30 +1,29 @@
--- A cycle whose sweep frees a block, with calls between its start and that sweep that leave the unbounded heap as it was: a block of the swept
--- segment was garbage, and in use, when the cycle began.
+-- A cycle with calls between its start and a sweep that leave the unbounded heap as it was: a block of the swept segment that is free after that sweep
+-- was not reached when the cycle began. Where the sweep frees a block of a segment that was full, there is one that was in use.
 use mathlib.Core.Path.{_≡_, sym, _∙_, ap, subst}
 use mathlib.Core.Bool.{true}
 use mathlib.Core.List.{List}
 use Prim.Native.Nat.{ℕ, suc, _-_, _<_}
 use native.Mathlib.Omega.{arith}
-use borrow.Author.Tests.{eqb-true}
 use Rattle.layout.specs.declared.Geometry.{Geometry}
 use Rattle.layout.specs.Geometry.{blocksIn}
-use Rattle.layout.specs.Mem.{Mem, memOf}
+use Rattle.layout.specs.Mem.{Mem, memOf, Sizes}
 use Rattle.theory.proofs.Invariant.{reached-live}
 use Rattle.theory.proofs.Simulation.{reach-down}
 use Rattle.theory.specs.Calls.{a-swept}
 use Rattle.model.specs.Fields.{tag, class}
 use Rattle.model.specs.Segments.{usedBit, inUse}
 use Rattle.model.specs.Records.{headerOf}
-use Rattle.model.specs.Collector.{isFull, stepOf, stepIn, sweeps, swept}
-use Rattle.model.proofs.Collecting.{collects-full}
+use Rattle.model.specs.Collector.{stepOf, stepIn, sweeps, swept}
 use Rattle.model.proofs.InUse.{full-used}
 use Rattle.classes.specs.Class.{IsClass}
 use Rattle.model.specs.Lists.{Element, Ghost, BlockReached}
 use Rattle.refine_view.specs.View.{view, isUsed}
+use Rattle.refine_view.specs.Refines.{Ordered}
 use Rattle.refine_view.proofs.Invariants.{consistent-ordered}
 use Rattle.model_laws.proofs.Lengths.{sizes-of}
 use Rattle.refine_sweep.proofs.Sweeping.{lowest-condemned}
-use Rattle.guarantee.specs.Demand3.{Unreached, SweptIn}
+use Rattle.guarantee.specs.Demand3.{BlockFree, Unreached, SweptIn}
 use Rattle.guarantee.proofs.Coupling.{Any}
 use Rattle.guarantee.proofs.Elements.{Point}
 use Rattle.guarantee.proofs.Cycle.{SweptBy, swept-by, heapThen, heapNow, Cycle}
@@ -46,39 +45,61 @@ freed-is g m s f e y =
 
 pub record Found (g : Geometry) (atStart : Mem) (w : Ghost) (s : ℕ) : Type 0 where
   pub block : ℕ
-  pub full : isFull atStart s ≡ true
   pub unreached : Unreached g atStart w s block
   pub used : usedBit g atStart s block ≡ 1
 
 -- ---- at the sweep of a cycle
 
-module _ (g : Geometry) (words : List ℕ) (w : Ghost) (es : List Element) (c : SweptIn g es) (y : Cycle g words w es c) where
+module _ (g : Geometry) (words : List ℕ) (w : Ghost) (es : List Element) (c : SweptIn g es) (y : Cycle g words w es c) (still : heapNow g words w es c ≡ heapThen g words w es c) where
   abbrev m : Mem
   m = memOf g (c .stepBefore)
 
-  pub found : (n : ℕ) → c .freed ≡ suc n → heapNow g words w es c ≡ heapThen g words w es c → Found g (memOf g (c .startBefore)) (heapThen g words w es c) (c .segment)
-  found n f still =
-      let s = c .segment in
-      let v = heapThen g words w es c in
-      let k = consistent-ordered g m (y .during .point .consistent) in
-      let z = sizes-of g (c .stepBefore) (y .during .point .long) in
-      let a = swept-by g m s (c .freed) (y .answer) in
-      let o = lowest-condemned g m z k s (a .is-lowest) in
-      let u = sym (collects-full (memOf g (c .startBefore)) s) ∙ y .during .collected s (o .0) (o .1) .0 in
-      let t : tag (memOf g (c .startBefore)) s ≡ Tag.full = eqb-true _ _ u in
-      let e = y .during .collected s (o .0) (o .1) .1 in
-      let i : IsClass (class m s) = k .segments s (o .0) .classes (λ i. absurd (let j : Tag.free ≡ Tag.condemned = sym i ∙ o .1 in omega arith)) in
-      let b = some-free g m z k s (o .0) (o .1) n (sym (freed-is g m s (c .freed) (y .answer) a) ∙ f) in
-      let h : b .0 < blocksIn g (class (memOf g (c .startBefore)) s) = subst (λ x. b .0 < blocksIn g x) e (b .1) in
+  abbrev s : ℕ
+  s = c .segment
+
+  abbrev atStart : Mem
+  atStart = memOf g (c .startBefore)
+
+  z : Sizes g m
+  z = sizes-of g (c .stepBefore) (y .during .point .long)
+
+  k : Ordered g m
+  k = consistent-ordered g m (y .during .point .consistent)
+
+  by : SweptBy g m s
+  by = swept-by g m s (c .freed) (y .answer)
+
+  -- the segment is one of the heap's, and was condemned
+  there : (s < g .segments) × (tag m s ≡ Tag.condemned)
+  there = lowest-condemned g m z k s (by .is-lowest)
+
+  same-class : class m s ≡ class atStart s
+  same-class = y .during .collected s (there .0) (there .1) .1
+
+  class-is : IsClass (class m s)
+  class-is = k .segments s (there .0) .classes (λ i. absurd (let j : Tag.free ≡ Tag.condemned = sym i ∙ there .1 in omega arith))
+
+  leaves : memOf g (c .stepAfter) ≡ swept g m s
+  leaves = y .memory ∙ by .leaves
+
+  pub unreached-at : (b : ℕ) → b < blocksIn g (class atStart s) → BlockFree g (memOf g (c .stepAfter)) s b → Unreached g atStart (heapThen g words w es c) s b
+  unreached-at b h f =
+      let at : ℕ = headerOf g s (class m s) b in
+      let l : b < blocksIn g (class m s) = subst (λ x. b < blocksIn g x) (sym same-class) h in
+      record {
+        block = h;
+        unreached = λ r. free-unused g m z k s (there .0) (there .1) class-is b l (subst (λ u. BlockFree g u s b) leaves f)
+            (subst (λ u. isUsed g u at ≡ true) leaves
+            (reached-used g (c .stepAfter) (heapNow g words w es c) Any at (y .atEnd)
+            (subst (λ u. BlockReached u at) (sym still) (subst (λ u. BlockReached (heapThen g words w es c) (headerOf g s u b)) (sym same-class) r))));
+      }
+
+  pub found : (n : ℕ) → c .freed ≡ suc n → tag atStart s ≡ Tag.full → Found g atStart (heapThen g words w es c) s
+  found n f t =
+      let b = some-free g m z k s (there .0) (there .1) n (sym (freed-is g m s (c .freed) (y .answer) by) ∙ f) in
+      let h : b .0 < blocksIn g (class atStart s) = subst (λ x. b .0 < blocksIn g x) same-class (b .1) in
       record {
         block = b .0;
-        full = u;
-        unreached = record {
-          block = h;
-          unreached = λ r. free-unused g m z k s (o .0) (o .1) i (b .0) (b .1) (b .2)
-              (subst (λ u. isUsed g u (headerOf g s (class m s) (b .0)) ≡ true) (y .memory ∙ a .leaves)
-              (reached-used g (c .stepAfter) (heapNow g words w es c) Any (headerOf g s (class m s) (b .0)) (y .atEnd)
-              (subst (λ u. BlockReached u (headerOf g s (class m s) (b .0))) (sym still) (subst (λ u. BlockReached v (headerOf g s u (b .0))) (sym e) r))));
-        };
-        used = full-used g (memOf g (c .startBefore)) s (y .atStart .consistent .sound .segments s (o .0)) t (b .0) h;
+        unreached = unreached-at (b .0) h (subst (λ u. BlockFree g u s (b .0)) (sym leaves) (b .2));
+        used = full-used g atStart s (y .atStart .consistent .sound .segments s (there .0)) t (b .0) h;
       }

@@ -14,15 +14,18 @@ use Rattle.theory.specs.Unbounded.{Unbounded, uexec, uobserve}
 use Rattle.model.specs.declared.Answer.the-variants.{Ok}
 use Rattle.model.specs.Lists.{Event, mutatorCall, startCall, stepCall, openingCall, lookCall, Element, startElement, Ghost, ghostStart, byOpening, ghostAfter}
 use Rattle.model.specs.Run.{Command}
+use Rattle.model.specs.Fields.{tag}
+use Rattle.model.specs.Opening.{opened}
 use Rattle.guarantee.specs.Demand3.{struckOut, SweptIn}
 use Rattle.guarantee.proofs.Cycle.{cycle-of}
-use Rattle.model_cases.specs.Replies.{Reply, inputs, outputs, geometry, sevens}
+use Rattle.model_cases.specs.Replies.{Reply, replies, inputs, outputs, geometry, sevens}
 use Rattle.model_cases.specs.Whole.{whole}
 use Rattle.model_cases.proofs.Whole.{whole-holds}
 use Rattle.guarantee_cases.specs.Instance.{Instance}
-use Rattle.guarantee_cases.proofs.CaseRun.{commandsIn, elementsOf, CaseRun, case-run}
+use Rattle.guarantee_cases.proofs.CaseRun.{commandsIn, elementsOf, CaseRun, memoryAt, case-known}
 use Rattle.guarantee_cases.proofs.GarbageFound.{Found, found}
 use Rattle.layout.specs.Region as Region
+use Rattle.model.specs.Tag as Tag
 
 -- the case after its opening: four records are made, of which the first names the second, a number is put into the second (6), and roots are
 -- cleared, so that the third is garbage; a start (9) and its cycle up to the step that sweeps (19), a load and a get (22)
@@ -61,14 +64,14 @@ pub has-start : (g : Geometry) (xs ys : List Element) (u v : List ℕ) → anySt
 has-start g xs ys u v = has-any isStart xs ys (startElement g u Ok v) refl
 
 -- a check leaves the unbounded heap as it was
-check-heap : (un : Unbounded) (k : ℕ) → uexec un (c-check k) .1 ≡ un
+pub check-heap : (un : Unbounded) (k : ℕ) → uexec un (c-check k) .1 ≡ un
 check-heap un k = go (refusal (uobserve un) (c-check k))
   where
     go : (n : ℕ) → refuse n un (a-ok, un) .1 ≡ un
     go zero = refl
     go (suc n) = refl
 
-module _ (g : Geometry) (p : CaseRun g asked replied) where
+module _ (g : Geometry) (p : CaseRun g asked replied) (full : tag (memOf g (p .at 9)) 0 ≡ Tag.full) where
   abbrev pub at : ℕ → List ℕ
   at = p .at
 
@@ -96,8 +99,8 @@ module _ (g : Geometry) (p : CaseRun g asked replied) where
   -- the sweep freed one block: it was garbage
   pub garbage : Found g (memOf g (at 9)) (ghostAfter struckOut ghostStart (take 9 elements)) 0
   garbage =
-      found g (at 0) ghostStart elements swept-in (cycle-of g (at 0) ghostStart elements swept-in (byOpening (p .opened)) (p .chain)) 0
-      refl (still (ghostAfter struckOut ghostStart (take 9 elements)))
+      found g (at 0) ghostStart elements swept-in (cycle-of g (at 0) ghostStart elements swept-in (byOpening (p .opened)) (p .chain))
+      (still (ghostAfter struckOut ghostStart (take 9 elements))) 0 refl full
 
   abbrev pub case-from : Instance
   case-from = record {
@@ -108,7 +111,7 @@ module _ (g : Geometry) (p : CaseRun g asked replied) where
     opened = p .opened;
     chain = p .chain;
     cycle = swept-in;
-    full = garbage .full;
+    full = full;
     block = garbage .block;
     unreached = garbage .unreached;
     used = garbage .used;
@@ -150,8 +153,16 @@ sizes-sevens g = record {
   heap = length-replicate {A = ℕ} (len g Region.heap) 7;
 }
 
+known : (p : CaseRun (geometry 2) asked replied) × ((n : ℕ) → memOf (geometry 2) (p .at n) ≡ memoryAt (geometry 2) (opened (geometry 2) (sevens (geometry 2))) asked n)
+known = case-known (geometry 2) (omega arith) (omega arith) (sevens (geometry 2)) (sizes-sevens (geometry 2)) asked replied whole-holds
+
 pub whole-run : CaseRun (geometry 2) asked replied
-whole-run = case-run (geometry 2) (omega arith) (omega arith) (sevens (geometry 2)) (sizes-sevens (geometry 2)) asked replied whole-holds
+whole-run = known .0
+
+-- the segment is full at the start, by computing
+pub full-then : tag (memOf (geometry 2) (whole-run .at 9)) 0 ≡ Tag.full
+unfolding replies whole-run
+full-then = ap (λ x. tag x 0) (known .1 9)
 
 abbrev pub whole-case : Instance
-whole-case = case-from (geometry 2) whole-run
+whole-case = case-from (geometry 2) whole-run full-then

@@ -6,6 +6,7 @@ pub mod Instance
 pub mod Along
 pub mod Consequences
 pub mod OverNothing
+pub mod HalfEmpty
 pub mod SoundOnly
 pub mod RefusedStand
 pub mod HandsBack

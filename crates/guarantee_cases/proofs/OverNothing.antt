@@ -1,5 +1,5 @@
--- The theorem of the cycle over no segments, applied to a computed case. That nothing is full at the start follows from the replies: no step
--- answers swept before done, and each full segment would have been swept.
+-- The theorem of the cycle over no segments, applied to a computed case. That nothing is full or part at the start follows from the replies:
+-- no step answers swept before done, and each such segment would have been swept.
 use mathlib.Core.Path.{_≡_, refl, sym, _∙_, ap}
 use mathlib.Core.Bool.{Bool, true, false, true≢false}
 use mathlib.Core.List.{List, [], _∷_, tail}
@@ -19,10 +19,10 @@ use Rattle.model.specs.Fields.{traceCount, tag, class}
 use Rattle.model.specs.Segments.{usedBit}
 use Rattle.model.specs.Opening.{opened}
 use Rattle.model.specs.Consistent.{BlockInUse}
-use Rattle.model.specs.Collector.{isFull, collects}
+use Rattle.model.specs.Collector.{fullOrPart, collects}
 use Rattle.model.specs.Lists.{Event, mutatorCall, startCall, stepCall, openingCall, lookCall, Element, callElement, startElement, stepElement, ghostStart, byOpening}
 use Rattle.model.specs.Run.{Command}
-use Rattle.model.proofs.Collecting.{collects-full}
+use Rattle.model.proofs.Collecting.{collects-is}
 use Rattle.guarantee.specs.Keeping.{Applied, EndedIn}
 use Rattle.guarantee.specs.EmptyCycle.{OverNothing, StepsIn, moves, empties}
 use Rattle.guarantee.proofs.Beginning.{opened-point}
@@ -104,8 +104,8 @@ module _ (g : Geometry) (p : CaseRun g asked replied) (used : BlockInUse g (memO
     oneStart = λ xs ys u v e. true≢false (sym (has-start g xs ys u v) ∙ ap anyStart (sym e));
   }
 
-  none-full : (s : ℕ) → isFull (memOf g (at 5)) s ≡ true → collects (memOf g (at 5)) s ≡ false
-  none-full s t =
+  none-such : (s : ℕ) → fullOrPart (memOf g (at 5)) s ≡ true → collects (memOf g (at 5)) s ≡ false
+  none-such s t =
       let o = opened-point g (p .content) (at 0) (p .opened) in
       let x = swept-once g (at 0) elements (right-size g (length (at 0)) (o .long)) (o .consistent) (p .chain) ended s t in
       absurd (true≢false (sym (has-any sweepsIn (x .earlier) (x .later) (stepElement g (x .stepBefore) (stepAnswer.Swept s (x .freed)) (x .stepAfter)) refl) ∙ ap (anyOf sweepsIn) (sym (x .whole))))
@@ -114,14 +114,14 @@ module _ (g : Geometry) (p : CaseRun g asked replied) (used : BlockInUse g (memO
   over = record {
     sized = first .sized;
     consistent = first .consistent;
-    nothing = λ s l. go s (isFull (memOf g (at 5)) s) refl;
+    nothing = λ s l. go s (fullOrPart (memOf g (at 5)) s) refl;
     chain = chain-to g (at 0) ghostStart elements (byOpening (p .opened)) (p .chain) (take 5 elements) (drop 6 elements) begin refl (λ e. none-some e);
     oneStart = λ xs ys u v e. true≢false (sym (has-start g xs ys u v) ∙ ap anyStart (sym e));
   }
     where
-      go : (s : ℕ) (b : Bool) → isFull (memOf g (at 5)) s ≡ b → collects (memOf g (at 5)) s ≡ false
-      go s true e = none-full s e
-      go s false e = collects-full (memOf g (at 5)) s ∙ e
+      go : (s : ℕ) (b : Bool) → fullOrPart (memOf g (at 5)) s ≡ b → collects (memOf g (at 5)) s ≡ false
+      go s true e = none-such s e
+      go s false e = collects-is (memOf g (at 5)) s ∙ e
 
   of-nothing : OfOverNothing
   of-nothing = let c = empty-cycle g (at 5) (at 6) (drop 6 elements) over in record {

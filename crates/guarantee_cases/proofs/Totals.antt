@@ -111,5 +111,5 @@ pub totals-of-cases : TotalsOfCases
 totals-of-cases = record {
   ofWhole = of-totals (geometry 2) whole whole-run (elements (geometry 2) whole whole-run) (whole-run .chain) 4 1 3 refl refl refl refl refl;
   ofRefusals = of-totals (geometry 1) refusals refusals-run refusedFirst refused-chain 4 0 4 refl refl refl refl refl;
-  ofCounted = of-totals (geometry 4) counted counted-run (elements (geometry 4) counted counted-run) (counted-run .chain) 11 5 6 refl refl refl refl refl;
+  ofCounted = of-totals (geometry 4) counted counted-run (elements (geometry 4) counted counted-run) (counted-run .chain) 11 10 1 refl refl refl refl refl;
 }

@@ -1,17 +1,17 @@
 -- That the guarantee is not empty: a list with a put, a cycle whose start finds an unreached block in use in a full segment, the sweep of that
 -- segment, and a get afterwards that answers the number put before.
 use mathlib.Core.Path.{_≡_}
-use mathlib.Core.Bool.{true}
 use mathlib.Core.List.{List, [], _∷_, _++_}
 use Prim.Native.Nat.{ℕ}
 use Rattle.layout.specs.declared.Geometry.{Geometry}
 use Rattle.layout.specs.Mem.{memOf}
 use Rattle.theory.specs.Calls.{c-check, c-clear, c-load, c-put, c-get, a-ok}
 use Rattle.model.specs.declared.Answer.the-variants.{Ok, Number}
+use Rattle.model.specs.Fields.{tag}
 use Rattle.model.specs.Segments.{usedBit}
-use Rattle.model.specs.Collector.{isFull}
 use Rattle.model.specs.Lists.{Element, callElement, Chain, Opened, ghostStart, remainingCalls, remainingAnswers, ghostAfter}
 use Rattle.guarantee.specs.Demand3.{struckOut, Unreached, SweptIn}
+use Rattle.model.specs.Tag as Tag
 
 pub record Instance : Type 0 where
   pub geometry : Geometry
@@ -22,7 +22,7 @@ pub record Instance : Type 0 where
   pub chain : Chain geometry words calls
   pub cycle : SweptIn geometry calls
   -- a block of the segment that was swept, which was full when the cycle began: in use then, and not reached
-  pub full : isFull (memOf geometry (cycle .startBefore)) (cycle .segment) ≡ true
+  pub full : tag (memOf geometry (cycle .startBefore)) (cycle .segment) ≡ Tag.full
   pub block : ℕ
   pub unreached : Unreached geometry (memOf geometry (cycle .startBefore)) (ghostAfter struckOut ghostStart (cycle .before)) (cycle .segment) block
   pub used : usedBit geometry (memOf geometry (cycle .startBefore)) (cycle .segment) block ≡ 1

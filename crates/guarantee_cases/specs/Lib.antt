@@ -3,6 +3,7 @@ pub mod Columns
 pub mod Instance
 pub mod Consequences
 pub mod OverNothing
+pub mod HalfEmpty
 pub mod RefusedStand
 pub mod HandsBack
 pub mod Totals

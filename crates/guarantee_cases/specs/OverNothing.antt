@@ -1,4 +1,4 @@
--- What the theorem of the cycle over no segments says of a case: one segment, held and not full at the start, one of its two records dropped. The cycle has
+-- What the theorem of the cycle over no segments says of a case: one segment, held at the start, one of its two records dropped. The cycle has
 -- a make in each phase, an attach in the first handshake and a make of another class without room; after it comes a get.
 use mathlib.Core.Path.{_≡_}
 use mathlib.Core.Bool.{true}
@@ -60,7 +60,7 @@ pub record OfOverNothing : Type 0 where
   pub calls : List Element
   pub opened : Opened geometry content words
   pub chain : Chain geometry words calls
-  -- no call of it is refused 12, the start with nothing full among them
+  -- no call of it is refused 12, the start with nothing full or part among them
   pub along : Along geometry words calls
   pub remaining : remainingCalls struckOut calls ≡ leftColumn overNothing
   pub answers : remainingAnswers struckOut calls ≡ rightColumn overNothing

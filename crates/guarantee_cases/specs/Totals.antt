@@ -29,9 +29,9 @@ pub record OfTotals (ls : List Line) (made freed used : ℕ) : Type 0 where
   pub inUse : blocksInUse geometry (memOf geometry (wordsAfter words calls)) ≡ used
 
 -- document 01's whole case: four records fill a segment, and one of them is freed; the case of refusals, with makes refused 6, 9 and 10, and an opening,
--- a make and a step refused 1 before them; and the case of the two counts, in which a segment is swept to free and taken again by another class, and
--- what a sweep left is swept again
+-- a make and a step refused 1 before them; and the case of the two counts, in which a segment is swept to free and taken again by another class,
+-- what a sweep left is swept again, and part segments are swept
 pub record TotalsOfCases : Type 0 where
   pub ofWhole : OfTotals whole 4 1 3
   pub ofRefusals : OfTotals refusals 4 0 4
-  pub ofCounted : OfTotals counted 11 5 6
+  pub ofCounted : OfTotals counted 11 10 1

@@ -6,6 +6,7 @@ use Prim.Native.Nat.{ℕ, zero, suc, _-_, _<_}
 use native.Mathlib.Omega.{arith}
 use lib.Dec.{eqb}
 use Rattle.basics.specs.Pick.{pick}
+use Rattle.classes.specs.Class.{IsClass, classCount}
 use Rattle.layout.specs.declared.Geometry.{Geometry}
 use Rattle.layout.specs.Geometry.{mutatorCount}
 use Rattle.layout.specs.Mem.{Mem, traceWord}
@@ -15,7 +16,9 @@ use Rattle.model.specs.Fields.{phase, traceCount, setTraceCount, outside, state
 use Rattle.model.specs.Records.{pointerCount}
 use Rattle.model.specs.Tracing.{popped}
 use Rattle.model.specs.Mutators.{acknowledged}
-use Rattle.model.specs.Collector.{collects, condemned, acksReset, marksCleared, started, outsideAnswered, waiting, movedOrWaiting, traces, lowest, sweeps, stepIn, stepOf}
+use Rattle.model.specs.Collector.{collects, condemned, partsEmptied, acksReset, marksCleared, started, outsideAnswered, waiting, movedOrWaiting, traces, lowest, sweeps, stepIn, stepOf}
+use Rattle.model.specs.Segments.{partStack, count}
+use Rattle.model_laws.proofs.Emptied.{emptied-same}
 use Rattle.idle_twin.specs.SameHeap.{SameHeap}
 use Rattle.idle_twin.proofs.Same.{same-self, same-then, framed, leaves-control, leaves-acks, leaves-acknowledged, leaves-pointers}
 use Rattle.model.specs.Tag as Tag
@@ -35,14 +38,17 @@ leaves-reset m (suc k) = same-then m (acksReset m k) _ (leaves-reset m k) (leave
 leaves-cleared : (m : Mem) → SameHeap m (marksCleared m)
 leaves-cleared m = framed m _ refl refl refl refl refl
 
-pub leaves-started : (g : Geometry) (m : Mem) → ((s : ℕ) → s < g .segments → collects m s ≡ false) → SameHeap m (started g m)
+-- no part segment is on a stack
+pub leaves-started : (g : Geometry) (m : Mem) → ((s : ℕ) → s < g .segments → collects m s ≡ false) → ((c : ℕ) → IsClass c → count g m (partStack c) ≡ 0) → SameHeap m (started g m)
 unfolding started
-leaves-started g m h =
-    let m₁ : Mem = acksReset (condemned m (g .segments)) mutatorCount in
-    let e : SameHeap m m₁ = subst (λ x. SameHeap x m₁) (none-collected m (g .segments) h) (leaves-reset (condemned m (g .segments)) mutatorCount) in
+leaves-started g m h p =
+    let m₀ : Mem = partsEmptied g (condemned m (g .segments)) classCount in
+    let m₁ : Mem = acksReset m₀ mutatorCount in
+    let f : m₀ ≡ m = ap (λ x. partsEmptied g x classCount) (none-collected m (g .segments) h) ∙ emptied-same g m p classCount (omega arith) in
+    let e : SameHeap m m₁ = subst (λ x. SameHeap x m₁) f (leaves-reset m₀ mutatorCount) in
     let m₂ : Mem = setCursor (marksCleared m₁) 0 in
-    let f : SameHeap m m₂ = same-then m m₁ _ e (same-then m₁ (marksCleared m₁) _ (leaves-cleared m₁) (leaves-control (marksCleared m₁) 2 0)) in
-    same-then m m₂ _ f (leaves-control m₂ 0 (phaseNumber sync1))
+    let d : SameHeap m m₂ = same-then m m₁ _ e (same-then m₁ (marksCleared m₁) _ (leaves-cleared m₁) (leaves-control (marksCleared m₁) 2 0)) in
+    same-then m m₂ _ d (leaves-control m₂ 0 (phaseNumber sync1))
 
 -- ---- step
 

@@ -100,7 +100,7 @@ same-state g m m′ e s Free = same-record m m′ e s _ _ _ _
 same-state g m m′ e s (Part c p) = same-record m m′ e s _ _ _ _
 same-state g m m′ e s (Held c p k) = same-record m m′ e s _ _ _ _
 same-state g m m′ e s (Full c) = same-record m m′ e s _ _ _ _
-same-state g m m′ e s (Condemned c) = same-record m m′ e s _ _ _ _
+same-state g m m′ e s (Condemned c p) = same-record m m′ e s _ _ _ _
 
 pub same-pick : (t : Bool) (m m₁ m′ m₁′ : Mem) → SameHeap m m′ → SameHeap m₁ m₁′ → SameHeap (pick t m m₁) (pick t m′ m₁′)
 same-pick true m m₁ m′ m₁′ a b = a

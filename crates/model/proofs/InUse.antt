@@ -1,5 +1,5 @@
--- What consistency says of a segment's blocks in use: its two counts add up to them. By its state: all blocks of a full
--- or condemned one; of a part or held one some and not all, so that it has two blocks at least.
+-- What consistency says of a segment's blocks in use: its two counts add up to them. By its state: all blocks of a
+-- full one; of a part or held one some and not all, so that it has two blocks at least.
 use mathlib.Core.Path.{_≡_, sym, _∙_, ap, ap₂}
 use mathlib.Core.Bool.{Bool, true, false}
 use mathlib.Core.Logic.{_⊎_, inl, inr, ⊎-elim}
@@ -54,9 +54,6 @@ module _ (g : Geometry) (m : Mem) (s : ℕ) where
   module _ (o : SegmentOk g m s) where
     pub full-used : tag m s ≡ Tag.full → (b : ℕ) → b < blocksIn g (class m s) → usedBit g m s b ≡ 1
     full-used t b l = let e = o .full t in used-before b (omega arith)
-
-    pub condemned-used : tag m s ≡ Tag.condemned → (b : ℕ) → b < blocksIn g (class m s) → usedBit g m s b ≡ 1
-    condemned-used t b l = let e = o .condemned t in used-before b (omega arith)
 
     pub some-unused : Tag.part ≤ tag m s → tag m s ≤ Tag.held → (b : ℕ) × (b < blocksIn g (class m s)) × (usedBit g m s b ≡ 0)
     some-unused l h = let b = o .remains l h in (b .0, b .2, used-after (b .0) (b .1) ∙ b .3)

@@ -1,11 +1,12 @@
 -- The collector's calls: start, and step in each of the five phases. Document 01, "The cycle".
-use mathlib.Core.Bool.{Bool, _&&_}
+use mathlib.Core.Bool.{Bool, _&&_, _||_}
 use mathlib.Core.Option.{Option, none, some}
 use Prim.Native.Nat.{ℕ, zero, suc, _+_, _-_}
 use lib.Dec.{eqb}
 use lib.ListN.{length, replicate}
 use Rattle.basics.specs.Pick.{pick, oneIf}
 use Rattle.words.specs.Bits.{bitAt, onesAmong}
+use Rattle.classes.specs.Class.{firstClass, classCount}
 use Rattle.layout.specs.declared.Geometry.{Geometry}
 use Rattle.layout.specs.Geometry.{mutatorCount, blocksIn}
 use Rattle.layout.specs.Mem.{Mem, traceWord, withRegion}
@@ -13,26 +14,32 @@ use Rattle.bitmap_write.specs.Completed.{adopted}
 use Rattle.theory.specs.Phases.{Phase, idle, sync1, sync2, mark, sweep, owes}
 use Rattle.theory.specs.Calls.{Answer, a-ok, a-moved, a-traced, a-done, a-idle, a-no, a-waiting, a-swept}
 use Rattle.model.specs.Fields.{phase, setPhase, setCursor, traceCount, inside, outside, state, acks, setAcks, tag, setTag, class, setKeptCount, setHandedCount}
-use Rattle.model.specs.Segments.{setSegmentState, freeStack, partStack, stacked, above, bitmap, setBitmap, marksOf, inUse}
+use Rattle.model.specs.Segments.{setSegmentState, freeStack, partStack, stacked, emptied, above, bitmap, setBitmap, marksOf, inUse}
 use Rattle.model.specs.Tracing.{traced}
 use Rattle.model.specs.Mutators.{acknowledged}
 use Rattle.model.specs.declared.SegmentState.the-variants as segment
 use Rattle.layout.specs.Region as Region
 use Rattle.model.specs.Tag as Tag
 
--- ---- start: "every full segment becomes condemned, all marks are cleared, the phase is roll 1"
+-- ---- start: "every full segment becomes condemned, all marks are cleared, the phase is roll 1". Request No. 5: "A start now condemns the part
+-- segments as well. A condemned segment keeps its place and is on no stack".
 
-abbrev pub isFull : Mem → ℕ → Bool
-isFull m s = eqb (tag m s) Tag.full
+abbrev pub fullOrPart : Mem → ℕ → Bool
+fullOrPart m s = eqb (tag m s) Tag.full || eqb (tag m s) Tag.part
 
--- which segments a start condemns: the full ones (proofs/Collecting.antt)
+-- which segments a start condemns: the full and the part ones (proofs/Collecting.antt)
 unfoldable pub collects : Mem → ℕ → Bool
-collects m s = isFull m s
+collects m s = fullOrPart m s
 
--- those of the first n segments become condemned: the tag says so, and the rest of the record stays
+-- those of the first n segments become condemned: the tag says so, and the rest of the record stays, its place too
 unfoldable pub condemned : Mem → ℕ → Mem
 condemned m zero = m
 condemned m (suc s) = pick (collects m s) (setTag (condemned m s) s Tag.condemned) (condemned m s)
+
+-- the part stacks of the first n classes are emptied
+unfoldable pub partsEmptied : Geometry → Mem → ℕ → Mem
+partsEmptied g m zero = m
+partsEmptied g m (suc n) = emptied g (partsEmptied g m n) (partStack (firstClass + n))
 
 -- the acknowledgements of the first n mutators begin anew
 unfoldable pub acksReset : Mem → ℕ → Mem
@@ -43,9 +50,11 @@ abbrev pub marksCleared : Mem → Mem
 marksCleared m = withRegion m Region.marks (replicate (length (m .marks)) 0)
 
 unfoldable pub started : Geometry → Mem → Mem
-started g m = setPhase (setCursor (marksCleared (acksReset (condemned m (g .segments)) mutatorCount)) 0) sync1
+started g m =
+    setPhase (setCursor (marksCleared (acksReset (partsEmptied g (condemned m (g .segments)) classCount) mutatorCount)) 0) sync1
 
 -- "11, not now: start outside idle". Request No. 1: "A start in idle with no full segment now opens a cycle over no segments."
+-- Request No. 5: "now needs a start with neither full nor part ones".
 abbrev pub startIn : Phase → Geometry → Mem → Answer × Mem
 startIn idle g m = (a-ok, started g m)
 startIn sync1 g m = (a-no 11, m)

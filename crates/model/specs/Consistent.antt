@@ -27,6 +27,7 @@ use Rattle.model.specs.Tag as Tag
 
 pub record SegmentOk (g : Geometry) (m : Mem) (s : ℕ) : Type 0 where
   -- "A segment is free, part (class, place), held (class, place, script), full (class) or condemned (class)."
+  -- (by request No. 5 a condemned one has a place too)
   pub tags : tag m s ≤ Tag.condemned
   pub free : tag m s ≡ Tag.free → (class m s ≡ 0) × (place m s ≡ 0) × (owner m s ≡ 0)
   pub unowned : (tag m s ≡ Tag.held → ⊥) → owner m s ≡ 0
@@ -34,9 +35,10 @@ pub record SegmentOk (g : Geometry) (m : Mem) (s : ℕ) : Type 0 where
   -- part and held: "When no free block remains at or after the new place, the segment becomes full in the same call"
   pub remains : (Tag.part ≤ tag m s) → (tag m s ≤ Tag.held)
       → (b : ℕ) × (place m s ≤ b) × (b < blocksIn g (class m s)) × (bitAt (bitmap g m s) b ≡ 0)
-  -- "A full segment's place is its number of blocks, kept when it is condemned."
+  -- "A full segment's place is its number of blocks, kept when it is condemned." Request No. 5: a part one's is kept too,
+  -- so that of a condemned one is anywhere up to the number of blocks
   pub full : tag m s ≡ Tag.full → place m s ≡ blocksIn g (class m s)
-  pub condemned : tag m s ≡ Tag.condemned → place m s ≡ blocksIn g (class m s)
+  pub condemned : tag m s ≡ Tag.condemned → place m s ≤ blocksIn g (class m s)
   -- the mutator of a held segment is attached, and the segment is the one it holds of that class
   pub held : tag m s ≡ Tag.held
       → (owner m s < mutatorCount) × (state m (owner m s) ≡ absent → ⊥) × (holding m (owner m s) (class m s) ≡ suc s)

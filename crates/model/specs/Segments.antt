@@ -20,14 +20,14 @@ use Rattle.model.specs.declared.SegmentState.the-variants as state
 use Rattle.layout.specs.Region as Region
 use Rattle.model.specs.Tag as Tag
 
--- "A segment is free, part (class, place), held (class, place, script), full (class) or condemned (class)." The state by the words, and by the
--- memory (in no statement: contracts, evaluated cases and proofs use both)
+-- "A segment is free, part (class, place), held (class, place, script), full (class) or condemned (class)." Request No. 5: "A condemned segment
+-- keeps its place". The state by the words, and by the memory (in no statement: contracts, evaluated cases and proofs use both)
 abbrev pub stateOf : ℕ → ℕ → ℕ → ℕ → SegmentState
 stateOf zero c p k = state.Free
 stateOf (suc zero) c p k = state.Part c p
 stateOf (suc (suc zero)) c p k = state.Held c p k
 stateOf (suc (suc (suc zero))) c p k = state.Full c
-stateOf (suc (suc (suc (suc t)))) c p k = state.Condemned c
+stateOf (suc (suc (suc (suc t)))) c p k = state.Condemned c p
 
 abbrev pub segment : Mem → ℕ → SegmentState
 segment m s = stateOf (tag m s) (class m s) (place m s) (owner m s)
@@ -36,13 +36,13 @@ segment m s = stateOf (tag m s) (class m s) (place m s) (owner m s)
 abbrev pub setRecord : Mem → ℕ → ℕ → ℕ → ℕ → ℕ → Mem
 setRecord m s t c p k = setOwner (setPlace (setClass (setTag m s t) s c) s p) s k
 
--- what a state has of these, and 0 for what it has not. "A full segment's place is its number of blocks, kept when it is condemned."
+-- what a state has of these, and 0 for what it has not. "A full segment's place is its number of blocks".
 unfoldable pub setSegmentState : Geometry → Mem → ℕ → SegmentState → Mem
 setSegmentState g m s state.Free = setRecord m s Tag.free 0 0 0
 setSegmentState g m s (state.Part c p) = setRecord m s Tag.part c p 0
 setSegmentState g m s (state.Held c p k) = setRecord m s Tag.held c p k
 setSegmentState g m s (state.Full c) = setRecord m s Tag.full c (blocksIn g c) 0
-setSegmentState g m s (state.Condemned c) = setRecord m s Tag.condemned c (blocksIn g c) 0
+setSegmentState g m s (state.Condemned c p) = setRecord m s Tag.condemned c p 0
 
 -- ---- stacks: "the last put on taken first; each class has its own part stack"
 
@@ -66,6 +66,10 @@ module _ (g : Geometry) where
 
   abbrev pub pop : Mem → ℕ → Mem
   pop m t = setStack m (t * (1 + g .segments)) (count m t - 1)
+
+  -- no segment is on it: past a count the entries bind nothing
+  abbrev pub emptied : Mem → ℕ → Mem
+  emptied m t = setStack m (t * (1 + g .segments)) 0
 
   abbrev pub stacked : Mem → ℕ → ℕ → Mem
   stacked m t s = setStack (setStack m (t * (1 + g .segments) + 1 + count m t) s) (t * (1 + g .segments)) (count m t + 1)

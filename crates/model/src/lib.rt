@@ -28,6 +28,7 @@ pub enum SegmentState {
     },
     Condemned {
         class: u32,
+        place: u32,
     },
 }
 

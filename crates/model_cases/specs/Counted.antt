@@ -1,9 +1,9 @@
 -- Document 02, No. 3: "blocks kept at its last sweep (0 before one), and blocks handed out since". Four segments, and of each
 -- the two counts and its blocks in use: after an opening, after makes in three classes, after fills, after sweeps to part, full and free, after makes out
--- of the swept segment, after the freed one is taken by another class, after a second sweep, and after a detach.
+-- of the swept segment, after the freed one is taken by another class, after a second sweep, after a detach, and after sweeps of part segments (No. 5).
 use mathlib.Core.List.{List, [], _∷_}
-use Rattle.theory.specs.Phases.{idle, sweep}
-use Rattle.theory.specs.Calls.{c-attach, c-detach, c-check, c-make, c-clear}
+use Rattle.theory.specs.Phases.{idle, sync1, sweep}
+use Rattle.theory.specs.Calls.{c-attach, c-detach, c-check, c-leave, c-spawn, c-make, c-clear}
 use Rattle.model.specs.declared.Step.the-variants.{Moved, Traced, Swept, Done}
 use Rattle.model.specs.declared.SegmentState.the-variants.{Free, Part, Held, Full, Condemned}
 use Rattle.model_cases.specs.Replies.{Line, _⇒_, opening, start, step, look, counts, call, stepped, seen, words, ok}
@@ -45,7 +45,7 @@ counted =
     ∷ step ⇒ stepped Moved
     -- swept to part, to full and to free
     ∷ step ⇒ stepped (Swept 0 2)
-    ∷ look ⇒ seen sweep (Part 12 0 ∷ Condemned 13 ∷ Held 11 1 0 ∷ Condemned 14 ∷ []) []
+    ∷ look ⇒ seen sweep (Part 12 0 ∷ Condemned 13 2 ∷ Held 11 1 0 ∷ Condemned 14 1 ∷ []) []
     ∷ counts ⇒ words (2 ∷ 0 ∷ 2 ∷ 0 ∷ 2 ∷ 2 ∷ 0 ∷ 1 ∷ 1 ∷ 0 ∷ 1 ∷ 1 ∷ [])
     ∷ step ⇒ stepped (Swept 1 0)
     ∷ counts ⇒ words (2 ∷ 0 ∷ 2 ∷ 2 ∷ 0 ∷ 2 ∷ 0 ∷ 1 ∷ 1 ∷ 0 ∷ 1 ∷ 1 ∷ [])
@@ -82,8 +82,26 @@ counted =
     ∷ step ⇒ stepped (Swept 1 0)
     ∷ counts ⇒ words (2 ∷ 0 ∷ 2 ∷ 2 ∷ 0 ∷ 2 ∷ 0 ∷ 1 ∷ 1 ∷ 0 ∷ 1 ∷ 1 ∷ [])
     ∷ step ⇒ stepped Done
-    -- a detach moves no count
+    -- the record of class 11 gets another mutator, which goes outside; a detach moves no count
+    ∷ call (c-spawn 1 0 2) ⇒ ok
+    ∷ call (c-leave 1) ⇒ ok
     ∷ call (c-detach 0) ⇒ ok
     ∷ look ⇒ seen idle (Part 12 0 ∷ Full 13 ∷ Part 11 1 ∷ Part 13 1 ∷ []) []
     ∷ counts ⇒ words (2 ∷ 0 ∷ 2 ∷ 2 ∷ 0 ∷ 2 ∷ 0 ∷ 1 ∷ 1 ∷ 0 ∷ 1 ∷ 1 ∷ [])
+    -- a start condemns part segments, places kept: it moves no count
+    ∷ start ⇒ ok
+    ∷ look ⇒ seen sync1 (Condemned 12 0 ∷ Condemned 13 2 ∷ Condemned 11 1 ∷ Condemned 13 1 ∷ []) []
+    ∷ counts ⇒ words (2 ∷ 0 ∷ 2 ∷ 2 ∷ 0 ∷ 2 ∷ 0 ∷ 1 ∷ 1 ∷ 0 ∷ 1 ∷ 1 ∷ [])
+    ∷ step ⇒ stepped Moved
+    ∷ step ⇒ stepped Moved
+    ∷ step ⇒ stepped Traced
+    ∷ step ⇒ stepped Moved
+    -- freed are the two that were kept, the two of the full one, none of the one that is kept, and the one handed out since
+    ∷ step ⇒ stepped (Swept 0 2)
+    ∷ step ⇒ stepped (Swept 1 2)
+    ∷ step ⇒ stepped (Swept 2 0)
+    ∷ step ⇒ stepped (Swept 3 1)
+    ∷ look ⇒ seen sweep (Free ∷ Free ∷ Part 11 0 ∷ Free ∷ []) []
+    ∷ counts ⇒ words (0 ∷ 0 ∷ 0 ∷ 0 ∷ 0 ∷ 0 ∷ 1 ∷ 0 ∷ 1 ∷ 0 ∷ 0 ∷ 0 ∷ [])
+    ∷ step ⇒ stepped Done
     ∷ []

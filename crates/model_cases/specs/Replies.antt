@@ -24,7 +24,7 @@ use Rattle.model.specs.Tracing.{push, pushRoots, pushPointers}
 use Rattle.model.specs.Mutators.{acknowledged, attached, released, detached}
 use Rattle.model.specs.Making.{handedOut, made}
 use Rattle.model.specs.Calls.{act, exec}
-use Rattle.model.specs.Collector.{collects, condemned, acksReset, started, startOf, outsideAnswered, waiting, lowest, settledBy, swept, stepOf}
+use Rattle.model.specs.Collector.{collects, condemned, partsEmptied, acksReset, started, startOf, outsideAnswered, waiting, lowest, settledBy, swept, stepOf}
 use Rattle.model.specs.Opening.{downTo0, opened}
 use Rattle.layout.specs.Region as Region
 
@@ -91,7 +91,7 @@ does g m (heap i n) = (words (take n (drop i (m .heap))), m)
 
 -- the replies to a list of inputs, in order; to unfold it is to unfold every definition that it stands on
 unfoldable pub replies : Geometry → Mem → List Input → List Reply
-unfolding segmentBytes headerShape bitOf bitAt withBit setBit onesAmong setControl setMutator setSegment setStack setTrace setHeap setRun spliced nextFree wordFrom packed fullBit summed rebuilt padded completed cleared copied fresh adopted require ifRecord setSegmentState setEntered onStack push pushRoots pushPointers acknowledged attached released detached handedOut made act exec collects condemned acksReset started startOf outsideAnswered waiting lowest settledBy swept stepOf downTo0 opened
+unfolding segmentBytes headerShape bitOf bitAt withBit setBit onesAmong setControl setMutator setSegment setStack setTrace setHeap setRun spliced nextFree wordFrom packed fullBit summed rebuilt padded completed cleared copied fresh adopted require ifRecord setSegmentState setEntered onStack push pushRoots pushPointers acknowledged attached released detached handedOut made act exec collects condemned partsEmptied acksReset started startOf outsideAnswered waiting lowest settledBy swept stepOf downTo0 opened
 replies g m [] = []
 replies g m (e ∷ es) = let r = does g m e in r .0 ∷ replies g (r .1) es
 

@@ -64,9 +64,9 @@ fills =
     ∷ call (c-make 0 0 1 511) ⇒ ok
     ∷ call (c-make 0 0 1 511) ⇒ ok
     ∷ call (c-make 0 0 1 511) ⇒ ok
-    ∷ look ⇒ seen mark (Condemned 12 ∷ Held 12 3 0 ∷ []) []
+    ∷ look ⇒ seen mark (Condemned 12 4 ∷ Held 12 3 0 ∷ []) []
     ∷ call (c-make 0 0 1 511) ⇒ ok
-    ∷ look ⇒ seen mark (Condemned 12 ∷ Full 12 ∷ []) []
+    ∷ look ⇒ seen mark (Condemned 12 4 ∷ Full 12 ∷ []) []
     ∷ step ⇒ stepped Moved
     ∷ step ⇒ stepped (Swept 0 4)
     ∷ step ⇒ stepped Done
@@ -76,7 +76,7 @@ fills =
     ∷ call (c-make 0 0 1 511) ⇒ ok
     ∷ call (c-make 0 0 1 511) ⇒ ok
     ∷ call (c-make 0 0 1 511) ⇒ ok
-    ∷ look ⇒ seen sync1 (Full 12 ∷ Condemned 12 ∷ []) []
+    ∷ look ⇒ seen sync1 (Full 12 ∷ Condemned 12 4 ∷ []) []
     ∷ call (c-make 0 0 1 511) ⇒ no 10
     ∷ call (c-clear 0 0) ⇒ ok
     ∷ call (c-check 0) ⇒ ok
@@ -93,14 +93,14 @@ fills =
     ∷ call (c-make 0 0 1 511) ⇒ ok
     ∷ call (c-clear 0 0) ⇒ ok
     ∷ start ⇒ ok
-    ∷ look ⇒ seen sync1 (Condemned 12 ∷ Condemned 12 ∷ []) []
+    ∷ look ⇒ seen sync1 (Condemned 12 4 ∷ Condemned 12 4 ∷ []) []
     ∷ call (c-check 0) ⇒ ok
     ∷ step ⇒ stepped Moved
     ∷ call (c-check 0) ⇒ ok
     ∷ step ⇒ stepped Moved
     ∷ step ⇒ stepped Moved
     ∷ step ⇒ stepped (Swept 0 4)
-    ∷ look ⇒ seen sweep (Free ∷ Condemned 12 ∷ []) []
+    ∷ look ⇒ seen sweep (Free ∷ Condemned 12 4 ∷ []) []
     ∷ step ⇒ stepped (Swept 1 4)
     ∷ step ⇒ stepped Done
     ∷ look ⇒ seen idle (Free ∷ Free ∷ []) []

@@ -1,3 +1,4 @@
 -- The cycles hold.
 pub mod Cycles
 pub mod EmptyCycles
+pub mod PartCycles

@@ -24,20 +24,20 @@ cycle =
     ∷ call (c-clear 0 1) ⇒ ok
     ∷ call (c-clear 0 2) ⇒ ok
     ∷ start ⇒ ok
-    ∷ look ⇒ seen sync1 (Condemned 12 ∷ []) []
+    ∷ look ⇒ seen sync1 (Condemned 12 4 ∷ []) []
     ∷ step ⇒ stepped (Waiting 1)
     ∷ call (c-check 0) ⇒ ok
-    ∷ look ⇒ seen sync1 (Condemned 12 ∷ []) []
+    ∷ look ⇒ seen sync1 (Condemned 12 4 ∷ []) []
     ∷ step ⇒ stepped Moved
     ∷ step ⇒ stepped (Waiting 1)
     ∷ call (c-check 0) ⇒ ok
-    ∷ look ⇒ seen sync2 (Condemned 12 ∷ []) (1 ∷ 3073 ∷ [])
+    ∷ look ⇒ seen sync2 (Condemned 12 4 ∷ []) (1 ∷ 3073 ∷ [])
     ∷ step ⇒ stepped Moved
     ∷ step ⇒ stepped Traced
-    ∷ look ⇒ seen mark (Condemned 12 ∷ []) (1 ∷ [])
+    ∷ look ⇒ seen mark (Condemned 12 4 ∷ []) (1 ∷ [])
     ∷ step ⇒ stepped Traced
     ∷ step ⇒ stepped Moved
-    ∷ look ⇒ seen sweep (Condemned 12 ∷ []) []
+    ∷ look ⇒ seen sweep (Condemned 12 4 ∷ []) []
     ∷ step ⇒ stepped (Swept 0 2)
     ∷ look ⇒ seen sweep (Part 12 0 ∷ []) []
     ∷ step ⇒ stepped Done
@@ -62,32 +62,32 @@ barriers =
     ∷ call (c-clear 0 1) ⇒ ok
     ∷ start ⇒ ok
     ∷ call (c-store 0 2 0 3) ⇒ ok
-    ∷ look ⇒ seen sync1 (Condemned 12 ∷ []) []
+    ∷ look ⇒ seen sync1 (Condemned 12 4 ∷ []) []
     -- after it: the new value, then the old
     ∷ call (c-check 0) ⇒ ok
     ∷ call (c-store 0 2 0 0) ⇒ ok
-    ∷ look ⇒ seen sync1 (Condemned 12 ∷ []) (1 ∷ 3073 ∷ [])
+    ∷ look ⇒ seen sync1 (Condemned 12 4 ∷ []) (1 ∷ 3073 ∷ [])
     ∷ call (c-store 0 2 0 15) ⇒ ok
-    ∷ look ⇒ seen sync1 (Condemned 12 ∷ []) (1 ∷ 3073 ∷ [])
+    ∷ look ⇒ seen sync1 (Condemned 12 4 ∷ []) (1 ∷ 3073 ∷ [])
     ∷ step ⇒ stepped Moved
     ∷ call (c-store 0 3 0 2) ⇒ ok
-    ∷ look ⇒ seen sync2 (Condemned 12 ∷ []) (1 ∷ 3073 ∷ 2049 ∷ [])
+    ∷ look ⇒ seen sync2 (Condemned 12 4 ∷ []) (1 ∷ 3073 ∷ 2049 ∷ [])
     ∷ call (c-check 0) ⇒ ok
     ∷ step ⇒ stepped Moved
     -- in mark: the old value
-    ∷ look ⇒ seen mark (Condemned 12 ∷ []) (1 ∷ 3073 ∷ 2049 ∷ [])
+    ∷ look ⇒ seen mark (Condemned 12 4 ∷ []) (1 ∷ 3073 ∷ 2049 ∷ [])
     ∷ call (c-store 0 0 0 15) ⇒ ok
-    ∷ look ⇒ seen mark (Condemned 12 ∷ []) (1 ∷ 3073 ∷ 2049 ∷ 1025 ∷ [])
+    ∷ look ⇒ seen mark (Condemned 12 4 ∷ []) (1 ∷ 3073 ∷ 2049 ∷ 1025 ∷ [])
     ∷ call (c-store 0 0 0 2) ⇒ ok
     ∷ step ⇒ stepped Traced
     ∷ step ⇒ stepped Traced
     ∷ step ⇒ stepped Traced
-    ∷ look ⇒ seen mark (Condemned 12 ∷ []) (1 ∷ [])
+    ∷ look ⇒ seen mark (Condemned 12 4 ∷ []) (1 ∷ [])
     ∷ step ⇒ stepped Traced
     ∷ step ⇒ stepped Moved
     -- in sweep: nothing
     ∷ call (c-store 0 0 0 3) ⇒ ok
-    ∷ look ⇒ seen sweep (Condemned 12 ∷ []) []
+    ∷ look ⇒ seen sweep (Condemned 12 4 ∷ []) []
     ∷ step ⇒ stepped (Swept 0 0)
     ∷ look ⇒ seen sweep (Full 12 ∷ []) []
     ∷ step ⇒ stepped Done
@@ -95,9 +95,9 @@ barriers =
     ∷ start ⇒ ok
     ∷ call (c-leave 0) ⇒ ok
     ∷ step ⇒ stepped Moved
-    ∷ look ⇒ seen sync2 (Condemned 12 ∷ []) []
+    ∷ look ⇒ seen sync2 (Condemned 12 4 ∷ []) []
     ∷ step ⇒ stepped Moved
-    ∷ look ⇒ seen mark (Condemned 12 ∷ []) (1 ∷ 2049 ∷ 3073 ∷ [])
+    ∷ look ⇒ seen mark (Condemned 12 4 ∷ []) (1 ∷ 2049 ∷ 3073 ∷ [])
     ∷ call (c-enter 0) ⇒ ok
     ∷ step ⇒ stepped Traced
     ∷ step ⇒ stepped Traced
@@ -151,13 +151,13 @@ mutators =
     ∷ step ⇒ stepped Moved
     -- second handshake: step answers for mutator 2, and enters its root
     ∷ call (c-make 0 4 1 63) ⇒ ok
-    ∷ look ⇒ seen sync2 (Condemned 12 ∷ Held 9 1 0 ∷ []) []
+    ∷ look ⇒ seen sync2 (Condemned 12 4 ∷ Held 9 1 0 ∷ []) []
     ∷ step ⇒ stepped (Waiting 2)
-    ∷ look ⇒ seen sync2 (Condemned 12 ∷ Held 9 1 0 ∷ []) (1025 ∷ [])
+    ∷ look ⇒ seen sync2 (Condemned 12 4 ∷ Held 9 1 0 ∷ []) (1025 ∷ [])
     ∷ call (c-check 1) ⇒ ok
     ∷ step ⇒ stepped (Waiting 1)
     ∷ call (c-check 0) ⇒ ok
-    ∷ look ⇒ seen sync2 (Condemned 12 ∷ Held 9 1 0 ∷ []) (1025 ∷ 1 ∷ 4097 ∷ [])
+    ∷ look ⇒ seen sync2 (Condemned 12 4 ∷ Held 9 1 0 ∷ []) (1025 ∷ 1 ∷ 4097 ∷ [])
     -- born marked: the store enters neither it nor the one on the stack
     ∷ call (c-make 0 5 1 63) ⇒ ok
     ∷ call (c-store 0 5 0 0) ⇒ ok
@@ -167,11 +167,11 @@ mutators =
     ∷ call (c-attach 3) ⇒ ok
     ∷ call (c-make 3 0 1 511) ⇒ no 10
     ∷ call (c-spawn 4 0 5) ⇒ ok
-    ∷ look ⇒ seen mark (Condemned 12 ∷ Held 9 2 0 ∷ []) (1025 ∷ 1 ∷ 4097 ∷ [])
+    ∷ look ⇒ seen mark (Condemned 12 4 ∷ Held 9 2 0 ∷ []) (1025 ∷ 1 ∷ 4097 ∷ [])
     ∷ step ⇒ stepped Traced
     -- links in field order; the last of the three names the record that is marked
     ∷ step ⇒ stepped Traced
-    ∷ look ⇒ seen mark (Condemned 12 ∷ Held 9 2 0 ∷ []) (1025 ∷ 3073 ∷ 2049 ∷ [])
+    ∷ look ⇒ seen mark (Condemned 12 4 ∷ Held 9 2 0 ∷ []) (1025 ∷ 3073 ∷ 2049 ∷ [])
     ∷ step ⇒ stepped Traced
     ∷ step ⇒ stepped Traced
     ∷ step ⇒ stepped Traced
@@ -194,7 +194,7 @@ mutators =
     ∷ call (c-check 3) ⇒ ok
     ∷ call (c-check 1) ⇒ ok
     ∷ call (c-check 0) ⇒ ok
-    ∷ look ⇒ seen sync2 (Condemned 12 ∷ Held 9 2 0 ∷ []) (4225 ∷ 1 ∷ 4097 ∷ [])
+    ∷ look ⇒ seen sync2 (Condemned 12 4 ∷ Held 9 2 0 ∷ []) (4225 ∷ 1 ∷ 4097 ∷ [])
     ∷ step ⇒ stepped Moved
     ∷ step ⇒ stepped Traced
     ∷ step ⇒ stepped Traced

@@ -1,5 +1,6 @@
--- Cycles over nothing. Request No. 1: "A start in idle with no full segment now opens a cycle over no segments." Records of one pointer and 63
--- values are of class 9, 32 to a segment, 128 words apart: those of segment 0 are 1, 129, 257 and so on.
+-- Cycles over nothing. Request No. 1: "A start in idle with no full segment now opens a cycle over no segments." Request No. 5: it "now needs a start
+-- with neither full nor part ones". Records of one pointer and 63 values are of class 9, 32 to a segment, 128 words apart: those of segment 0 are 1,
+-- 129, 257 and so on.
 use mathlib.Core.Bool.{true}
 use mathlib.Core.Option.{Option, none, some}
 use mathlib.Core.List.{List, [], _∷_}
@@ -99,66 +100,77 @@ inside =
     ∷ call (c-load 0 6 3 0) ⇒ ok
     ∷ call (c-same 0 6 2) ⇒ answer (a-flag true)
     ∷ look ⇒ seen idle (Held 9 7 0 ∷ Free ∷ []) []
+    -- the next start over nothing clears the marks of this cycle, of blocks 0, 2, 3 and 4, and every acknowledgement
+    ∷ marks 0 ⇒ words (29 ∷ [])
+    ∷ acknowledgements 3 ⇒ words (2 ∷ 2 ∷ 0 ∷ [])
+    ∷ start ⇒ ok
+    ∷ marks 0 ⇒ words (0 ∷ [])
+    ∷ acknowledgements 3 ⇒ words (0 ∷ 0 ∷ 0 ∷ [])
     ∷ []
 
--- three segments, one part, one held and one free: a start condemns none of them; the mutator outside. Records of one pointer and 511 values are of
--- class 12, four to a segment
+-- three segments, two held and one free: a start condemns none of them, nor one that becomes full or part in that cycle; a later one condemns both.
+-- Records of one pointer and 511 values are of class 12, four to a segment
 abbrev pub unfilled : List Line
 unfilled =
     opening ⇒ ok
     ∷ call (c-attach 0) ⇒ ok
     ∷ call (c-make 0 0 1 511) ⇒ ok
-    ∷ call (c-detach 0) ⇒ ok
     ∷ call (c-attach 1) ⇒ ok
     ∷ call (c-make 1 0 1 63) ⇒ ok
-    ∷ look ⇒ seen idle (Part 12 1 ∷ Held 9 1 1 ∷ Free ∷ []) []
+    ∷ look ⇒ seen idle (Held 12 1 0 ∷ Held 9 1 1 ∷ Free ∷ []) []
     ∷ start ⇒ ok
-    ∷ look ⇒ seen sync1 (Part 12 1 ∷ Held 9 1 1 ∷ Free ∷ []) []
-    -- the part segment is taken in the first handshake
-    ∷ call (c-make 1 1 1 511) ⇒ ok
-    ∷ call (c-make 1 2 1 511) ⇒ ok
+    ∷ look ⇒ seen sync1 (Held 12 1 0 ∷ Held 9 1 1 ∷ Free ∷ []) []
+    -- the first handshake: makes, and both mutators go outside
+    ∷ call (c-make 0 1 1 511) ⇒ ok
+    ∷ call (c-make 0 2 1 511) ⇒ ok
+    ∷ call (c-leave 0) ⇒ ok
     ∷ call (c-leave 1) ⇒ ok
     ∷ step ⇒ stepped Moved
-    ∷ look ⇒ seen sync2 (Held 12 3 1 ∷ Held 9 1 1 ∷ Free ∷ []) []
+    ∷ look ⇒ seen sync2 (Held 12 3 0 ∷ Held 9 1 1 ∷ Free ∷ []) []
     ∷ step ⇒ stepped Moved
-    ∷ look ⇒ seen mark (Held 12 3 1 ∷ Held 9 1 1 ∷ Free ∷ []) (4097 ∷ 1025 ∷ 2049 ∷ [])
-    -- it becomes full in mark, and is not swept in this cycle
+    ∷ look ⇒ seen mark (Held 12 3 0 ∷ Held 9 1 1 ∷ Free ∷ []) (1 ∷ 1025 ∷ 2049 ∷ 4097 ∷ [])
+    -- in mark one becomes full and one part, and neither is swept in this cycle
+    ∷ call (c-enter 0) ⇒ ok
+    ∷ call (c-make 0 3 1 511) ⇒ ok
     ∷ call (c-enter 1) ⇒ ok
-    ∷ call (c-make 1 3 1 511) ⇒ ok
+    ∷ call (c-detach 1) ⇒ ok
+    ∷ step ⇒ stepped Traced
     ∷ step ⇒ stepped Traced
     ∷ step ⇒ stepped Traced
     ∷ step ⇒ stepped Traced
     ∷ step ⇒ stepped Moved
-    ∷ look ⇒ seen sweep (Full 12 ∷ Held 9 1 1 ∷ Free ∷ []) []
+    ∷ look ⇒ seen sweep (Full 12 ∷ Part 9 1 ∷ Free ∷ []) []
     ∷ step ⇒ stepped Done
-    ∷ look ⇒ seen idle (Full 12 ∷ Held 9 1 1 ∷ Free ∷ []) []
-    -- but in the next, where the record that mutator 0 made is freed
+    ∷ look ⇒ seen idle (Full 12 ∷ Part 9 1 ∷ Free ∷ []) []
+    -- but in the next, where a record that is dropped is freed, and the one that mutator 1 made
+    ∷ call (c-clear 0 0) ⇒ ok
     ∷ start ⇒ ok
-    ∷ look ⇒ seen sync1 (Condemned 12 ∷ Held 9 1 1 ∷ Free ∷ []) []
-    ∷ call (c-leave 1) ⇒ ok
+    ∷ look ⇒ seen sync1 (Condemned 12 4 ∷ Condemned 9 1 ∷ Free ∷ []) []
+    ∷ call (c-leave 0) ⇒ ok
     ∷ step ⇒ stepped Moved
     ∷ step ⇒ stepped Moved
-    ∷ step ⇒ stepped Traced
     ∷ step ⇒ stepped Traced
     ∷ step ⇒ stepped Traced
     ∷ step ⇒ stepped Traced
     ∷ step ⇒ stepped Moved
     ∷ step ⇒ stepped (Swept 0 1)
+    ∷ step ⇒ stepped (Swept 1 1)
     ∷ step ⇒ stepped Done
-    -- a cycle over nothing again: the part segment keeps its three marked blocks in use
+    ∷ look ⇒ seen idle (Part 12 0 ∷ Free ∷ Free ∷ []) []
+    -- no cycle over nothing: the part segment is condemned with place 0, and its three marked blocks stay in use
     ∷ start ⇒ ok
-    ∷ look ⇒ seen sync1 (Part 12 0 ∷ Held 9 1 1 ∷ Free ∷ []) []
+    ∷ look ⇒ seen sync1 (Condemned 12 0 ∷ Free ∷ Free ∷ []) []
     ∷ step ⇒ stepped Moved
     ∷ step ⇒ stepped Moved
     ∷ step ⇒ stepped Traced
     ∷ step ⇒ stepped Traced
     ∷ step ⇒ stepped Traced
-    ∷ step ⇒ stepped Traced
     ∷ step ⇒ stepped Moved
+    ∷ step ⇒ stepped (Swept 0 0)
     ∷ step ⇒ stepped Done
-    ∷ call (c-enter 1) ⇒ ok
-    ∷ call (c-make 1 4 1 511) ⇒ ok
-    ∷ look ⇒ seen idle (Full 12 ∷ Held 9 1 1 ∷ Free ∷ []) []
+    ∷ call (c-enter 0) ⇒ ok
+    ∷ call (c-make 0 4 1 511) ⇒ ok
+    ∷ look ⇒ seen idle (Full 12 ∷ Free ∷ Free ∷ []) []
     ∷ []
 
 -- ---- "each script call answers what it would answer over the same heap in idle, save 11 in its roll calls"

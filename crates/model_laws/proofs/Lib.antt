@@ -8,6 +8,7 @@ pub mod Operations
 pub mod Entries
 pub mod Stacks
 pub mod OtherStacks
+pub mod Emptied
 pub mod Segments
 pub mod Parted
 pub mod Releasing

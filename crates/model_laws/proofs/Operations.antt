@@ -6,6 +6,7 @@ use Prim.Native.Nat.{ℕ, zero, suc, _+_, _-_, _*_}
 use lib.Dec.{eqb}
 use lib.ListN.{length, length-replicate}
 use Rattle.basics.specs.Pick.{pick}
+use Rattle.classes.specs.Class.{classCount}
 use Rattle.layout.specs.declared.Geometry.{Geometry}
 use Rattle.layout.specs.Geometry.{mutatorCount, mutatorWords, rootCount}
 use Rattle.layout.specs.Mem.{Mem, setTrace, setStack, Sizes}
@@ -16,7 +17,7 @@ use Rattle.model.specs.Segments.{stacked, count}
 use Rattle.model.specs.Records.{record?, pointerCount, pointer, entered, setEntered}
 use Rattle.model.specs.Tracing.{push, barrier, pushRoots, pushPointers, popped, traced, onTop}
 use Rattle.model.specs.Mutators.{given, acknowledged}
-use Rattle.model.specs.Collector.{collects, condemned, acksReset, marksCleared, started}
+use Rattle.model.specs.Collector.{collects, condemned, partsEmptied, acksReset, marksCleared, started}
 use Rattle.model_laws.proofs.Lengths.{sizes-control, sizes-mutator, sizes-segment, sizes-stack, sizes-entered, sizes-trace}
 use Rattle.model.specs.Tag as Tag
 
@@ -85,6 +86,11 @@ module _ (g : Geometry) where
       let y : Sizes g (condemned m s) = sizes-condemned m z s in
       sizes-pick (collects m s) (setTag (condemned m s) s Tag.condemned) (condemned m s) (sizes-segment g (condemned m s) y _ _) y
 
+  pub sizes-emptied : (m : Mem) → Sizes g m → (n : ℕ) → Sizes g (partsEmptied g m n)
+  unfolding partsEmptied
+  sizes-emptied m z zero = z
+  sizes-emptied m z (suc n) = sizes-stack g (partsEmptied g m n) (sizes-emptied m z n) _ 0
+
   pub sizes-reset : (m : Mem) → Sizes g m → (n : ℕ) → Sizes g (acksReset m n)
   unfolding acksReset
   sizes-reset m z zero = z
@@ -105,7 +111,8 @@ module _ (g : Geometry) where
   pub sizes-started : (m : Mem) → Sizes g m → Sizes g (started g m)
   unfolding started
   sizes-started m z =
-      let m₁ : Mem = condemned m (g .segments) in
+      let m₀ : Mem = condemned m (g .segments) in
+      let m₁ : Mem = partsEmptied g m₀ classCount in
       let m₂ : Mem = acksReset m₁ mutatorCount in
-      let y = sizes-cleared m₂ (sizes-reset m₁ (sizes-condemned m z (g .segments)) mutatorCount) in
+      let y = sizes-cleared m₂ (sizes-reset m₁ (sizes-emptied m₀ (sizes-condemned m z (g .segments)) classCount) mutatorCount) in
       sizes-control g (setCursor (marksCleared m₂) 0) (sizes-control g (marksCleared m₂) y 2 0) 0 (phaseNumber sync1)

@@ -67,7 +67,7 @@ segment-by g m m₁ q o x e h = record {
   classes = λ f. subst IsClass (sym (x .class)) (o .classes (λ y. f (x .tag ∙ y)));
   remains = λ a b. let y = x .tag in remain (λ z. omega arith) (o .remains (omega arith) (omega arith));
   full = λ a. x .place ∙ o .full (sym (x .tag) ∙ a) ∙ ap (blocksIn g) (sym (x .class));
-  condemned = λ a. x .place ∙ o .condemned (sym (x .tag) ∙ a) ∙ ap (blocksIn g) (sym (x .class));
+  condemned = λ a. subst (λ z. place m₁ q ≤ blocksIn g z) (sym (x .class)) (subst (λ z. z ≤ blocksIn g (class m q)) (sym (x .place)) (o .condemned (sym (x .tag) ∙ a)));
   held = λ f. let y : tag m q ≡ Tag.held = sym (x .tag) ∙ f in (
     subst (λ z. z < mutatorCount) (sym (x .owner)) (o .held y .0),
     λ z. h y .0 (ap (state m₁) (sym (x .owner)) ∙ z),

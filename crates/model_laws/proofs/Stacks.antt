@@ -1,4 +1,4 @@
--- A segment put on a stack and taken off, and a stack that a call leaves alone.
+-- A segment put on a stack and taken off, an empty stack, and a stack that a call leaves alone.
 use mathlib.Core.Path.{_≡_, sym, _∙_, ap, subst}
 use mathlib.Core.Logic.{_⊎_, inl, inr, ⊎-elim}
 use mathlib.Core.Bool.{Bool, true, false, true≢false}
@@ -15,7 +15,7 @@ use Rattle.model.specs.Segments.{count, entry, top, pop, stacked}
 use Rattle.model.specs.Consistent.{StackOk}
 use Rattle.model_laws.proofs.Bools.{one-less}
 use Rattle.model_laws.proofs.Words.{stack-there, stack-other}
-use Rattle.words.proofs.Counts.{among-change, zero-less}
+use Rattle.words.proofs.Counts.{among-change, zero-less, no-ones}
 use Rattle.model_laws.proofs.Lengths.{sizes-stack}
 
 -- a stack has no more entries than there are segments
@@ -28,6 +28,23 @@ stack-room g m t test o r l e =
     let n = o .number in
     let f = zero-less (λ i. oneIf (test i)) (λ i. one-less (test i)) (g .segments) r l (ap oneIf e) in
     omega arith
+
+-- ---- a stack that is empty: no segment passes the test, and its count is 0
+
+module _ (g : Geometry) (m : Mem) (t : ℕ) (test : ℕ → Bool) (none : (s : ℕ) → s < g .segments → test s ≡ false) where
+  none-pass : onesAmong (λ s. oneIf (test s)) (g .segments) ≡ 0
+  none-pass = no-ones (λ s. oneIf (test s)) (g .segments) (λ i l. ap oneIf (none i l))
+
+  pub stack-none : count g m t ≡ 0 → StackOk g m t test
+  stack-none z = record {
+    number = z ∙ sym none-pass;
+    members = λ i l. absurd (omega arith);
+    once = λ i j l k q. omega arith;
+    all = λ s l q. absurd (true≢false (sym q ∙ none s l));
+  }
+
+  pub none-stacked : StackOk g m t test → count g m t ≡ 0
+  none-stacked o = o .number ∙ none-pass
 
 -- ---- a stack whose words and whose test stay
 

@@ -175,28 +175,28 @@ tagOf state.Free = Tag.free
 tagOf (state.Part c p) = Tag.part
 tagOf (state.Held c p k) = Tag.held
 tagOf (state.Full c) = Tag.full
-tagOf (state.Condemned c) = Tag.condemned
+tagOf (state.Condemned c p) = Tag.condemned
 
 abbrev pub classIn : SegmentState → ℕ
 classIn state.Free = 0
 classIn (state.Part c p) = c
 classIn (state.Held c p k) = c
 classIn (state.Full c) = c
-classIn (state.Condemned c) = c
+classIn (state.Condemned c p) = c
 
 abbrev pub placeIn : (g : Geometry) → SegmentState → ℕ
 placeIn g state.Free = 0
 placeIn g (state.Part c p) = p
 placeIn g (state.Held c p k) = p
 placeIn g (state.Full c) = blocksIn g c
-placeIn g (state.Condemned c) = blocksIn g c
+placeIn g (state.Condemned c p) = p
 
 abbrev pub ownerIn : SegmentState → ℕ
 ownerIn state.Free = 0
 ownerIn (state.Part c p) = 0
 ownerIn (state.Held c p k) = k
 ownerIn (state.Full c) = 0
-ownerIn (state.Condemned c) = 0
+ownerIn (state.Condemned c p) = 0
 
 pub state-is : (g : Geometry) (m : Mem) (s : ℕ) (x : SegmentState) → setSegmentState g m s x ≡ setRecord m s (tagOf x) (classIn x) (placeIn g x) (ownerIn x)
 unfolding setSegmentState
@@ -204,7 +204,7 @@ state-is g m s state.Free = refl
 state-is g m s (state.Part c p) = refl
 state-is g m s (state.Held c p k) = refl
 state-is g m s (state.Full c) = refl
-state-is g m s (state.Condemned c) = refl
+state-is g m s (state.Condemned c p) = refl
 
 -- the record of a segment whose state is set, and of another
 pub state-there : (g : Geometry) (m : Mem) (s : ℕ) (x : SegmentState) → s * segmentRecordWords + ownerAt < length (m .segments)

@@ -22,24 +22,24 @@ entering =
     -- roll 1, after it: the new value, then the old
     ∷ call (c-check 0) ⇒ ok
     ∷ call (c-store 0 0 0 2) ⇒ ok
-    ∷ look ⇒ seen sync1 (Condemned 12 ∷ []) (2049 ∷ 1025 ∷ [])
+    ∷ look ⇒ seen sync1 (Condemned 12 4 ∷ []) (2049 ∷ 1025 ∷ [])
     ∷ enteredIn 0 ⇒ words (6 ∷ [])
     ∷ marks 0 ⇒ words (0 ∷ [])
     -- roll 2: the new one only, as the old is on the stack already
     ∷ step ⇒ stepped Moved
     ∷ call (c-store 0 0 0 3) ⇒ ok
-    ∷ look ⇒ seen sync2 (Condemned 12 ∷ []) (2049 ∷ 1025 ∷ 3073 ∷ [])
+    ∷ look ⇒ seen sync2 (Condemned 12 4 ∷ []) (2049 ∷ 1025 ∷ 3073 ∷ [])
     ∷ enteredIn 0 ⇒ words (14 ∷ [])
     ∷ marks 0 ⇒ words (0 ∷ [])
     -- its roots, the three on the stack once
     ∷ call (c-check 0) ⇒ ok
-    ∷ look ⇒ seen sync2 (Condemned 12 ∷ []) (2049 ∷ 1025 ∷ 3073 ∷ 1 ∷ [])
+    ∷ look ⇒ seen sync2 (Condemned 12 4 ∷ []) (2049 ∷ 1025 ∷ 3073 ∷ 1 ∷ [])
     ∷ enteredIn 0 ⇒ words (15 ∷ [])
     ∷ marks 0 ⇒ words (0 ∷ [])
     -- traced: off the stack, it keeps its bit and is marked
     ∷ step ⇒ stepped Moved
     ∷ step ⇒ stepped Traced
-    ∷ look ⇒ seen mark (Condemned 12 ∷ []) (2049 ∷ 1025 ∷ 3073 ∷ [])
+    ∷ look ⇒ seen mark (Condemned 12 4 ∷ []) (2049 ∷ 1025 ∷ 3073 ∷ [])
     ∷ enteredIn 0 ⇒ words (15 ∷ [])
     ∷ marks 0 ⇒ words (1 ∷ [])
     ∷ step ⇒ stepped Traced
@@ -48,7 +48,7 @@ entering =
     ∷ call (c-store 0 3 0 2) ⇒ ok
     ∷ call (c-store 0 3 0 0) ⇒ ok
     ∷ call (c-store 0 3 0 2) ⇒ ok
-    ∷ look ⇒ seen mark (Condemned 12 ∷ []) (2049 ∷ 1025 ∷ [])
+    ∷ look ⇒ seen mark (Condemned 12 4 ∷ []) (2049 ∷ 1025 ∷ [])
     ∷ enteredIn 0 ⇒ words (15 ∷ [])
     ∷ step ⇒ stepped Traced
     ∷ step ⇒ stepped Traced
@@ -56,7 +56,7 @@ entering =
     ∷ marks 0 ⇒ words (15 ∷ [])
     -- with an empty stack the bits are the marks
     ∷ step ⇒ stepped Moved
-    ∷ look ⇒ seen sweep (Condemned 12 ∷ []) []
+    ∷ look ⇒ seen sweep (Condemned 12 4 ∷ []) []
     ∷ step ⇒ stepped (Swept 0 0)
     ∷ step ⇒ stepped Done
     ∷ []

@@ -34,7 +34,7 @@ handshakes =
     -- before its first answer a store enters nothing
     ∷ call (c-load 0 1 0 0) ⇒ ok
     ∷ call (c-store 0 0 0 1) ⇒ ok
-    ∷ look ⇒ seen sync1 (Condemned 12 ∷ Free ∷ []) []
+    ∷ look ⇒ seen sync1 (Condemned 12 4 ∷ Free ∷ []) []
     ∷ call (c-clear 0 1) ⇒ ok
     ∷ call (c-check 0) ⇒ ok
     -- enter: "an answer owed stays owed", and leave gives it
@@ -50,13 +50,13 @@ handshakes =
     ∷ call (c-detach 0) ⇒ no 11
     -- step answers for 1 and 2, in number order; 3 owes its second answer
     ∷ step ⇒ stepped (Waiting 2)
-    ∷ look ⇒ seen sync2 (Condemned 12 ∷ Free ∷ []) (3073 ∷ 1 ∷ [])
+    ∷ look ⇒ seen sync2 (Condemned 12 4 ∷ Free ∷ []) (3073 ∷ 1 ∷ [])
     -- between the second answer and mark: the new value (the old one is nil)
     ∷ call (c-check 3) ⇒ ok
     ∷ call (c-check 0) ⇒ ok
     ∷ call (c-load 0 1 0 0) ⇒ ok
     ∷ call (c-store 0 3 0 1) ⇒ ok
-    ∷ look ⇒ seen sync2 (Condemned 12 ∷ Free ∷ []) (3073 ∷ 1 ∷ 1025 ∷ [])
+    ∷ look ⇒ seen sync2 (Condemned 12 4 ∷ Free ∷ []) (3073 ∷ 1 ∷ 1025 ∷ [])
     ∷ step ⇒ stepped Moved
     -- in mark: the old value alone, a block born marked is not entered
     ∷ start ⇒ no 11
@@ -68,7 +68,7 @@ handshakes =
     ∷ call (c-store 4 1 0 2) ⇒ ok
     ∷ call (c-store 4 1 0 15) ⇒ ok
     ∷ call (c-detach 4) ⇒ ok
-    ∷ look ⇒ seen mark (Condemned 12 ∷ Part 9 2 ∷ []) (3073 ∷ 1 ∷ 1025 ∷ [])
+    ∷ look ⇒ seen mark (Condemned 12 4 ∷ Part 9 2 ∷ []) (3073 ∷ 1 ∷ 1025 ∷ [])
     ∷ step ⇒ stepped Traced
     ∷ step ⇒ stepped Traced
     ∷ step ⇒ stepped Traced

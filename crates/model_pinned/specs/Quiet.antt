@@ -58,21 +58,21 @@ quiet =
     (call (c-check 0) ⇒ ok
     ∷ rootCalls
     (checks
-    (look ⇒ seen sync1 (Condemned 12 ∷ Free ∷ []) []
+    (look ⇒ seen sync1 (Condemned 12 4 ∷ Free ∷ []) []
     -- before and after the second
     ∷ step ⇒ stepped Moved
     ∷ rootCalls
     (call (c-check 0) ⇒ ok
     ∷ rootCalls
     (checks
-    (look ⇒ seen sync2 (Condemned 12 ∷ Free ∷ []) (1 ∷ [])
+    (look ⇒ seen sync2 (Condemned 12 4 ∷ Free ∷ []) (1 ∷ [])
     -- in mark
     ∷ step ⇒ stepped Moved
     ∷ rootCalls
     (checks
-    (look ⇒ seen mark (Condemned 12 ∷ Free ∷ []) (1 ∷ [])
+    (look ⇒ seen mark (Condemned 12 4 ∷ Free ∷ []) (1 ∷ [])
     ∷ step ⇒ stepped Traced
-    ∷ look ⇒ seen mark (Condemned 12 ∷ Free ∷ []) (1025 ∷ 2049 ∷ 3073 ∷ [])
+    ∷ look ⇒ seen mark (Condemned 12 4 ∷ Free ∷ []) (1025 ∷ 2049 ∷ 3073 ∷ [])
     ∷ step ⇒ stepped Traced
     ∷ step ⇒ stepped Traced
     ∷ step ⇒ stepped Traced
@@ -88,7 +88,7 @@ quiet =
     ∷ call (c-check 0) ⇒ ok
     ∷ call (c-clear 0 1) ⇒ ok
     ∷ call (c-store 0 4 0 15) ⇒ ok
-    ∷ look ⇒ seen sweep (Condemned 12 ∷ Held 9 2 0 ∷ []) []
+    ∷ look ⇒ seen sweep (Condemned 12 4 ∷ Held 9 2 0 ∷ []) []
     ∷ step ⇒ stepped (Swept 0 0)
     ∷ step ⇒ stepped Done
     -- in idle after a cycle: a make sets no mark, and who is spawned has acknowledged nothing, unlike the parent in that cycle

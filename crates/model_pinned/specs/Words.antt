@@ -69,7 +69,7 @@ written =
     ∷ step ⇒ stepped Done
     ∷ call (c-detach 2) ⇒ ok
     ∷ acknowledgements 4 ⇒ words (2 ∷ 2 ∷ 0 ∷ 0 ∷ [])
-    -- start with nothing full clears every mark and acknowledgement as well
+    -- a start with nothing full, which condemns a part segment, clears every mark and acknowledgement as well
     ∷ marks 0 ⇒ words (11 ∷ [])
     ∷ marks 1 ⇒ words (7 ∷ [])
     ∷ start ⇒ ok

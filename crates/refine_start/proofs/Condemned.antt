@@ -5,14 +5,13 @@ use mathlib.Core.Bool.{Bool, true, false}
 use Prim.Native.Nat.{ℕ, zero, suc, _≤_, _<_}
 use native.Mathlib.Omega.{arith}
 use lib.ListN.{List·getD-eq-default}
-use borrow.Author.Tests.{ne-eqb}
 use Rattle.basics.specs.Pick.{pick}
 use Rattle.basics.proofs.Order.{le-or-lt, same-or-not}
 use Rattle.layout.specs.declared.Geometry.{Geometry}
 use Rattle.layout.specs.Mem.{Mem, Sizes}
 use Rattle.model.specs.Fields.{tag, setTag}
 use Rattle.model.specs.Collector.{collects, condemned}
-use Rattle.model.proofs.Collecting.{collects-full}
+use Rattle.model.proofs.Collecting.{other-spared}
 use Rattle.model_laws.proofs.Words.{Retagged, Untouched, untouched-same, untouched-then, retagged-then, retagged-to, OtherRegions, tag-others, tag-there, tag-other}
 use Rattle.words.proofs.Counts.{lt-of}
 use Rattle.model_laws.proofs.Operations.{sizes-condemned}
@@ -83,4 +82,4 @@ module _ (g : Geometry) (m : Mem) (z : Sizes g m) where
       go (inl l) =
           let y = z .segments in
           let t : tag m x ≡ Tag.free = List·getD-eq-default (m .segments) 0 (omega arith) in
-          not-collected m (condemned m (g .segments)) x (collects-full m x ∙ ne-eqb (tag m x) Tag.full (λ e. omega arith)) (below-from (g .segments) (omega arith) x .1 l)
+          not-collected m (condemned m (g .segments)) x (other-spared m x (λ e. omega arith) (λ e. omega arith)) (below-from (g .segments) (omega arith) x .1 l)

@@ -1,6 +1,6 @@
 -- The stacks as an opening leaves them: every segment on the free stack, segment 0 on top, and nothing on a part stack.
 use mathlib.Core.Path.{_≡_, refl, sym, _∙_, ap, subst}
-use mathlib.Core.Bool.{Bool, true, false, true≢false}
+use mathlib.Core.Bool.{Bool, true, false}
 use Prim.Native.Nat.{ℕ, zero, suc, _+_, _-_, _*_, _<_}
 use native.Mathlib.Nat.{suc-mul}
 use native.Mathlib.Omega.{arith}
@@ -13,8 +13,9 @@ use Rattle.layout.specs.Mem.{Mem, stackWord}
 use Rattle.model.specs.Opening.{downTo0, openStacks}
 use Rattle.model.specs.Segments.{freeStack, count, entry}
 use Rattle.model.specs.Consistent.{StackOk}
-use Rattle.words.proofs.Counts.{no-ones, only-ones}
+use Rattle.words.proofs.Counts.{only-ones}
 use Rattle.words.proofs.Zeros.{zeros-at}
+use Rattle.model_laws.proofs.Stacks.{stack-none}
 use Rattle.layout.specs.Region as Region
 
 length-down : (n : ℕ) → length (downTo0 n) ≡ n
@@ -71,11 +72,4 @@ module _ (g : Geometry) (m : Mem) (e : m .stacks ≡ openStacks g) where
 
   -- no segment passes it
   pub part-open : (t : ℕ) (test : ℕ → Bool) → ((s : ℕ) → s < g .segments → test s ≡ false) → StackOk g m (1 + t) test
-  part-open t test h =
-      let z : count g m (1 + t) ≡ 0 = part-count t in
-      record {
-        number = z ∙ sym (no-ones (λ s. oneIf (test s)) (g .segments) (λ i l. ap oneIf (h i l)));
-        members = λ i l. absurd (omega arith);
-        once = λ i j l k q. omega arith;
-        all = λ s l q. absurd (true≢false (sym q ∙ h s l));
-      }
+  part-open t test h = stack-none g m (1 + t) test h (part-count t)

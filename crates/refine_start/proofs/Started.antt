@@ -1,16 +1,16 @@
 -- A start keeps the words in order, agrees with the abstract machine's start, and condemns the segments that it collects.
 use mathlib.Core.Path.{_≡_, refl, sym, _∙_, ap, subst}
 use mathlib.Core.Logic.{_⊎_, inl, inr}
-use mathlib.Core.Bool.{Bool, true, false, not, _&&_}
+use mathlib.Core.Bool.{Bool, true, false, not, _&&_, true≢false}
 use Prim.Native.Nat.{ℕ, _+_, _*_, _≤_, _<_}
 use native.Mathlib.Omega.{arith}
 use lib.Dec.{eqb}
 use lib.ListN.{getD}
-use borrow.Author.Tests.{ne-eqb, eq-eqb, eqb-true, eqb-false}
+use borrow.Author.Tests.{ne-eqb, eq-eqb}
 use Rattle.basics.proofs.Order.{same-or-not}
 use Rattle.basics.specs.Pick.{pick}
 use Rattle.layout.specs.declared.Geometry.{Geometry}
-use Rattle.layout.specs.Geometry.{mutatorWords, entryWords, rootCount, blocksIn, segmentOf, markBit}
+use Rattle.layout.specs.Geometry.{mutatorWords, entryWords, rootCount, segmentOf, markBit}
 use Rattle.layout.specs.Mem.{Mem, mutatorWord, heapWord, Sizes}
 use Rattle.theory.specs.Phases.{idle, sync1}
 use Rattle.theory.specs.Machine.{start}
@@ -19,8 +19,8 @@ use Rattle.model.specs.PhaseNumbers.{phaseOf}
 use Rattle.model.specs.Fields.{phase, traceCount, absent, stateAt, acksAt, state, tag, class, owner, root, holding}
 use Rattle.model.specs.Segments.{freeStack, partStack, usedBit}
 use Rattle.model.specs.Records.{record?, blockOf}
-use Rattle.model.specs.Collector.{isFull, collects, started}
-use Rattle.model.proofs.Collecting.{collects-full}
+use Rattle.model.specs.Collector.{collects, started}
+use Rattle.model.proofs.Collecting.{part-collected, other-spared, condemned-ok}
 use Rattle.model.specs.Reaching.{Live, isMarked}
 use Rattle.classes.specs.Class.{IsClass}
 use Rattle.model.specs.Consistent.{InPhase, SegmentOk, Occupied, MutatorOk, Summed, RecordOk, isFree, isPart}
@@ -29,17 +29,18 @@ use Rattle.refine_view.specs.Refines.{Ordered, EachOccupied, EntriesOk, MarksIn
 use Rattle.model_laws.proofs.Bools.{and-false, test-same}
 use Rattle.refine_view.proofs.Contents.{pointers-by, fields-by}
 use Rattle.refine_view.proofs.Seeing.{root-was, edge-was, live-was}
-use Rattle.model_laws.proofs.OtherStacks.{stack-by}
+use Rattle.model_laws.proofs.Stacks.{stack-none}
+use Rattle.model_laws.proofs.OtherStacks.{stack-words}
 use Rattle.refine_view.proofs.Carried.{block-by, record-by}
 use Rattle.model_laws.proofs.Marked.{unentered}
 use Rattle.model_laws.proofs.Entries.{holding-by, table-below}
-use Rattle.model_laws.proofs.Segments.{segment-same, tree-same, counts-same, occupied-same, part-same, used-same, in-range}
+use Rattle.model_laws.proofs.Segments.{segment-same, tree-same, counts-same, occupied-same, used-same, in-range}
 use Rattle.model_laws.proofs.Bitmaps.{bitmap-by}
 use Rattle.model_laws.proofs.Words.{retagged-to}
 use Rattle.refine_start.proofs.Beginning.{Begun, begun}
 use Rattle.model.specs.Tag as Tag
 
-module _ (g : Geometry) (m m′ : Mem) (z : Sizes g m) (ok : Ordered g m) (quiet : phase m ≡ idle) (b : Begun m m′) where
+module _ (g : Geometry) (m m′ : Mem) (z : Sizes g m) (ok : Ordered g m) (quiet : phase m ≡ idle) (b : Begun g m m′) where
   -- ---- before: the trace stack is empty, and no segment is condemned
 
   was-idle : InPhase idle g m
@@ -53,45 +54,58 @@ module _ (g : Geometry) (m m′ : Mem) (z : Sizes g m) (ok : Ordered g m) (quiet
 
   -- ---- segments
 
-  -- full before and condemned now, or as it was
+  -- collected and condemned now, or as it was
   abbrev Changed : ℕ → Type 0
-  Changed s = ((tag m s ≡ Tag.full) × (tag m′ s ≡ Tag.condemned)) ⊎ ((tag m s ≡ Tag.full → ⊥) × (tag m′ s ≡ tag m s))
+  Changed s = ((collects m s ≡ true) × (tag m′ s ≡ Tag.condemned)) ⊎ ((collects m s ≡ false) × (tag m′ s ≡ tag m s))
 
   changed : (s : ℕ) → Changed s
   changed s = go (collects m s) refl (b .segments s .tag)
     where
       go : (t : Bool) → collects m s ≡ t → tag m′ s ≡ pick t Tag.condemned (tag m s) → Changed s
-      go true e h = inl (eqb-true _ _ (sym (collects-full m s) ∙ e), h)
-      go false e h = inr (eqb-false _ _ (sym (collects-full m s) ∙ e), h)
+      go true e h = inl (e, h)
+      go false e h = inr (e, h)
 
-  -- free, part and held stay so
-  tag-back : (s t : ℕ) → t ≤ 2 → tag m′ s ≡ t → tag m s ≡ t
+  -- free and held stay so, and none is part
+  tag-back : (s t : ℕ) → t ≤ Tag.held → tag m′ s ≡ t → tag m s ≡ t
   tag-back s t l e = go (changed s)
     where
       go : Changed s → tag m s ≡ t
       go (inl q) = absurd (let x = q .1 in omega arith)
       go (inr q) = sym (q .1) ∙ e
 
-  tag-on : (s t : ℕ) → t ≤ 2 → tag m s ≡ t → tag m′ s ≡ t
-  tag-on s t l e = go (changed s)
+  tag-on : (s t : ℕ) → t ≤ Tag.held → (t ≡ Tag.part → ⊥) → tag m s ≡ t → tag m′ s ≡ t
+  tag-on s t l f e = go (changed s)
     where
       go : Changed s → tag m′ s ≡ t
-      go (inl q) = absurd (let x = q .0 in omega arith)
+      go (inl q) = absurd (true≢false (sym (q .0) ∙ other-spared m s (λ u. omega arith) (λ u. f (sym e ∙ u))))
       go (inr q) = q .1 ∙ e
 
-  tag-test : (s t : ℕ) → t ≤ 2 → eqb (tag m′ s) t ≡ eqb (tag m s) t
-  tag-test s t l = test-same (tag m s) (tag m′ s) t (tag-on s t l) (tag-back s t l)
+  free-on : (s : ℕ) → tag m s ≡ Tag.free → tag m′ s ≡ Tag.free
+  free-on s = tag-on s Tag.free (omega arith) (λ e. omega arith)
+
+  free-back : (s : ℕ) → tag m′ s ≡ Tag.free → tag m s ≡ Tag.free
+  free-back s = tag-back s Tag.free (omega arith)
+
+  free-test : (s : ℕ) → eqb (tag m′ s) Tag.free ≡ eqb (tag m s) Tag.free
+  free-test s = test-same (tag m s) (tag m′ s) Tag.free (free-on s) (free-back s)
+
+  never-part : (s : ℕ) → tag m′ s ≡ Tag.part → ⊥
+  never-part s e = go (changed s)
+    where
+      go : Changed s → ⊥
+      go (inl q) = let x = q .1 in omega arith
+      go (inr q) = true≢false (sym (part-collected m s (sym (q .1) ∙ e)) ∙ q .0)
 
   never-condemned : (s : ℕ) → tag m s ≡ Tag.condemned → ⊥
   never-condemned s e = was-idle .1 s (in-range g m z s (λ t. omega arith)) e
 
   -- the condemned ones are those that the start collects
   collected : (s : ℕ) → eqb (tag m′ s) Tag.condemned ≡ collects m s
-  collected s = go (changed s) ∙ sym (collects-full m s)
+  collected s = go (changed s)
     where
-      go : Changed s → eqb (tag m′ s) Tag.condemned ≡ isFull m s
-      go (inl q) = eq-eqb _ _ (q .1) ∙ sym (eq-eqb _ _ (q .0))
-      go (inr q) = ne-eqb _ _ (λ e. never-condemned s (sym (q .1) ∙ e)) ∙ sym (ne-eqb _ _ (q .0))
+      go : Changed s → eqb (tag m′ s) Tag.condemned ≡ collects m s
+      go (inl q) = eq-eqb _ _ (q .1) ∙ sym (q .0)
+      go (inr q) = ne-eqb _ _ (λ e. never-condemned s (sym (q .1) ∙ e)) ∙ sym (q .0)
 
   -- ---- mutators
 
@@ -117,22 +131,9 @@ module _ (g : Geometry) (m m′ : Mem) (z : Sizes g m) (ok : Ordered g m) (quiet
           let w = b .segments s in
           segment-same g m m′ s o (retagged-to w (sym (w .tag) ∙ q .1)) (bitmap-by g m m′ (b .bitmaps) s)
           (λ e. let h = o .held e in (λ n. h .1 (sym (state-same (owner m s)) ∙ n), holding-same (owner m s) (class m s) (o .classes (λ n. omega arith)) ∙ h .2))
-      go (inl q) =
-          let w = b .segments s in
-          let t = q .0 in
-          let u = q .1 in
-          record {
-            tags = omega arith;
-            free = λ e. absurd (omega arith);
-            unowned = λ f. w .owner ∙ o .unowned (λ e. omega arith);
-            classes = λ f. subst IsClass (sym (w .class)) (o .classes (λ e. omega arith));
-            remains = λ l h. absurd (omega arith);
-            full = λ e. absurd (omega arith);
-            condemned = λ e. w .place ∙ o .full t ∙ ap (blocksIn g) (sym (w .class));
-            held = λ e. absurd (omega arith);
-          }
+      go (inl q) = let w = b .segments s in condemned-ok g m m′ s o (q .0) (q .1) (w .class) (w .place) (w .owner)
 
-  -- part and held stay so
+  -- held stay so
   occupied-ok : EachOccupied g m → EachOccupied g m′
   occupied-ok u s l = go (changed s)
     where
@@ -147,7 +148,9 @@ module _ (g : Geometry) (m m′ : Mem) (z : Sizes g m) (ok : Ordered g m) (quiet
     states = let e = state-same k in let l = o .states in omega arith;
     acknowledged = let e = b .acks k in omega arith;
     gone = λ e i l. blank e i l (same-or-not i acksAt);
-    holds = λ c s h e. let q = o .holds c s h (sym (holding-same k c h) ∙ e) in (q .0, tag-on s 2 (omega arith) (q .1), b .segments s .class ∙ q .2, b .segments s .owner ∙ q .3);
+    holds = λ c s h e.
+        let q = o .holds c s h (sym (holding-same k c h) ∙ e) in
+        (q .0, tag-on s Tag.held (omega arith) (λ u. omega arith) (q .1), b .segments s .class ∙ q .2, b .segments s .owner ∙ q .3);
   }
     where
       blank : state m′ k ≡ absent → (i : ℕ) → i < entryWords → (i ≡ acksAt) ⊎ (i ≡ acksAt → ⊥) → mutatorWord m′ (k * mutatorWords + i) ≡ 0
@@ -156,16 +159,16 @@ module _ (g : Geometry) (m m′ : Mem) (z : Sizes g m) (ok : Ordered g m) (quiet
 
   -- ---- trees and stacks
 
-  part-test : (c s : ℕ) → isPart m′ c s ≡ isPart m c s
-  part-test c s = part-same m m′ c s (tag-test s 1 (omega arith)) (b .segments s .class)
+  no-part : (c s : ℕ) → isPart m′ c s ≡ false
+  no-part c s = ap (λ x. x && eqb (class m′ s) c) (ne-eqb _ _ (never-part s))
 
   summed-ok : Summed g m → Summed g m′
   summed-ok o = record {
-    trees = λ s l. tree-same g m m′ s (o .trees s l) (tag-on s 0 (omega arith)) (b .segments s .class) (bitmap-by g m m′ (b .bitmaps) s);
+    trees = λ s l. tree-same g m m′ s (o .trees s l) (free-on s) (b .segments s .class) (bitmap-by g m m′ (b .bitmaps) s);
     counts = λ s l. let w = b .segments s in
-        counts-same g m m′ s (o .counts s l) (tag-back s 0 (omega arith)) (tag-on s 0 (omega arith)) (w .class) (w .place) (w .counts) (bitmap-by g m m′ (b .bitmaps) s);
-    freeSegments = stack-by g m m′ freeStack (isFree m) (isFree m′) (b .stacks) (o .freeSegments) (λ s l. tag-test s 0 (omega arith));
-    partSegments = λ c h. stack-by g m m′ (partStack c) (isPart m c) (isPart m′ c) (b .stacks) (o .partSegments c h) (λ s l. part-test c s);
+        counts-same g m m′ s (o .counts s l) (free-back s) (free-on s) (w .class) (w .place) (w .counts) (bitmap-by g m m′ (b .bitmaps) s);
+    freeSegments = stack-words g m m′ freeStack (isFree m) (isFree m′) (b .free) (o .freeSegments) (λ s l. free-test s);
+    partSegments = λ c h. stack-none g m′ (partStack c) (isPart m′ c) (λ s l. no-part c s) (b .parts c h);
   }
 
   -- ---- records
@@ -181,7 +184,7 @@ module _ (g : Geometry) (m m′ : Mem) (z : Sizes g m) (ok : Ordered g m) (quiet
 
   record-ok : (at : ℕ) → RecordOk g m at → RecordOk g m′ at
   record-ok at r =
-      record-by g m m′ at (b .segments (segmentOf g at) .class) r (λ e. r .used (tag-back (segmentOf g at) 0 (omega arith) e))
+      record-by g m m′ at (b .segments (segmentOf g at) .class) r (λ e. r .used (free-back (segmentOf g at) e))
       (use-same (segmentOf g at) (blockOf g m at) ∙ r .block) (word-same at)
 
   -- ---- the trace stack
@@ -211,7 +214,7 @@ module _ (g : Geometry) (m m′ : Mem) (z : Sizes g m) (ok : Ordered g m) (quiet
   used-test at =
       let u : usedBit g m′ (segmentOf g at) (blockOf g m′ at) ≡ usedBit g m (segmentOf g at) (blockOf g m at) =
       use-same (segmentOf g at) (blockOf g m′ at) ∙ ap (usedBit g m (segmentOf g at)) (block-by g m m′ at (b .segments (segmentOf g at) .class)) in
-      ap (λ x. not x && eqb (usedBit g m′ (segmentOf g at) (blockOf g m′ at)) 1) (tag-test (segmentOf g at) 0 (omega arith))
+      ap (λ x. not x && eqb (usedBit g m′ (segmentOf g at) (blockOf g m′ at)) 1) (free-test (segmentOf g at))
       ∙ ap (λ x. not (eqb (tag m (segmentOf g at)) Tag.free) && eqb x 1) u
 
   agree : Agree (segmentOf g) (start (view g m) (collects m)) (view g m′)

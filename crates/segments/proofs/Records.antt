@@ -25,10 +25,10 @@ module _ {t t′ c c′ p p′ k k′ : ℕ} (et : t ≡ t′) (ec : c ≡ c′)
   tag-read n e = ap (λ x. stateOf x c p k) (sym e) ∙ words-read
 
   -- a number that is no other tag's
-  pub rest-read : (t ≡ Tag.free → ⊥) → (t ≡ Tag.part → ⊥) → (t ≡ Tag.held → ⊥) → (t ≡ Tag.full → ⊥) → state.Condemned c ≡ stateOf t′ c′ p′ k′
+  pub rest-read : (t ≡ Tag.free → ⊥) → (t ≡ Tag.part → ⊥) → (t ≡ Tag.held → ⊥) → (t ≡ Tag.full → ⊥) → state.Condemned c p ≡ stateOf t′ c′ p′ k′
   rest-read f x h u = go t f x h u ∙ words-read
     where
-      go : (t : ℕ) → (t ≡ Tag.free → ⊥) → (t ≡ Tag.part → ⊥) → (t ≡ Tag.held → ⊥) → (t ≡ Tag.full → ⊥) → state.Condemned c ≡ stateOf t c p k
+      go : (t : ℕ) → (t ≡ Tag.free → ⊥) → (t ≡ Tag.part → ⊥) → (t ≡ Tag.held → ⊥) → (t ≡ Tag.full → ⊥) → state.Condemned c p ≡ stateOf t c p k
       go zero f x h u = absurd (f refl)
       go (suc zero) f x h u = absurd (x refl)
       go (suc (suc zero)) f x h u = absurd (h refl)
@@ -47,7 +47,7 @@ words-of g state.Free = refl
 words-of g (state.Part c p) = refl
 words-of g (state.Held c p k) = refl
 words-of g (state.Full c) = refl
-words-of g (state.Condemned c) = refl
+words-of g (state.Condemned c p) = refl
 
 pub state-read-back : (g : Geometry) (m : Mem) → Sizes g m → (s : ℕ) → s < g .segments → (x : SegmentState) → segment (setSegmentState g m s x) s ≡ x
 state-read-back g m z s l x =

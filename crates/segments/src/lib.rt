@@ -122,7 +122,7 @@ pub fn read(g: Geometry, mem: &[u32], s: usize) -> Segment
             mutator,
         },
         Segment::TAG_FULL => SegmentState::Full { class },
-        _ => SegmentState::Condemned { class },
+        _ => SegmentState::Condemned { class, place },
     };
     Segment {
         state,
@@ -173,6 +173,14 @@ pub fn write(g: Geometry, mem: &mut [u32], s: usize, state: SegmentState)
             mutator,
         } => write_as(g, mem, s, Segment::TAG_HELD, class, place, mutator),
         SegmentState::Full { class } => write_filled(g, mem, s, Segment::TAG_FULL, class),
-        SegmentState::Condemned { class } => write_filled(g, mem, s, Segment::TAG_CONDEMNED, class),
+        SegmentState::Condemned { class, place } => write_as(
+            g,
+            mem,
+            s,
+            Segment::TAG_CONDEMNED,
+            class,
+            place,
+            0,
+        ),
     }
 }

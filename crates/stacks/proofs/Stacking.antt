@@ -1,5 +1,5 @@
--- What the words of a stack say of its top, and what becomes of them where a segment is put on or taken off: at is where stack t begins, n the
--- word there.
+-- What the words of a stack say of its top, and what becomes of them where a segment is put on or taken off, or every segment: at is where stack t
+-- begins, n the word there.
 use mathlib.Core.Path.{_≡_, refl, sym, _∙_, ap, subst}
 use mathlib.Core.Bool.{true, false, true≢false}
 use mathlib.Core.Logic.{_⊎_, inl, inr}
@@ -12,7 +12,7 @@ use Rattle.layout.specs.declared.Geometry.{Geometry}
 use Rattle.layout.specs.Geometry.{stackCount, len}
 use Rattle.layout.specs.Mem.{Mem, stackWord, setStack, withRegion}
 use Rattle.layout.proofs.Sizes.{within}
-use Rattle.model.specs.Segments.{count, top, pop}
+use Rattle.model.specs.Segments.{count, top, pop, emptied}
 use Rattle.stacks.specs.declared.Topmost.{Topmost}
 use Rattle.stacks.specs.declared.Topmost.the-variants.{Segment, Empty, Torn}
 use Rattle.stacks.specs.Stacking.{StackAt, Tops, PushesSegment}
@@ -85,3 +85,8 @@ module _ (g : Geometry) (m : Mem) (t at n : ℕ) (a : StackAt g t at) (e : n ≡
 
   pub push-done : (s : ℕ) (m₁ after : Mem) → m₁ ≡ setStack m (at + 1 + n) s → after ≡ setStack m₁ at (n + 1) → PushesSegment g m t s true after
   push-done s m₁ after f h = record { done = λ _. h ∙ rw (f, is-count, a .is) refl; full = λ x. absurd (true≢false x) }
+
+-- ---- every segment taken off
+
+pub emptied-at : (g : Geometry) (m : Mem) (t at : ℕ) → StackAt g t at → (after : Mem) → after ≡ setStack m at 0 → after ≡ emptied g m t
+emptied-at g m t at a after f = f ∙ ap (λ i. setStack m i 0) (a .is)

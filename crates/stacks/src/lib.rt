@@ -7,7 +7,7 @@ ghost use lib.ListN.{length};
 ghost use Rattle.classes.specs.Class.{IsClass};
 ghost use Rattle.layout.specs.Geometry.{Sized, stackCount, maxSegments};
 ghost use Rattle.layout.specs.Mem.{memOf};
-ghost use Rattle.model.specs.Segments.{freeStack, partStack, pop};
+ghost use Rattle.model.specs.Segments.{freeStack, partStack, pop, emptied};
 ghost use Rattle.stacks.specs.Stacking.{StackAt, Tops, PushesSegment};
 
 // The segment last put on a stack, or none.
@@ -71,6 +71,15 @@ pub fn pop(g: Geometry, mem: &mut [u32], t: usize)
         return;
     }
     layout::set_stack(g, mem, at, count - 1);
+}
+
+// Takes every segment off stack t.
+pub fn empty(g: Geometry, mem: &mut [u32], t: usize)
+    requires { ⌜ (Sized g (length (now mem))) × (t < stackCount) ⌝ }
+    ensures { λ _. ⌜ memOf g (now (mem .exit)) ≡ emptied g (memOf g (now (mem .entry))) t ⌝ }
+{
+    let at = base(g, t);
+    layout::set_stack(g, mem, at, 0);
 }
 
 // Puts segment s on stack t; false where the stack has no room.

@@ -169,5 +169,5 @@ module _ (g : Geometry) (m : Mem) where
 
 -- ---- the state of a condemned segment, as it is read
 
-pub condemned-read : (m : Mem) (s : ℕ) (x : SegmentState) → x ≡ segment m s → tag m s ≡ Tag.condemned → x ≡ Condemned (class m s)
+pub condemned-read : (m : Mem) (s : ℕ) (x : SegmentState) → x ≡ segment m s → tag m s ≡ Tag.condemned → x ≡ Condemned (class m s) (place m s)
 condemned-read m s x e t = e ∙ ap (λ z. stateOf z (class m s) (place m s) (owner m s)) t

@@ -102,10 +102,10 @@ fn less(a: u32, b: u32) -> u32
 
 // The class of the state of a condemned segment.
 fn condemned_class(state: SegmentState) -> u32
-    ensures { λ r. ⌜ ((c : ℕ) → state ≡ Condemned c → r ≡ c) ⌝ }
+    ensures { λ r. ⌜ ((c p : ℕ) → state ≡ Condemned c p → r ≡ c) ⌝ }
 {
     match state {
-        SegmentState::Condemned { class } => class,
+        SegmentState::Condemned { class, place } => class,
         SegmentState::Full { class } => class,
         SegmentState::Held {
             class,
@@ -143,7 +143,8 @@ fn sweep_segment(g: Geometry, mem: &mut [u32], s: usize) -> Step
     if classes::is_class(class) {
         let last = segment.kept;
         let used = last as u64 + segment.handed as u64;
-        if used > layout::blocks_in(g, class) as u64 {
+        let blocks = layout::blocks_in(g, class);
+        if used > blocks as u64 {
             return Step::Refused(13);
         }
         if bitmaps::unmarked(g, mem, s) {

@@ -1,6 +1,7 @@
-//! The second half of demand 3: a block of a segment that was full when a cycle began, and that no mutator could then reach, is free
-//! once that segment is swept. Which record a block holds is seen from the root that a make fills (docs/LAYOUT.md). So are the blocks in use
-//! and each segment's two counts, by calls alone: a make adds a block, a sweep leaves those whose records are marked.
+//! The second half of demand 3, as request No. 5 has it: a block in use of a segment that was full or part when a cycle began, and that no
+//! mutator could then reach, is free once that segment is swept. Which record a block holds is seen from the root that a make fills
+//! (docs/LAYOUT.md). So are the blocks in use and each segment's two counts, by calls alone: a make adds a block, a sweep leaves those whose
+//! records are marked.
 
 use crate::layout;
 use crate::unbounded::{Reference, UnboundedHeap};
@@ -17,7 +18,7 @@ pub struct Blocks {
     /// By segment: the class of the record last put into it, 0 before one, and the two counts.
     classes: Vec<u32>,
     counts: Vec<[u32; 2]>,
-    /// Of the cycle that runs: for each block, whether it was full and unreached when the cycle began.
+    /// Of the cycle that runs: for each block, whether it was in use in a full or part segment, and unreached, when the cycle began.
     dead: Vec<bool>,
 }
 
@@ -111,6 +112,12 @@ impl Blocks {
         &self.held[at..at + layout::blocks(class) as usize]
     }
 
+    /// Those in the blocks that are in use.
+    pub fn records_in_use(&self, segment: usize, class: u32) -> impl Iterator<Item = Reference> + '_ {
+        let used = &self.used[segment * PER_SEGMENT..];
+        self.records(segment, class).iter().zip(used).filter(|(_, &used)| used).map(|(&record, _)| record)
+    }
+
     /// The record in the block that a reference in the verified library's memory names.
     pub fn named(&self, memory: &[u32], reference: u32) -> Option<Reference> {
         let word = (reference as usize).checked_sub(1)?;
@@ -128,33 +135,31 @@ impl Blocks {
         heap.search();
         self.dead.fill(false);
         for (segment, state) in layout::each_segment(states).enumerate() {
-            if state[0] != 3 {
+            if !matches!(state[0], 1 | 3) {
                 continue;
             }
             for block in 0..layout::blocks(state[1]) as usize {
                 let at = segment * PER_SEGMENT + block;
-                let record = self.held[at];
-                self.dead[at] = record == 0 || !heap.was_reached(record);
+                self.dead[at] = self.used[at] && !heap.was_reached(self.held[at]);
             }
         }
     }
 
     /// A step answered Swept; `before` is the segment's state before it. Answers how many blocks it had to free.
     pub fn swept(&self, memory: &[u32], segment: u32, before: &[u32], freed: u32) -> Result<u32, String> {
-        let blocks = layout::blocks(before[1]);
         let mut due = 0;
-        let mut used = 0;
-        for block in 0..blocks {
-            let in_use = layout::in_use(memory, self.segments, segment, block);
-            let dead = self.dead[segment as usize * PER_SEGMENT + block as usize];
-            used += u32::from(in_use);
-            due += u32::from(dead);
-            if dead && in_use {
-                return Err(format!("block {block} of segment {segment} was unreached and is still in use"));
+        let mut became_free = 0;
+        for block in 0..layout::blocks(before[1]) {
+            let at = segment as usize * PER_SEGMENT + block as usize;
+            let (was_used, is_used) = (self.used[at], layout::in_use(memory, self.segments, segment, block));
+            became_free += u32::from(was_used && !is_used);
+            due += u32::from(self.dead[at]);
+            if is_used && (self.dead[at] || !was_used) {
+                return Err(format!("block {block} of segment {segment} was unreached or not in use, and is in use"));
             }
         }
-        if blocks - used != freed || freed < due {
-            return Err(format!("segment {segment}: {freed} said to be freed, {} became free, {due} were unreached", blocks - used));
+        if became_free != freed || freed < due {
+            return Err(format!("segment {segment}: {freed} said to be freed, {became_free} became free, {due} were unreached"));
         }
         Ok(due)
     }

@@ -27,6 +27,8 @@ pub struct Campaign {
     pub adopted: Coverage,
     /// Heaps changed in places or bits of which the examination said no with the counts as they were, and yes with those of the change.
     pub recounted: u64,
+    /// Lists that go on from memory in which a condemned segment has another place than it had, which is not its number of blocks.
+    pub places: u64,
     pub tally: Tally,
     pub by_count: BTreeMap<u32, u64>,
     progress: Progress,
@@ -51,6 +53,13 @@ pub fn lengths_agree() -> Result<(), String> {
     Ok(())
 }
 
+/// Whether a condemned segment's place is another than in `base`, and less than its blocks.
+fn other_places(memory: &[u32], base: &[u32], count: u32) -> bool {
+    let records = [memory, base].map(|words| layout::each_segment(layout::all_records(words, count)));
+    let [now, then] = records;
+    now.zip(then).any(|(now, then)| now[0] == 4 && now[2] != then[2] && now[2] < layout::blocks(now[1]))
+}
+
 impl Campaign {
     pub fn new(options: Options) -> Campaign {
         let progress = Progress::new(options.quiet);
@@ -61,6 +70,7 @@ impl Campaign {
             torn: Coverage::new(),
             adopted: Coverage::new(),
             recounted: 0,
+            places: 0,
             tally: Tally::default(),
             by_count: BTreeMap::new(),
             progress,
@@ -187,6 +197,7 @@ impl Campaign {
             return Ok(());
         }
         let pair = self.pairs.get_mut(&count).expect("its list was played");
+        self.places += u64::from(other_places(pair.verified.memory.words(), base, count));
         let calls = rng.pick(&[20, 100, 100, 400]);
         let seed = rng.next();
         let mut list_rng = Rng::new(seed);

@@ -36,13 +36,13 @@ impl Chooser {
         Call::new(kind, self.plan.segments, args)
     }
 
-    /// The next call; `full` says whether some segment was full not long ago.
-    pub fn next(&mut self, heap: &UnboundedHeap, phase: u32, full: bool) -> Call {
+    /// The next call; `due` says whether some segment was full or part not long ago.
+    pub fn next(&mut self, heap: &UnboundedHeap, phase: u32, due: bool) -> Call {
         if self.rng.below(16384) < self.plan.wrong_size {
             return self.wrong(heap);
         }
         let between = !self.queue.is_empty() && self.rng.chance(256);
-        if let Some(call) = between.then(|| self.of_the_cycle(heap, phase, full)).flatten() {
+        if let Some(call) = between.then(|| self.of_the_cycle(heap, phase, due)).flatten() {
             return call;
         }
         if let Some(call) = self.queued(heap) {
@@ -53,7 +53,7 @@ impl Chooser {
             return self.call(Step, [0; 4]);
         }
         self.run = 0;
-        if let Some(call) = self.of_the_cycle(heap, phase, full) {
+        if let Some(call) = self.of_the_cycle(heap, phase, due) {
             return call;
         }
         let few = (heap.inside | heap.outside).count_ones() < self.plan.mutators;
@@ -83,7 +83,7 @@ impl Chooser {
     }
 
     /// A collector's call or an acknowledgement, at the list's pace; faster where a make found no room.
-    fn of_the_cycle(&mut self, heap: &UnboundedHeap, phase: u32, full: bool) -> Option<Call> {
+    fn of_the_cycle(&mut self, heap: &UnboundedHeap, phase: u32, due: bool) -> Option<Call> {
         let hurry = if self.starved > 0 { 200 } else { 0 };
         if self.starved > 0 {
             self.starved -= 1;
@@ -96,7 +96,7 @@ impl Chooser {
             return Some(self.acknowledging(heap));
         }
         let pace = match phase {
-            IDLE if !full => self.plan.pace.min(2),
+            IDLE if !due => self.plan.pace.min(2),
             SYNC1 | SYNC2 => self.plan.pace.min(60),
             _ => self.plan.pace + hurry,
         };

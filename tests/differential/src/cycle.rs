@@ -134,8 +134,8 @@ impl Cycle {
             self.phase = IDLE;
             return (DONE, 0, 0);
         };
-        let records = blocks.records(segment, states[layout::RECORD_WORDS * segment + 1]);
-        let freed = records.iter().filter(|record| !self.is_marked(**record)).count();
+        let records = blocks.records_in_use(segment, states[layout::RECORD_WORDS * segment + 1]);
+        let freed = records.filter(|&record| !self.is_marked(record)).count();
         (SWEPT, segment as u32, freed as u32)
     }
 }

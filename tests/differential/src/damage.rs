@@ -31,7 +31,7 @@ pub fn tear(rng: &mut Rng, memory: &mut [u32], base: &[u32], segments: u32) {
 pub fn tweak(rng: &mut Rng, memory: &mut [u32], base: &[u32], segments: u32) {
     memory.copy_from_slice(base);
     for _ in 0..rng.pick(&[1, 1, 2, 4]) {
-        match rng.below(9) {
+        match rng.below(11) {
             0 => damage(rng, memory, segments),
             1 => acknowledge(rng, memory),
             2 => exchange(rng, memory, 1, layout::regions(segments)[7]),
@@ -43,6 +43,8 @@ pub fn tweak(rng: &mut Rng, memory: &mut [u32], base: &[u32], segments: u32) {
             5 => memory[layout::CURSOR] = rng.below(segments + 2),
             6 => segment_word(rng, memory, segments),
             7 => hollow(rng, memory, segments),
+            8 => condemned_place(rng, memory, segments),
+            9 => condemn_part(rng, memory, segments),
             _ => bitmap_bit(rng, memory, segments),
         }
     }
@@ -77,6 +79,97 @@ fn segment_word(rng: &mut Rng, memory: &mut [u32], segments: u32) {
     match rng.below(3) {
         0 => memory[at] = rng.below(5),
         _ => memory[at + 2] = memory[at + 2].wrapping_sub(rng.below(9)).wrapping_add(4),
+    }
+}
+
+/// A condemned segment, where there is one.
+fn some_condemned(rng: &mut Rng, memory: &[u32], segments: u32) -> Option<u32> {
+    let turn = rng.below(segments);
+    let condemned = |segment: &u32| matches!(layout::segment(memory, segments, *segment), [4, class, ..] if layout::is_class(class));
+    (0..segments).map(|number| (number + turn) % segments).find(condemned)
+}
+
+/// The place of a condemned segment becomes any number up to its blocks: the examination says yes to it, with the counts that it asks for,
+/// where no live record lies past it.
+fn condemned_place(rng: &mut Rng, memory: &mut [u32], segments: u32) {
+    if let Some(segment) = some_condemned(rng, memory, segments) {
+        let at = layout::record_at(segments, segment);
+        memory[at + 2] = rng.below(layout::blocks(memory[at + 1]) + 1);
+    }
+}
+
+/// A part segment comes off its stack and is condemned, as if it had been part when the cycle began.
+fn condemn_part(rng: &mut Rng, memory: &mut [u32], segments: u32) {
+    let turn = rng.below(layout::CLASSES as u32) as usize;
+    let stacks = (0..layout::CLASSES).map(|number| 1 + (number + turn) % layout::CLASSES);
+    let tops = stacks.filter_map(|stack| Some((stack, layout::top(memory, segments, stack)?)));
+    if let Some((stack, segment)) = tops.filter(|&(_, segment)| segment < segments).last() {
+        memory[layout::stack_at(segments, stack)] -= 1;
+        memory[layout::record_at(segments, segment)] = 4;
+    }
+}
+
+/// What is torn, and nothing else, in memory that passes the examination, which then says no: of a condemned segment its place, that it is on
+/// no stack, or its marks; or what the part stacks' counts are, which a start makes 0.
+pub const AIMS: [&str; 5] = [
+    "a condemned segment's place past its blocks",
+    "a condemned segment on the part stack of its class",
+    "a condemned segment on the free stack",
+    "a mark in a condemned segment of a block that is not in use",
+    "another count of a part stack",
+];
+pub const PART_COUNT: usize = 4;
+
+/// One of those; the last where there is no condemned segment, or none with such a block.
+pub fn tear_aimed(rng: &mut Rng, memory: &mut [u32], segments: u32) -> usize {
+    let aim = rng.below(AIMS.len() as u32) as usize;
+    let torn = match (aim, some_condemned(rng, memory, segments)) {
+        (0, Some(segment)) => Some(place_past_blocks(rng, memory, segments, segment)),
+        (1, Some(segment)) => {
+            let class = layout::segment(memory, segments, segment)[1];
+            Some(push(memory, segments, 1 + (class - layout::LOWEST) as usize, segment))
+        }
+        (2, Some(segment)) => Some(push(memory, segments, 0, segment)),
+        (3, Some(segment)) => mark_not_in_use(rng, memory, segments, segment),
+        _ => None,
+    };
+    if torn.is_none() {
+        part_counts(rng, memory, segments);
+    }
+    torn.map_or(PART_COUNT, |()| aim)
+}
+
+fn place_past_blocks(rng: &mut Rng, memory: &mut [u32], segments: u32, segment: u32) {
+    let at = layout::record_at(segments, segment);
+    let blocks = layout::blocks(memory[at + 1]);
+    memory[at + 2] = rng.pick(&[blocks + 1, 2 * blocks, 2049, 1 << 31, u32::MAX]);
+}
+
+/// The segment goes on a stack that has room for it.
+fn push(memory: &mut [u32], segments: u32, stack: usize, segment: u32) {
+    let at = layout::stack_at(segments, stack);
+    memory[at] += 1;
+    memory[at + memory[at] as usize] = segment;
+}
+
+/// The bit of a block that is not in use, where the segment has one.
+fn mark_not_in_use(rng: &mut Rng, memory: &mut [u32], segments: u32, segment: u32) -> Option<()> {
+    let class = layout::segment(memory, segments, segment)[1];
+    let (blocks, turn) = (layout::blocks(class), rng.below(layout::blocks(class)));
+    let unused = |block: &u32| !layout::in_use(memory, segments, segment, *block);
+    let block = (0..blocks).map(|number| (number + turn) % blocks).find(unused)?;
+    let (word, bit) = layout::mark_at(segments, segment, class, block);
+    memory[word] |= 1 << bit;
+    Some(())
+}
+
+/// The count of a part stack, or of every one, becomes another number.
+fn part_counts(rng: &mut Rng, memory: &mut [u32], segments: u32) {
+    let (one, all) = (1 + rng.below(layout::CLASSES as u32) as usize, rng.chance(256));
+    for stack in (1..layout::STACKS).filter(|&stack| all || stack == one) {
+        let at = layout::stack_at(segments, stack);
+        let count = rng.pick(&[0, 1, segments, segments + 1, 1 << 31, u32::MAX, memory[at].wrapping_sub(1), memory[at] + 1]);
+        memory[at] = if count == memory[at] { count + 1 } else { count };
     }
 }
 

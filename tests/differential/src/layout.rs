@@ -69,11 +69,16 @@ pub fn side(memory: &[u32], mutator: u32) -> u32 {
     memory[MUTATORS + 32 * mutator as usize + 16]
 }
 
+/// Where the bit of a block of the class stands among the marks: the word, and which of its bits.
+pub fn mark_at(segments: u32, segment: u32, class: u32, block: u32) -> (usize, usize) {
+    let bit = (2048 * segment + (block << class) / 8) as usize;
+    (regions(segments)[6] + bit / 32, bit % 32)
+}
+
 /// Whether the block is marked or on the trace stack.
 pub fn marked_or_queued(memory: &[u32], segments: u32, segment: u32, block: u32) -> bool {
-    let class = self::segment(memory, segments, segment)[1];
-    let bit = (2048 * segment + (block << class) / 8) as usize;
-    memory[regions(segments)[6] + bit / 32] >> (bit % 32) & 1 == 1
+    let (word, bit) = mark_at(segments, segment, self::segment(memory, segments, segment)[1], block);
+    memory[word] >> bit & 1 == 1
 }
 
 /// How many entries the trace stack has.
@@ -112,9 +117,14 @@ pub fn counts_of(record: &[u32]) -> [u32; 2] {
     [record[KEPT], record[HANDED_OUT]]
 }
 
-/// The segment on top of a stack: stack 0 is the free one, 1 + (c - 3) the part stack of class c.
+/// Where the count of a stack stands, with the entries behind it: stack 0 is the free one, 1 + (c - 3) the part stack of class c.
+pub fn stack_at(segments: u32, stack: usize) -> usize {
+    regions(segments)[4] + stack * (1 + segments as usize)
+}
+
+/// The segment on top of a stack.
 pub fn top(memory: &[u32], segments: u32, stack: usize) -> Option<u32> {
-    let at = regions(segments)[4] + stack * (1 + segments as usize);
+    let at = stack_at(segments, stack);
     match memory[at] as usize {
         0 => None,
         count => memory.get(at + count).copied(),

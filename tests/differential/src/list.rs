@@ -10,6 +10,7 @@ use crate::cycle::Cycle;
 use crate::layout;
 use crate::lent::Lent;
 use crate::nothing::OverNothing;
+use crate::parts::Parts;
 use crate::recent::Recent;
 use crate::rng::Rng;
 use crate::situations::Facts;
@@ -31,6 +32,7 @@ pub struct List<'a> {
     pub blocks: Blocks,
     pub cycle: Cycle,
     pub nothing: OverNothing,
+    pub parts: Parts,
     pub totals: Totals,
     pub phase: u32,
     /// The segments' states at the last comparison.
@@ -42,7 +44,7 @@ pub struct List<'a> {
     pub examine_every: u32,
     /// Calls since the last examination.
     pub unexamined: u32,
-    /// The list may end early, in this phase; in idle, with a full segment, else in a cycle that began with one.
+    /// The list may end early, in this phase; in idle, with a full or part segment, else in a cycle that began with one.
     pub until: Option<u32>,
     /// The list goes on from memory that is found: there is no opening, and the independent implementation stands aside.
     pub alone: bool,
@@ -66,6 +68,7 @@ impl<'a> List<'a> {
             blocks: Blocks::new(n),
             cycle: Cycle::new(),
             nothing: OverNothing::default(),
+            parts: Parts::new(n),
             totals: Totals::new(0),
             phase: IDLE,
             states: vec![0; layout::RECORD_WORDS * n as usize],
@@ -96,8 +99,8 @@ impl<'a> List<'a> {
         self
     }
 
-    fn may_end(&self, full: bool) -> bool {
-        self.until == Some(self.phase) && full && !self.nothing.runs() && 4 * self.calls > self.chooser.plan.calls
+    fn may_end(&self, due: bool) -> bool {
+        self.until == Some(self.phase) && due && !self.nothing.runs() && 4 * self.calls > self.chooser.plan.calls
     }
 
     /// Plays the whole list; where something differs, says what and lists the last calls.
@@ -111,15 +114,16 @@ impl<'a> List<'a> {
         if self.alone {
             self.compare_phase()?;
             self.compare_states()?;
+            self.parts.adopt(&self.states);
         } else {
             self.open()?;
         }
         while self.calls < self.chooser.plan.calls && self.heap.words() < most_words(self.n) {
-            let full = self.phase != IDLE || self.some_full();
-            if self.may_end(full) {
+            let due = self.phase != IDLE || self.some_due();
+            if self.may_end(due) {
                 break;
             }
-            let call = self.chooser.next(&self.heap, self.phase, full);
+            let call = self.chooser.next(&self.heap, self.phase, due);
             self.calls += 1;
             crate::watchdog::beat();
             if call.wrong_size(self.n) {
@@ -137,10 +141,12 @@ impl<'a> List<'a> {
         self.examine()
     }
 
-    /// Whether a segment was full at the last look; with many segments only eight of them are asked.
-    fn some_full(&mut self) -> bool {
+    /// Whether a segment was full at the last look, or part, which counts more rarely, so that cycles begin with either and with both; with
+    /// many segments only eight of them are asked.
+    fn some_due(&mut self) -> bool {
         let from = if self.n > 8 { self.rng.below(self.n - 7) as usize } else { 0 };
-        layout::each_segment(&self.states).skip(from).take(8).any(|state| state[0] == 3)
+        let parts_too = self.rng.chance(64);
+        layout::each_segment(&self.states).skip(from).take(8).any(|state| state[0] == 3 || parts_too && state[0] == 1)
     }
 
     pub fn right(&self, kind: Kind) -> Call {
@@ -187,6 +193,9 @@ impl<'a> List<'a> {
         let expected = call.kind.is_mutators().then(|| self.heap.answer(call));
         if matches!(call.kind, Start | Detach) || (call.kind == Step && self.phase == SWEEP) {
             self.compare_states()?;
+        }
+        if call.kind == Start {
+            self.parts.remember(self.pair.verified.memory.words(), self.n);
         }
         let watched = self.watch(call, expected);
         let facts = Facts::see(self.pair.verified.memory.words(), self.phase, call, &self.heap);
@@ -269,6 +278,7 @@ impl<'a> List<'a> {
                 self.compare_states()?;
                 let (m, class) = (call.args[0], layout::class_of(call.args[2] + call.args[3]));
                 let room = |state: &[u32]| state[0] == 0 || state[..2] == [1, class] || (state[..2] == [2, class] && state[3] == m);
+                self.parts.no_room(&self.states, class, self.phase, self.coverage);
                 !layout::each_segment(&self.states).any(room)
             }
             _ => true,
@@ -293,17 +303,21 @@ impl<'a> List<'a> {
 
     fn started(&mut self) -> Result<(), String> {
         self.coverage.cycles += 1;
-        let full = layout::each_segment(&self.states).filter(|state| state[0] == 3).count();
-        match full {
+        let condemned = layout::each_segment(&self.states).filter(|state| matches!(state[0], 1 | 3)).count();
+        match condemned {
             0 => self.coverage.met(Situation::StartOverNothing),
             1 => {}
             _ => self.coverage.met(Situation::CycleOverManySegments),
         }
-        self.nothing = OverNothing::begin(self.pair.verified.memory.words(), self.n, full);
+        self.nothing = OverNothing::begin(self.pair.verified.memory.words(), self.n, condemned);
         self.blocks.start(&self.states, &mut self.heap);
+        self.parts.start(&self.states);
+        self.parts.note_start(self.coverage);
         self.cycle.start();
         self.moved_to(SYNC1)?;
-        self.compare_states()
+        let before = self.states.clone();
+        self.compare_states()?;
+        self.parts.started(self.pair.verified.memory.words(), &before, &self.states)
     }
 
     /// What the mutator held, at most eleven segments, is part with its class, place and counts; every other segment is as it was.
@@ -317,7 +331,10 @@ impl<'a> List<'a> {
             if is != if held { &part[..] } else { was } {
                 return Err(format!("detach({m}): segment {segment} was {was:?} and is {is:?}"));
             }
-            given += u32::from(held);
+            if held {
+                self.parts.given_back(segment, self.phase, self.coverage);
+                given += 1;
+            }
         }
         match given {
             12.. => return Err(format!("detach({m}) handed back {given} segments")),
@@ -336,6 +353,7 @@ impl<'a> List<'a> {
         let state = layout::segment(memory, self.n, segment);
         let at = layout::RECORD_WORDS * segment as usize;
         self.counted_out(call, segment, &state, other_class)?;
+        self.parts.made(segment, class, other_class, self.coverage);
         if layout::blocks(class) == 1 {
             if state[0] != 3 {
                 return Err(format!("{call}: segment {segment} has one block and is {state:?}"));
@@ -379,6 +397,7 @@ impl<'a> List<'a> {
             DONE => {
                 self.moved_to(IDLE)?;
                 self.compare_states()?;
+                self.parts.done(&self.states, self.coverage)?;
                 self.nothing.ended(self.pair.verified.memory.words(), self.n)
             }
             SWEPT => {
@@ -405,7 +424,7 @@ impl<'a> List<'a> {
         if due > 0 {
             self.coverage.met(Situation::SweepFreesUnreached);
         }
-        if freed < layout::blocks(before[1]) {
+        if freed < layout::counts_of(&before).iter().sum() {
             self.coverage.met(Situation::ReachedSurvives);
         }
         self.compare_states()?;
@@ -416,15 +435,24 @@ impl<'a> List<'a> {
             1 => Situation::SweptToPart,
             _ => Situation::SweptToFull,
         });
+        self.parts.swept(segment, self.states[at], self.coverage)?;
         self.recounted(segment, &before, freed)
     }
 
-    /// The counts after a sweep: kept is what was in use, less what was freed, and nothing is handed out since.
+    /// A segment after a sweep: kept is what was in use, less what was freed, and nothing is handed out since. With none kept it is free, with
+    /// all kept full, else part with place 0; and it is on top of its stack.
     fn recounted(&mut self, segment: u32, before: &[u32], freed: u32) -> Result<(), String> {
         let after = &self.states[layout::RECORD_WORDS * segment as usize..][..layout::RECORD_WORDS];
         let [kept, handed_out] = layout::counts_of(before);
-        if layout::counts_of(after) != [(kept + handed_out).wrapping_sub(freed), 0] {
-            return Err(format!("segment {segment}, of which {freed} blocks were freed, was {before:?} and is {after:?}"));
+        let (class, blocks) = (before[1], layout::blocks(before[1]));
+        let (record, stack) = match (kept + handed_out).wrapping_sub(freed) {
+            0 => ([0; layout::RECORD_WORDS], Some(0)),
+            left if left == blocks => ([3, class, blocks, 0, left, 0], None),
+            left => ([1, class, 0, 0, left, 0], Some(1 + (class - layout::LOWEST) as usize)),
+        };
+        let memory = self.pair.verified.memory.words();
+        if after != record || stack.is_some_and(|stack| layout::top(memory, self.n, stack) != Some(segment)) {
+            return Err(format!("segment {segment}, of which {freed} blocks were freed, was {before:?} and is {after:?}, or not on its stack"));
         }
         if kept > 0 && handed_out > 0 {
             self.coverage.met(Situation::SweptKeptAndHandedOut);

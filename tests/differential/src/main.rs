@@ -17,6 +17,7 @@ mod list;
 mod nothing;
 mod numbers;
 mod options;
+mod parts;
 mod patterns;
 mod profile;
 mod progress;
@@ -54,6 +55,7 @@ fn summary(campaign: &Campaign, seconds: f64) {
     campaign.adopted.print_cycles();
     let said = "the examination said no with the counts as they were, and yes with those of the change";
     println!("  {} heaps changed in places or bits, of which {said}", campaign.recounted);
+    println!("  {} lists gone on with another place of a condemned segment, less than its blocks", campaign.places);
     let calls = campaign.calls();
     println!("{calls} calls in {seconds:.1} s ({:.2} million a second)", calls as f64 / seconds / 1e6);
 }
@@ -73,6 +75,9 @@ fn missing(campaign: &Campaign) -> Vec<String> {
     missing.extend(campaign.tally.missing());
     if campaign.recounted == 0 {
         missing.push("memory changed in places or bits that passes the examination with its counts, and not without".into());
+    }
+    if campaign.places == 0 {
+        missing.push("memory that passes the examination with another place of a condemned segment".into());
     }
     for (name, _) in STEP_KINDS.iter().zip(campaign.adopted.steps).filter(|(_, count)| *count == 0) {
         missing.push(format!("Step answered {name} on changed memory"));

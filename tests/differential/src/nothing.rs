@@ -1,4 +1,4 @@
-//! Request No. 1: a cycle that begins with no full segment is one over nothing. No segment is condemned or becomes free while it lasts, no
+//! Request No. 1, as No. 5 has it: a cycle that begins with no full and no part segment is one over nothing. No segment is condemned or becomes free while it lasts, no
 //! step answers Swept, the first one in sweep answers Done, and then each block that was in use when it began still is.
 
 use crate::calls::*;
@@ -21,9 +21,9 @@ fn blocks_in_use(memory: &[u32], segments: u32) -> Vec<(u32, u32)> {
 }
 
 impl OverNothing {
-    /// A cycle has begun with so many full segments.
-    pub fn begin(memory: &[u32], segments: u32, full: usize) -> OverNothing {
-        OverNothing { used: (full == 0).then(|| blocks_in_use(memory, segments)) }
+    /// A cycle has begun that condemned so many segments.
+    pub fn begin(memory: &[u32], segments: u32, condemned: usize) -> OverNothing {
+        OverNothing { used: (condemned == 0).then(|| blocks_in_use(memory, segments)) }
     }
 
     pub fn runs(&self) -> bool {

@@ -1,7 +1,7 @@
 //! Counters of torn memory, beside those by kind and answer: what the examination said, and which class words and counts the calls met.
 
 use crate::calls::*;
-use crate::damage::{CLASS_WORDS, COUNT_VALUES};
+use crate::damage::{AIMS, CLASS_WORDS, COUNT_VALUES};
 use crate::layout::STATES;
 
 type ByKind = [u64; KINDS];
@@ -29,6 +29,10 @@ pub struct Tally {
     pub alone: [u64; 2],
     pub alone_calls: u64,
     pub alone_refused: [u64; 2],
+    /// By what was torn alone: examinations that said no, and calls by kind since; starts over part stacks' counts of any value.
+    pub aimed: [u64; AIMS.len()],
+    pub aims: [ByKind; AIMS.len()],
+    pub aimed_starts: u64,
 }
 
 fn fewest<'a>(counts: impl IntoIterator<Item = &'a u64>) -> u64 {
@@ -61,6 +65,11 @@ impl Tally {
         let least = fewest(self.alone_values.iter().flatten().chain(&self.alone_states));
         println!("  all but counts in order: it said yes {yes} times and no {no} times, for each value and in each state at least {least} times");
         println!("  {} calls on memory whose counts alone were torn; {makes} makes and {sweeps} sweeps refused 13 for them", self.alone_calls);
+        let met = fewest(self.aims.iter().flatten());
+        for (aim, no) in AIMS.iter().zip(self.aimed) {
+            println!("  {aim}: it said no {no} times");
+        }
+        println!("  each of these met by every kind of call at least {met} times; {} starts over torn counts of part stacks", self.aimed_starts);
     }
 
     /// What a whole campaign must have met and did not.
@@ -74,6 +83,12 @@ impl Tally {
         }
         for (state, _) in STATE_WORDS.iter().zip(self.alone_states).filter(|(_, count)| *count == 0) {
             missing.push(format!("an examination that says no for a count of a {state} segment alone"));
+        }
+        for (aim, counts) in AIMS.iter().zip(&self.aims) {
+            missing.extend(never(counts).map(|kind| format!("{kind:?} over {aim}")));
+        }
+        if self.aimed_starts == 0 {
+            missing.push("a start over torn counts of part stacks".into());
         }
         for (what, _) in ["make", "sweep"].iter().zip(self.alone_refused).filter(|(_, count)| *count == 0) {
             missing.push(format!("a {what} refused 13 for a count alone"));

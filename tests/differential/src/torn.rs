@@ -1,6 +1,7 @@
 //! Torn memory: every call over memory of any content ends with its kind of result or a refusal that it may give; refused 1 changes
 //! nothing; looks keep the memory. Where the examination says yes, no call is refused 13 and no refusal changes a word. Where only counts are
-//! torn, it says yes exactly where they are right again, and each call goes by them as they are.
+//! torn, it says yes exactly where they are right again, and each call goes by them as they are. Where a condemned segment alone is torn, or a
+//! part stack's count, it says no; a start goes by no such count and leaves memory that passes.
 
 use crate::calls::*;
 use crate::counts::Around;
@@ -33,6 +34,8 @@ pub struct Torn<'a> {
     class_word: Option<(usize, usize)>,
     /// The count that was torn last.
     torn_count: Option<TornCount>,
+    /// What was torn alone of a condemned segment or the part stacks, until an opening.
+    aim: Option<usize>,
     recent: Recent,
 }
 
@@ -55,6 +58,7 @@ impl<'a> Torn<'a> {
             longer,
             class_word: None,
             torn_count: None,
+            aim: None,
             recent: Recent::new(),
         }
     }
@@ -66,16 +70,21 @@ impl<'a> Torn<'a> {
         self.tear(base);
         self.lent.output.words_mut().fill_with(|| self.rng.word());
         self.remember();
-        self.play_calls(calls).map_err(|fault| format!("{fault}\nthe last calls:\n{}", self.recent))
+        let played = self.play_aimed().and_then(|()| self.play_calls(calls));
+        played.map_err(|fault| format!("{fault}\nthe last calls:\n{}", self.recent))
     }
 
-    /// The memory becomes `base`, which passes the examination, torn: in its counts alone, or anywhere.
+    /// The memory becomes `base`, which passes the examination, torn: in its counts alone, with an aim, or anywhere.
     fn tear(&mut self, base: &[u32]) {
         self.counts_only = self.rng.chance(192);
         self.in_order = self.counts_only;
         let memory = self.lent.memory.words_mut();
         if self.counts_only {
             memory.copy_from_slice(base);
+        } else if self.rng.chance(160) {
+            memory.copy_from_slice(base);
+            self.aim = Some(damage::tear_aimed(&mut self.rng, memory, self.n));
+            return;
         } else {
             damage::tear(&mut self.rng, memory, base, self.n);
             self.class_word = self.rng.chance(256).then(|| damage::tear_class(&mut self.rng, memory, self.n));
@@ -119,6 +128,27 @@ impl<'a> Torn<'a> {
         }
     }
 
+    /// Torn with an aim alone, the memory fails the examination. Half of the times a start follows in idle: where part stacks' counts were torn,
+    /// it goes by none of them, and what it leaves passes.
+    fn play_aimed(&mut self) -> Result<(), String> {
+        let Some(aim) = self.aim else { return Ok(()) };
+        self.play_one(&Call::new(Examine, self.n, [0; 4]))?;
+        if self.consistent {
+            return Err(format!("the examination says yes, and there is {}", damage::AIMS[aim]));
+        }
+        self.tally.aimed[aim] += 1;
+        if aim != damage::PART_COUNT || layout::phase(&self.memory) != IDLE || self.rng.chance(512) {
+            return Ok(());
+        }
+        self.play_one(&Call::new(Start, self.n, [0; 4]))?;
+        self.play_one(&Call::new(Examine, self.n, [0; 4]))?;
+        self.tally.aimed_starts += 1;
+        match self.consistent && layout::phase(&self.memory) == SYNC1 {
+            true => Ok(()),
+            false => Err("a start over torn counts of part stacks".into()),
+        }
+    }
+
     fn remember(&mut self) {
         self.memory.clear();
         self.memory.extend_from_slice(self.lent.memory.words());
@@ -158,6 +188,7 @@ impl<'a> Torn<'a> {
         }
         self.tally.consistent_calls += u64::from(self.consistent);
         let opened = call.kind == Open && answer == 0;
+        self.aim = self.aim.filter(|_| !opened);
         self.consistent |= opened;
         self.in_order |= opened;
         Ok(())
@@ -170,6 +201,9 @@ impl<'a> Torn<'a> {
             return;
         }
         let kind = call.kind as usize;
+        if let Some(aim) = self.aim {
+            self.tally.aims[aim][kind] += 1;
+        }
         if let Some((which, at)) = self.class_word {
             self.tally.class_words[which][kind] += u64::from(self.memory[at] == damage::CLASS_WORDS[which]);
         }

@@ -1,6 +1,6 @@
 -- `examine_parts::unheld` meets its contract.
 use Rattle.layout.specs.Mem.{memOf}
-use Rattle.examine_parts.proofs.Records.{used-owner, used-part, used-full}
+use Rattle.examine_parts.proofs.Records.{used-owner, used-part, used-full, used-condemned}
 use borrow.Author.Needs.{needs}
 use Rattle.examine_parts.proofs.unheld.Statement.{statement}
 use Rattle.examine_parts.proofs.unheld.Tie as tie
@@ -33,13 +33,24 @@ blocks-in-requires c κs = search needs
 
 returns-3 : tie.Need-returns-3
 returns-3 c =
-    let k-is-0 = c .before .before .before in
+    let k-is-0 = c .before .before .before .before in
     let owner-told = k-is-0 .before in
     let entry = owner-told .before .before in
     let a = entry .args in
     used-full (a .g) (memOf (a .g) (a .mem .now)) (a .s) (a .tag) (a .class) (entry .pre .1 .1 .0) (entry .pre .1 .1 .1) _
-    (owner-told .owner .ensures) (k-is-0 .if1 .left) (c .before .before .if2 .left) _ _ (c .before .place .ensures)
-    (c .blocks-in .ensures)
+    (owner-told .owner .ensures) (k-is-0 .if1 .left) (c .if3 .taken) _ _ (c .before .before .place .ensures)
+    (c .before .blocks-in .ensures)
+
+returns-4 : tie.Need-returns-4
+returns-4 c =
+    let not-part = c .before .before .before in
+    let k-is-0 = not-part .before in
+    let owner-told = k-is-0 .before in
+    let entry = owner-told .before .before in
+    let a = entry .args in
+    used-condemned (a .g) (memOf (a .g) (a .mem .now)) (a .s) (a .tag) (a .class) (entry .pre .1 .1 .0) (entry .pre .1 .1 .1) _
+    (owner-told .owner .ensures) (k-is-0 .if1 .left) (not-part .if2 .left) (c .if3 .left) _ _ (c .before .before .place .ensures)
+    (c .before .blocks-in .ensures)
 
 pub unheld-spec : {M : Type 1} → statement M
 unheld-spec =
@@ -51,4 +62,5 @@ unheld-spec =
     returns-2
     place-requires
     blocks-in-requires
-    returns-3)
+    returns-3
+    returns-4)

@@ -32,8 +32,8 @@ write-filled-requires c κs = search needs
 enum-known-state-4 : tie.Need-enum-known-state-4
 enum-known-state-4 c = search needs
 
-write-filled-requires-2 : tie.Need-write-filled-requires-2
-write-filled-requires-2 c κs = search needs
+write-as-requires-4 : tie.Need-write-as-requires-4
+write-as-requires-4 c κs = search needs
 
 same-length : tie.Need-same-length
 same-length c = search needs
@@ -71,7 +71,7 @@ same-length-5 c = search needs
 returns-5 : tie.Need-returns-5
 returns-5 c =
     let condemned-bound = c .before .before .before .before .before in
-    state-written _ _ _ _ (state.Condemned _) _ (condemned-bound .state4 .given .1) (c .before .before .write-filled2 .ensures)
+    state-written _ _ _ _ (state.Condemned _ _) _ (condemned-bound .state4 .given .1) (c .before .before .write-as4 .ensures)
 
 pub write-spec : {M : Type 1} → statement M
 write-spec =
@@ -86,7 +86,7 @@ write-spec =
     enum-known-state-3
     write-filled-requires
     enum-known-state-4
-    write-filled-requires-2
+    write-as-requires-4
     same-length
     returns
     same-length-2

@@ -8,6 +8,9 @@ use Rattle.starting.proofs.begin.Tie as tie
 condemn-requires : tie.Need-condemn-requires
 condemn-requires c κs = search needs
 
+empty-parts-requires : tie.Need-empty-parts-requires
+empty-parts-requires c κs = search needs
+
 reset-acks-requires : tie.Need-reset-acks-requires
 reset-acks-requires c κs = search needs
 
@@ -28,16 +31,18 @@ returns c =
     let reset = c .before .before .before .before .before .before in
     let cleared = reset .before .before .before .before in
     let anew = cleared .before .before .before .before in
-    let condemned = anew .before .before .before .before in
+    let emptied = anew .before .before .before .before in
+    let condemned = emptied .before .before .before .before in
     let entry = condemned .before .before .before in
-    started-by _ _ (sizes-of _ _ (entry .pre)) _ _ _ _ _ (condemned .condemn .ensures) (anew .reset-acks .ensures) (cleared .clear-marks .ensures) (reset .set-cursor .ensures)
-    (c .before .before .set-phase .ensures)
+    started-by _ _ (sizes-of _ _ (entry .pre)) _ _ _ _ _ _ (condemned .condemn .ensures) (emptied .empty-parts .ensures) (anew .reset-acks .ensures) (cleared .clear-marks .ensures)
+    (reset .set-cursor .ensures) (c .before .before .set-phase .ensures)
 
 pub begin-spec : {M : Type 1} → statement M
 begin-spec =
     tie.close
     (tie.spec
     condemn-requires
+    empty-parts-requires
     reset-acks-requires
     clear-marks-requires
     set-cursor-requires

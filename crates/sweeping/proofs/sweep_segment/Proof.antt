@@ -58,7 +58,7 @@ returns c =
     let blocks = c .before .blocks-in .ensures in
     let a = entry .args in
     let m = memOf (a .g) (a .mem .now) in
-    let is = classed .condemned-class .ensures _ (condemned-read m (a .s) _ (told .read .ensures .0) (entry .pre .1)) in
+    let is = classed .condemned-class .ensures _ _ (condemned-read m (a .s) _ (told .read .ensures .0) (entry .pre .1)) in
     swept-too-many (a .g) m (a .s) _ is (sym (known .before .is-class .ensures) ∙ known .if1 .taken) _
     (sum-of (told .read .ensures .1) (told .read .ensures .2)) (omega arith) _
 
@@ -113,7 +113,7 @@ returns-2 c =
     let k = is-one known in
     let blocks = few .before .blocks-in .ensures in
     let enough = few .if2 .left in
-    let is = classed .condemned-class .ensures _ (condemned-read m (a .s) _ (told .read .ensures .0) (entry .pre .1)) in
+    let is = classed .condemned-class .ensures _ _ (condemned-read m (a .s) _ (told .read .ensures .0) (entry .pre .1)) in
     swept-finished (a .g) m (a .s) _ is (sym (known .before .is-class .ensures) ∙ known .if1 .taken) _
     (sum-of (told .read .ensures .1) (told .read .ensures .2)) (omega arith) 0 _ (written .fresh .ensures ∙ unset-fresh (a .g) m (a .s) _ k u)
     (unset-ones (a .g) m (a .s) _ k u) _ (counted .write-counts .ensures) _ _ (done .finish .ensures)
@@ -162,7 +162,7 @@ returns-3 c =
     let enough = few .if2 .left in
     let a = entry .args in
     let m = memOf (a .g) (a .mem .now) in
-    let is = classed .condemned-class .ensures _ (condemned-read m (a .s) _ (told .read .ensures .0) (entry .pre .1)) in
+    let is = classed .condemned-class .ensures _ _ (condemned-read m (a .s) _ (told .read .ensures .0) (entry .pre .1)) in
     swept-finished (a .g) m (a .s) _ is (sym (known .before .is-class .ensures) ∙ known .if1 .taken) _
     (sum-of (told .read .ensures .1) (told .read .ensures .2)) (omega arith) _ _ (written .adopt .ensures .0) (written .adopt .ensures .1) _
     (counted .write-counts2 .ensures) _ _ (done .finish2 .ensures)
@@ -177,7 +177,7 @@ returns-4 c =
     let entry = told .before .before .before in
     let a = entry .args in
     let m = memOf (a .g) (a .mem .now) in
-    let is = classed .condemned-class .ensures _ (condemned-read m (a .s) _ (told .read .ensures .0) (entry .pre .1)) in
+    let is = classed .condemned-class .ensures _ _ (condemned-read m (a .s) _ (told .read .ensures .0) (entry .pre .1)) in
     swept-no-class (a .g) m (a .s) _ is (sym (c .before .is-class .ensures) ∙ c .if1 .left) _
 
 pub sweep-segment-spec : {M : Type 1} → statement M

@@ -6,20 +6,25 @@ use crate::answers::{or_torn, refuse, Answer, Refusal, Step, IDLE, MARK, SWEEP, 
 use crate::bitmap::{self, Moved, FOUR, LEVEL_WORDS};
 use crate::classes;
 use crate::layout::{
-    part_top, Heap, ACKNOWLEDGED, CLASS, CONDEMNED_TOP, FREE_TOP, LEVEL0, MARKS, MUTATORS, MUTATOR_WORDS, NEXT, NUMBER, PHASE, PLACE, SIDE, STATE,
+    part_top, Heap, ACKNOWLEDGED, CLASS, CONDEMNED_TOP, FREE_TOP, HANDED_OUT, KEPT, LEVEL0, MARKS, MUTATORS, MUTATOR_WORDS, NEXT, NUMBER, PHASE,
+    PLACE, SIDE, STATE,
 };
 use crate::mutators::{ABSENT, OUTSIDE};
 use crate::segments::{self, fill_up, recount, set_summary, Descriptor};
 
 impl<M: DerefMut<Target = [u32]>> Heap<M> {
-    /// Every full segment, where there is one, is condemned, stacked so that the lowest comes off first.
+    /// Every full and every part segment is condemned, its place kept; they are stacked so that the lowest comes off first, and the part
+    /// stacks are empty.
     fn condemn(&mut self) -> Answer<()> {
         for segment in (0..self.segments).rev() {
             let descriptor = self.descriptor(segment);
-            if self.word(descriptor + STATE)? == segments::FULL {
+            if matches!(self.word(descriptor + STATE)?, segments::FULL | segments::PART) {
                 self.set(descriptor + STATE, segments::CONDEMNED)?;
                 self.push(CONDEMNED_TOP, descriptor)?;
             }
+        }
+        for class in classes::LOWEST..=classes::HIGHEST {
+            self.set(part_top(class), 0)?;
         }
         Ok(())
     }
@@ -66,32 +71,32 @@ impl<M: DerefMut<Target = [u32]>> Heap<M> {
         }
     }
 
-    /// Level 0 of the segment becomes its marks, which are the blocks kept; it is then free, full or part.
+    /// Level 0 of the segment becomes its marks, which are the blocks kept; it is then free, full or part. Its counts say how many blocks were in
+    /// use.
     fn sweep(&mut self, descriptor: usize) -> Answer<Step> {
         let segment = self.word(descriptor + NUMBER)?;
         let class = self.word(descriptor + CLASS)?;
         let words: &mut Descriptor = self.array_mut(descriptor)?;
         let (head, marks) = words.split_at_mut(MARKS);
         let marks = or_torn(marks.get(..classes::level_words(class).max(FOUR)))?;
-        let blocks = classes::blocks(class);
+        let (blocks, used) = (classes::blocks(class), head[KEPT].wrapping_add(head[HANDED_OUT]));
         if marks.iter().fold(0, |any, word| any | word) == 0 {
             head[STATE] = segments::FREE;
             recount(head, 0);
             self.push(FREE_TOP, descriptor)?;
-            return Ok(Step::Swept { segment, freed: blocks });
+            return Ok(Step::Swept { segment, freed: used });
         }
         let Moved { marked, summary } = bitmap::move_marks(&mut head[LEVEL0..], marks, class);
-        let freed = blocks.wrapping_sub(marked);
         recount(head, marked);
         head[LEVEL0] |= classes::padding(class);
-        set_summary(words, if freed == 0 { u64::MAX } else { summary });
-        if freed == 0 {
+        set_summary(words, if marked == blocks { u64::MAX } else { summary });
+        if marked == blocks {
             fill_up(words, class);
         } else {
             set_part(words, summary);
             self.push(part_top(class), descriptor)?;
         }
-        Ok(Step::Swept { segment, freed })
+        Ok(Step::Swept { segment, freed: used.wrapping_sub(marked) })
     }
 }
 
@@ -104,7 +109,7 @@ fn set_part(words: &mut Descriptor, summary: u64) {
     words[NEXT] = index * 32 + words[LEVEL0 + index as usize % LEVEL_WORDS].trailing_ones();
 }
 
-/// A cycle begins: every full segment is condemned, and with none full it is a cycle over nothing; refused 11 outside idle.
+/// A cycle begins: every full and every part segment is condemned, and with neither it is a cycle over nothing; refused 11 outside idle.
 #[inline]
 pub fn start(segments: u32, mem: &mut [u32]) -> Answer<()> {
     let mut heap = Heap::over(segments, mem)?;

@@ -90,8 +90,10 @@ impl Examination<'_> {
             self.mutator(mutator)?;
         }
         self.headers()?;
-        if self.phase != IDLE && self.phase != SWEEP {
-            self.marks()?;
+        match self.phase {
+            IDLE => {}
+            SWEEP => self.condemned_marks()?,
+            _ => self.marks()?,
         }
         self.grey_records()?;
         self.reached_records()
@@ -115,9 +117,11 @@ impl Examination<'_> {
         self.bitmap(words, class)?;
         self.counts(words, class)?;
         let blocks = classes::blocks(class);
-        if words[STATE] == FULL || words[STATE] == CONDEMNED {
-            must(words[PLACE] == blocks && words[NEXT] == blocks)?;
-            return must(words[STATE] == FULL || self.phase != IDLE);
+        if words[STATE] == CONDEMNED {
+            return must(words[PLACE] <= blocks && self.phase != IDLE);
+        }
+        if words[STATE] == FULL {
+            return must(words[PLACE] == blocks && words[NEXT] == blocks);
         }
         // A segment of one block is full from its first: it is never part or held.
         must(blocks > 1)?;
@@ -250,6 +254,16 @@ impl Examination<'_> {
         }
         let queued = self.heap.mem.get(self.heap.queued_bits()..self.heap.descriptors())?;
         must(queued.iter().map(|word| word.count_ones() as usize).sum::<usize>() == height + marked)
+    }
+
+    /// In sweep: the marks of condemned segments, which are still to become bits, are of blocks in use.
+    fn condemned_marks(&self) -> Option<()> {
+        for segment in 0..self.heap.segments {
+            if self.segment(segment)?[STATE] == CONDEMNED {
+                self.marks_of(segment)?;
+            }
+        }
+        Some(())
     }
 
     /// The count of a segment's marks, each of a block in use whose queued bit is set.

@@ -49,6 +49,26 @@ fn makes_are_counted() {
     assert_eq!(world.counts(1), [0, 0]);
 }
 
+/// A part segment of four blocks, three of them handed out, is condemned with its counts; the one that is reached is kept.
+#[test]
+fn counts_of_a_part_segment() {
+    let mut world = World::new(1);
+    assert_eq!(world.attach(0), Ok(()));
+    for root in 0..3 {
+        make(&mut world, root, 600);
+    }
+    assert_eq!(world.spawn(1, 0, 2), Ok(()));
+    assert_eq!(world.detach(0), Ok(()));
+    assert_eq!(world.attach(0), Ok(()));
+    assert_eq!(world.leave(1), Ok(()));
+    assert_eq!(world.start(), Ok(()));
+    assert_eq!(world.states()[0], [CONDEMNED, 12, 3, 0, 0, 3]);
+    world.play_to_mark(&[0]);
+    assert_eq!(world.trace_all(), 1);
+    assert_eq!(world.step(), Ok(Step::Swept { segment: 0, freed: 2 }));
+    assert_eq!(world.states()[0], [PART, 12, 0, 0, 1, 0]);
+}
+
 /// A segment of four blocks is swept to part, to full and to free, and then taken by another class.
 #[test]
 fn sweeps_set_both() {
@@ -106,17 +126,22 @@ fn other_counts_fail() {
     assert_eq!(world.attach(0), Ok(()));
     make(&mut world, 0, 126);
     world.fill_segment(0);
+    tear_all(&mut world, [FULL, PART, PART, HELD, HELD]);
     assert_eq!(world.start(), Ok(()));
-    let states: Vec<u32> = world.states().iter().map(|state| state[0]).collect();
-    assert_eq!(states, [CONDEMNED, PART, PART, HELD, HELD]);
-    for segment in 0..5 {
-        tear(&mut world, segment);
-    }
+    tear_all(&mut world, [CONDEMNED, CONDEMNED, CONDEMNED, HELD, HELD]);
     let mut world = World::new(2);
     assert_eq!(world.attach(0), Ok(()));
     world.fill_segment(0);
     tear(&mut world, 0);
     tear(&mut world, 1);
+}
+
+/// Those of all five segments, which are in these states.
+fn tear_all(world: &mut World, states: [u32; 5]) {
+    for (segment, state) in states.into_iter().enumerate() {
+        assert_eq!(world.state(segment)[0], state);
+        tear(world, segment);
+    }
 }
 
 /// Each of the two counts of a segment becomes other numbers.

@@ -68,7 +68,7 @@ fn no_mutator_at_all() {
     assert_eq!(world.step(), Ok(Step::Done));
 }
 
-/// With nothing full, a cycle over nothing: each phase has one step.
+/// With nothing full or part, a cycle over nothing: each phase has one step.
 #[test]
 fn over_nothing() {
     let mut world = World::new(2);

@@ -1,16 +1,16 @@
--- `calls_torn::starts` meets its contract.
+-- `calls_torn::overs` meets its contract.
 use mathlib.Core.Path.{_≡_}
 use Prim.Native.Nat.{_≤_, _-_}
 use lib.ListN.{length}
 use borrow.Author.Needs.{needs}
-use Rattle.calls_torn.proofs.starts.Statement.{statement}
-use Rattle.calls_torn.proofs.starts.Tie as tie
+use Rattle.calls_torn.proofs.overs.Statement.{statement}
+use Rattle.calls_torn.proofs.overs.Tie as tie
 
 abbrev Inv-loop : tie.InvT-loop
-Inv-loop mem₀ new small e₀ i₀ t7 mem e i = (i ≤ 49) × (length mem ≡ length mem₀)
+Inv-loop mem₀ sweep new small e₀ i₀ t5 mem e i = (i ≤ 49) × (length mem ≡ length mem₀)
 
 abbrev μ-loop : tie.MeasureT-loop
-μ-loop mem₀ new small e₀ i₀ t7 mem e i = 49 - i
+μ-loop mem₀ sweep new small e₀ i₀ t5 mem e i = 49 - i
 
 loop-holds : tie.Need-loop-holds Inv-loop μ-loop
 loop-holds c = search needs
@@ -21,14 +21,8 @@ next-requires c κs = search needs
 renew-requires : tie.Need-renew-requires Inv-loop μ-loop
 renew-requires c κs = search needs
 
-odd-requires : tie.Need-odd-requires Inv-loop μ-loop
-odd-requires c κs = search needs
-
-odd-requires-2 : tie.Need-odd-requires-2 Inv-loop μ-loop
-odd-requires-2 c κs = search needs
-
-start-over-requires : tie.Need-start-over-requires Inv-loop μ-loop
-start-over-requires c κs = search needs
+over-requires : tie.Need-over-requires Inv-loop μ-loop
+over-requires c κs = search needs
 
 add-i : tie.Need-add-i Inv-loop μ-loop
 add-i c = search needs
@@ -51,8 +45,8 @@ same-length c = search needs
 returns : tie.Need-returns Inv-loop μ-loop
 returns c = search needs
 
-pub starts-spec : {M : Type 1} → statement M
-starts-spec =
+pub overs-spec : {M : Type 1} → statement M
+overs-spec =
     tie.close
     (tie.spec
     Inv-loop
@@ -60,9 +54,7 @@ starts-spec =
     loop-holds
     next-requires
     renew-requires
-    odd-requires
-    odd-requires-2
-    start-over-requires
+    over-requires
     add-i
     loop-less
     loop-again
