@@ -33,7 +33,7 @@ extern "C" {
 /* The version of this interface, and the number of the layout of the lent slice. A landing that moves a word of the
  * layout raises the number: lengths are compiled into callers, and memory may outlive a restart into a program that was
  * linked with another library. CHANGELOG.md has an entry for each. */
-#define BORVUKHAI_VERSION "0.6.0"
+#define BORVUKHAI_VERSION "0.6.1"
 #define BORVUKHAI_LAYOUT 4u
 
 /* Refusals, by document 01's words. The lowest number that applies is given. On memory that passes the examination a refusal
@@ -327,6 +327,58 @@ static inline uint32_t borvukhai_step_to(uint32_t segments, uint32_t *mem, size_
     }
     return borvukhai_refusal(answer);
 }
+
+/* ---- how long a cycle can be, for a bar that shows its progress
+ *
+ * After a start that is not refused, over memory that passes the examination and with no opening since, the steps that
+ * are neither refused nor answered waiting, up to and including done, are at most B + C + 4: B is the number of blocks
+ * in use when the phase became mark, C the number of segments that the start condemned. Looks at the states have both:
+ * C one after the start, B one just after the second step that answers moved, which is the step that moves to mark.
+ * Until then B is not known: it will be the blocks in use now and one for each make that is not refused meanwhile, and
+ * no more than borvukhai_most_at_mark.
+ *
+ * `output` is what borvukhai_states wrote for so many segments. For a count that is not 1 to 256 the answer is 0, and
+ * no word is read. No sum wraps, whatever the words are; over memory that fails the examination it bounds nothing. */
+
+/* B, of a look where the phase became mark: the blocks in use, kept and handed out, of all segments. */
+static inline uint64_t borvukhai_blocks_in_use(uint32_t segments, const uint32_t *output) {
+    uint32_t at;
+    uint64_t sum = 0;
+    for (at = 0; at < BORVUKHAI_STATES_LENGTH(segments); at += BORVUKHAI_STATE_WORDS) {
+        sum += (uint64_t)output[at + BORVUKHAI_STATE_KEPT] + output[at + BORVUKHAI_STATE_HANDED_OUT];
+    }
+    return sum;
+}
+
+/* C, of a look between the start and the first segment that is swept: the condemned segments. */
+static inline uint32_t borvukhai_condemned(uint32_t segments, const uint32_t *output) {
+    uint32_t at, count = 0;
+    for (at = 0; at < BORVUKHAI_STATES_LENGTH(segments); at += BORVUKHAI_STATE_WORDS) {
+        count += output[at + BORVUKHAI_STATE_TAG] == BORVUKHAI_SEGMENT_CONDEMNED;
+    }
+    return count;
+}
+
+/* The most that B can be when the phase next becomes mark, of a look in idle or in a handshake: of a condemned segment
+ * its blocks in use, as no make takes it; of any other that is not free all its blocks; of a free one 2,048, as a make
+ * of any class may take it. */
+static inline uint64_t borvukhai_most_at_mark(uint32_t segments, const uint32_t *output) {
+    uint32_t at;
+    uint64_t sum = 0;
+    for (at = 0; at < BORVUKHAI_STATES_LENGTH(segments); at += BORVUKHAI_STATE_WORDS) {
+        const uint32_t *state = output + at;
+        uint32_t tag = state[BORVUKHAI_STATE_TAG], number = state[BORVUKHAI_STATE_CLASS];
+        if (tag == BORVUKHAI_SEGMENT_CONDEMNED) {
+            sum += (uint64_t)state[BORVUKHAI_STATE_KEPT] + state[BORVUKHAI_STATE_HANDED_OUT];
+        } else {
+            sum += tag == BORVUKHAI_SEGMENT_FREE ? BORVUKHAI_BLOCKS(3u) : BORVUKHAI_BLOCKS(number);
+        }
+    }
+    return sum;
+}
+
+/* The bar's far end: B + C + 4. */
+static inline uint64_t borvukhai_cycle_end(uint64_t blocks, uint32_t condemned) { return blocks + condemned + 4; }
 
 #ifdef __cplusplus
 }

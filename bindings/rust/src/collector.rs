@@ -42,6 +42,57 @@ impl Step {
     }
 }
 
+/// How long a cycle can be: the far end of a bar that shows its progress, B + C + 4.
+///
+/// After a start that is not refused, over memory that passes the examination and with no opening since, the steps that
+/// are neither refused nor answered [`Step::Waiting`], up to and including [`Step::Done`], are at most B + C + 4: B is
+/// the number of blocks in use when the phase became mark ([`States::blocks_in_use`](crate::States::blocks_in_use) of a
+/// look just after the second step that answers [`Step::Moved`]), C the number of segments that the start condemned
+/// ([`States::condemned`](crate::States::condemned) of a look after it). Until mark B is not known: it will be the
+/// blocks in use now and one for each make that is not refused meanwhile, and no more than
+/// [`States::most_at_mark`](crate::States::most_at_mark). Over memory that fails the examination this bounds nothing.
+///
+/// ```
+/// use borvukhai::{Heap, MutatorId, Phase, Root, Segments, Shape, Step, cycle_end};
+///
+/// const SEGMENTS: Segments = Segments::new(2).unwrap();
+/// const ID: MutatorId = MutatorId::new(0).unwrap();
+///
+/// let mut heap = Heap::open(SEGMENTS, [0; SEGMENTS.length()])?;
+/// let mut mutator = heap.attach(ID)?;
+/// for root in [Root::R0, Root::R1, Root::R2, Root::R2] {
+///     mutator.make(root, Shape::new(1, 600))?; // four fill a segment; the third is dead
+/// }
+///
+/// let mut output = [0; SEGMENTS.states_length()];
+/// heap.start()?;
+/// let look = heap.states(&mut output)?;
+/// let condemned = look.condemned();
+/// let mut end = cycle_end(look.most_at_mark(), condemned);
+/// assert_eq!(end, 4 + 2048 + 1 + 4); // the other segment is free, and may still be taken
+///
+/// let mut steps = 0;
+/// loop {
+///     let step = heap.step()?;
+///     match step {
+///         Step::Waiting(_) => heap.mutator(ID).check()?,
+///         _ => steps += 1,
+///     }
+///     if step == Step::Moved && heap.phase()? == Phase::Mark {
+///         end = cycle_end(heap.states(&mut output)?.blocks_in_use(), condemned);
+///         assert_eq!(end, 4 + 1 + 4);
+///     }
+///     if step == Step::Done {
+///         break;
+///     }
+/// }
+/// assert_eq!(steps, 8);
+/// # Ok::<(), borvukhai::Refusal>(())
+/// ```
+pub const fn cycle_end(blocks: u64, condemned: u32) -> u64 {
+    blocks.saturating_add(condemned as u64 + 4)
+}
+
 impl<M: AsRef<[u32]> + AsMut<[u32]>> Heap<M> {
     /// A cycle begins: every full and every part segment is condemned, and no make takes it before its sweep; held ones
     /// are not. Where none is full or part it is a cycle over no segment: both handshakes and the marking are held as
@@ -65,9 +116,9 @@ impl<M: AsRef<[u32]> + AsMut<[u32]>> Heap<M> {
     /// This is the pause that steps avoid: for moments when time does not matter, or when no room is left. Where a
     /// handshake waits, it checks for every mutator that is inside; as the heap is borrowed, none of them is within a call.
     ///
-    /// For n segments it takes at most 2049 n + 6 steps: in each handshake one that waits and one that moves on, one for each record
-    /// marked, of which a segment has at most 2048, one that moves on to the sweep, one for each segment, and the last. Over memory
-    /// that fails the examination more might be wanted; then it is refused Torn after so many.
+    /// For n segments it takes at most 2049 n + 6 steps: the B + C + 4 of [`cycle_end`], with at most 2048 blocks in each segment
+    /// and n segments condemned, and in each handshake one that waits. Over memory that fails the examination more might be
+    /// wanted; then it is refused Torn after so many.
     ///
     /// ```
     /// use borvukhai::{Heap, MutatorId, Refusal, Root, Segments, Shape};

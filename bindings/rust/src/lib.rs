@@ -94,7 +94,7 @@
 //! [`Step::Done`]. A cycle needs the mutators: each one that is inside must [`check`](Mutator::check) now and then, or
 //! [`leave`](Mutator::leave) when it will be away for long. [`Heap::finish_cycle`] runs a cycle to its end in one call, which is the
 //! pause that steps avoid. A [`Pacer`] does all of it after each make: it decides when a cycle begins, and takes a bounded number of
-//! steps (`examples/paced.rs`).
+//! steps (`examples/paced.rs`). [`cycle_end`] says how many steps a cycle can take, for a bar that shows its progress.
 //!
 //! # Layers and features
 //!
@@ -127,7 +127,7 @@ mod refusal;
 mod segments;
 mod sys;
 
-pub use collector::Step;
+pub use collector::{Step, cycle_end};
 pub use heap::Heap;
 pub use looks::{Phase, SegmentRecord, SegmentState, States};
 pub use mutator::Mutator;

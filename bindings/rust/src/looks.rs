@@ -123,6 +123,27 @@ impl SegmentRecord {
     pub const fn in_use(self) -> u64 {
         self.kept as u64 + self.handed_out as u64
     }
+
+    /// The most that can be in use when the phase becomes mark.
+    const fn most_at_mark(self) -> u64 {
+        match self.state {
+            SegmentState::Free => blocks(LOWEST),
+            SegmentState::Part { class, .. } | SegmentState::Full { class, .. } => blocks(class),
+            SegmentState::Held { class, .. } => blocks(class),
+            SegmentState::Condemned { .. } => self.in_use(),
+        }
+    }
+}
+
+/// The class of the smallest blocks.
+const LOWEST: u32 = 3;
+
+/// The blocks of a segment of a class; none where it is no class.
+const fn blocks(class: u32) -> u64 {
+    match class {
+        LOWEST..=14 => 16384 >> class,
+        _ => 0,
+    }
 }
 
 /// The records of the segments, from segment 0 on: what [`Heap::states`] answers.
@@ -139,6 +160,25 @@ impl<'o> States<'o> {
             SegmentRecord::unpack(record)?;
         }
         Ok(States { words })
+    }
+
+    /// The blocks in use, of the segments that are still to come. In a look just after the step that moves to mark they
+    /// are the B of [`cycle_end`](crate::cycle_end).
+    pub fn blocks_in_use(&self) -> u64 {
+        self.clone().map(SegmentRecord::in_use).sum()
+    }
+
+    /// How many of the segments that are still to come are condemned. In a look between a start and the first segment
+    /// that is swept they are the C of [`cycle_end`](crate::cycle_end).
+    pub fn condemned(&self) -> u32 {
+        self.clone().map(|record| u32::from(matches!(record.state, SegmentState::Condemned { .. }))).sum()
+    }
+
+    /// The most blocks that can be in use when the phase next becomes mark, in the segments that are still to come, by a
+    /// look in idle or in a handshake: of a condemned segment its blocks in use, as no make takes it; of any other that
+    /// is not free all its blocks; of a free one 2,048, as a make of any class may take it.
+    pub fn most_at_mark(&self) -> u64 {
+        self.clone().map(SegmentRecord::most_at_mark).sum()
     }
 }
 
@@ -222,6 +262,28 @@ mod tests {
         assert!(States::of(&[0, 0, 0, 0, 0, 0, 5, 12, 0, 0, 0, 0]).is_err());
         assert_eq!(SegmentRecord::unpack(&[]), Err(Refusal::Torn));
         assert_eq!(SegmentRecord::unpack(&[0, 0, 0, 0]), Err(Refusal::Torn));
+    }
+
+    /// Each state with class 12, four blocks, of which two are in use.
+    #[test]
+    fn the_most_by_state() {
+        for (tag, most, condemned) in [(0, 2048, 0), (1, 4, 0), (2, 4, 0), (3, 4, 0), (4, 2, 1)] {
+            let words = [tag, 12, 2, 0, 1, 1];
+            let states = States::of(&words).unwrap();
+            assert_eq!((states.blocks_in_use(), states.most_at_mark(), states.condemned()), (2, most, condemned));
+        }
+    }
+
+    /// Over words that no heap has no sum wraps, and a class that is none has no blocks; what was given is left out.
+    #[test]
+    fn sums_of_any_words() {
+        let many = u32::MAX;
+        let words = [4, many, many, many, many, many, 1, many, many, many, many, many, 0, many, many, many, many, many];
+        let mut states = States::of(&words).unwrap();
+        let sums = |states: &States<'_>| (states.blocks_in_use(), states.most_at_mark(), states.condemned());
+        assert_eq!(sums(&states), (25_769_803_770, 8_589_936_638, 1));
+        states.next();
+        assert_eq!(sums(&states), (17_179_869_180, 2048, 0));
     }
 
     #[test]

@@ -75,7 +75,7 @@ module _ (g : Geometry) (m : Mem) (z : Sizes g m) where
           λ j. eqb (s j) inside && owes (phase-outside g m mutatorCount j) (a j)
       go false t = ap (λ b. b && owes (phase answered) (acks answered k)) (ap (λ x. eqb x inside) s ∙ t) ∙ sym (ap (λ b. b && owes (phase m) (acks m k)) t)
 
-  waiting-same : (n : ℕ) → waiting answered n ≡ waiting m n
+  pub waiting-same : (n : ℕ) → waiting answered n ≡ waiting m n
   unfolding waiting
   waiting-same zero = refl
   waiting-same (suc k) = λ j. oneIf (term-same k j) + waiting-same k j

@@ -66,15 +66,15 @@ never-more s e ds n h (z ∷ xs) ys x f i p = let q : ds ≡ xs ++ (x ∷ ys) = 
 
 module _ (g : Geometry) where
   -- of the right size, and passes the examination
-  record ConsistentWords (words : List ℕ) : Type 0 where
-    right : wrongSize g (length words) ≡ false
-    consistent : Consistent g (memOf g words)
+  pub record ConsistentWords (words : List ℕ) : Type 0 where
+    pub right : wrongSize g (length words) ≡ false
+    pub consistent : Consistent g (memOf g words)
 
   next : (words : List ℕ) (e : Element) → ConsistentWords words → Meets e → KeepsLength e → (wrongSized e ≡ true) ⊎ Gets g words e
       → ConsistentWords (nextWords words e) × Acts g (memOf g words) (memOf g (nextWords words e)) (e .event)
   next words e a q l h = let o = every-element g words e (a .right) (a .consistent) q l h in (record { right = o .sized; consistent = o .consistent }, o .acts)
 
-  walk-consistent : (xs ys : List Element) (words : List ℕ) → ConsistentWords words → Chain g words (xs ++ ys) → ConsistentWords (wordsAfter words xs) × Chain g (wordsAfter words xs) ys
+  pub walk-consistent : (xs ys : List Element) (words : List ℕ) → ConsistentWords words → Chain g words (xs ++ ys) → ConsistentWords (wordsAfter words xs) × Chain g (wordsAfter words xs) ys
   walk-consistent [] ys words a c = (a, c)
   walk-consistent (e ∷ xs) ys words a c = walk-consistent xs ys (nextWords words e) (next words e a (c .0) (c .1) (c .2) .0) (c .3)
 

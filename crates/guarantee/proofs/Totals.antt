@@ -59,16 +59,16 @@ use Rattle.theory.specs.Calls as theory
 
 -- ---- sums over segments
 
-sum-is : (f : ℕ → ℕ) (n : ℕ) → sumOver f n ≡ onesAmong f n
+pub sum-is : (f : ℕ → ℕ) (n : ℕ) → sumOver f n ≡ onesAmong f n
 unfolding sumOver onesAmong
 sum-is f zero = refl
 sum-is f (suc n) = ap (λ x. x + f n) (sum-is f n)
 
-sum-same : (f h : ℕ → ℕ) (n : ℕ) → ((s : ℕ) → s < n → h s ≡ f s) → sumOver h n ≡ sumOver f n
+pub sum-same : (f h : ℕ → ℕ) (n : ℕ) → ((s : ℕ) → s < n → h s ≡ f s) → sumOver h n ≡ sumOver f n
 sum-same f h n e = sum-is h n ∙ among-same h f n e ∙ sym (sum-is f n)
 
 -- at one segment only
-sum-change : (f h : ℕ → ℕ) (n k : ℕ) → k < n → ((s : ℕ) → s < n → (s ≡ k → ⊥) → h s ≡ f s) → sumOver h n + f k ≡ sumOver f n + h k
+pub sum-change : (f h : ℕ → ℕ) (n k : ℕ) → k < n → ((s : ℕ) → s < n → (s ≡ k → ⊥) → h s ≡ f s) → sumOver h n + f k ≡ sumOver f n + h k
 sum-change f h n k l e = ap (λ x. x + f k) (sum-is h n) ∙ among-change f h n k l e ∙ ap (λ x. x + h k) (sym (sum-is f n))
 
 -- ---- the two counts

@@ -11,3 +11,4 @@ pub mod SoundOnly
 pub mod RefusedStand
 pub mod HandsBack
 pub mod Totals
+pub mod CycleBound

@@ -7,3 +7,4 @@ pub mod HalfEmpty
 pub mod RefusedStand
 pub mod HandsBack
 pub mod Totals
+pub mod CycleBound

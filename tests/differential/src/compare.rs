@@ -109,6 +109,13 @@ impl List<'_> {
         self.totals.agree(in_use, "places and bits")
     }
 
+    /// The steps that the cycle can still take are fewer by those since the last time at least.
+    pub fn take_measure(&mut self) -> Result<(), String> {
+        let compared = self.measure.take(self.pair.verified.memory.words(), self.n)?;
+        self.coverage.bound.measured += u64::from(compared);
+        Ok(())
+    }
+
     /// The verified library's trace stack has as many entries as document 01 says, and the same last one.
     pub fn compare_top(&mut self) -> Result<(), String> {
         let count = layout::trace_count(self.pair.verified.memory.words());
@@ -142,6 +149,7 @@ impl List<'_> {
         self.unexamined = 0;
         self.compare_stack()?;
         self.count_blocks()?;
+        self.take_measure()?;
         if self.rng.chance(64) {
             let word = self.rng.word();
             self.pair.verified.scratch.words_mut().fill(word);

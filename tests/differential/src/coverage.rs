@@ -1,5 +1,6 @@
 //! Counters: calls by kind and answer, and the situations that a campaign must have met.
 
+use crate::bound::Seen;
 use crate::calls::*;
 use crate::layout;
 
@@ -124,6 +125,7 @@ pub struct Coverage {
     pub former: [u64; KINDS],
     pub former_output: u64,
     pub steps: [u64; 6],
+    pub bound: Seen,
     pub situations: Vec<u64>,
 }
 
@@ -147,6 +149,7 @@ impl Coverage {
             former: [0; KINDS],
             former_output: 0,
             steps: [0; 6],
+            bound: Seen::default(),
             situations: vec![0; SITUATIONS.len()],
         }
     }
@@ -200,6 +203,7 @@ impl Coverage {
             }
         }
         missing.extend(self.missing_former());
+        missing.extend(self.bound.missing());
         for (class, [free, part, full]) in (layout::LOWEST..).zip(self.by_class) {
             // That all of more than 256 blocks are reached is rare; a segment of one block is never part.
             if free == 0 || part == 0 && layout::blocks(class) > 1 || class > 5 && full == 0 {
@@ -247,6 +251,7 @@ impl Coverage {
             "  {} looks at the states compared, {} examinations, {} calls watched to change no word, blocks in use counted by places and bits {} times",
             self.compared_states, self.examined, self.watched, self.counted
         );
+        self.bound.print();
     }
 
     /// The lines that only lists from an opening on have.

@@ -69,9 +69,14 @@ pub fn side(memory: &[u32], mutator: u32) -> u32 {
     memory[MUTATORS + 32 * mutator as usize + 16]
 }
 
-/// Where the bit of a block of the class stands among the marks: the word, and which of its bits.
+/// The number of the bit of a block of the class among the marks.
+pub fn mark_bit(segment: u32, class: u32, block: u32) -> usize {
+    (2048 * segment + (block << class) / 8) as usize
+}
+
+/// Where that bit stands: the word, and which of its bits.
 pub fn mark_at(segments: u32, segment: u32, class: u32, block: u32) -> (usize, usize) {
-    let bit = (2048 * segment + (block << class) / 8) as usize;
+    let bit = mark_bit(segment, class, block);
     (regions(segments)[6] + bit / 32, bit % 32)
 }
 
@@ -191,15 +196,15 @@ pub fn all_counts_right(memory: &[u32], segments: u32) -> bool {
     (0..segments).all(|number| counts_right(memory, segments, number))
 }
 
-/// How many blocks of a segment are in use: they lie before its place, or their bit is 1; none of a free one.
-fn used_in(memory: &[u32], segments: u32, number: u32) -> u64 {
-    if segment(memory, segments, number)[0] == 0 {
-        return 0;
-    }
-    level0(memory, segments, number).map(|(word, here, before)| u64::from((word & here | before).count_ones())).sum()
+/// The blocks of a segment that are in use, a bit each, 32 to a word: they lie before its place, or their bit is 1;
+/// none of a free one.
+pub fn used(memory: &[u32], segments: u32, number: u32) -> impl Iterator<Item = u32> + '_ {
+    let words = if segment(memory, segments, number)[0] == 0 { 0 } else { usize::MAX };
+    level0(memory, segments, number).take(words).map(|(word, here, before)| word & here | before)
 }
 
 /// How many blocks are in use in all segments that are not free. No count is read.
 pub fn blocks_in_use(memory: &[u32], segments: u32) -> u64 {
-    (0..segments).map(|number| used_in(memory, segments, number)).sum()
+    let words = (0..segments).flat_map(|number| used(memory, segments, number));
+    words.map(|word| u64::from(word.count_ones())).sum()
 }

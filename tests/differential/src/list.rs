@@ -3,12 +3,14 @@
 
 use crate::adopt::{adopt, Adopted};
 use crate::blocks::{Blocks, Put};
+use crate::bound::{self, Bound};
 use crate::calls::*;
 use crate::choose::Chooser;
 use crate::coverage::{Coverage, Situation};
 use crate::cycle::Cycle;
 use crate::layout;
 use crate::lent::Lent;
+use crate::measure::Measure;
 use crate::nothing::OverNothing;
 use crate::parts::Parts;
 use crate::recent::Recent;
@@ -31,6 +33,8 @@ pub struct List<'a> {
     pub heap: UnboundedHeap,
     pub blocks: Blocks,
     pub cycle: Cycle,
+    pub bound: Bound,
+    pub measure: Measure,
     pub nothing: OverNothing,
     pub parts: Parts,
     pub totals: Totals,
@@ -67,6 +71,8 @@ impl<'a> List<'a> {
             heap: UnboundedHeap::new(),
             blocks: Blocks::new(n),
             cycle: Cycle::new(),
+            bound: Bound::new(n),
+            measure: Measure::default(),
             nothing: OverNothing::default(),
             parts: Parts::new(n),
             totals: Totals::new(0),
@@ -115,6 +121,7 @@ impl<'a> List<'a> {
             self.compare_phase()?;
             self.compare_states()?;
             self.parts.adopt(&self.states);
+            self.take_measure()?;
         } else {
             self.open()?;
         }
@@ -199,6 +206,7 @@ impl<'a> List<'a> {
         }
         let watched = self.watch(call, expected);
         let facts = Facts::see(self.pair.verified.memory.words(), self.phase, call, &self.heap);
+        let lent = (call.kind == Step).then(|| bound::Lent::see(self.pair.verified.memory.words(), self.n));
         let answer = self.both(call)?;
         self.chooser.heard(call, answer);
         self.totals.heard(call, answer);
@@ -211,7 +219,11 @@ impl<'a> List<'a> {
         self.refused_rightly(call, answer, &facts)?;
         self.nothing.note(call, answer, self.coverage);
         if refusal(answer) == 0 {
-            facts.note(self.pair.verified.memory.words(), call, answer, self.coverage);
+            let memory = self.pair.verified.memory.words();
+            facts.note(memory, call, answer, self.coverage);
+            if let Some(lent) = lent {
+                self.bound.stepped(&lent, answer, memory, &mut self.coverage.bound)?;
+            }
             self.performed(call, answer)?;
         }
         self.compare_top()?;
@@ -310,6 +322,7 @@ impl<'a> List<'a> {
             _ => self.coverage.met(Situation::CycleOverManySegments),
         }
         self.nothing = OverNothing::begin(self.pair.verified.memory.words(), self.n, condemned);
+        self.bound.start(self.pair.verified.memory.words());
         self.blocks.start(&self.states, &mut self.heap);
         self.parts.start(&self.states);
         self.parts.note_start(self.coverage);
@@ -353,6 +366,7 @@ impl<'a> List<'a> {
         let state = layout::segment(memory, self.n, segment);
         let at = layout::RECORD_WORDS * segment as usize;
         self.counted_out(call, segment, &state, other_class)?;
+        self.bound.made();
         self.parts.made(segment, class, other_class, self.coverage);
         if layout::blocks(class) == 1 {
             if state[0] != 3 {
@@ -392,6 +406,7 @@ impl<'a> List<'a> {
             return Err(format!("step: verified {answer}, by document 01 {expected}"));
         }
         self.nothing.stepped(self.phase, step_kind(answer))?;
+        self.measure.stepped(answer)?;
         match step_kind(answer) {
             MOVED => self.moved_to(self.phase + 1),
             DONE => {

@@ -2,6 +2,7 @@
 
 mod adopt;
 mod blocks;
+mod bound;
 mod calls;
 mod campaign;
 mod choose;
@@ -14,6 +15,7 @@ mod interface;
 mod layout;
 mod lent;
 mod list;
+mod measure;
 mod nothing;
 mod numbers;
 mod options;
@@ -79,6 +81,7 @@ fn missing(campaign: &Campaign) -> Vec<String> {
     if campaign.places == 0 {
         missing.push("memory that passes the examination with another place of a condemned segment".into());
     }
+    missing.extend(campaign.adopted.bound.missing().into_iter().map(|what| format!("{what}, on changed memory")));
     for (name, _) in STEP_KINDS.iter().zip(campaign.adopted.steps).filter(|(_, count)| *count == 0) {
         missing.push(format!("Step answered {name} on changed memory"));
     }

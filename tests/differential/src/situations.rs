@@ -21,7 +21,8 @@ pub struct Facts {
     new: bool,
 }
 
-fn owes(phase: u32, acknowledged: u32) -> bool {
+/// Whether a mutator with so many acknowledgements owes one in the phase.
+pub fn owes(phase: u32, acknowledged: u32) -> bool {
     phase == SYNC1 && acknowledged < 1 || phase == SYNC2 && acknowledged < 2
 }
 

@@ -1,0 +1,3 @@
+-- How long a cycle can be.
+pub mod StepsLeft
+pub mod CycleBound
