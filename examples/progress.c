@@ -1,5 +1,5 @@
-/* A panel's progress bar: how far the bar of a cycle reaches, and that the cycle is done within it. Three mutators go on
- * making records meanwhile, each of them outside now and then. C is known from the start on, and B at mark: until
+/* A panel's progress bar: how far the bar of a cycle reaches, and that the cycle is done within it. Three mutators go
+ * on making records meanwhile, each of them outside now and then. C is known from the start on, and B at mark: until
  * then the bar shows the farthest end that it can have. It prints a line for each cycle, and fails where one takes more
  * steps than its bar has. */
 #include "borvukhai.h"

@@ -15,7 +15,7 @@ use Rattle.refine_start.proofs.Opened.{sizes-opened}
 use Rattle.refine_run.proofs.Own.{sized-left, memory-left}
 use Rattle.guarantee.proofs.Beginning.{opened-point}
 use Rattle.guarantee.proofs.Keeping.{runs-itself}
-use Rattle.model_cases.specs.Replies.{Input, Reply, does, replies, ok}
+use Rattle.model_cases.specs.Replies.{Input, Reply, does, replies, Line, inputs, ok}
 use Rattle.guarantee_cases.specs.Columns.{answerIn}
 use Rattle.model_cases.specs.Replies as input
 use Rattle.model.specs.Opening as opening
@@ -47,6 +47,9 @@ commandIn (input.heap i n) = none
 abbrev pub commandsIn : List Input → List Command
 commandsIn [] = []
 commandsIn (e ∷ es) = prepend (commandIn e) (commandsIn es)
+
+abbrev pub asked : List Line → List Command
+asked ls = commandsIn (inputs ls)
 
 module _ (g : Geometry) where
   -- the event of a command with its reply

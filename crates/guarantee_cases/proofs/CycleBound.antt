@@ -29,14 +29,14 @@ use Rattle.guarantee.proofs.Elements.{not-refused}
 use Rattle.cycle_bound.specs.StepsLeft.{counted, condemnedIn}
 use Rattle.cycle_bound.specs.CycleBound.{orLater, atMark, usedIn, usedAtMark, DoneLast, InCycle}
 use Rattle.cycle_bound.proofs.CycleBound.{every-cycle, every-start-begins}
-use Rattle.model_cases.specs.Replies.{Reply, does, replies, opening, Line, inputs, outputs, Holds, geometry, sevens, ok}
+use Rattle.model_cases.specs.Replies.{Reply, does, replies, opening, Line, outputs, Holds, geometry, sevens, ok}
 use Rattle.model_cases.specs.Whole.{whole}
 use Rattle.model_cases.proofs.Whole.{whole-holds}
 use Rattle.guarantee_cases.specs.Columns.{leftColumn, rightColumn}
 use Rattle.guarantee_cases.specs.OverNothing.{overNothing}
 use Rattle.guarantee_cases.specs.RefusedStand.{refusedStep, leaving}
 use Rattle.guarantee_cases.specs.CycleBound.{reaching, overPart, madeMeanwhile, stepsIn, OfCycleBound, CyclesOfCases}
-use Rattle.guarantee_cases.proofs.CaseRun.{inputOf, inputsOf, commandsIn, elementsOf, CaseRun, memoryAt, case-known}
+use Rattle.guarantee_cases.proofs.CaseRun.{inputOf, inputsOf, asked, elementsOf, CaseRun, memoryAt, case-known}
 use Rattle.guarantee_cases.proofs.Instance.{sizes-sevens}
 use Rattle.guarantee_cases.proofs.OverNothing.{nothing-holds}
 use Rattle.guarantee_cases.proofs.RefusedStand.{no-count, refused-stand}
@@ -116,9 +116,6 @@ module _ (g : Geometry) where
       ap (orLater (phase (memOf g words)) (memOf g words)) (mark-of es (nextWords words e) (c .3) ∙ n)
 
 -- ---- a case over segments of sevens, with the memory at each of its points
-
-abbrev asked : List Line → List Command
-asked ls = commandsIn (inputs ls)
 
 abbrev replied : List Line → List Reply
 replied ls = tail (outputs ls)

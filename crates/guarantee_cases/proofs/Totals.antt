@@ -13,7 +13,7 @@ use Rattle.model.specs.Run.{Command}
 use Rattle.guarantee.specs.Demand3.{struckOut}
 use Rattle.guarantee.specs.Totals.{makesIn, freedIn}
 use Rattle.guarantee.proofs.Totals.{totals}
-use Rattle.model_cases.specs.Replies.{Reply, replies, opening, Line, _⇒_, inputs, outputs, geometry, sevens, ok}
+use Rattle.model_cases.specs.Replies.{Reply, replies, opening, Line, _⇒_, outputs, geometry, sevens, ok}
 use Rattle.model_cases.specs.Whole.{whole}
 use Rattle.model_cases.specs.Refusals.{refusals}
 use Rattle.model_cases.specs.Counted.{counted}
@@ -23,7 +23,7 @@ use Rattle.guarantee_cases.specs.Columns.{leftColumn, rightColumn}
 use Rattle.guarantee_cases.specs.RefusedStand.{RefusedSize, refusedCall, refusedStep, refusedOpening, leaving}
 use Rattle.guarantee_cases.specs.Totals.{OfTotals, TotalsOfCases}
 use Rattle.guarantee_cases.proofs.RefusedStand.{no-count, refused-stand}
-use Rattle.guarantee_cases.proofs.CaseRun.{inputsOf, commandIn, commandsIn, elementsOf, CaseRun, case-run}
+use Rattle.guarantee_cases.proofs.CaseRun.{inputsOf, commandIn, asked, elementsOf, CaseRun, case-run}
 use Rattle.guarantee_cases.proofs.Instance.{sizes-sevens}
 use Rattle.model.specs.declared.Step.the-variants as step
 
@@ -35,9 +35,6 @@ keepIf (some c) l ls = l ∷ ls
 abbrev callLines : List Line → List Line
 callLines [] = []
 callLines ((e ⇒ r) ∷ ls) = keepIf (commandIn e) (e ⇒ r) (callLines ls)
-
-abbrev asked : List Line → List Command
-asked ls = commandsIn (inputs ls)
 
 abbrev replied : List Line → List Reply
 replied ls = outputs (callLines ls)

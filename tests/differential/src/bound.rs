@@ -136,7 +136,8 @@ fn counted(states: &[u32]) -> u64 {
 }
 
 /// The most blocks that can be in use when the phase next becomes mark, by a look in idle or in a handshake: of a
-/// condemned segment those in use, as no make takes it, of another that is not free all its blocks, and of a free one 2,048.
+/// condemned segment those in use, as no make takes it, of another that is not free all its blocks, and of a free one
+/// 2,048.
 fn most_at_mark(states: &[u32]) -> u64 {
     let most = |state: &[u32]| match state[0] {
         0 => u64::from(layout::blocks(layout::LOWEST)),
@@ -175,10 +176,10 @@ impl Cycle {
         blocks + self.condemned + 4
     }
 
-    /// At every point of the cycle; before mark B is 0.
-    fn within(&self) -> Result<(), String> {
+    /// At every point of the cycle, and fewer before it is done; before mark B is 0.
+    fn within(&self, done: bool) -> Result<(), String> {
         let blocks = self.at_mark.as_ref().map_or(0, |at| at.blocks);
-        match self.steps <= self.bound(blocks) {
+        match self.steps + u64::from(!done) <= self.bound(blocks) {
             true => Ok(()),
             false => Err(format!("{} steps of a cycle, with B {blocks} and C {}", self.steps, self.condemned)),
         }
@@ -196,7 +197,7 @@ impl Cycle {
         Ok(())
     }
 
-    /// The block is in use, and so since the phase became mark; and no step of the cycle traced it before.
+    /// The block is in use, and was when the phase became mark; and no step of the cycle traced it before.
     fn traces(&mut self, top: Option<&Top>) -> Result<(), String> {
         let was_used = |top: &Top| self.at_mark.as_ref().is_some_and(|at| at.has(top));
         match top {
@@ -204,7 +205,7 @@ impl Cycle {
                 self.traced[top.bit] = true;
                 Ok(())
             }
-            _ => Err(format!("a step traced {top:?}, which is not in use since mark, or for a second time")),
+            _ => Err(format!("a step traced {top:?}, which is not in use, was not at mark, or was traced before")),
         }
     }
 
@@ -253,7 +254,7 @@ impl Bound {
             cycle.traces(lent.top.as_ref())?;
             seen.traced += 1;
         }
-        cycle.within()?;
+        cycle.within(kind == DONE)?;
         if kind == DONE {
             cycle.done(seen);
             self.cycle = None;
