@@ -19,7 +19,7 @@ static inline void build_fan(struct heap *h, u32 mutator, u32 to, u32 pointers, 
 
 /* One full segment of class 12, all of it dead, so that a cycle has a segment to sweep. */
 static inline void build_full_segment(struct heap *h, u32 mutator) {
-    for (u32 i = 0; i < 4; i++) MUST(HEAP(make)(OVER(h), mutator, 0, 0, 1023), 0);
+    for (u32 i = 0; i < BORVUKHAI_BLOCKS(h->kib, 12); i++) MUST(HEAP(make)(OVER(h), mutator, 0, 0, 1023), 0);
     MUST(HEAP(clear)(OVER(h), mutator, 0), 0);
 }
 

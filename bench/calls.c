@@ -146,16 +146,18 @@ static void rows_mark(struct heap *h) {
     ROW(probe_step(h), STEP(MOVED), "step: mark is over");
 }
 
-/* One condemned segment of class 3, 1,023 of its 2,048 blocks live; the others of the heap are free or in use. */
+/* One condemned segment of class 3, 1,023 of its 2,048 or 4,096 blocks live; the others of the heap are free or in
+ * use. */
 static void rows_sweep(u32 segments) {
     struct heap h = heap_with_mutator(segments);
+    u32 blocks = BORVUKHAI_BLOCKS(h.kib, 3);
     build_fan(&h, 0, 15, 1023, 1);
-    for (u32 i = 0; i < 2; i++) MUST(HEAP(make)(OVER(&h), 0, 0, 0, 1), 0);
+    for (u32 i = 2 * 1023; i < blocks; i++) MUST(HEAP(make)(OVER(&h), 0, 0, 0, 1), 0);
     MUST(HEAP(clear)(OVER(&h), 0, 0), 0);
     MUST(HEAP(start)(OVER(&h)), 0);
     build_handshakes(&h);
     MUST(build_marked(&h), 1024);
-    ROW(probe_step(&h), STEP(SWEPT) | (u64)1 << 40 | (u64)1025 << 48, "step: sweep of class 3, %u segments", segments);
+    ROW(probe_step(&h), STEP(SWEPT) | (u64)1 << 40 | (u64)(blocks - 1023) << 48, "step: sweep of class 3, %u segments", segments);
     ROW(probe_step(&h), STEP(DONE), "step: done, %u segments", segments);
     ROW(probe_step(&h), STEP(IDLE), "step: idle");
     heap_close(&h);

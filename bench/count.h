@@ -14,7 +14,8 @@
 #define ROW(probe, expected, ...)                          \
     do {                                                   \
         char name_[96];                                    \
-        snprintf(name_, sizeof name_, __VA_ARGS__);        \
+        snprintf(name_, sizeof name_ - 8, __VA_ARGS__);    \
+        strcat(name_, AT_SIZE);                            \
         CALLGRIND_ZERO_STATS;                              \
         u64 answer_ = (u64)(probe);                        \
         CALLGRIND_DUMP_STATS_AT(name_);                    \

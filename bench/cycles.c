@@ -18,16 +18,16 @@ PROBE u32 probe_cycle(struct heap *h) {
 
 static void rows_cycle(u32 segments) {
     struct heap h = heap_with_mutator(segments);
-    MUST(build_dead(&h, 0, 1), 2048 * segments);
+    MUST(build_dead(&h, 0, 1), BORVUKHAI_BLOCKS(h.kib, 3) * segments);
     ROW(probe_cycle(&h), 0, "cycle, %u segments, dead, class 3", segments);
     heap_reopen(&h);
-    MUST(build_dead(&h, 1, 1), 1024 * segments);
+    MUST(build_dead(&h, 1, 1), BORVUKHAI_BLOCKS(h.kib, 4) * segments);
     ROW(probe_cycle(&h), 0, "cycle, %u segments, dead, class 4", segments);
     for (u32 dead = 0; dead < 2; dead++) {
         heap_reopen(&h);
         u32 live = build_graph(&h, dead);
         ROW(probe_cycle(&h), live, "cycle, %u segments, %s", segments, dead ? "half live" : "live");
-        printf("live records: cycle, %u segments, %s\t%u\n", segments, dead ? "half live" : "live", live);
+        printf("live records: cycle, %u segments, %s%s\t%u\n", segments, dead ? "half live" : "live", AT_SIZE, live);
     }
     heap_close(&h);
 }

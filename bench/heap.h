@@ -19,38 +19,38 @@
 typedef uint32_t u32;
 typedef uint64_t u64;
 
-size_t HEAP(length)(u32 segments);
-size_t HEAP(states_length)(u32 segments);
-size_t HEAP(scratch_length)(u32 segments);
-u32 HEAP(open)(u32 segments, u32 *mem, size_t length);
-u32 HEAP(attach)(u32 segments, u32 *mem, size_t length, u32 mutator);
-u32 HEAP(spawn)(u32 segments, u32 *mem, size_t length, u32 mutator, u32 parent, u32 root);
-u32 HEAP(detach)(u32 segments, u32 *mem, size_t length, u32 mutator);
-u32 HEAP(make)(u32 segments, u32 *mem, size_t length, u32 mutator, u32 to, u32 pointers, u32 values);
-u32 HEAP(load)(u32 segments, u32 *mem, size_t length, u32 mutator, u32 to, u32 root, u32 field);
-u32 HEAP(store)(u32 segments, u32 *mem, size_t length, u32 mutator, u32 root, u32 field, u32 from);
-u32 HEAP(put)(u32 segments, u32 *mem, size_t length, u32 mutator, u32 root, u32 field, u32 value);
-u32 HEAP(copy)(u32 segments, u32 *mem, size_t length, u32 mutator, u32 to, u32 from);
-u32 HEAP(clear)(u32 segments, u32 *mem, size_t length, u32 mutator, u32 to);
-u32 HEAP(check)(u32 segments, u32 *mem, size_t length, u32 mutator);
-u32 HEAP(leave)(u32 segments, u32 *mem, size_t length, u32 mutator);
-u32 HEAP(enter)(u32 segments, u32 *mem, size_t length, u32 mutator);
-u32 HEAP(start)(u32 segments, u32 *mem, size_t length);
-u32 HEAP(states)(u32 segments, const u32 *mem, size_t length, u32 *output, size_t output_length);
-u64 HEAP(get)(u32 segments, const u32 *mem, size_t length, u32 mutator, u32 root, u32 field);
-u64 HEAP(same)(u32 segments, const u32 *mem, size_t length, u32 mutator, u32 root, u32 other);
-u64 HEAP(shape)(u32 segments, const u32 *mem, size_t length, u32 mutator, u32 root);
-u64 HEAP(step)(u32 segments, u32 *mem, size_t length);
-u64 HEAP(phase)(u32 segments, const u32 *mem, size_t length);
-u64 HEAP(examine)(u32 segments, const u32 *mem, size_t length, u32 *scratch, size_t scratch_length);
+size_t HEAP(length)(u32 segments, u32 kib);
+size_t HEAP(states_length)(u32 segments, u32 kib);
+size_t HEAP(scratch_length)(u32 segments, u32 kib);
+u32 HEAP(open)(u32 segments, u32 kib, u32 *mem, size_t length);
+u32 HEAP(attach)(u32 segments, u32 kib, u32 *mem, size_t length, u32 mutator);
+u32 HEAP(spawn)(u32 segments, u32 kib, u32 *mem, size_t length, u32 mutator, u32 parent, u32 root);
+u32 HEAP(detach)(u32 segments, u32 kib, u32 *mem, size_t length, u32 mutator);
+u32 HEAP(make)(u32 segments, u32 kib, u32 *mem, size_t length, u32 mutator, u32 to, u32 pointers, u32 values);
+u32 HEAP(load)(u32 segments, u32 kib, u32 *mem, size_t length, u32 mutator, u32 to, u32 root, u32 field);
+u32 HEAP(store)(u32 segments, u32 kib, u32 *mem, size_t length, u32 mutator, u32 root, u32 field, u32 from);
+u32 HEAP(put)(u32 segments, u32 kib, u32 *mem, size_t length, u32 mutator, u32 root, u32 field, u32 value);
+u32 HEAP(copy)(u32 segments, u32 kib, u32 *mem, size_t length, u32 mutator, u32 to, u32 from);
+u32 HEAP(clear)(u32 segments, u32 kib, u32 *mem, size_t length, u32 mutator, u32 to);
+u32 HEAP(check)(u32 segments, u32 kib, u32 *mem, size_t length, u32 mutator);
+u32 HEAP(leave)(u32 segments, u32 kib, u32 *mem, size_t length, u32 mutator);
+u32 HEAP(enter)(u32 segments, u32 kib, u32 *mem, size_t length, u32 mutator);
+u32 HEAP(start)(u32 segments, u32 kib, u32 *mem, size_t length);
+u32 HEAP(states)(u32 segments, u32 kib, const u32 *mem, size_t length, u32 *output, size_t output_length);
+u64 HEAP(get)(u32 segments, u32 kib, const u32 *mem, size_t length, u32 mutator, u32 root, u32 field);
+u64 HEAP(same)(u32 segments, u32 kib, const u32 *mem, size_t length, u32 mutator, u32 root, u32 other);
+u64 HEAP(shape)(u32 segments, u32 kib, const u32 *mem, size_t length, u32 mutator, u32 root);
+u64 HEAP(step)(u32 segments, u32 kib, u32 *mem, size_t length);
+u64 HEAP(phase)(u32 segments, u32 kib, const u32 *mem, size_t length);
+u64 HEAP(examine)(u32 segments, u32 kib, const u32 *mem, size_t length, u32 *scratch, size_t scratch_length);
 
-/* The lent slice with its segment count: what every call takes first. */
+/* The lent slice with its segment count and size: what every call takes first. */
 struct heap {
-    u32 segments;
+    u32 segments, kib;
     u32 *mem;
     size_t length;
 };
-#define OVER(heap) (heap)->segments, (heap)->mem, (heap)->length
+#define OVER(heap) (heap)->segments, (heap)->kib, (heap)->mem, (heap)->length
 
 /* Answers of 64 bits with a result and no refusal. */
 #define RESULT(value) ((u64)(value) << 32)
@@ -68,9 +68,13 @@ static inline void wrong(const char *call, u64 answer, u64 expected, const char 
     exit(1);
 }
 
+/* The segment size of the heaps that are opened, and what the names of their rows end with. */
+static u32 bench_kib = 16;
+#define AT_SIZE (bench_kib == 16 ? "" : ", 32 KiB")
+
 /* Memory of arbitrary content, opened. */
 static inline struct heap heap_open(u32 segments) {
-    struct heap heap = {segments, NULL, HEAP(length)(segments)};
+    struct heap heap = {segments, bench_kib, NULL, HEAP(length)(segments, bench_kib)};
     heap.mem = malloc(heap.length * sizeof(u32));
     if (heap.mem == NULL) wrong("malloc", 0, 1, __FILE__, __LINE__);
     for (size_t i = 0; i < heap.length; i++) heap.mem[i] = (u32)i * 2654435761u;

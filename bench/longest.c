@@ -43,7 +43,8 @@ static void rows_make_long(struct heap *h) {
     ROW(probe_make(h, 0, 0, 4095, 0), 0, "make in mark, 4095+0, takes a free segment, full at once");
 }
 
-/* A record of each class: the last one's segment is full at once, so the detach hands back eleven. */
+/* A record of each class: at 16 KiB the last one's segment is full at once, so the detach hands back eleven; at 32 it
+ * hands back twelve. */
 static void rows_attach_long(struct heap *h) {
     const u32 fields[12] = {1, 3, 7, 15, 31, 63, 127, 255, 511, 1023, 2047, 4095};
     heap_reopen(h);
@@ -52,7 +53,7 @@ static void rows_attach_long(struct heap *h) {
     ROW(probe_attach(h, 1), 0, "attach in mark");
     ROW(probe_spawn(h, 2, 0, 0), 0, "spawn in mark");
     for (u32 i = 0; i < 12; i++) MUST(HEAP(make)(OVER(h), 1, i, 0, fields[i]), 0);
-    ROW(probe_detach(h, 1), 0, "detach, hands back eleven segments");
+    ROW(probe_detach(h, 1), 0, "detach, hands back %s segments", h->kib == 16 ? "eleven" : "twelve");
 }
 
 static void rows_outside(struct heap *h) {

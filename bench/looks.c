@@ -7,9 +7,9 @@ PROBE u64 probe_phase(struct heap *h) { return HEAP(phase)(OVER(h)); }
 PROBE u32 probe_states(struct heap *h, u32 *output, size_t length) { return HEAP(states)(OVER(h), output, length); }
 PROBE u64 probe_examine(struct heap *h, u32 *scratch, size_t length) { return HEAP(examine)(OVER(h), scratch, length); }
 
-int main(void) {
+static void rows_looks(void) {
     struct heap h = heap_with_mutator(256);
-    size_t output_length = HEAP(states_length)(256), scratch_length = HEAP(scratch_length)(256);
+    size_t output_length = HEAP(states_length)(256, h.kib), scratch_length = HEAP(scratch_length)(256, h.kib);
     u32 *output = calloc(output_length, sizeof(u32)), *scratch = calloc(scratch_length, sizeof(u32));
     u32 live = build_graph(&h, 0);
     MUST(HEAP(start)(OVER(&h)), 0);
@@ -22,5 +22,9 @@ int main(void) {
     free(output);
     free(scratch);
     heap_close(&h);
+}
+
+int main(void) {
+    rows_looks();
     return 0;
 }

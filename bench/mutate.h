@@ -24,8 +24,8 @@ struct mutate {
  * not made for these alone: after the first sweep some segment is always part, so cycle would follow cycle without a
  * pause, whether or not makes need room. */
 static inline int some_full(const struct heap *h) {
-    u32 states[BORVUKHAI_STATES_LENGTH(256)];
-    MUST(HEAP(states)(OVER(h), states, HEAP(states_length)(h->segments)), 0);
+    u32 states[BORVUKHAI_STATES_LENGTH(256, 16)];
+    MUST(HEAP(states)(OVER(h), states, HEAP(states_length)(h->segments, h->kib)), 0);
     for (u32 segment = 0; segment < h->segments; segment++) {
         if (states[BORVUKHAI_STATE_WORDS * segment + BORVUKHAI_STATE_TAG] == BORVUKHAI_SEGMENT_FULL) return 1;
     }

@@ -9,12 +9,14 @@ import textwrap
 from array import array
 from statistics import median
 
-from rows import AT_MOST, BELOW_BOEHM, FILLED, FRAME, GROWTH, HALF_EMPTY, LONGEST, NO_MORE, NO_MORE_2, NO_MORE_3
-from rows import NO_MORE_5, PACES, POINTERS, RAISED, RATIOS, SINGLE, START_MORE, START_TIMES, VALUES, YARDSTICK
+from rows import AT_32, AT_MOST, BELOW_BOEHM, FILLED, FRAME, GROWTH, HALF_EMPTY, LARGE, LONGEST, MORE_6, MORE_AT_32
+from rows import NO_MORE, NO_MORE_2, NO_MORE_3, NO_MORE_5, PACES, POINTERS, RAISED, RATIOS, SINGLE, START_MORE, START_TIMES
+from rows import TIMES_6, VALUES, YARDSTICK
 
 PART = re.compile(r"(<!-- measured, (\w+): written by bench/run -->\n).*?(<!-- end of measured -->)", re.S)
 STORED = os.path.join(os.path.dirname(os.path.abspath(__file__)), "before-8d90607.txt")
 NOT_COUNTED, NOT_MEASURED = "Instructions are not counted: no valgrind.\n", "Boehm's collector is not measured: no libgc-dev.\n"
+AT_SIZE = ", 32 KiB"  # what the names of rows at that size end with
 SHAPES = [(segments, shape) for segments in (64, 256) for shape in ("1+1", "8+8")]
 
 
@@ -68,7 +70,9 @@ def read_stored():
 def differences():
     """(name, row, row, divisor) of the rows that are the difference of two; at 8d90607 some of these were not counted."""
     for more, fewer in POINTERS:
-        yield (f"a new pointer in mark ({more:,} against {fewer:,})", *(f"step: mark, {pointers} new pointers" for pointers in (more, fewer)), more - fewer)
+        for size in ("", AT_SIZE):
+            steps = [f"step: mark, {pointers} new pointers{size}" for pointers in (more, fewer)]
+            yield (f"a new pointer in mark ({more:,} against {fewer:,}){size}", *steps, more - fewer)
     for more, fewer in VALUES:
         yield (f"make of {more} values less that of {fewer}", f"make 0+{more}", f"make 0+{fewer}", 1)
 
@@ -81,11 +85,15 @@ def derive(counts, said):
     for name, row, less, by in differences():
         if row in counts and less in counts:
             all_rows[name] = (counts[row] - counts[less]) / by
+    upper = counts.get("fill 0+1 from block 2,048 on" + AT_SIZE)
+    if upper:
+        all_rows["make 0+1, mean over blocks 2,048 to 4,095" + AT_SIZE] = upper / 2048
     for kind, begins in LONGEST:
-        all_rows[f"longest: {kind}"] = max(count for name, count in counts.items() if name.startswith(tuple(begins)))
+        all_rows[f"longest: {kind}"] = max(count for name, count in counts.items() if name.startswith(tuple(begins)) and not name.endswith(AT_SIZE))
     for name, many in said.items():
         if name in counts:
-            all_rows[name + (": a live record" if name.startswith("cycle") else ": a call")] = counts[name] / many
+            size = AT_SIZE if name.endswith(AT_SIZE) else ""
+            all_rows[name.removesuffix(AT_SIZE) + (": a live record" if name.startswith("cycle") else ": a call") + size] = counts[name] / many
     return all_rows
 
 
@@ -114,6 +122,15 @@ def single_table(c):
     rows += [c.line(f"make {shape}, mean over {makes:,}", "") for shape, makes in FILLED]
     rows += [c.line(f"a new pointer in mark ({more:,} against {fewer:,})", "") for more, fewer in POINTERS]
     return table(["instructions of one call", *COMPARED, "as probes"], rows)
+
+
+def large_table(c):
+    """The rows at 32 KiB, each beside the one at 16 KiB."""
+    rows = []
+    for name, small in (AT_32 | LARGE).items():
+        now, before, independent = c.now[name + AT_SIZE], c.now[small], c.independent[name + AT_SIZE]
+        rows.append([name, number(now), number(before), f"{now / before:.2f}", number(independent), f"{now / independent:.2f}"])
+    return table(["instructions at 32 KiB", "verified", "at 16 KiB", "by 16 KiB's", "independent", "by independent's"], rows)
 
 
 def yardstick_table(c):
@@ -190,6 +207,21 @@ def limit_rows_5(c):
     return out
 
 
+def limit_rows_6(c):
+    """Those of request No. 6."""
+    out = []
+    for group, more, rows in MORE_6:
+        for name, before in rows.items():
+            out.append((group, f"{more} more than at c151f16", name, c.now[name], before + more, c.now[name] <= before + more))
+    group, times, rows = TIMES_6
+    for name, before in rows.items():
+        out.append((group, f"{times} of c151f16", name, c.now[name], before, c.now[name] <= times * before))
+    for name, small in AT_32.items():
+        now, most = c.now[name + AT_SIZE], c.now[small] + MORE_AT_32
+        out.append(("a call at 32 KiB", f"{MORE_AT_32} more than at 16 KiB", name + AT_SIZE, now, most, now <= most))
+    return out
+
+
 def limit_rows(c):
     """(group, limit, row, now, what it is held against, kept) of every limit on instructions."""
     out = []
@@ -204,6 +236,7 @@ def limit_rows(c):
     for group, rows in NO_MORE_3:
         out += [(group, f"{RAISED} more than at 778de55", name, c.now[name], most + RAISED, c.now[name] <= most + RAISED) for name, most in rows.items()]
     out += limit_rows_5(c)
+    out += limit_rows_6(c)
     for group, most, rows in AT_MOST:
         out += [(group, f"at most {most:,}", name, c.now[name], most, c.now[name] <= most) for name in rows]
     return out
@@ -382,7 +415,9 @@ def sizes_table(folder):
     before, _ = read_stored()
     words = lambda sizes: f"{sizes['words for each segment']:,} n + {sizes['words beside them']:,}"
     lent = lambda sizes: f"{4 * (256 * sizes['words for each segment'] + sizes['words beside them']):,}"
+    large = lambda sizes: f"{sizes['words for each segment' + AT_SIZE]:,} n + {sizes['words beside them' + AT_SIZE]:,}"
     rows = [["words lent, n segments"] + [words(sizes) for sizes in (before, now, independent)],
+            ["words lent, n segments of 32 KiB", "", large(now), large(independent)],
             ["bytes lent, 256 segments"] + [lent(sizes) for sizes in (before, now, independent)],
             ["code and its constants, bytes", number(before["code"]), number(now["code"]), ""]]
     if "frame of make" in now:
@@ -429,7 +464,7 @@ def parts_of(folder):
         "growth": growth_tables(c) if c else [NOT_COUNTED],
         "sizes": [sizes_table(folder)],
         "limits": limits_part(folder, c, churn),
-        "instructions": [single_table(c), yardstick_table(c), longest_table(c, read_mixed(folder)), paces_table(c)] if c else [NOT_COUNTED],
+        "instructions": [single_table(c), large_table(c), yardstick_table(c), longest_table(c, read_mixed(folder)), paces_table(c)] if c else [NOT_COUNTED],
         "times": [times_table(folder)] + ([make_table(churn, kinds), pause_table(folder, churn)] if has_boehm(churn) else [NOT_MEASURED]),
     }
 

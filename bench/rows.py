@@ -123,6 +123,59 @@ NO_MORE_5 = [
         "make in mark, climbs to the last block, segment becomes full": 457}),
 ]
 
+# Limits of request No. 6, with which every call takes the segment size, against the library before it (c151f16): the
+# group, by how many instructions a row may be more than there, and its rows with that count.
+MORE_6 = [
+    ("load, get, put, copy, clear, same", 6, {
+        "load": 46, "get": 44, "put": 45, "copy": 28, "clear": 24, "same": 30}),
+    ("store", 10, {
+        "store: nothing": 57, "store: new and old pushed": 120, "store: old pushed": 90,
+        "store: old is on the stack already": 75}),
+    ("make", 10, {
+        "make 0+1, takes a free segment": 352, "make 0+1": 117, "make 0+1, last bit of a word": 165,
+        "make 1+1, takes a free segment": 282, "make 1+1": 118, "make 1+1, last bit of a word": 166,
+        "make 8+8, takes a free segment": 277, "make 8+8": 120, "make 8+8, last bit of a word": 169,
+        "make 600+400": 380, "make 0+31": 145, "make 0+32": 165, "make 0+1023": 387,
+        "make 0+1024, takes a free segment": 501, "make 0+1024, segment becomes full": 556,
+        "make 0+2047, takes a free segment": 725, "make 0+2047, segment becomes full": 780,
+        "make 0+2048, takes a free segment, full at once": 894,
+        "make 0+4095, takes a free segment, full at once": 1342,
+        "make in mark, takes a part segment, next free block is the last": 599,
+        "make in mark, climbs to the last block, segment becomes full": 457,
+        "make in mark, 0+1, takes a free segment": 363, "make in mark, 1023+0, takes a free segment": 512,
+        "make in mark, 1023+0, segment becomes full": 567, "make in mark, 2047+0, segment becomes full": 791,
+        "make in mark, 4095+0, takes a free segment, full at once": 1353}),
+    ("a new pointer in mark", 3, {f"a new pointer in mark ({more:,} against {fewer:,})": 27 for more, fewer in POINTERS}),
+]
+# A whole cycle: so many times the count there.
+TIMES_6 = ("a whole cycle", 1.05, {
+    "cycle, 1 segments, dead, class 3": 1993, "cycle, 1 segments, dead, class 4": 1922,
+    "cycle, 1 segments, live": 40316, "cycle, 1 segments, half live": 21388,
+    "cycle, 1 segments, half empty, half live": 11964, "cycle, 1 segments, half empty, dead": 1915,
+    "cycle, 64 segments, dead, class 3": 22764, "cycle, 64 segments, dead, class 4": 18220,
+    "cycle, 64 segments, live": 2499502, "cycle, 64 segments, half live": 1288110,
+    "cycle, 64 segments, half empty, half live": 681950, "cycle, 64 segments, half empty, dead": 17772,
+    "cycle, 256 segments, dead, class 3": 85980, "cycle, 256 segments, dead, class 4": 67804,
+    "cycle, 256 segments, live": 9994078, "cycle, 256 segments, half live": 5148510,
+    "cycle, 256 segments, half empty, half live": 2723726, "cycle, 256 segments, half empty, dead": 66012})
+# At 32 KiB: so many more than the row at 16 KiB that does the same work; each with the name of that row.
+MORE_AT_32 = 2
+AT_32 = {name: name for name in (
+    "load", "get", "put", "copy", "clear", "same",
+    "store: nothing", "store: new and old pushed", "store: old pushed", "store: old is on the stack already",
+    "make 0+1", "make 1+1", "make 8+8",
+    "make 0+1, last bit of a word", "make 1+1, last bit of a word", "make 8+8, last bit of a word",
+    *(f"a new pointer in mark ({more:,} against {fewer:,})" for more, fewer in POINTERS))}
+AT_32 |= {"make 0+1, block 2,049": "make 0+1", "make 0+1, block 2,079, last bit of a word": "make 0+1, last bit of a word"}
+# More rows at 32 KiB, where a segment has twice the blocks, so that there is more to do.
+LARGE = {name: name for name in (
+    "make 0+1, takes a free segment", "make 1+1, takes a free segment", "make 8+8, takes a free segment",
+    "step: sweep of class 3, 256 segments", "cycle, 64 segments, dead, class 3", "cycle, 64 segments, dead, class 4",
+    "cycle, 64 segments, live: a live record", "cycle, 64 segments, half live: a live record",
+    "states, 256 segments", "examine, 256 segments, live")}
+LARGE |= {"make 0+1, mean over blocks 2,048 to 4,095": "make 0+1, mean over 8,192",
+          "detach, hands back twelve segments": "detach, hands back eleven segments"}
+
 # Limits in instructions: the group, the most, and its rows.
 AT_MOST = [
     ("make of 32 fields less that of 31", 30, ["make of 32 values less that of 31"]),

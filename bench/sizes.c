@@ -124,9 +124,16 @@ static void examine_condemned_parts(struct heap *h) {
     measure_examine(h);
 }
 
+/* The words of the slice at the size of the moment. */
+static void say_words(const char *size) {
+    size_t one = HEAP(length)(1, bench_kib), each = HEAP(length)(2, bench_kib) - one;
+    MUST(HEAP(length)(256, bench_kib), one + 255 * each);
+    printf("words for each segment%s\t%zu\nwords beside them%s\t%zu\n", size, each, size, one - each);
+}
+
 int main(void) {
     struct heap h = heap_with_mutator(256);
-    scratch_words = HEAP(scratch_length)(256);
+    scratch_words = HEAP(scratch_length)(256, h.kib);
     scratch = calloc(scratch_words, sizeof(u32));
     measure_examine(&h);
     make_all(&h, 0);
@@ -141,9 +148,9 @@ int main(void) {
     measure_examine(&h);
     end_cycle(&h);
     measure_examine(&h);
-    size_t one = HEAP(length)(1), each = HEAP(length)(2) - one;
-    MUST(h.length, one + 255 * each);
-    printf("words for each segment\t%zu\nwords beside them\t%zu\n", each, one - each);
+    say_words("");
+    bench_kib = 32;
+    say_words(AT_SIZE);
     printf("stack of make\t%llu\nstack of examine\t%llu\n", (unsigned long long)deepest[0], (unsigned long long)deepest[1]);
     free(scratch);
     heap_close(&h);

@@ -5,8 +5,9 @@
 #include "borvukhai.h"
 
 #define SEGMENTS 2u
-#define HEAP SEGMENTS, memory, BORVUKHAI_LENGTH(SEGMENTS) /* the first three arguments of every call */
-static uint32_t memory[BORVUKHAI_LENGTH(SEGMENTS)];
+#define KIB 16u /* the size of a segment */
+#define HEAP SEGMENTS, KIB, memory, BORVUKHAI_LENGTH(SEGMENTS, KIB) /* the first four arguments of every call */
+static uint32_t memory[BORVUKHAI_LENGTH(SEGMENTS, KIB)];
 
 enum { LOOP = 0 };                     /* the one mutator: the main loop */
 enum { FIRST = 0, LAST = 1, NEW = 2 }; /* its roots */
@@ -40,7 +41,7 @@ static uint32_t forget(uint32_t number) {
  * collector does one step. */
 static uint32_t collect(uint32_t number) {
     struct borvukhai_stepped stepped;
-    uint32_t often = BORVUKHAI_BLOCKS(BORVUKHAI_CLASS_OF(1 + 1)) / 2;
+    uint32_t often = BORVUKHAI_BLOCKS(KIB, BORVUKHAI_CLASS_OF(1 + 1)) / 2;
     uint32_t refused = number % often == 0 ? borvukhai_start(HEAP) : (uint32_t)BORVUKHAI_OK;
     refused = refused ? refused : borvukhai_check(HEAP, LOOP);
     return refused ? refused : borvukhai_step_to(HEAP, &stepped);

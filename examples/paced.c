@@ -11,12 +11,13 @@
 #include <time.h>
 
 #define SEGMENTS 8u
+#define KIB 16u /* the size of a segment */
 #define STEPS 128u
 #define OPERATIONS 10000000u
 #define ROUNDS 5u
-#define WORDS BORVUKHAI_LENGTH(SEGMENTS)
-#define HEAP SEGMENTS, memory, WORDS
-static uint32_t memory[WORDS], output[BORVUKHAI_STATES_LENGTH(SEGMENTS)];
+#define WORDS BORVUKHAI_LENGTH(SEGMENTS, KIB)
+#define HEAP SEGMENTS, KIB, memory, WORDS
+static uint32_t memory[WORDS], output[BORVUKHAI_STATES_LENGTH(SEGMENTS, KIB)];
 
 enum { ID = 0 };                               /* the mutator */
 enum { TOPS = 2, LEAF = 2, OLD = 3, NEW = 4 }; /* its roots: 0 and 1 are the two directories of leaves */
@@ -158,7 +159,7 @@ static uint32_t alive(void) {
 /* The load of the heap at the end: what its segments count. */
 static void say_load(void) {
     uint32_t s, kept = 0, handed_out = 0;
-    if (borvukhai_states(HEAP, output, BORVUKHAI_STATES_LENGTH(SEGMENTS)) != BORVUKHAI_OK) {
+    if (borvukhai_states(HEAP, output, BORVUKHAI_STATES_LENGTH(SEGMENTS, KIB)) != BORVUKHAI_OK) {
         return;
     }
     for (s = 0; s < SEGMENTS; s++) {
@@ -173,7 +174,7 @@ static int play(void) {
     int well = borvukhai_open(HEAP) == BORVUKHAI_OK && borvukhai_attach(HEAP, ID) == BORVUKHAI_OK;
     seed = 2463534242u;
     operations = refusals = cycles = calls.count = shares.count = 0;
-    well = well && pacer_of(&pacer, SEGMENTS, memory, output, STEPS, 1) == BORVUKHAI_OK && build();
+    well = well && pacer_of(&pacer, SEGMENTS, KIB, memory, output, STEPS, 1) == BORVUKHAI_OK && build();
     while (well && operations < OPERATIONS) {
         well = turn(random_slot());
     }
@@ -186,7 +187,8 @@ int main(int count, char **words) {
     for (round_number = 0; well && round_number < ROUNDS; round_number++) {
         well = play();
     }
-    printf("%u operations, %u cycles; %u of %u bytes of blocks alive\n", operations, cycles, alive(), SEGMENTS * 16384u);
+    printf("%u operations, %u cycles; %u of %u bytes of blocks alive\n", operations, cycles, alive(),
+           SEGMENTS * KIB * 1024u);
     if (!late) {
         printf("at most %u steps between two makes\n", STEPS);
     }

@@ -21,7 +21,7 @@
 #define PACER_LAST 14u
 
 struct pacer {
-    uint32_t segments, *mem, *output; /* the heap; an output of borvukhai_states_length words */
+    uint32_t segments, kib, *mem, *output; /* the heap; an output of borvukhai_states_length words */
     size_t length;
     uint32_t steps;      /* at most so many after a make */
     uint32_t mutators;   /* attached at most; while inside, each checks at least once in so many makes */
@@ -82,7 +82,7 @@ static inline struct pacer_class pacer_class_of(struct pacer *p, uint32_t number
     for (s = 0; s < p->segments; s++) {
         const uint32_t *state = pacer_state(p, s);
         if (state[BORVUKHAI_STATE_TAG] != BORVUKHAI_SEGMENT_FREE && state[BORVUKHAI_STATE_CLASS] == number) {
-            pacer_see(&of, state, BORVUKHAI_BLOCKS(number), parts);
+            pacer_see(&of, state, BORVUKHAI_BLOCKS(p->kib, number), parts);
         }
     }
     p->in_use[number] = of.in_use;
@@ -152,7 +152,7 @@ static inline uint32_t pacer_room(struct pacer *p, int parts) {
         if (p->makers[number] != 0) {
             own[number] = of.left - pacer_left(&of, p->makers[number] - 1);
             first[number] = pacer_add(&costs, &of, p->makers[number]);
-            costs.smallest = BORVUKHAI_BLOCKS(number);
+            costs.smallest = BORVUKHAI_BLOCKS(p->kib, number);
         }
     }
     all = pacer_sum(&costs, free), beside = pacer_sum(&costs, free + 1);
@@ -193,8 +193,8 @@ static inline void pacer_open_parts(struct pacer *p) {
 /* The states, and how many makes may pass before the next look: each takes at most one of the room that a start leaves,
  * whoever makes, and adds one to the work. */
 static inline uint32_t pacer_look(struct pacer *p) {
-    size_t words = borvukhai_states_length(p->segments);
-    uint32_t refused = borvukhai_states(p->segments, p->mem, p->length, p->output, words), work;
+    size_t words = borvukhai_states_length(p->segments, p->kib);
+    uint32_t work, refused = borvukhai_states(p->segments, p->kib, p->mem, p->length, p->output, words);
     uint64_t ahead;
     p->room = refused ? 0 : pacer_room(p, 0);
     work = pacer_work(p), ahead = pacer_ahead(p, p->room);
@@ -214,12 +214,12 @@ static inline uint32_t pacer_start(struct pacer *p) {
         return refused;
     }
     p->running = 1;
-    return borvukhai_start(p->segments, p->mem, p->length);
+    return borvukhai_start(p->segments, p->kib, p->mem, p->length);
 }
 
 /* One step. Where the cycle is done a look follows. */
 static inline uint32_t pacer_one(struct pacer *p, struct borvukhai_stepped *stepped) {
-    uint32_t refused = borvukhai_step_to(p->segments, p->mem, p->length, stepped);
+    uint32_t refused = borvukhai_step_to(p->segments, p->kib, p->mem, p->length, stepped);
     if (refused == BORVUKHAI_OK && (stepped->kind == BORVUKHAI_STEP_DONE || stepped->kind == BORVUKHAI_STEP_IDLE)) {
         p->running = 0;
         refused = pacer_look(p);
@@ -262,16 +262,17 @@ static inline uint32_t pacer_made(struct pacer *p, uint32_t fields) {
  * again. */
 static inline uint32_t pacer_finish(struct pacer *p) {
     struct borvukhai_stepped stepped = {BORVUKHAI_STEP_MOVED, 0, 0, 0};
-    uint32_t mutator, refused = BORVUKHAI_OK, left = 2049 * p->segments + 6; /* more are of torn memory */
+    uint32_t mutator, refused = BORVUKHAI_OK;
+    uint32_t left = (BORVUKHAI_BLOCKS(p->kib, 3u) + 1) * p->segments + 6; /* more are of torn memory */
     if (!p->running) {
         refused = pacer_look(p);
-        refused = refused ? refused : borvukhai_start(p->segments, p->mem, p->length);
+        refused = refused ? refused : borvukhai_start(p->segments, p->kib, p->mem, p->length);
         p->running = refused == BORVUKHAI_OK;
     }
     while (p->running && refused == BORVUKHAI_OK) {
         refused = left-- == 0 ? BORVUKHAI_TORN : BORVUKHAI_OK;
         for (mutator = 0; stepped.kind == BORVUKHAI_STEP_WAITING && mutator < 32; mutator++) {
-            borvukhai_check(p->segments, p->mem, p->length, mutator); /* refused where it is absent or outside */
+            borvukhai_check(p->segments, p->kib, p->mem, p->length, mutator); /* refused where absent or outside */
         }
         refused = refused ? refused : pacer_one(p, &stepped);
     }
@@ -285,17 +286,17 @@ static inline uint32_t pacer_makers(struct pacer *p, uint32_t fields, uint32_t m
     return pacer_look(p);
 }
 
-/* A pacer of a heap that was opened, or that memory holds already, in a cycle or not. `mutators`: so many are attached
- * at most. */
-static inline uint32_t pacer_of(struct pacer *p, uint32_t segments, uint32_t *mem, uint32_t *output, uint32_t steps,
-                                uint32_t mutators) {
+/* A pacer of a heap that was opened, or that memory holds already, in a cycle or not; `segments` and `kib` are those of
+ * the opening. `mutators`: so many are attached at most. */
+static inline uint32_t pacer_of(struct pacer *p, uint32_t segments, uint32_t kib, uint32_t *mem, uint32_t *output,
+                                uint32_t steps, uint32_t mutators) {
     uint32_t number, phase = BORVUKHAI_IDLE, refused, looked;
-    p->segments = segments, p->mem = mem, p->output = output, p->length = borvukhai_length(segments);
+    p->segments = segments, p->kib = kib, p->mem = mem, p->output = output, p->length = borvukhai_length(segments, kib);
     p->steps = steps, p->mutators = mutators > 32 ? 32 : mutators == 0 ? 1 : mutators;
     for (number = 0; number < 16; number++) {
         p->in_use[number] = p->makers[number] = 0;
     }
-    refused = borvukhai_phase_to(segments, mem, p->length, &phase);
+    refused = borvukhai_phase_to(segments, kib, mem, p->length, &phase);
     p->running = phase != BORVUKHAI_IDLE;
     looked = pacer_look(p);
     return refused ? refused : looked;

@@ -7,8 +7,11 @@
 #include <stdio.h>
 
 #define SEGMENTS 6u
-#define HEAP SEGMENTS, memory, BORVUKHAI_LENGTH(SEGMENTS) /* the first three arguments of every call */
-static uint32_t memory[BORVUKHAI_LENGTH(SEGMENTS)], output[BORVUKHAI_STATES_LENGTH(SEGMENTS)];
+#ifndef KIB
+#define KIB 16u /* the size of a segment; -DKIB=32u for the other */
+#endif
+#define HEAP SEGMENTS, KIB, memory, BORVUKHAI_LENGTH(SEGMENTS, KIB) /* the first four arguments of every call */
+static uint32_t memory[BORVUKHAI_LENGTH(SEGMENTS, KIB)], output[BORVUKHAI_STATES_LENGTH(SEGMENTS, KIB)];
 
 enum { MUTATORS = 3, CYCLES = 12, TURNS = 100000 };
 static const uint32_t values[MUTATORS] = {2, 6, 14}; /* of the records that each makes, with one pointer */
@@ -27,14 +30,14 @@ static uint32_t any(uint32_t below) {
     return seed % below;
 }
 
-static uint32_t look(void) { return borvukhai_states(HEAP, output, BORVUKHAI_STATES_LENGTH(SEGMENTS)); }
+static uint32_t look(void) { return borvukhai_states(HEAP, output, BORVUKHAI_STATES_LENGTH(SEGMENTS, KIB)); }
 
 /* A cycle begins, and its bar with the farthest end that it can have. */
 static uint32_t bar_start(struct bar *bar) {
     uint32_t refused = borvukhai_start(HEAP);
     refused = refused ? refused : look();
-    bar->at = 0, bar->condemned = borvukhai_condemned(SEGMENTS, output);
-    bar->farthest = bar->end = borvukhai_cycle_end(borvukhai_most_at_mark(SEGMENTS, output), bar->condemned);
+    bar->at = 0, bar->condemned = borvukhai_condemned(SEGMENTS, KIB, output);
+    bar->farthest = bar->end = borvukhai_cycle_end(borvukhai_most_at_mark(SEGMENTS, KIB, output), bar->condemned);
     return refused;
 }
 
@@ -50,7 +53,7 @@ static uint32_t bar_step(struct bar *bar, uint32_t *kind) {
     refused = borvukhai_phase_to(HEAP, &phase);
     if (refused == BORVUKHAI_OK && phase == BORVUKHAI_MARK) {
         refused = look();
-        bar->end = borvukhai_cycle_end(borvukhai_blocks_in_use(SEGMENTS, output), bar->condemned);
+        bar->end = borvukhai_cycle_end(borvukhai_blocks_in_use(SEGMENTS, KIB, output), bar->condemned);
     }
     return refused;
 }

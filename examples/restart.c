@@ -1,17 +1,19 @@
 /* Memory that outlives the program: saved in the middle of a cycle, loaded by another run, examined, and used on.
  *   restart save FILE   fills a heap, and saves it while a cycle marks
  *   restart load FILE   takes it up: the list is as it was, the cycle goes on, and so does the program
- * Nothing is kept beside the lent slice: which events the list has is read from the list. A file of another layout or
- * count, and one whose words fail the examination, are refused; then a program opens its heap anew. */
+ * Nothing is kept beside the lent slice: which events the list has is read from the list. A file of another layout,
+ * count or size, and one whose words fail the examination, are refused; then a program opens its heap anew. */
 #include "pacer.h"
 
 #include <stdio.h>
 #include <string.h>
 
 #define SEGMENTS 4u
-#define WORDS BORVUKHAI_LENGTH(SEGMENTS)
-#define HEAP SEGMENTS, memory, WORDS
-static uint32_t memory[WORDS], scratch[BORVUKHAI_SCRATCH_LENGTH(SEGMENTS)], output[BORVUKHAI_STATES_LENGTH(SEGMENTS)];
+#define KIB 16u /* the size of a segment */
+#define WORDS BORVUKHAI_LENGTH(SEGMENTS, KIB)
+#define SCRATCH BORVUKHAI_SCRATCH_LENGTH(SEGMENTS, KIB)
+#define HEAP SEGMENTS, KIB, memory, WORDS
+static uint32_t memory[WORDS], scratch[SCRATCH], output[BORVUKHAI_STATES_LENGTH(SEGMENTS, KIB)];
 
 enum { ID = 0 };                                 /* the mutator */
 enum { FIRST = 0, LAST = 1, NEW = 2, WALK = 3 }; /* its roots: the list's ends, and two to work with */
@@ -21,7 +23,7 @@ static struct pacer pacer;
 
 /* What stands before the words in the file: memory of another layout has other words. */
 struct head {
-    uint32_t layout, segments;
+    uint32_t layout, segments, kib;
 };
 
 static int fail(const char *what) {
@@ -81,7 +83,7 @@ static int run_to(uint32_t turns, uint32_t phase) {
 static int fill(void) {
     uint32_t number, refused = borvukhai_open(HEAP);
     refused = refused ? refused : borvukhai_attach(HEAP, ID);
-    refused = refused ? refused : pacer_of(&pacer, SEGMENTS, memory, output, 8, 1);
+    refused = refused ? refused : pacer_of(&pacer, SEGMENTS, KIB, memory, output, 8, 1);
     for (number = 0; refused == BORVUKHAI_OK && number < LIST; number++) {
         refused = append(number, number == 0);
     }
@@ -89,26 +91,26 @@ static int fill(void) {
 }
 
 static int save(const char *path) {
-    struct head head = {BORVUKHAI_LAYOUT, SEGMENTS};
+    struct head head = {BORVUKHAI_LAYOUT, SEGMENTS, KIB};
     FILE *file = fopen(path, "wb");
     int well = file != NULL && fwrite(&head, sizeof head, 1, file) == 1 && fwrite(memory, sizeof memory, 1, file) == 1;
     return (file == NULL || fclose(file) == 0) && well ? 1 : fail("the file cannot be written");
 }
 
 static int load(const char *path) {
-    struct head head = {0, 0};
+    struct head head = {0, 0, 0};
     FILE *file = fopen(path, "rb");
     int read = file != NULL && fread(&head, sizeof head, 1, file) == 1 && fread(memory, sizeof memory, 1, file) == 1;
     if (file != NULL) {
         fclose(file);
     }
-    if (!read || head.layout != BORVUKHAI_LAYOUT || head.segments != SEGMENTS) {
-        return fail("no file of this layout and count: open a heap anew");
+    if (!read || head.layout != BORVUKHAI_LAYOUT || head.segments != SEGMENTS || head.kib != KIB) {
+        return fail("no file of this layout, count and size: open a heap anew");
     }
-    if (!borvukhai_is_sound(HEAP, scratch, BORVUKHAI_SCRATCH_LENGTH(SEGMENTS))) {
+    if (!borvukhai_is_sound(HEAP, scratch, SCRATCH)) {
         return fail("the memory is torn: open a heap anew");
     }
-    return pacer_of(&pacer, SEGMENTS, memory, output, 8, 1) == BORVUKHAI_OK;
+    return pacer_of(&pacer, SEGMENTS, KIB, memory, output, 8, 1) == BORVUKHAI_OK;
 }
 
 int main(int count, char **words) {

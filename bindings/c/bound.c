@@ -1,7 +1,7 @@
-/* How long a cycle can be, against figures that were reckoned by hand from document 01 and request No. 7: the steps
- * that are neither refused nor answered waiting, the blocks in use when the phase became mark (B), the condemned
- * segments (C), and what a look before mark says that B can be at most. It prints a line for each cycle, and says on
- * the error output what was expected where something else came. */
+/* How long a cycle can be, at both segment sizes, against figures that were reckoned by hand from document 01 and
+ * requests No. 6 and 7: the steps that are neither refused nor answered waiting, the blocks in use when the phase
+ * became mark (B), the condemned segments (C), and what a look before mark says that B can be at most. It prints a line
+ * for each cycle, and says on the error output what was expected where something else came. */
 #include "borvukhai.h"
 
 #include <stdio.h>
@@ -9,11 +9,13 @@
 
 #define MOST 3u /* segments */
 
-static uint32_t segments;
-static uint32_t memory[BORVUKHAI_LENGTH(MOST)];
-static uint32_t output[BORVUKHAI_STATES_LENGTH(MOST)];
-static uint32_t scratch[BORVUKHAI_SCRATCH_LENGTH(MOST)];
-#define HEAP segments, memory, BORVUKHAI_LENGTH(segments)
+static uint32_t segments, kib;
+static uint32_t all;    /* the blocks that a free segment may be taken for: 2,048 of class 3 at 16 KiB, 4,096 at 32 */
+static uint32_t class_; /* the class that has four blocks: 12 at 16 KiB, 13 at 32 */
+static uint32_t memory[BORVUKHAI_LENGTH(MOST, 32u)];
+static uint32_t output[BORVUKHAI_STATES_LENGTH(MOST, 32u)];
+static uint32_t scratch[BORVUKHAI_SCRATCH_LENGTH(MOST, 32u)];
+#define HEAP segments, kib, memory, BORVUKHAI_LENGTH(segments, kib)
 
 static int checks;
 static int failures;
@@ -36,8 +38,12 @@ static void opened(uint32_t count) {
     ok("attach", borvukhai_attach(HEAP, 0));
 }
 
-/* Four of these fill a segment of class 12. */
-static void make(uint32_t mutator, uint32_t to) { ok("make", borvukhai_make(HEAP, mutator, to, 1, 600)); }
+/* Four of these fill a segment. */
+static uint32_t refusal(uint32_t mutator, uint32_t to) {
+    return borvukhai_make(HEAP, mutator, to, 1, kib == 32 ? 1200 : 600);
+}
+
+static void make(uint32_t mutator, uint32_t to) { ok("make", refusal(mutator, to)); }
 
 static void four(void) {
     uint32_t root;
@@ -48,8 +54,8 @@ static void four(void) {
 
 /* A look at the states, over memory that passes the examination. */
 static void look(void) {
-    ok("states", borvukhai_states(HEAP, output, BORVUKHAI_STATES_LENGTH(segments)));
-    expect("sound", (uint64_t)borvukhai_is_sound(HEAP, scratch, BORVUKHAI_SCRATCH_LENGTH(segments)), 1);
+    ok("states", borvukhai_states(HEAP, output, BORVUKHAI_STATES_LENGTH(segments, kib)));
+    expect("sound", (uint64_t)borvukhai_is_sound(HEAP, scratch, BORVUKHAI_SCRATCH_LENGTH(segments, kib)), 1);
 }
 
 /* The cycle that runs: what is counted of its steps, C, and the far end by a look before mark and by the one there. */
@@ -62,9 +68,9 @@ struct cycle {
 static void start(struct cycle *cycle, uint32_t condemned, uint64_t most) {
     ok("start", borvukhai_start(HEAP));
     look();
-    expect("C", borvukhai_condemned(segments, output), condemned);
-    expect("the most that B can be", borvukhai_most_at_mark(segments, output), most);
-    cycle->steps = 0, cycle->end = 0, cycle->condemned = borvukhai_condemned(segments, output);
+    expect("C", borvukhai_condemned(segments, kib, output), condemned);
+    expect("the most that B can be", borvukhai_most_at_mark(segments, kib, output), most);
+    cycle->steps = 0, cycle->end = 0, cycle->condemned = borvukhai_condemned(segments, kib, output);
     cycle->farthest = borvukhai_cycle_end(most, cycle->condemned);
 }
 
@@ -86,9 +92,9 @@ static void handshake(struct cycle *cycle) {
 /* The phase became mark, with B blocks in use; the condemned segments are those of the start. */
 static void at_mark(struct cycle *cycle, uint64_t blocks) {
     look();
-    expect("B", borvukhai_blocks_in_use(segments, output), blocks);
-    expect("C at mark", borvukhai_condemned(segments, output), cycle->condemned);
-    cycle->end = borvukhai_cycle_end(borvukhai_blocks_in_use(segments, output), cycle->condemned);
+    expect("B", borvukhai_blocks_in_use(segments, kib, output), blocks);
+    expect("C at mark", borvukhai_condemned(segments, kib, output), cycle->condemned);
+    cycle->end = borvukhai_cycle_end(borvukhai_blocks_in_use(segments, kib, output), cycle->condemned);
     expect("no further than before mark", cycle->end <= cycle->farthest, 1);
 }
 
@@ -103,7 +109,7 @@ static void to_done(const char *name, struct cycle *cycle, uint64_t steps, uint6
     expect("within", cycle->steps <= cycle->end, 1);
 }
 
-/* Document 01's whole case: of four records three are reached. Segment 1 is free, and may be taken for 2,048 blocks. */
+/* Document 01's whole case: of four records three are reached. Segment 1 is free, and may be taken for any class. */
 static void whole_case(void) {
     struct cycle cycle;
     opened(2);
@@ -111,7 +117,7 @@ static void whole_case(void) {
     ok("store", borvukhai_store(HEAP, 0, 0, 0, 1));
     ok("clear", borvukhai_clear(HEAP, 0, 1));
     ok("clear", borvukhai_clear(HEAP, 0, 2));
-    start(&cycle, 1, 4 + 2048);
+    start(&cycle, 1, 4 + all);
     handshake(&cycle);
     handshake(&cycle);
     at_mark(&cycle, 4);
@@ -135,7 +141,7 @@ static void all_reached(void) {
 static void nothing(void) {
     struct cycle cycle;
     opened(1);
-    start(&cycle, 0, 2048);
+    start(&cycle, 0, all);
     handshake(&cycle);
     handshake(&cycle);
     at_mark(&cycle, 0);
@@ -166,11 +172,11 @@ static void part_segment(void) {
 static void made_in_handshake(void) {
     struct cycle cycle;
     opened(2);
-    start(&cycle, 0, 2048 + 2048);
+    start(&cycle, 0, all + all);
     make(0, 0);
     make(0, 1);
     look();
-    expect("the most, one segment held", borvukhai_most_at_mark(segments, output), 4 + 2048);
+    expect("the most, one segment held", borvukhai_most_at_mark(segments, kib, output), 4 + all);
     handshake(&cycle);
     handshake(&cycle);
     at_mark(&cycle, 2);
@@ -182,14 +188,14 @@ static void made_in_mark(void) {
     struct cycle cycle;
     opened(3);
     four();
-    start(&cycle, 1, 4 + 2048 + 2048);
+    start(&cycle, 1, 4 + all + all);
     handshake(&cycle);
     handshake(&cycle);
     at_mark(&cycle, 4);
     make(0, 4);
     make(0, 5);
     look();
-    expect("blocks in use later", borvukhai_blocks_in_use(segments, output), 6);
+    expect("blocks in use later", borvukhai_blocks_in_use(segments, kib, output), 6);
     to_done("made in mark", &cycle, 9, 9);
 }
 
@@ -201,20 +207,20 @@ static void filled_in_handshake(void) {
     opened(2);
     ok("attach", borvukhai_attach(HEAP, 1));
     make(1, 0);
-    start(&cycle, 0, 4 + 2048);
-    for (made = 0; made < 2048; made++) {
+    start(&cycle, 0, 4 + all);
+    for (made = 0; made < all; made++) {
         ok("make", borvukhai_make(HEAP, 0, made % 16, 1, 0));
     }
     for (made = 1; made < 4; made++) {
         make(1, made);
     }
-    expect("no room", borvukhai_make(HEAP, 1, 4, 1, 600), BORVUKHAI_NO_ROOM);
+    expect("no room", refusal(1, 4), BORVUKHAI_NO_ROOM);
     ok("leave", borvukhai_leave(HEAP, 1));
     handshake(&cycle);
     handshake(&cycle);
-    at_mark(&cycle, 4 + 2048);
+    at_mark(&cycle, 4 + all);
     expect("the far end before mark", cycle.farthest, cycle.end);
-    to_done("filled in a handshake", &cycle, 16 + 4 + 4, 4 + 2048 + 4);
+    to_done("filled in a handshake", &cycle, 16 + 4 + 4, 4 + all + 4);
 }
 
 /* The words of a look that no heap has: no sum wraps, and a class that is none has no blocks. */
@@ -223,41 +229,53 @@ static void any_words(void) {
     for (at = 0; at < 2 * BORVUKHAI_STATE_WORDS; at++) {
         output[at] = many;
     }
-    expect("blocks in use", borvukhai_blocks_in_use(2, output), 17179869180u);
-    expect("condemned", borvukhai_condemned(2, output), 0);
-    expect("the most", borvukhai_most_at_mark(2, output), 0);
+    expect("blocks in use", borvukhai_blocks_in_use(2, kib, output), 17179869180u);
+    expect("condemned", borvukhai_condemned(2, kib, output), 0);
+    expect("the most", borvukhai_most_at_mark(2, kib, output), 0);
     output[BORVUKHAI_STATE_TAG] = BORVUKHAI_SEGMENT_CONDEMNED;
     output[BORVUKHAI_STATE_WORDS + BORVUKHAI_STATE_TAG] = BORVUKHAI_SEGMENT_FREE;
-    expect("one condemned", borvukhai_condemned(2, output), 1);
-    expect("the most, one condemned and one free", borvukhai_most_at_mark(2, output), 8589934590u + 2048);
+    expect("one condemned", borvukhai_condemned(2, kib, output), 1);
+    expect("the most, one condemned and one free", borvukhai_most_at_mark(2, kib, output), 8589934590u + all);
     expect("the end", borvukhai_cycle_end(8589934590u, 256), 8589934850u);
 }
 
-/* Each state with class 12, by its four blocks, and two of them in use. */
+/* Each state with the class of four blocks, and two of them in use. */
 static void each_state(void) {
-    static const uint32_t most[5] = {2048, 4, 4, 4, 2};
+    const uint32_t most[5] = {all, 4, 4, 4, 2};
     uint32_t tag;
     for (tag = BORVUKHAI_SEGMENT_FREE; tag <= BORVUKHAI_SEGMENT_CONDEMNED; tag++) {
-        const uint32_t words[6] = {tag, 12, 2, 0, 1, 1};
-        expect("in use", borvukhai_blocks_in_use(1, words), 2);
-        expect("condemned", borvukhai_condemned(1, words), tag == BORVUKHAI_SEGMENT_CONDEMNED);
-        expect("the most", borvukhai_most_at_mark(1, words), most[tag]);
+        const uint32_t words[6] = {tag, class_, 2, 0, 1, 1};
+        expect("in use", borvukhai_blocks_in_use(1, kib, words), 2);
+        expect("condemned", borvukhai_condemned(1, kib, words), tag == BORVUKHAI_SEGMENT_CONDEMNED);
+        expect("the most", borvukhai_most_at_mark(1, kib, words), most[tag]);
     }
 }
 
-/* A count that is none: no word is read. */
-static void wrong_counts(void) {
+/* A count or a size that is none: no word is read. */
+static void none(uint32_t count, uint32_t size) {
+    const uint32_t words[6] = {BORVUKHAI_SEGMENT_CONDEMNED, class_, 2, 0, 1, 1};
+    expect("in use", borvukhai_blocks_in_use(count, size, words), 0);
+    expect("condemned", borvukhai_condemned(count, size, words), 0);
+    expect("the most", borvukhai_most_at_mark(count, size, words), 0);
+}
+
+static void wrong_numbers(void) {
     static const uint32_t counts[4] = {0, 257, 0x80000000u, 0xffffffffu};
-    const uint32_t words[6] = {BORVUKHAI_SEGMENT_CONDEMNED, 12, 2, 0, 1, 1};
+    static const uint32_t sizes[10] = {0, 1, 15, 17, 31, 33, 64, 16384, 32768, 0xffffffffu};
     uint32_t at;
     for (at = 0; at < 4; at++) {
-        expect("in use", borvukhai_blocks_in_use(counts[at], words), 0);
-        expect("condemned", borvukhai_condemned(counts[at], words), 0);
-        expect("the most", borvukhai_most_at_mark(counts[at], words), 0);
+        none(counts[at], kib);
+    }
+    for (at = 0; at < 10; at++) {
+        none(1, sizes[at]);
+        none(256, sizes[at]);
     }
 }
 
-int main(void) {
+/* Every cycle at one size. */
+static void at_size(uint32_t size) {
+    kib = size, all = size == 32 ? 4096 : 2048, class_ = size == 32 ? 13 : 12;
+    printf("%u KiB\n", (unsigned)kib);
     whole_case();
     all_reached();
     nothing();
@@ -267,7 +285,12 @@ int main(void) {
     filled_in_handshake();
     any_words();
     each_state();
-    wrong_counts();
+    wrong_numbers();
+}
+
+int main(void) {
+    at_size(16);
+    at_size(32);
     printf("%d checks, %d failed\n", checks, failures);
     return failures == 0 ? 0 : 1;
 }

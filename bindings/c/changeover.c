@@ -6,10 +6,11 @@
 #include <string.h>
 
 #define SEGMENTS 2u
-#define WORDS BORVUKHAI_LENGTH(SEGMENTS)
+#define KIB 16u /* that of the bracket program */
+#define WORDS BORVUKHAI_LENGTH(SEGMENTS, KIB)
 
 static uint32_t memory[WORDS];
-#define HEAP SEGMENTS, memory, WORDS /* the first three arguments of every call */
+#define HEAP SEGMENTS, KIB, memory, WORDS /* the first four arguments of every call */
 
 static int lines;
 static int failures;
@@ -163,8 +164,8 @@ static void second_cycle(void) {
 }
 
 int main(void) {
-    if (borvukhai_length(SEGMENTS) != WORDS) {
-        fprintf(stderr, "the library asks for %lu words\n", (unsigned long)borvukhai_length(SEGMENTS));
+    if (borvukhai_length(SEGMENTS, KIB) != WORDS) {
+        fprintf(stderr, "the library asks for %lu words\n", (unsigned long)borvukhai_length(SEGMENTS, KIB));
         return 1;
     }
     build();

@@ -1,6 +1,7 @@
-/* Records of every class, and those of up to 4,095 fields above all: a detach that hands back eleven segments, the
- * first and last field of the longest records and a cycle over them, and where refusals 9 and 10 begin. It prints a line
- * for each part, and says on the error output what was expected where something else came. */
+/* Records of every class at both segment sizes, the longest and the smallest above all: a detach that hands back eleven
+ * segments, or twelve; the first and last field of records of 4,095 fields and a cycle over them; the first and last
+ * block of class 3; and where refusals 9 and 10 begin. It prints a line for each part and size, and says on the error
+ * output what was expected where something else came. */
 #include "borvukhai.h"
 
 #include <stdio.h>
@@ -10,14 +11,15 @@
 #define LAST 14u
 #define CLASSES (LAST - FIRST + 1)
 #define MOST 4095u /* the fields of a record */
+#define MOST_SEGMENTS 256u
 #define MANY 0xffffffffu
 
-static uint32_t segments;
-static uint32_t memory[BORVUKHAI_LENGTH(CLASSES)];
-static uint32_t before[BORVUKHAI_LENGTH(CLASSES)];
-static uint32_t output[BORVUKHAI_STATES_LENGTH(CLASSES)];
-static uint32_t scratch[BORVUKHAI_SCRATCH_LENGTH(CLASSES)];
-#define HEAP segments, memory, BORVUKHAI_LENGTH(segments)
+static uint32_t segments, kib;
+static uint32_t memory[BORVUKHAI_LENGTH(MOST_SEGMENTS, 32u)];
+static uint32_t before[BORVUKHAI_LENGTH(MOST_SEGMENTS, 32u)];
+static uint32_t output[BORVUKHAI_STATES_LENGTH(MOST_SEGMENTS, 32u)];
+static uint32_t scratch[BORVUKHAI_SCRATCH_LENGTH(MOST_SEGMENTS, 32u)];
+#define HEAP segments, kib, memory, BORVUKHAI_LENGTH(segments, kib)
 
 static int checks;
 static int failures;
@@ -42,7 +44,7 @@ static void opened(uint32_t count) {
 
 /* A make of so many pointers and values by mutator 0 is refused so, and no word has changed. */
 static void refused(uint32_t to, uint32_t pointers, uint32_t values, uint32_t wanted) {
-    size_t bytes = BORVUKHAI_LENGTH(segments) * sizeof memory[0];
+    size_t bytes = BORVUKHAI_LENGTH(segments, kib) * sizeof memory[0];
     memcpy(before, memory, bytes);
     expect("a make refused", pointers, borvukhai_make(HEAP, 0, to, pointers, values), wanted);
     expect("a make refused keeps the memory", pointers, memcmp(before, memory, bytes) == 0, 1);
@@ -50,8 +52,8 @@ static void refused(uint32_t to, uint32_t pointers, uint32_t values, uint32_t wa
 
 /* A look at all segments, over memory that passes the examination. */
 static void look(void) {
-    ok("states", borvukhai_states(HEAP, output, BORVUKHAI_STATES_LENGTH(segments)));
-    expect("sound", segments, (uint64_t)borvukhai_is_sound(HEAP, scratch, BORVUKHAI_SCRATCH_LENGTH(segments)), 1);
+    ok("states", borvukhai_states(HEAP, output, BORVUKHAI_STATES_LENGTH(segments, kib)));
+    expect("sound", segments, (uint64_t)borvukhai_is_sound(HEAP, scratch, BORVUKHAI_SCRATCH_LENGTH(segments, kib)), 1);
 }
 
 /* A word of a segment in the look. */
@@ -95,11 +97,42 @@ static void cycle(uint32_t traced, uint32_t swept, const uint32_t *freed) {
 /* The most fields of a record of a class. */
 static uint32_t most_of(uint32_t class_) { return (1u << class_) / 4 - 1; }
 
-/* Twelve segments: mutator 0 holds one of each class but 14, and has a full one of class 14. Its detach makes eleven of
- * them part, each with its class and place, and mutator 1 finds each of them by its class. */
+/* The blocks of a class by document 01's table and request No. 2's two classes; at 32 KiB each has twice as many. */
+static uint32_t blocks_of(uint32_t class_) {
+    static const uint32_t blocks[CLASSES] = {2048, 1024, 512, 256, 128, 64, 32, 16, 8, 4, 2, 1};
+    return (kib == 32 ? 2 : 1) * blocks[class_ - FIRST];
+}
+
+/* The look says of a segment that was never swept: so many of its blocks are handed out. It is full where these are all
+ * of them, else in this state. */
+static void handed_out(uint32_t s, uint32_t class_, uint32_t count, uint32_t tag, uint32_t mutator) {
+    int full = count == blocks_of(class_);
+    state(s, full ? (uint32_t)BORVUKHAI_SEGMENT_FULL : tag, class_, count, full ? 0 : mutator);
+    counts(s, 0, count);
+}
+
+/* The look says of a segment that a sweep kept so many of its blocks: free where it kept none, full where all. */
+static void kept_of(uint32_t s, uint32_t class_, uint32_t kept) {
+    int full = kept == blocks_of(class_);
+    state(s, full ? BORVUKHAI_SEGMENT_FULL : kept == 0 ? BORVUKHAI_SEGMENT_FREE : BORVUKHAI_SEGMENT_PART,
+          kept == 0 ? 0 : class_, full ? kept : 0, 0);
+    counts(s, kept, 0);
+}
+
+/* Dead records fill a segment of a class, so many of whose blocks are handed out. */
+static void fill(uint32_t class_, uint32_t count) {
+    for (; count < blocks_of(class_); count++) {
+        ok("make", borvukhai_make(HEAP, 0, 15, 0, most_of(class_)));
+    }
+    ok("clear", borvukhai_clear(HEAP, 0, 15));
+}
+
+/* Twelve segments, one of each class. At 16 KiB mutator 0 holds eleven and has a full one of class 14, which has one
+ * block; at 32 it holds all twelve. Its detach makes them part, each with its class and place, and mutator 1 finds each
+ * of them by its class. */
 static void hands_back(void) {
     static const uint32_t places[CLASSES] = {1, 2, 3, 1, 2, 3, 1, 2, 3, 1, 1, 1};
-    uint32_t c, made, parts = 0, full = 0;
+    uint32_t c, made, parts = 0;
     opened(CLASSES);
     for (c = FIRST; c <= LAST; c++) {
         for (made = 0; made < places[c - FIRST]; made++) {
@@ -107,31 +140,114 @@ static void hands_back(void) {
         }
     }
     look();
-    for (c = FIRST; c < LAST; c++) {
-        state(c - FIRST, BORVUKHAI_SEGMENT_HELD, c, places[c - FIRST], 0);
+    for (c = FIRST; c <= LAST; c++) {
+        handed_out(c - FIRST, c, places[c - FIRST], BORVUKHAI_SEGMENT_HELD, 0);
     }
-    state(LAST - FIRST, BORVUKHAI_SEGMENT_FULL, LAST, 1, 0);
     ok("detach", borvukhai_detach(HEAP, 0));
     look();
     for (c = FIRST; c <= LAST; c++) {
-        state(c - FIRST, c < LAST ? BORVUKHAI_SEGMENT_PART : BORVUKHAI_SEGMENT_FULL, c, places[c - FIRST], 0);
-        counts(c - FIRST, 0, places[c - FIRST]);
+        handed_out(c - FIRST, c, places[c - FIRST], BORVUKHAI_SEGMENT_PART, 0);
         parts += word(c - FIRST, BORVUKHAI_STATE_TAG) == BORVUKHAI_SEGMENT_PART;
-        full += word(c - FIRST, BORVUKHAI_STATE_TAG) == BORVUKHAI_SEGMENT_FULL;
     }
-    expect("part segments", CLASSES, parts, 11);
-    expect("full segments", CLASSES, full, 1);
+    expect("part segments", kib, parts, kib == 32 ? 12 : 11);
     ok("attach", borvukhai_attach(HEAP, 1));
     for (c = FIRST; c <= LAST; c++) {
-        expect("make again, class", c, borvukhai_make(HEAP, 1, c, 0, most_of(c)), c < LAST ? BORVUKHAI_OK : BORVUKHAI_NO_ROOM);
+        expect("make again, class", c, borvukhai_make(HEAP, 1, c, 0, most_of(c)),
+               places[c - FIRST] < blocks_of(c) ? BORVUKHAI_OK : BORVUKHAI_NO_ROOM);
     }
     look();
-    for (c = FIRST; c < LAST - 1; c++) {
-        state(c - FIRST, BORVUKHAI_SEGMENT_HELD, c, places[c - FIRST] + 1, 1);
-        counts(c - FIRST, 0, places[c - FIRST] + 1);
+    for (c = FIRST; c <= LAST; c++) {
+        made = places[c - FIRST] + (places[c - FIRST] < blocks_of(c));
+        handed_out(c - FIRST, c, made, BORVUKHAI_SEGMENT_HELD, 1);
     }
-    state(LAST - 1 - FIRST, BORVUKHAI_SEGMENT_FULL, LAST - 1, 2, 0);
-    counts(LAST - 1 - FIRST, 0, 2);
+}
+
+/* One segment of each class in turn: it is held from its first make on and full with its last, which at 16 KiB is the
+ * first of class 14; then there is no room. */
+static void blocks(void) {
+    uint32_t c, made;
+    for (c = FIRST; c <= LAST; c++) {
+        expect("blocks of class", c, BORVUKHAI_BLOCKS(kib, c), blocks_of(c));
+        opened(1);
+        for (made = 1; made <= blocks_of(c); made++) {
+            ok("make", borvukhai_make(HEAP, 0, made % 16, 0, most_of(c)));
+            if (made <= 2 || made + 2 > blocks_of(c)) {
+                look();
+                handed_out(0, c, made, BORVUKHAI_SEGMENT_HELD, 0);
+            }
+        }
+        refused(0, 0, most_of(c), BORVUKHAI_NO_ROOM);
+    }
+}
+
+/* The last block of class 3, 2,047 at 16 KiB and 4,095 at 32. The record in it is behind the pointer of another one, so
+ * that it is traced; all before it are dead, and swept. The makes after it use every block but the last again. */
+static void last_of_smallest(void) {
+    uint32_t made, found = 0, all = blocks_of(FIRST), freed[2];
+    opened(2);
+    ok("make", borvukhai_make(HEAP, 0, 2, 1, 1));
+    for (made = 1; made <= all; made++) {
+        ok("make", borvukhai_make(HEAP, 0, 0, 0, 1));
+        ok("put", borvukhai_put(HEAP, 0, 0, 0, made));
+    }
+    ok("store", borvukhai_store(HEAP, 0, 2, 0, 0));
+    ok("clear", borvukhai_clear(HEAP, 0, 0));
+    look();
+    handed_out(0, FIRST + 1, 1, BORVUKHAI_SEGMENT_HELD, 0);
+    handed_out(1, FIRST, all, BORVUKHAI_SEGMENT_HELD, 0);
+    fill(FIRST + 1, 1);
+    freed[0] = blocks_of(FIRST + 1) - 1, freed[1] = all - 1;
+    cycle(2, 2, freed);
+    look();
+    kept_of(1, FIRST, 1);
+    for (made = 1; made < all; made++) {
+        ok("make", borvukhai_make(HEAP, 0, 0, 0, 1));
+        ok("put", borvukhai_put(HEAP, 0, 0, 0, 0));
+    }
+    refused(0, 0, 1, BORVUKHAI_NO_ROOM);
+    ok("load", borvukhai_load(HEAP, 0, 1, 2, 0));
+    ok("get", borvukhai_get_to(HEAP, 0, 1, 0, &found));
+    expect("the value in the last block", all, found, all);
+    look();
+    state(1, BORVUKHAI_SEGMENT_FULL, FIRST, all, 0);
+    counts(1, 1, all - 1);
+}
+
+/* A list that fills so many segments of class 3, each record with a pointer to the one before it: every block is a
+ * record of its own, all of them are traced and kept, and then freed. */
+static void list_of_smallest(uint32_t count) {
+    uint32_t made, s, refusals = 0, all = count * blocks_of(FIRST), freed[MOST_SEGMENTS] = {0};
+    opened(count);
+    for (made = 0; made < all; made++) {
+        refusals += borvukhai_make(HEAP, 0, 1, 1, 0) != BORVUKHAI_OK;
+        refusals += borvukhai_store(HEAP, 0, 1, 0, 0) != BORVUKHAI_OK;
+        refusals += borvukhai_copy(HEAP, 0, 0, 1) != BORVUKHAI_OK;
+    }
+    expect("refused in the list", count, refusals, 0);
+    refused(1, 1, 0, BORVUKHAI_NO_ROOM);
+    ok("clear", borvukhai_clear(HEAP, 0, 1));
+    cycle(all, count, freed);
+    look();
+    for (s = 0; s < count; s++) {
+        kept_of(s, FIRST, blocks_of(FIRST));
+        freed[s] = blocks_of(FIRST);
+    }
+    for (made = 0; borvukhai_shape(HEAP, 0, 0) != BORVUKHAI_NIL && made <= all; made++) {
+        refusals += borvukhai_load(HEAP, 0, 0, 0, 0) != BORVUKHAI_OK;
+    }
+    expect("records of the list", count, made, all);
+    expect("refused on the way", count, refusals, 0);
+    cycle(0, count, freed);
+    look();
+    for (s = 0; s < count; s++) {
+        kept_of(s, FIRST, 0);
+    }
+}
+
+static void smallest_records(void) {
+    last_of_smallest();
+    list_of_smallest(1);
+    list_of_smallest(MOST_SEGMENTS);
 }
 
 /* A new record in root 0: its counts, all its pointers nil, all its values 0, and no field beyond them. */
@@ -176,7 +292,7 @@ static void is_kept(uint32_t pointers, uint32_t values) {
     ok("clear", borvukhai_clear(HEAP, 0, 2));
 }
 
-/* Two records of class 13, which fill segment 1, go behind the first and the last pointer. */
+/* Two records of class 13, in segment 1, go behind the first and the last pointer. */
 static void store_first_and_last(uint32_t pointers, uint32_t values) {
     ok("make", borvukhai_make(HEAP, 0, 1, 0, 2047));
     ok("make", borvukhai_make(HEAP, 0, 2, 1, 2046));
@@ -193,37 +309,32 @@ static void store_first_and_last(uint32_t pointers, uint32_t values) {
     is_kept(pointers, values);
 }
 
-/* A record of 4,095 fields, from its make to the sweep that frees it. A cycle keeps it while a root has it, and what its
- * pointers have; when it is cleared, the next cycle makes its segment free, and that of what was behind its pointers,
- * be it full or part. */
+/* A record of 4,095 fields, from its make to the sweep that frees it. Dead ones fill its segment and that of what is
+ * behind its pointers, so that a cycle sweeps both. It keeps the record while a root has it, and what its pointers
+ * have; when it is cleared, the next cycle makes its segment free, and that other, be it full or part. */
 static void longest(uint32_t pointers, uint32_t values) {
     uint32_t kept = pointers < 2 ? pointers : 2;
-    uint32_t first[] = {0, 2 - kept}, second[] = {1, kept};
+    uint32_t first[] = {blocks_of(14) - 1, blocks_of(13) - kept}, second[] = {1, kept};
     memset(memory, 0xa5, sizeof memory);
     opened(2);
     ok("make", borvukhai_make(HEAP, 0, 0, pointers, values));
     is_new(pointers, values);
     store_first_and_last(pointers, values);
+    fill(14, 1);
+    fill(13, 2);
     look();
-    state(0, BORVUKHAI_SEGMENT_FULL, 14, 1, 0);
-    state(1, BORVUKHAI_SEGMENT_FULL, 13, 2, 0);
-    counts(0, 0, 1);
-    counts(1, 0, 2);
+    handed_out(0, 14, blocks_of(14), BORVUKHAI_SEGMENT_FULL, 0);
+    handed_out(1, 13, blocks_of(13), BORVUKHAI_SEGMENT_FULL, 0);
     cycle(1 + kept, 2, first);
     is_kept(pointers, values);
     look();
-    state(0, BORVUKHAI_SEGMENT_FULL, 14, 1, 0);
-    counts(0, 1, 0);
-    counts(1, kept, 0);
-    state(1, kept == 2 ? BORVUKHAI_SEGMENT_FULL : kept == 1 ? BORVUKHAI_SEGMENT_PART : BORVUKHAI_SEGMENT_FREE,
-          kept == 0 ? 0 : 13, kept == 2 ? 2 : 0, 0);
+    kept_of(0, 14, 1);
+    kept_of(1, 13, kept);
     ok("clear", borvukhai_clear(HEAP, 0, 0));
     cycle(0, kept == 0 ? 1 : 2, second);
     look();
-    state(0, BORVUKHAI_SEGMENT_FREE, 0, 0, 0);
-    state(1, BORVUKHAI_SEGMENT_FREE, 0, 0, 0);
-    counts(0, 0, 0);
-    counts(1, 0, 0);
+    kept_of(0, 14, 0);
+    kept_of(1, 13, 0);
 }
 
 static void longest_records(void) {
@@ -261,8 +372,9 @@ static void splits(void) {
 /* 4,096 fields where a lower number applies too, and where 10 would. */
 static void order(void) {
     opened(1);
-    ok("make", borvukhai_make(HEAP, 0, 0, 0, MOST));
-    expect("size", 1, borvukhai_make(0, memory, BORVUKHAI_LENGTH(1u), 0, 0, MOST + 1, 0), BORVUKHAI_SIZE);
+    fill(14, 0);
+    expect("size", 1, borvukhai_make(0, kib, memory, BORVUKHAI_LENGTH(1u, kib), 0, 0, MOST + 1, 0), BORVUKHAI_SIZE);
+    expect("size", 1, borvukhai_make(1, 24, memory, BORVUKHAI_LENGTH(1u, kib), 0, 0, MOST + 1, 0), BORVUKHAI_SIZE);
     expect("script", 2, borvukhai_make(HEAP, 32, 0, MOST + 1, 0), BORVUKHAI_SCRIPT);
     expect("absent", 4, borvukhai_make(HEAP, 1, 0, MOST + 1, 0), BORVUKHAI_ABSENT);
     refused(16, MOST, 1, BORVUKHAI_SLOT);
@@ -273,38 +385,49 @@ static void order(void) {
     refused(16, MOST, 1, BORVUKHAI_SIDE);
 }
 
-/* Two records of class 14 fill two segments, and the third is refused; what a cycle frees is used again. */
-static void two_and_a_third(void) {
+/* Two segments of class 14, of one block each at 16 KiB and of two at 32: so many records find room, and the next does
+ * not; what a cycle frees is used again. */
+static void one_too_many(void) {
     static const uint32_t freed[] = {0, 1};
+    uint32_t made, all = 2 * blocks_of(14);
     opened(2);
-    ok("make", borvukhai_make(HEAP, 0, 0, 0, 2048));
-    ok("make", borvukhai_make(HEAP, 0, 1, MOST, 0));
-    refused(2, 0, MOST, BORVUKHAI_NO_ROOM);
-    refused(2, 0, 0, BORVUKHAI_NO_ROOM);
+    for (made = 0; made < all; made++) {
+        ok("make", made % 2 == 0 ? borvukhai_make(HEAP, 0, made, 0, 2048) : borvukhai_make(HEAP, 0, made, MOST, 0));
+    }
+    refused(all, 0, MOST, BORVUKHAI_NO_ROOM);
+    refused(all, 0, 0, BORVUKHAI_NO_ROOM);
     look();
-    state(0, BORVUKHAI_SEGMENT_FULL, 14, 1, 0);
-    state(1, BORVUKHAI_SEGMENT_FULL, 14, 1, 0);
-    ok("clear", borvukhai_clear(HEAP, 0, 1));
-    cycle(1, 2, freed);
-    ok("make", borvukhai_make(HEAP, 0, 2, 0, MOST));
-    refused(1, 0, MOST, BORVUKHAI_NO_ROOM);
+    handed_out(0, 14, blocks_of(14), BORVUKHAI_SEGMENT_FULL, 0);
+    handed_out(1, 14, blocks_of(14), BORVUKHAI_SEGMENT_FULL, 0);
+    ok("clear", borvukhai_clear(HEAP, 0, all - 1));
+    cycle(all - 1, 2, freed);
+    look();
+    kept_of(0, 14, blocks_of(14));
+    kept_of(1, 14, blocks_of(14) - 1);
+    ok("make", borvukhai_make(HEAP, 0, all, 0, MOST));
+    refused(all - 1, 0, MOST, BORVUKHAI_NO_ROOM);
 }
 
 int main(void) {
     static const struct {
         const char *name;
         void (*run)(void);
-    } parts[] = {{"a detach hands back eleven segments", hands_back},
+    } parts[] = {{"a detach hands back a segment of each class", hands_back},
+                 {"the blocks of each class", blocks},
+                 {"the last block of class 3, and all of 1 and of 256 segments", smallest_records},
                  {"records of 4,095 fields", longest_records},
                  {"4,095 and 4,096 fields in every split", splits},
                  {"4,096 fields in the order of refusals", order},
-                 {"two records of class 14, and a third", two_and_a_third}};
+                 {"as many records of class 14 as there is room for, and one more", one_too_many}};
     size_t i;
-    for (i = 0; i < sizeof parts / sizeof parts[0]; i++) {
-        int failed = failures;
-        int tried = checks;
-        parts[i].run();
-        printf("%s: %d checks, %d failed\n", parts[i].name, checks - tried, failures - failed);
+    for (kib = 16; kib <= 32; kib += 16) {
+        for (i = 0; i < sizeof parts / sizeof parts[0]; i++) {
+            int failed = failures;
+            int tried = checks;
+            parts[i].run();
+            printf("%u KiB, %s: %d checks, %d failed\n", (unsigned)kib, parts[i].name, checks - tried,
+                   failures - failed);
+        }
     }
     return failures == 0 ? 0 : 1;
 }

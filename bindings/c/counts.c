@@ -1,7 +1,9 @@
-/* The two counts of a segment, blocks kept at its last sweep and blocks handed out since, against figures that were
- * reckoned by hand from document 01 and requests No. 3 and 5: after an opening, makes, a fill, a detach, a start, and
- * sweeps to part, to full and to free, of segments that were full and that were part; and over memory whose counts are
- * torn. It prints a line for each part, and says on the error output what was expected where something else came. */
+/* The two counts of a segment, blocks kept at its last sweep and blocks handed out since, at both segment sizes,
+ * against figures that were reckoned by hand from document 01 and requests No. 3, 5 and 6: after an opening, makes, a
+ * fill, a detach, a start, and sweeps to part, to full and to free, of segments that were full and that were part; and
+ * over memory whose counts are torn. A class has twice as many blocks at 32 KiB as at 16, so that one figure serves
+ * both sizes where the class is the one `with` so many blocks. It prints a line for each part and size, and says on the
+ * error output what was expected where something else came. */
 #include "borvukhai.h"
 
 #include <stdio.h>
@@ -13,16 +15,28 @@
 #define MOST 6u /* segments */
 #define MANY 0xffffffffu
 
-/* Document 01's table of blocks, with the two classes of request No. 2. */
-static const uint32_t blocks[CLASSES] = {2048, 1024, 512, 256, 128, 64, 32, 16, 8, 4, 2, 1};
+static uint32_t segments, kib;
+static uint32_t memory[BORVUKHAI_LENGTH(MOST, 32u)];
+static uint32_t before[BORVUKHAI_LENGTH(MOST, 32u)];
+static uint32_t output[BORVUKHAI_STATES_LENGTH(MOST, 32u)];
+static uint32_t scratch[BORVUKHAI_SCRATCH_LENGTH(MOST, 32u)];
+#define HEAP segments, kib, memory, BORVUKHAI_LENGTH(segments, kib)
+#define STATES BORVUKHAI_STATES_LENGTH(segments, kib)
 
-static uint32_t segments;
-static uint32_t memory[BORVUKHAI_LENGTH(MOST)];
-static uint32_t before[BORVUKHAI_LENGTH(MOST)];
-static uint32_t output[BORVUKHAI_STATES_LENGTH(MOST)];
-static uint32_t scratch[BORVUKHAI_SCRATCH_LENGTH(MOST)];
-#define HEAP segments, memory, BORVUKHAI_LENGTH(segments)
-#define STATES BORVUKHAI_STATES_LENGTH(segments)
+/* The blocks of a class by document 01's table and request No. 2's two classes; at 32 KiB each has twice as many. */
+static uint32_t blocks(uint32_t class_) {
+    static const uint32_t of[CLASSES] = {2048, 1024, 512, 256, 128, 64, 32, 16, 8, 4, 2, 1};
+    return (kib == 32 ? 2 : 1) * of[class_ - FIRST];
+}
+
+/* The class that has so many blocks. */
+static uint32_t with(uint32_t count) {
+    uint32_t class_ = FIRST;
+    while (blocks(class_) != count) {
+        class_++;
+    }
+    return class_;
+}
 
 static int checks;
 static int failures;
@@ -60,7 +74,7 @@ static void makes(uint32_t class_, uint32_t count) {
     }
 }
 
-static int sound(void) { return borvukhai_is_sound(HEAP, scratch, BORVUKHAI_SCRATCH_LENGTH(segments)); }
+static int sound(void) { return borvukhai_is_sound(HEAP, scratch, BORVUKHAI_SCRATCH_LENGTH(segments, kib)); }
 
 /* A look at all segments, over memory that passes the examination. */
 static void look(void) {
@@ -143,10 +157,10 @@ static void all_free(void) {
 static void opening(void) {
     opened(MOST);
     all_free();
-    makes(12, 5);
+    makes(with(4), 5);
     look();
-    is(0, BORVUKHAI_SEGMENT_FULL, 12, 4, 0, 0, 4);
-    is(1, BORVUKHAI_SEGMENT_HELD, 12, 1, 0, 0, 1);
+    is(0, BORVUKHAI_SEGMENT_FULL, with(4), 4, 0, 0, 4);
+    is(1, BORVUKHAI_SEGMENT_HELD, with(4), 1, 0, 0, 1);
     ok("open", borvukhai_open(HEAP));
     all_free();
 }
@@ -198,12 +212,12 @@ static void three_classes(void) {
     is(0, BORVUKHAI_SEGMENT_HELD, 3, 4, 1, 0, 4);
 }
 
-/* One make less than the blocks leaves the segment held, but of class 14, which has one block. The last make counts
- * too, though the segment becomes full in it. A start condemns it, and its counts stay. */
+/* One make less than the blocks leaves the segment held, but where it has one block alone. The last make counts too,
+ * though the segment becomes full in it. A start condemns it, and its counts stay. */
 static void fill(void) {
     uint32_t c, of;
     for (c = FIRST; c <= LAST; c++) {
-        of = blocks[c - FIRST];
+        of = blocks(c);
         opened(1);
         makes(c, of - 1);
         look();
@@ -220,8 +234,8 @@ static void fill(void) {
     }
 }
 
-/* A segment of class 10 has 16 blocks; root r gets the record in block r. What is cleared here leaves five roots, so
- * the sweep keeps the blocks 3, 4, 5, 9 and 15, and 16 - 5 become free. The makes after it begin at place 0:
+/* A segment of 16 blocks; root r gets the record in block r. What is cleared here leaves five roots, so the sweep keeps
+ * the blocks 3, 4, 5, 9 and 15, and 16 - 5 become free. The makes after it begin at place 0:
  *
  *   make              1  2  3  4  5  6  7  8  9  10  11
  *   block             0  1  2  6  7  8 10 11 12  13  14    past 3, 4 and 5, and past 9
@@ -234,17 +248,17 @@ static void sweep_to_part(void) {
     uint32_t i;
     opened(2);
     for (i = 0; i < 16; i++) {
-        ok("make", make(0, i, 10));
+        ok("make", make(0, i, with(16)));
     }
     for (i = 0; i < 11; i++) {
         ok("clear", borvukhai_clear(HEAP, 0, cleared[i]));
     }
     cycle(5, 11);
-    is(0, BORVUKHAI_SEGMENT_PART, 10, 0, 0, 5, 0);
+    is(0, BORVUKHAI_SEGMENT_PART, with(16), 0, 0, 5, 0);
     for (i = 0; i < 11; i++) {
-        ok("make", make(0, cleared[i], 10));
+        ok("make", make(0, cleared[i], with(16)));
         look();
-        is(0, i < 10 ? BORVUKHAI_SEGMENT_HELD : BORVUKHAI_SEGMENT_FULL, 10, places[i], 0, 5, i + 1);
+        is(0, i < 10 ? BORVUKHAI_SEGMENT_HELD : BORVUKHAI_SEGMENT_FULL, with(16), places[i], 0, 5, i + 1);
     }
     is_free(1);
 }
@@ -254,18 +268,18 @@ static void sweep_to_part(void) {
 static void sweep_to_full(void) {
     sweep_to_part();
     cycle(16, 0);
-    is(0, BORVUKHAI_SEGMENT_FULL, 10, 16, 0, 16, 0);
+    is(0, BORVUKHAI_SEGMENT_FULL, with(16), 16, 0, 16, 0);
     ok("clear", borvukhai_clear(HEAP, 0, 0));
     cycle(15, 1);
-    is(0, BORVUKHAI_SEGMENT_PART, 10, 0, 0, 15, 0);
-    ok("make", make(0, 0, 10));
+    is(0, BORVUKHAI_SEGMENT_PART, with(16), 0, 0, 15, 0);
+    ok("make", make(0, 0, with(16)));
     look();
-    is(0, BORVUKHAI_SEGMENT_FULL, 10, 16, 0, 15, 1);
+    is(0, BORVUKHAI_SEGMENT_FULL, with(16), 16, 0, 15, 1);
     is_free(1);
 }
 
 /* No record is alive: the 15 + 1 blocks become free, and both counts are 0. Segment 0 was put on the free stack last,
- * so the next make takes it, of class 5 now, which has 512 blocks: two makes, blocks 0 and 1. */
+ * so the next make takes it, now of a class that has 512 blocks: two makes, blocks 0 and 1. */
 static void sweep_to_free(void) {
     uint32_t root;
     sweep_to_full();
@@ -274,51 +288,55 @@ static void sweep_to_free(void) {
     }
     cycle(0, 16);
     is_free(0);
-    makes(5, 2);
+    makes(with(512), 2);
     look();
-    is(0, BORVUKHAI_SEGMENT_HELD, 5, 2, 0, 0, 2);
+    is(0, BORVUKHAI_SEGMENT_HELD, with(512), 2, 0, 0, 2);
     is_free(1);
 }
 
-/* A list of 2,048 records of class 3, each with a pointer to the one made before it, fills a segment. Root 1 has the
- * 777th, so blocks 0 to 776 are reached. The sweep keeps these, and 2,048 - 777 = 1,271 become free. The next make
- * finds block 777 behind 777 bits that are 1, 24 whole words and 9 bits; one 0 bit lies before place 778. 1,271 makes
- * fill the segment: the last but one gets block 2,046. */
+/* A list of records of class 3, each with a pointer to the one made before it, fills a segment. Root 1 has one of them,
+ * so the blocks up to its own are reached. The sweep keeps these, and the others become free. The next make finds its
+ * block behind as many bits that are 1, and one 0 bit lies before its place. As many makes as blocks became free fill
+ * the segment: the last but one gets the last block but one.
+ *
+ *            blocks  reached                             free
+ *   16 KiB    2,048      777  24 whole words and 9 bits  1,271
+ *   32 KiB    4,096    2,777  86 whole words and 25      1,319 */
 static void three_levels(void) {
-    uint32_t made;
+    uint32_t made, all = kib == 32 ? 4096 : 2048, reached = kib == 32 ? 2777 : 777, freed = kib == 32 ? 1319 : 1271;
     opened(1);
-    for (made = 1; made <= 2048; made++) {
+    for (made = 1; made <= all; made++) {
         makes(3, 1);
         ok("store", borvukhai_store(HEAP, 0, 0, 0, 2));
         ok("copy", borvukhai_copy(HEAP, 0, 2, 0));
-        ok("copy", made == 777 ? borvukhai_copy(HEAP, 0, 1, 0) : (uint32_t)BORVUKHAI_OK);
+        ok("copy", made == reached ? borvukhai_copy(HEAP, 0, 1, 0) : (uint32_t)BORVUKHAI_OK);
     }
     ok("clear", borvukhai_clear(HEAP, 0, 0));
     ok("clear", borvukhai_clear(HEAP, 0, 2));
-    cycle(777, 1271);
-    is(0, BORVUKHAI_SEGMENT_PART, 3, 0, 0, 777, 0);
+    cycle(reached, freed);
+    is(0, BORVUKHAI_SEGMENT_PART, 3, 0, 0, reached, 0);
     makes(3, 1);
     look();
-    is(0, BORVUKHAI_SEGMENT_HELD, 3, 778, 0, 777, 1);
-    makes(3, 1269);
+    is(0, BORVUKHAI_SEGMENT_HELD, 3, reached + 1, 0, reached, 1);
+    makes(3, freed - 2);
     look();
-    is(0, BORVUKHAI_SEGMENT_HELD, 3, 2047, 0, 777, 1270);
+    is(0, BORVUKHAI_SEGMENT_HELD, 3, all - 1, 0, reached, freed - 1);
     makes(3, 1);
     look();
-    is(0, BORVUKHAI_SEGMENT_FULL, 3, 2048, 0, 777, 1271);
+    is(0, BORVUKHAI_SEGMENT_FULL, 3, all, 0, reached, freed);
 }
 
-/* Four segments are filled: 0, 1 and 3 of class 12, 4 blocks, by mutator 0 with roots 0 to 11; 2 of class 11, 8 blocks,
- * by mutator 1 with roots 0 to 7. Then these roots alone are left, so that the sweeps keep
+/* Four segments are filled: 0, 1 and 3, of 4 blocks, by mutator 0 with roots 0 to 11; 2, of 8 blocks, by mutator 1 with
+ * roots 0 to 7. Then these roots alone are left, so that the sweeps keep
  *   block 2 of segment 0, blocks 1 and 3 of segment 1, blocks 0 and 4 of segment 2, and blocks 0, 1 and 3 of segment 3,
- * and free 4 - 1, 4 - 2, 8 - 2 and 4 - 3. All four are part then, segment 3 on top of class 12's stack. */
+ * and free 4 - 1, 4 - 2, 8 - 2 and 4 - 3. All four are part then, segment 3 on top of its class's stack. */
 static void four_parts(void) {
     static const uint32_t gone[2][6] = {{0, 1, 3, 4, 6, 10}, {1, 2, 3, 5, 6, 7}};
     uint32_t i;
     opened(MOST);
     ok("attach", borvukhai_attach(HEAP, 1));
     for (i = 0; i < 20; i++) {
-        ok("make", i < 8 ? make(0, i, 12) : i < 16 ? make(1, i - 8, 11) : make(0, i - 8, 12));
+        ok("make", i < 8 ? make(0, i, with(4)) : i < 16 ? make(1, i - 8, with(8)) : make(0, i - 8, with(4)));
     }
     for (i = 0; i < 12; i++) {
         ok("clear", borvukhai_clear(HEAP, i / 6, gone[i / 6][i % 6]));
@@ -332,10 +350,10 @@ static void four_parts(void) {
     swept(3, 1);
     step(BORVUKHAI_STEP_DONE);
     look();
-    is(0, BORVUKHAI_SEGMENT_PART, 12, 0, 0, 1, 0);
-    is(1, BORVUKHAI_SEGMENT_PART, 12, 0, 0, 2, 0);
-    is(2, BORVUKHAI_SEGMENT_PART, 11, 0, 0, 2, 0);
-    is(3, BORVUKHAI_SEGMENT_PART, 12, 0, 0, 3, 0);
+    is(0, BORVUKHAI_SEGMENT_PART, with(4), 0, 0, 1, 0);
+    is(1, BORVUKHAI_SEGMENT_PART, with(4), 0, 0, 2, 0);
+    is(2, BORVUKHAI_SEGMENT_PART, with(8), 0, 0, 2, 0);
+    is(3, BORVUKHAI_SEGMENT_PART, with(4), 0, 0, 3, 0);
     is_free(4);
     is_free(5);
 }
@@ -347,43 +365,43 @@ static void four_parts(void) {
  *   0  mutator 2 makes one, block 0; blocks 1 and 3 remain: held with 1 and 1, the place 1. It goes outside. */
 static void in_idle(void) {
     four_parts();
-    ok("make", make(0, 10, 12));
-    ok("make", make(0, 4, 12));
+    ok("make", make(0, 10, with(4)));
+    ok("make", make(0, 4, with(4)));
     ok("enter", borvukhai_enter(HEAP, 1));
-    ok("make", make(1, 1, 11));
-    ok("make", make(1, 2, 11));
+    ok("make", make(1, 1, with(8)));
+    ok("make", make(1, 2, with(8)));
     ok("detach", borvukhai_detach(HEAP, 1));
     ok("attach", borvukhai_attach(HEAP, 2));
-    ok("make", make(2, 0, 12));
+    ok("make", make(2, 0, with(4)));
     ok("leave", borvukhai_leave(HEAP, 2));
     ok("clear", borvukhai_clear(HEAP, 0, 9));
     look();
-    is(0, BORVUKHAI_SEGMENT_HELD, 12, 1, 2, 1, 1);
-    is(1, BORVUKHAI_SEGMENT_HELD, 12, 1, 0, 2, 1);
-    is(2, BORVUKHAI_SEGMENT_PART, 11, 3, 0, 2, 2);
-    is(3, BORVUKHAI_SEGMENT_FULL, 12, 4, 0, 3, 1);
+    is(0, BORVUKHAI_SEGMENT_HELD, with(4), 1, 2, 1, 1);
+    is(1, BORVUKHAI_SEGMENT_HELD, with(4), 1, 0, 2, 1);
+    is(2, BORVUKHAI_SEGMENT_PART, with(8), 3, 0, 2, 2);
+    is(3, BORVUKHAI_SEGMENT_FULL, with(4), 4, 0, 3, 1);
     is_free(4);
     is_free(5);
 }
 
 /* Segments 1 to 5 of the cycle below. */
 static void beside(void) {
-    is(1, BORVUKHAI_SEGMENT_FULL, 12, 4, 0, 2, 2);
-    is(2, BORVUKHAI_SEGMENT_CONDEMNED, 11, 3, 0, 2, 2);
-    is(3, BORVUKHAI_SEGMENT_CONDEMNED, 12, 4, 0, 3, 1);
-    is(4, BORVUKHAI_SEGMENT_HELD, 5, 1, 0, 0, 1);
+    is(1, BORVUKHAI_SEGMENT_FULL, with(4), 4, 0, 2, 2);
+    is(2, BORVUKHAI_SEGMENT_CONDEMNED, with(8), 3, 0, 2, 2);
+    is(3, BORVUKHAI_SEGMENT_CONDEMNED, with(4), 4, 0, 3, 1);
+    is(4, BORVUKHAI_SEGMENT_HELD, with(512), 1, 0, 0, 1);
     is_free(5);
 }
 
 /* A start condemns the full segment 3 and the part segment 2, each with its place and counts. Mutator 0 then makes one
- * of class 12, block 2 of segment 1, which is full with 2 and 2 and not condemned; and one of class 5 in segment 4. */
+ * with 4 blocks, block 2 of segment 1, which is full with 2 and 2 and not condemned; and one with 512 in segment 4. */
 static void in_sync1(void) {
     in_idle();
     ok("start", borvukhai_start(HEAP));
-    ok("make", make(0, 6, 12));
-    ok("make", make(0, 0, 5));
+    ok("make", make(0, 6, with(4)));
+    ok("make", make(0, 0, with(512)));
     look();
-    is(0, BORVUKHAI_SEGMENT_HELD, 12, 1, 2, 1, 1);
+    is(0, BORVUKHAI_SEGMENT_HELD, with(4), 1, 2, 1, 1);
     beside();
 }
 
@@ -394,7 +412,7 @@ static void five_states(void) {
     ok("enter", borvukhai_enter(HEAP, 2));
     ok("detach", borvukhai_detach(HEAP, 2));
     look();
-    is(0, BORVUKHAI_SEGMENT_PART, 12, 1, 0, 1, 1);
+    is(0, BORVUKHAI_SEGMENT_PART, with(4), 1, 0, 1, 1);
     beside();
 }
 
@@ -408,11 +426,11 @@ static void five_then(void) {
     swept(3, 1);
     step(BORVUKHAI_STEP_DONE);
     look();
-    is(0, BORVUKHAI_SEGMENT_PART, 12, 1, 0, 1, 1);
-    is(1, BORVUKHAI_SEGMENT_FULL, 12, 4, 0, 2, 2);
+    is(0, BORVUKHAI_SEGMENT_PART, with(4), 1, 0, 1, 1);
+    is(1, BORVUKHAI_SEGMENT_FULL, with(4), 4, 0, 2, 2);
     is_free(2);
-    is(3, BORVUKHAI_SEGMENT_PART, 12, 0, 0, 3, 0);
-    is(4, BORVUKHAI_SEGMENT_HELD, 5, 1, 0, 0, 1);
+    is(3, BORVUKHAI_SEGMENT_PART, with(4), 0, 0, 3, 0);
+    is(4, BORVUKHAI_SEGMENT_HELD, with(512), 1, 0, 0, 1);
     is_free(5);
 }
 
@@ -426,8 +444,8 @@ static void parts_to_free(void) {
     }
     ok("start", borvukhai_start(HEAP));
     look();
-    is(0, BORVUKHAI_SEGMENT_CONDEMNED, 12, 1, 0, 1, 1);
-    is(3, BORVUKHAI_SEGMENT_CONDEMNED, 12, 0, 0, 3, 0);
+    is(0, BORVUKHAI_SEGMENT_CONDEMNED, with(4), 1, 0, 1, 1);
+    is(3, BORVUKHAI_SEGMENT_CONDEMNED, with(4), 0, 0, 3, 0);
     to_sweep(0);
     swept(0, 2);
     swept(1, 4);
@@ -437,12 +455,12 @@ static void parts_to_free(void) {
     is_free(0);
     is_free(1);
     is_free(3);
-    is(4, BORVUKHAI_SEGMENT_HELD, 5, 1, 0, 0, 1);
+    is(4, BORVUKHAI_SEGMENT_HELD, with(512), 1, 0, 0, 1);
 }
 
 /* The word `at` of a segment's record in the memory, where docs/LAYOUT.md puts it. */
 static uint32_t *stored(uint32_t s, uint32_t at) {
-    return memory + 1040 + 4096 * segments + s * BORVUKHAI_STATE_WORDS + at;
+    return memory + 1040 + 256 * kib * segments + s * BORVUKHAI_STATE_WORDS + at;
 }
 
 static void keep(void) { memcpy(before, memory, sizeof memory); }
@@ -534,7 +552,7 @@ static void torn_count(uint32_t s, uint32_t at, uint32_t number) {
 static void torn_counts(void) {
     uint32_t s, i;
     for (s = 0; s < segments; s++) {
-        uint32_t class_ = *stored(s, BORVUKHAI_STATE_CLASS), of = class_ == 0 ? 4 : blocks[class_ - FIRST];
+        uint32_t class_ = *stored(s, BORVUKHAI_STATE_CLASS), of = class_ == 0 ? 4 : blocks(class_);
         uint32_t numbers[8] = {0, 1, 2, 3, 0, 0, 0x80000000u, MANY};
         numbers[4] = of, numbers[5] = of + 1;
         for (i = 0; i < 8; i++) {
@@ -579,19 +597,19 @@ static void torn(void) {
     torn_counts();
     opened(1);
     for (s = 0; s < 4; s++) {
-        ok("make", make(0, s, 12));
+        ok("make", make(0, s, with(4)));
     }
     torn_counts();
     cycle(4, 0);
     torn_counts();
 }
 
-/* A make whose segment counts 4,294,967,295 blocks handed out is refused 13. In the heap with all five states a make of
- * class 12 takes its block from segment 0, which is part, one of class 11 from 5, which is free, and one of class 5
- * from 4, which is held. It asks for no other segment's count, and for none of blocks kept. One less than that number
+/* A make whose segment counts 4,294,967,295 blocks handed out is refused 13. In the heap with all five states a make
+ * with 4 blocks takes its block from segment 0, which is part, one with 8 from 5, which is free, and one with 512 from
+ * 4, which is held. It asks for no other segment's count, and for none of blocks kept. One less than that number
  * is counted on. */
 static void torn_makes(void) {
-    static const uint32_t takes[3][2] = {{12, 0}, {11, 5}, {5, 4}};
+    const uint32_t takes[3][2] = {{with(4), 0}, {with(8), 5}, {with(512), 4}};
     uint32_t s, i;
     five_states();
     keep();
@@ -617,13 +635,13 @@ static void torn_makes(void) {
     }
 }
 
-/* The same at every place of the first two words of a bitmap, of every class but 14, which nobody holds: a make finds
+/* The same at every place of the first two words of a bitmap, of every class that has two blocks or more: a make finds
  * its block in the place's own word, or by the search. */
 static void torn_places(void) {
     uint32_t c, made;
-    for (c = FIRST; c < LAST; c++) {
+    for (c = FIRST; c <= LAST; c++) {
         opened(1);
-        for (made = 1; made < blocks[c - FIRST] && made <= 64; made++) {
+        for (made = 1; made < blocks(c) && made <= 64; made++) {
             makes(c, 1);
             keep();
             *stored(0, BORVUKHAI_STATE_HANDED_OUT) = MANY;
@@ -676,11 +694,11 @@ static void torn_sweeps(void) {
     for (c = FIRST; c <= LAST; c++) {
         for (alive = 0; alive <= 1; alive++) {
             opened(1);
-            makes(c, blocks[c - FIRST]);
+            makes(c, blocks(c));
             ok("clear", borvukhai_clear(HEAP, 0, alive));
             ok("start", borvukhai_start(HEAP));
             to_sweep(alive);
-            torn_sweeps_of(0, blocks[c - FIRST], alive);
+            torn_sweeps_of(0, blocks(c), alive);
         }
     }
 }
@@ -693,21 +711,21 @@ static void torn_and_kept(void) {
         *stored(s, BORVUKHAI_STATE_KEPT) = 70 + s;
         *stored(s, BORVUKHAI_STATE_HANDED_OUT) = 80 + s;
     }
-    ok("make", make(0, 0, 12)); /* from segment 3, the last swept to part: block 1, its last */
-    ok("make", make(0, 0, 11)); /* from segment 2, the last swept to free */
+    ok("make", make(0, 0, with(4))); /* from segment 3, the last swept to part: block 1, its last */
+    ok("make", make(0, 0, with(8))); /* from segment 2, the last swept to free */
     ok("start", borvukhai_start(HEAP));
     ok("states", borvukhai_states(HEAP, output, STATES));
-    is(0, BORVUKHAI_SEGMENT_CONDEMNED, 12, 1, 0, 70, 80);
-    is(1, BORVUKHAI_SEGMENT_CONDEMNED, 12, 4, 0, 71, 81);
-    is(2, BORVUKHAI_SEGMENT_HELD, 11, 1, 0, 72, 83);
-    is(3, BORVUKHAI_SEGMENT_CONDEMNED, 12, 4, 0, 73, 84);
-    is(4, BORVUKHAI_SEGMENT_HELD, 5, 1, 0, 74, 84);
+    is(0, BORVUKHAI_SEGMENT_CONDEMNED, with(4), 1, 0, 70, 80);
+    is(1, BORVUKHAI_SEGMENT_CONDEMNED, with(4), 4, 0, 71, 81);
+    is(2, BORVUKHAI_SEGMENT_HELD, with(8), 1, 0, 72, 83);
+    is(3, BORVUKHAI_SEGMENT_CONDEMNED, with(4), 4, 0, 73, 84);
+    is(4, BORVUKHAI_SEGMENT_HELD, with(512), 1, 0, 74, 84);
     is(5, BORVUKHAI_SEGMENT_FREE, 0, 0, 0, 75, 85);
     handshakes();
     ok("detach", borvukhai_detach(HEAP, 0)); /* in mark it may */
     ok("states", borvukhai_states(HEAP, output, STATES));
-    is(2, BORVUKHAI_SEGMENT_PART, 11, 1, 0, 72, 83);
-    is(4, BORVUKHAI_SEGMENT_PART, 5, 1, 0, 74, 84);
+    is(2, BORVUKHAI_SEGMENT_PART, with(8), 1, 0, 72, 83);
+    is(4, BORVUKHAI_SEGMENT_PART, with(512), 1, 0, 74, 84);
 }
 
 int main(void) {
@@ -729,11 +747,14 @@ int main(void) {
                  {"torn counts: sweeps", torn_sweeps},
                  {"torn counts: what changes none", torn_and_kept}};
     size_t i;
-    for (i = 0; i < sizeof parts / sizeof parts[0]; i++) {
-        int failed = failures;
-        int tried = checks;
-        parts[i].run();
-        printf("%s: %d checks, %d failed\n", parts[i].name, checks - tried, failures - failed);
+    for (kib = 16; kib <= 32; kib += 16) {
+        for (i = 0; i < sizeof parts / sizeof parts[0]; i++) {
+            int failed = failures;
+            int tried = checks;
+            parts[i].run();
+            printf("%u KiB, %s: %d checks, %d failed\n", (unsigned)kib, parts[i].name, checks - tried,
+                   failures - failed);
+        }
     }
     printf("%d checks, %d failed\n", checks, failures);
     return failures == 0 ? 0 : 1;

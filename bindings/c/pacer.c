@@ -1,16 +1,16 @@
-/* The pacer of examples/pacer.h under several mutators and classes, by several seeds and sizes of heap: no make is
- * refused BORVUKHAI_NO_ROOM while it says that room is certain, nor while it says that the pace keeps the heap in room.
- * Half of the makes are random; the other half are of a mutator that holds no segment of the class, so that as many
- * segments as can be are held. And acts of changing classes, whose makes are never refused. It prints a line for each
- * mix. */
+/* The pacer of examples/pacer.h under several mutators and classes, by several seeds and sizes of heap and both segment
+ * sizes: no make is refused BORVUKHAI_NO_ROOM while it says that room is certain, nor while it says that the pace keeps
+ * the heap in room. Half of the makes are random; the other half are of a mutator that holds no segment of the class,
+ * so that as many segments as can be are held. And acts of changing classes, whose makes are never refused. It prints a
+ * line for each mix. */
 #include "../../examples/pacer.h"
 
 #include <stdio.h>
 
 #define MOST 40u
-#define WORDS BORVUKHAI_LENGTH(MOST)
-static uint32_t memory[WORDS], output[BORVUKHAI_STATES_LENGTH(MOST)], states[BORVUKHAI_STATES_LENGTH(MOST)];
-#define HEAP mix->segments, memory, borvukhai_length(mix->segments)
+#define STATES BORVUKHAI_STATES_LENGTH(MOST, 32u)
+static uint32_t kib, memory[BORVUKHAI_LENGTH(MOST, 32u)], output[STATES], states[STATES];
+#define HEAP mix->segments, kib, memory, borvukhai_length(mix->segments, kib)
 
 struct mix {
     const char *name;
@@ -60,7 +60,7 @@ static int holds(const struct mix *mix, uint32_t mutator, uint32_t number) {
 /* Who makes which class next: one that holds no segment of it, where there is one and the dice say so. */
 static void choose(const struct mix *mix, uint32_t *mutator, uint32_t *values) {
     uint32_t turn, tries = any(2) ? 12 : 1;
-    borvukhai_states(HEAP, states, borvukhai_states_length(mix->segments));
+    borvukhai_states(HEAP, states, borvukhai_states_length(mix->segments, kib));
     for (turn = 0; turn < tries; turn++) {
         *mutator = any(mix->mutators);
         *values = mix->values[mix->apart ? *mutator : any(mix->classes)];
@@ -115,7 +115,7 @@ static uint32_t play(const struct mix *mix, uint32_t turns) {
     for (number = 0; !refused && number < mix->mutators; number++) {
         refused = borvukhai_attach(HEAP, number);
     }
-    refused = refused ? refused : pacer_of(&pacer, mix->segments, memory, output, mix->steps, mix->mutators);
+    refused = refused ? refused : pacer_of(&pacer, mix->segments, kib, memory, output, mix->steps, mix->mutators);
     for (number = 0; !refused && mix->apart && number < mix->mutators; number++) {
         refused = pacer_makers(&pacer, 1 + mix->values[number], 1);
     }
@@ -129,21 +129,22 @@ static uint32_t play(const struct mix *mix, uint32_t turns) {
 static int shortest(void) {
     const struct mix *mix = &mixes[0];
     uint32_t refused = borvukhai_open(HEAP) | borvukhai_attach(HEAP, 0) | borvukhai_attach(HEAP, 1);
-    refused |= pacer_of(&pacer, 2, memory, output, 8, 2);
+    refused |= pacer_of(&pacer, 2, kib, memory, output, 8, 2);
     refused |= borvukhai_make(HEAP, 0, 0, 1, 1) | pacer_made(&pacer, 2);
     refused |= borvukhai_make(HEAP, 0, 1, 1, 5) | pacer_made(&pacer, 6);
     return refused == BORVUKHAI_OK && pacer.room == 0 && !pacer.kept &&
            borvukhai_make(HEAP, 1, 0, 1, 1) == BORVUKHAI_NO_ROOM;
 }
 
-/* Classes of 2 blocks and of 1, in two segments: as many makes as the pacer says find room, and the next finds none. */
+/* The classes of the fewest blocks, in two segments: as many makes as the pacer says find room, the first of another
+ * class, and the next finds none. */
 static int exact(uint32_t fields, uint32_t others, uint32_t wanted) {
     const struct mix *mix = &mixes[0];
     uint32_t made, refused = borvukhai_open(HEAP) | borvukhai_attach(HEAP, 0);
-    refused |= pacer_of(&pacer, 2, memory, output, 8, 1);
+    refused |= pacer_of(&pacer, 2, kib, memory, output, 8, 1);
     refused |= pacer_makers(&pacer, fields, 1) | pacer_makers(&pacer, others, 1);
     for (made = 0; made < pacer.room; made++) {
-        refused |= borvukhai_make(HEAP, 0, 0, 1, fields - 1);
+        refused |= borvukhai_make(HEAP, 0, 0, 1, (made == 0 ? others : fields) - 1);
     }
     return refused == BORVUKHAI_OK && made == wanted && borvukhai_make(HEAP, 0, 0, 1, fields - 1) == BORVUKHAI_NO_ROOM;
 }
@@ -155,7 +156,7 @@ static int widest(void) {
     for (number = 0; number < 32; number++) {
         refused |= borvukhai_attach(HEAP, number);
     }
-    refused |= pacer_of(&pacer, mix->segments, memory, output, 8, 32);
+    refused |= pacer_of(&pacer, mix->segments, kib, memory, output, 8, 32);
     for (number = PACER_FIRST; number <= PACER_LAST; number++) {
         refused |= pacer_makers(&pacer, (1u << number) / 4 - 1, 32);
     }
@@ -197,11 +198,11 @@ static int acts(void) {
     const struct mix *mix = &venue;
     uint32_t act, at, number, refused = borvukhai_open(HEAP);
     makes = refusals = kept = 0;
-    refused = refused ? refused : pacer_of(&pacer, mix->segments, memory, output, mix->steps, mix->mutators);
+    refused = refused ? refused : pacer_of(&pacer, mix->segments, kib, memory, output, mix->steps, mix->mutators);
     for (act = 0; !refused && act < 400; act++) {
         number = PACER_FIRST + act * 7 % 11;
         refused = borvukhai_attach(HEAP, 0);
-        for (at = 0; !refused && at < BORVUKHAI_BLOCKS(number) * 3 / 2; at++) {
+        for (at = 0; !refused && at < BORVUKHAI_BLOCKS(kib, number) * 3 / 2; at++) {
             refused = act_turn(mix, (1u << number) / 4 - 1, at);
         }
         refused = refused ? refused : act_ends(mix);
@@ -211,9 +212,19 @@ static int acts(void) {
     return refused == BORVUKHAI_OK && refusals == 0;
 }
 
-int main(void) {
+/* Class 13 has two blocks at 16 KiB, four at 32; class 14 one, and two. */
+static int exact_all(void) {
+    return kib == 32 ? exact(2047, 2047, 8) && exact(4095, 4095, 4) && exact(4095, 2047, 3)
+                     : exact(2047, 2047, 4) && exact(4095, 4095, 2) && exact(4095, 2047, 2);
+}
+
+/* Every case and mix at one size. */
+static int at_size(uint32_t size) {
     uint32_t at, number;
-    int well = shortest() && exact(2047, 2047, 4) && exact(4095, 4095, 2) && exact(4095, 2047, 2) && widest() && acts();
+    int well;
+    kib = size;
+    printf("%u KiB\n", (unsigned)kib);
+    well = shortest() && exact_all() && widest() && acts();
     for (at = 0; at < sizeof mixes / sizeof mixes[0]; at++) {
         makes = refusals = kept = lies = 0;
         for (number = 1; number <= 5; number++) {
@@ -224,5 +235,10 @@ int main(void) {
                (unsigned)makes, (unsigned)refusals, (unsigned)lies, (unsigned)kept);
         well = well && lies == 0 && kept >= makes / 1000 * mixes[at].often;
     }
-    return well ? 0 : 1;
+    return well;
+}
+
+int main(void) {
+    int small = at_size(16), large = at_size(32);
+    return small && large ? 0 : 1;
 }

@@ -1,6 +1,6 @@
-/* Provokes each refusal number of include/borvukhai.h, from every call that gives it, and tries the lengths, the looks,
- * cycles over nothing and a long record after short ones. It prints a line for each part, and says on the error output
- * what was expected where something else came. */
+/* Provokes each refusal number of include/borvukhai.h, from every call that gives it and at both segment sizes, and
+ * tries the lengths, the looks, cycles over nothing and a long record after short ones. It prints a line for each part
+ * and size, and says on the error output what was expected where something else came. */
 #include "borvukhai.h"
 
 #include <stdio.h>
@@ -8,36 +8,43 @@
 
 /* One heap of a segment is enough for every refusal; the lengths are those of the header. */
 #define SEGMENTS 1u
-#define WORDS BORVUKHAI_LENGTH(SEGMENTS)
-#define STATES BORVUKHAI_STATES_LENGTH(SEGMENTS)
-#define SCRATCH BORVUKHAI_SCRATCH_LENGTH(SEGMENTS)
+#define WORDS BORVUKHAI_LENGTH(SEGMENTS, kib)
+#define STATES BORVUKHAI_STATES_LENGTH(SEGMENTS, kib)
+#define SCRATCH BORVUKHAI_SCRATCH_LENGTH(SEGMENTS, kib)
 #define MANY 0xffffffffu
-#define LAYOUT_2(n) (6290u * (n) + 1051u) /* the words of the layouts before this one */
+#define LAYOUT_2(n) (6290u * (n) + 1051u) /* the words of the layouts before this one, at 16 KiB */
 #define LAYOUT_3(n) (6292u * (n) + 1053u)
 
 /* Each slice has the words of MOST segments, for counts and lengths that are too large. */
 #define MOST 4u
-static uint32_t memory[BORVUKHAI_LENGTH(MOST)];
-static uint32_t before[BORVUKHAI_LENGTH(MOST)];
-static uint32_t output[BORVUKHAI_STATES_LENGTH(MOST)];
-static uint32_t scratch[BORVUKHAI_SCRATCH_LENGTH(MOST)];
-#define HEAP SEGMENTS, memory, WORDS
+static uint32_t kib;
+static uint32_t memory[BORVUKHAI_LENGTH(MOST, 32u)];
+static uint32_t before[BORVUKHAI_LENGTH(MOST, 32u)];
+static uint32_t output[BORVUKHAI_STATES_LENGTH(MOST, 32u)];
+static uint32_t scratch[BORVUKHAI_SCRATCH_LENGTH(MOST, 32u)];
+#define HEAP SEGMENTS, kib, memory, WORDS
 #define LENT (WORDS * sizeof memory[0]) /* bytes */
+
+/* Four records of one pointer and so many values fill a segment: of class 12 at 16 KiB, of class 13 at 32. */
+#define VALUES (kib == 32 ? 1200u : 600u)
+#define FOUR (kib == 32 ? 13u : 12u)
 
 /* Where docs/LAYOUT.md puts the words that the torn cases break. */
 enum {
     PHASE_AT = 0,
     TRACE_COUNT_AT = 1,
-    ROOT_AT = 16,                  /* root 0 of mutator 0 */
-    CLASSES = 12,                  /* from class 3 on */
-    HOLDS_AT = 16 + 18,            /* the segments that mutator 0 holds, by class */
-    HELD_AT = HOLDS_AT + 9,        /* that of class 12 */
-    TAG_AT = 1040 + 4096 * SEGMENTS,
-    FREE_AT = 1040 + 4102 * SEGMENTS,  /* the free stack */
-    PARTS_AT = 1041 + 4103 * SEGMENTS, /* the part stacks, by class */
-    MARKS_AT = 1053 + 4182 * SEGMENTS, /* the marks, a bit for 8 bytes */
-    OFF_HEAP = 4096 * SEGMENTS + 1 /* a reference one past the last word of the heap */
+    ROOT_AT = 16,      /* root 0 of mutator 0 */
+    CLASSES = 12,      /* from class 3 on */
+    HOLDS_AT = 16 + 18 /* the segments that mutator 0 holds, by class */
 };
+#define HEAP_WORDS (256u * kib * SEGMENTS)
+#define HELD_AT (HOLDS_AT + FOUR - 3) /* that of the class with four blocks */
+#define TAG_AT (1040 + HEAP_WORDS)
+#define FREE_AT (TAG_AT + 6 * SEGMENTS)   /* the free stack */
+#define PARTS_AT (FREE_AT + 1 + SEGMENTS) /* the part stacks, by class */
+#define BITMAPS_AT (FREE_AT + 13 * (1 + SEGMENTS))
+#define MARKS_AT (BITMAPS_AT + (kib == 32 ? 133u : 67u) * SEGMENTS) /* the marks, a bit for 8 bytes */
+#define OFF_HEAP (HEAP_WORDS + 1) /* a reference one past the last word of the heap */
 
 /* The mutators' calls, so that a refusal can be asked of each of them. */
 enum call { ATTACH, SPAWN, DETACH, MAKE, LOAD, STORE, PUT, COPY, CLEAR, CHECK, LEAVE, ENTER, GET, SAME, SHAPE, CALLS };
@@ -57,45 +64,50 @@ static void expect(const char *what, const char *who, uint64_t got, uint64_t wan
 }
 
 /* The refusal of a call that names one mutator, one root for all its roots and one field. A spawn's parent is mutator 0. */
-static uint32_t refusal(enum call call, uint32_t segments, size_t length, uint32_t mutator, uint32_t root, uint32_t field) {
+static uint32_t refusal_at(enum call call, uint32_t segments, uint32_t size, size_t length, uint32_t mutator,
+                           uint32_t root, uint32_t field) {
     switch (call) {
     case ATTACH:
-        return borvukhai_attach(segments, memory, length, mutator);
+        return borvukhai_attach(segments, size, memory, length, mutator);
     case SPAWN:
-        return borvukhai_spawn(segments, memory, length, mutator, 0, root);
+        return borvukhai_spawn(segments, size, memory, length, mutator, 0, root);
     case DETACH:
-        return borvukhai_detach(segments, memory, length, mutator);
+        return borvukhai_detach(segments, size, memory, length, mutator);
     case MAKE:
-        return borvukhai_make(segments, memory, length, mutator, root, 1, 600);
+        return borvukhai_make(segments, size, memory, length, mutator, root, 1, VALUES);
     case LOAD:
-        return borvukhai_load(segments, memory, length, mutator, root, root, field);
+        return borvukhai_load(segments, size, memory, length, mutator, root, root, field);
     case STORE:
-        return borvukhai_store(segments, memory, length, mutator, root, field, root);
+        return borvukhai_store(segments, size, memory, length, mutator, root, field, root);
     case PUT:
-        return borvukhai_put(segments, memory, length, mutator, root, field, 1);
+        return borvukhai_put(segments, size, memory, length, mutator, root, field, 1);
     case COPY:
-        return borvukhai_copy(segments, memory, length, mutator, root, root);
+        return borvukhai_copy(segments, size, memory, length, mutator, root, root);
     case CLEAR:
-        return borvukhai_clear(segments, memory, length, mutator, root);
+        return borvukhai_clear(segments, size, memory, length, mutator, root);
     case CHECK:
-        return borvukhai_check(segments, memory, length, mutator);
+        return borvukhai_check(segments, size, memory, length, mutator);
     case LEAVE:
-        return borvukhai_leave(segments, memory, length, mutator);
+        return borvukhai_leave(segments, size, memory, length, mutator);
     case ENTER:
-        return borvukhai_enter(segments, memory, length, mutator);
+        return borvukhai_enter(segments, size, memory, length, mutator);
     case GET:
-        return borvukhai_refusal(borvukhai_get(segments, memory, length, mutator, root, field));
+        return borvukhai_refusal(borvukhai_get(segments, size, memory, length, mutator, root, field));
     case SAME:
-        return borvukhai_refusal(borvukhai_same(segments, memory, length, mutator, root, root));
+        return borvukhai_refusal(borvukhai_same(segments, size, memory, length, mutator, root, root));
     default:
-        return borvukhai_refusal(borvukhai_shape(segments, memory, length, mutator, root));
+        return borvukhai_refusal(borvukhai_shape(segments, size, memory, length, mutator, root));
     }
+}
+
+static uint32_t refusal(enum call call, uint32_t mutator, uint32_t root, uint32_t field) {
+    return refusal_at(call, SEGMENTS, kib, WORDS, mutator, root, field);
 }
 
 /* A call is refused with a number, and no word has changed. */
 static void refused(const char *what, enum call call, uint32_t mutator, uint32_t root, uint32_t field, uint32_t wanted) {
     memcpy(before, memory, sizeof memory);
-    expect(what, names[call], refusal(call, SEGMENTS, WORDS, mutator, root, field), wanted);
+    expect(what, names[call], refusal(call, mutator, root, field), wanted);
     expect(what, "keeps the memory", memcmp(before, memory, sizeof memory) == 0, 1);
 }
 
@@ -110,54 +122,124 @@ static void fresh(void) {
     ok("attach", borvukhai_attach(HEAP, 0));
 }
 
-/* A fresh heap whose one segment four records of one pointer and 600 values fill. */
+/* A fresh heap whose one segment four records fill. */
 static void full(void) {
     uint32_t root;
     fresh();
     for (root = 0; root < 4; root++) {
-        ok("make", borvukhai_make(HEAP, 0, root, 1, 600));
+        ok("make", borvukhai_make(HEAP, 0, root, 1, VALUES));
     }
 }
 
-/* The calls that name no mutator, with a wrong count of segments or a wrong length; output and scratch are of the
- * count's own. */
-static void size_of_others(uint32_t segments, size_t length) {
-    size_t states = borvukhai_states_length(segments), examined = borvukhai_scratch_length(segments);
-    expect("size", "open", borvukhai_open(segments, memory, length), BORVUKHAI_SIZE);
-    expect("size", "start", borvukhai_start(segments, memory, length), BORVUKHAI_SIZE);
-    expect("size", "step", borvukhai_refusal(borvukhai_step(segments, memory, length)), BORVUKHAI_SIZE);
-    expect("size", "phase", borvukhai_refusal(borvukhai_phase(segments, memory, length)), BORVUKHAI_SIZE);
-    expect("size", "states", borvukhai_states(segments, memory, length, output, states), BORVUKHAI_SIZE);
-    expect("size", "examine", borvukhai_refusal(borvukhai_examine(segments, memory, length, scratch, examined)), BORVUKHAI_SIZE);
+/* The calls that name no mutator, refused 1, with an output and a scratch of these lengths. */
+static void size_of_others(uint32_t segments, uint32_t size, size_t length, size_t states, size_t examined) {
+    expect("size", "open", borvukhai_open(segments, size, memory, length), BORVUKHAI_SIZE);
+    expect("size", "start", borvukhai_start(segments, size, memory, length), BORVUKHAI_SIZE);
+    expect("size", "step", borvukhai_step(segments, size, memory, length), BORVUKHAI_SIZE);
+    expect("size", "phase", borvukhai_phase(segments, size, memory, length), BORVUKHAI_SIZE);
+    expect("size", "states", borvukhai_states(segments, size, memory, length, output, states), BORVUKHAI_SIZE);
+    expect("size", "examine", borvukhai_examine(segments, size, memory, length, scratch, examined), BORVUKHAI_SIZE);
 }
 
-static void size(void) {
-    static const struct {
-        uint32_t segments;
-        size_t length;
-    } wrong[] = {{0, WORDS}, {2, WORDS}, {257, WORDS}, {MANY, WORDS}, {1, WORDS - 1}, {1, WORDS + 1}, {1, 0}, {0, 0},
-                 {1, LAYOUT_2(1)}, {2, LAYOUT_2(2)}, {3, LAYOUT_2(3)}, {4, LAYOUT_2(4)},
-                 {1, LAYOUT_3(1)}, {2, LAYOUT_3(2)}, {3, LAYOUT_3(3)}, {4, LAYOUT_3(4)}};
+/* Every call and look with a count, a size or a length that is wrong. The other numbers are wrong too, or right; output
+ * and scratch are of one segment at 16 KiB or at 32, or of four, or empty. */
+static void size_of(uint32_t segments, uint32_t size, size_t length) {
+    int at;
+    for (at = 0; at < CALLS; at++) {
+        enum call call = (enum call)at;
+        expect("size", names[at], refusal_at(call, segments, size, length, MANY, MANY, MANY), BORVUKHAI_SIZE);
+        expect("size", names[at], refusal_at(call, segments, size, length, at < DETACH, 0, 0), BORVUKHAI_SIZE);
+    }
+    size_of_others(segments, size, length, STATES, 2176);
+    size_of_others(segments, size, length, STATES, 4352);
+    size_of_others(segments, size, length, BORVUKHAI_STATES_LENGTH(MOST, 32u), BORVUKHAI_SCRATCH_LENGTH(MOST, 32u));
+    size_of_others(segments, size, length, 0, 0);
+}
+
+/* The lengths of one segment and of four at both sizes, and some that none has. */
+static void size_of_each_length(uint32_t segments, uint32_t size) {
+    const size_t lengths[] = {7347, 13621, 26229, 51325, 0, 1, WORDS - 1, WORDS + 1};
     size_t i;
-    int call;
+    for (i = 0; i < sizeof lengths / sizeof lengths[0]; i++) {
+        size_of(segments, size, lengths[i]);
+    }
+}
+
+/* Every word of a slice is as it was set. */
+static int untouched(const uint32_t *words, size_t bytes) {
+    size_t i;
+    for (i = 0; i < bytes / sizeof words[0] && words[i] == 0x5a5a5a5au; i++) {
+    }
+    return i == bytes / sizeof words[0];
+}
+
+/* A full heap, and what the calls after it must leave. */
+static void size_begins(void) {
     full();
     memcpy(before, memory, sizeof memory);
     memset(output, 0x5a, sizeof output);
     memset(scratch, 0x5a, sizeof scratch);
-    for (i = 0; i < sizeof wrong / sizeof wrong[0]; i++) {
-        for (call = 0; call < CALLS; call++) {
-            expect("size", names[call], refusal((enum call)call, wrong[i].segments, wrong[i].length, MANY, MANY, MANY), BORVUKHAI_SIZE);
-        }
-        size_of_others(wrong[i].segments, wrong[i].length);
+}
+
+static void size_ends(void) {
+    expect("size", "keeps the memory", memcmp(before, memory, sizeof memory) == 0, 1);
+    expect("size", "keeps the output", untouched(output, sizeof output), 1);
+    expect("size", "keeps the scratch", untouched(scratch, sizeof scratch), 1);
+}
+
+/* Lengths that are not the heap's, and those of the layouts before this one. */
+static void size_lengths(void) {
+    const size_t lengths[] = {WORDS - 1, WORDS + 1, 0, LAYOUT_2(1), LAYOUT_3(1)};
+    uint32_t n;
+    for (n = 0; n < sizeof lengths / sizeof lengths[0]; n++) {
+        size_of(SEGMENTS, kib, lengths[n]);
     }
+    for (n = 2; n <= MOST; n++) {
+        size_of(n, kib, LAYOUT_2(n));
+        size_of(n, kib, LAYOUT_3(n));
+    }
+}
+
+/* Sizes that are none with every count, and counts that are none with both sizes. */
+static void size_numbers(void) {
+    static const uint32_t sizes[] = {0, 1, 15, 17, 31, 33, 64, 16384, 32768, MANY};
+    static const uint32_t counts[] = {0, 257, MANY, 1, 2, MOST, 256};
+    size_t i, j;
+    for (i = 0; i < sizeof counts / sizeof counts[0]; i++) {
+        for (j = 0; j < sizeof sizes / sizeof sizes[0]; j++) {
+            size_of_each_length(counts[i], sizes[j]);
+        }
+    }
+    for (i = 0; i < 3; i++) {
+        size_of_each_length(counts[i], 16);
+        size_of_each_length(counts[i], 32);
+    }
+}
+
+/* The heap's own slice with another count, the other size, or both. */
+static void size_of_another(void) {
+    uint32_t n;
+    for (n = 0; n <= 257; n++) {
+        size_of(n, kib == 32 ? 16 : 32, WORDS);
+        if (n != SEGMENTS) {
+            size_of(n, kib, WORDS);
+        }
+    }
+}
+
+static void size(void) {
+    uint32_t other = kib == 32 ? 2176 : 4352;
+    size_begins();
+    size_lengths();
+    size_numbers();
+    size_of_another();
     expect("size", "output too short", borvukhai_states(HEAP, output, STATES - 1), BORVUKHAI_SIZE);
     expect("size", "output of layout 3", borvukhai_states(HEAP, output, 4 * SEGMENTS), BORVUKHAI_SIZE);
     expect("size", "output too long", borvukhai_states(HEAP, output, STATES + 1), BORVUKHAI_SIZE);
-    expect("size", "scratch too short", borvukhai_refusal(borvukhai_examine(HEAP, scratch, SCRATCH - 1)), BORVUKHAI_SIZE);
-    expect("size", "scratch too long", borvukhai_refusal(borvukhai_examine(HEAP, scratch, SCRATCH + 1)), BORVUKHAI_SIZE);
-    expect("size", "keeps the memory", memcmp(before, memory, sizeof memory) == 0, 1);
-    expect("size", "keeps the output", output[0] == 0x5a5a5a5au && output[STATES] == 0x5a5a5a5au, 1);
-    expect("size", "keeps the scratch", scratch[0] == 0x5a5a5a5au && scratch[SCRATCH] == 0x5a5a5a5au, 1);
+    expect("size", "scratch too short", borvukhai_examine(HEAP, scratch, SCRATCH - 1), BORVUKHAI_SIZE);
+    expect("size", "scratch too long", borvukhai_examine(HEAP, scratch, SCRATCH + 1), BORVUKHAI_SIZE);
+    expect("size", "scratch of the other size", borvukhai_examine(HEAP, scratch, other), BORVUKHAI_SIZE);
+    size_ends();
 }
 
 static void script(void) {
@@ -225,8 +307,8 @@ static void field(void) {
     full();
     refused("field", LOAD, 0, 0, 1, BORVUKHAI_FIELD);
     refused("field", STORE, 0, 0, 1, BORVUKHAI_FIELD);
-    refused("field", PUT, 0, 0, 600, BORVUKHAI_FIELD);
-    refused("field", GET, 0, 0, 600, BORVUKHAI_FIELD);
+    refused("field", PUT, 0, 0, VALUES, BORVUKHAI_FIELD);
+    refused("field", GET, 0, 0, VALUES, BORVUKHAI_FIELD);
     refused("field", LOAD, 0, 0, MANY, BORVUKHAI_FIELD);
     refused("field", STORE, 0, 0, MANY, BORVUKHAI_FIELD);
     refused("field", PUT, 0, 0, MANY, BORVUKHAI_FIELD);
@@ -264,7 +346,7 @@ static void torn_root(void) {
     for (i = 0; i < sizeof calls / sizeof calls[0]; i++) {
         full();
         memory[ROOT_AT] = OFF_HEAP;
-        expect("torn", names[calls[i]], refusal(calls[i], SEGMENTS, WORDS, 0, 0, 0), BORVUKHAI_TORN);
+        expect("torn", names[calls[i]], refusal(calls[i], 0, 0, 0), BORVUKHAI_TORN);
     }
 }
 
@@ -275,20 +357,20 @@ static void torn_handshake(enum call call) {
     ok("start", borvukhai_start(HEAP));
     ok("check", borvukhai_check(HEAP, 0));
     expect("torn", "second handshake", borvukhai_step_kind(borvukhai_step(HEAP)), BORVUKHAI_STEP_MOVED);
-    expect("torn", names[call], refusal(call, SEGMENTS, WORDS, 0, 0, 0), BORVUKHAI_TORN);
+    expect("torn", names[call], refusal(call, 0, 0, 0), BORVUKHAI_TORN);
 }
 
 /* A held segment that is none. */
 static void torn_hold(enum call call) {
     fresh();
     memory[HELD_AT] = SEGMENTS + 1;
-    expect("torn", names[call], refusal(call, SEGMENTS, WORDS, 0, 0, 0), BORVUKHAI_TORN);
+    expect("torn", names[call], refusal(call, 0, 0, 0), BORVUKHAI_TORN);
 }
 
 /* Segment 0 in any state, with a class that is not its own or none at all. Mutator 0 holds it for every class, or it is
  * on every class's part stack, so that each call meets it. */
 static void break_class(uint32_t tag, uint32_t class_, uint32_t phase, uint32_t held) {
-    int at;
+    uint32_t at;
     full();
     memory[PHASE_AT] = phase;
     memory[TAG_AT] = tag;
@@ -296,8 +378,8 @@ static void break_class(uint32_t tag, uint32_t class_, uint32_t phase, uint32_t 
     memory[TAG_AT + BORVUKHAI_STATE_PLACE] = 0;
     for (at = 0; at < CLASSES; at++) {
         memory[HOLDS_AT + at] = held;
-        memory[PARTS_AT + (int)(1 + SEGMENTS) * at] = !held;
-        memory[PARTS_AT + (int)(1 + SEGMENTS) * at + 1] = 0;
+        memory[PARTS_AT + (1 + SEGMENTS) * at] = !held;
+        memory[PARTS_AT + (1 + SEGMENTS) * at + 1] = 0;
     }
     memcpy(before, memory, LENT);
 }
@@ -313,7 +395,7 @@ static void listed(const char *who, uint64_t answer) {
 static void torn_class(void) {
     int call, steps;
     for (call = 0; call < CALLS; call++) {
-        listed(names[call], refusal((enum call)call, SEGMENTS, WORDS, call < DETACH, 0, 0));
+        listed(names[call], refusal((enum call)call, call < DETACH, 0, 0));
     }
     listed("make of class 13", borvukhai_make(HEAP, 0, 0, 1, 2046));
     listed("make of class 14", borvukhai_make(HEAP, 0, 0, 1, 4094));
@@ -363,27 +445,37 @@ static void torn(void) {
     expect("torn", "states keeps the output", output[0], MANY);
 }
 
-/* The formulas of docs/LAYOUT.md, the header's constants the same, and 0 for a count that is not 1 to 256. */
+/* The lengths of a count and a size, and the header's constants the same. */
+static void lengths_are(uint32_t n, uint32_t size, uint32_t words, uint32_t states, uint32_t examined) {
+    expect("lengths", "memory", borvukhai_length(n, size), words);
+    expect("lengths", "output", borvukhai_states_length(n, size), states);
+    expect("lengths", "scratch", borvukhai_scratch_length(n, size), examined);
+    expect("lengths", "constant of the memory", BORVUKHAI_LENGTH(n, size), words);
+    expect("lengths", "constant of the output", BORVUKHAI_STATES_LENGTH(n, size), states);
+    expect("lengths", "constant of the scratch", BORVUKHAI_SCRATCH_LENGTH(n, size), examined);
+    expect("lengths", "a size", BORVUKHAI_IS_SIZE(size), size == 16 || size == 32);
+}
+
+/* The formulas of docs/LAYOUT.md, 0 for a count or a size that is none, and no length of both sizes. */
 static void lengths(void) {
     static const uint32_t none[] = {0, 257, 258, 65536, 0x80000000u, MANY};
-    uint32_t n;
+    static const uint32_t sizes[] = {0, 1, 15, 17, 31, 33, 64, 16384, 32768, 0x80000010u, MANY};
+    uint32_t n, m, met = 0;
     size_t i;
     for (n = 1; n <= 256; n++) {
-        expect("lengths", "memory", (unsigned long)borvukhai_length(n), 6294ul * n + 1053ul);
-        expect("lengths", "output", (unsigned long)borvukhai_states_length(n), 6ul * n);
-        expect("lengths", "records of the output", (unsigned long)borvukhai_states_length(n), (unsigned long)BORVUKHAI_STATE_WORDS * n);
-        expect("lengths", "scratch", (unsigned long)borvukhai_scratch_length(n), 2176ul * n);
-        expect("lengths", "constant of the memory", (unsigned long)BORVUKHAI_LENGTH(n), (unsigned long)borvukhai_length(n));
-        expect("lengths", "constant of the output", (unsigned long)BORVUKHAI_STATES_LENGTH(n), (unsigned long)borvukhai_states_length(n));
-        expect("lengths", "constant of the scratch", (unsigned long)BORVUKHAI_SCRATCH_LENGTH(n), (unsigned long)borvukhai_scratch_length(n));
+        lengths_are(n, kib, (kib == 32 ? 12568 : 6294) * n + 1053, 6 * n, (kib == 32 ? 4352 : 2176) * n);
+        expect("lengths", "records of the output", borvukhai_states_length(n, kib), BORVUKHAI_STATE_WORDS * n);
+        for (m = 1; m <= 256; m++) {
+            met += borvukhai_length(n, 16) == borvukhai_length(m, 32);
+        }
+        for (i = 0; i < sizeof sizes / sizeof sizes[0]; i++) {
+            lengths_are(n, sizes[i], 0, 0, 0);
+        }
     }
+    expect("lengths", "of both sizes", met, 0);
     for (i = 0; i < sizeof none / sizeof none[0]; i++) {
-        expect("lengths", "memory", (unsigned long)borvukhai_length(none[i]), 0);
-        expect("lengths", "output", (unsigned long)borvukhai_states_length(none[i]), 0);
-        expect("lengths", "scratch", (unsigned long)borvukhai_scratch_length(none[i]), 0);
-        expect("lengths", "constant of the memory", BORVUKHAI_LENGTH(none[i]), 0);
-        expect("lengths", "constant of the output", BORVUKHAI_STATES_LENGTH(none[i]), 0);
-        expect("lengths", "constant of the scratch", BORVUKHAI_SCRATCH_LENGTH(none[i]), 0);
+        lengths_are(none[i], kib, 0, 0, 0);
+        lengths_are(none[i], MANY, 0, 0, 0);
     }
 }
 
@@ -418,18 +510,18 @@ static void states_and_phases(void) {
     state("free", BORVUKHAI_SEGMENT_FREE, 0, 0, 0, 0, 0);
     ok("detach", borvukhai_detach(HEAP, 0));
     ok("attach", borvukhai_attach(HEAP, 7));
-    ok("make", borvukhai_make(HEAP, 7, 0, 1, 600));
-    state("held", BORVUKHAI_SEGMENT_HELD, 12, 1, 7, 0, 1);
+    ok("make", borvukhai_make(HEAP, 7, 0, 1, VALUES));
+    state("held", BORVUKHAI_SEGMENT_HELD, FOUR, 1, 7, 0, 1);
     ok("spawn", borvukhai_spawn(HEAP, 0, 7, 0));
     ok("detach", borvukhai_detach(HEAP, 7));
-    state("part", BORVUKHAI_SEGMENT_PART, 12, 1, 0, 0, 1);
-    ok("make", borvukhai_make(HEAP, 0, 1, 1, 600));
-    ok("make", borvukhai_make(HEAP, 0, 1, 1, 600));
-    ok("make", borvukhai_make(HEAP, 0, 1, 1, 600));
-    state("full", BORVUKHAI_SEGMENT_FULL, 12, 4, 0, 0, 4);
+    state("part", BORVUKHAI_SEGMENT_PART, FOUR, 1, 0, 0, 1);
+    ok("make", borvukhai_make(HEAP, 0, 1, 1, VALUES));
+    ok("make", borvukhai_make(HEAP, 0, 1, 1, VALUES));
+    ok("make", borvukhai_make(HEAP, 0, 1, 1, VALUES));
+    state("full", BORVUKHAI_SEGMENT_FULL, FOUR, 4, 0, 0, 4);
     phase(BORVUKHAI_IDLE);
     ok("start", borvukhai_start(HEAP));
-    state("condemned", BORVUKHAI_SEGMENT_CONDEMNED, 12, 4, 0, 0, 4);
+    state("condemned", BORVUKHAI_SEGMENT_CONDEMNED, FOUR, 4, 0, 0, 4);
     phase(BORVUKHAI_SYNC1);
     step("waiting", BORVUKHAI_STEP_WAITING, BORVUKHAI_SYNC1);
     ok("leave", borvukhai_leave(HEAP, 0));
@@ -439,7 +531,7 @@ static void states_and_phases(void) {
     step("traced", BORVUKHAI_STEP_TRACED, BORVUKHAI_MARK);
     step("to sweep", BORVUKHAI_STEP_MOVED, BORVUKHAI_SWEEP);
     step("swept", BORVUKHAI_STEP_SWEPT, BORVUKHAI_SWEEP);
-    state("part again", BORVUKHAI_SEGMENT_PART, 12, 0, 0, 2, 0);
+    state("part again", BORVUKHAI_SEGMENT_PART, FOUR, 0, 0, 2, 0);
     step("done", BORVUKHAI_STEP_DONE, BORVUKHAI_IDLE);
     step("idle", BORVUKHAI_STEP_IDLE, BORVUKHAI_IDLE);
 }
@@ -469,15 +561,15 @@ static void handshake(uint32_t now, uint32_t then) {
 /* The same with one mutator inside, whose record is marked; it goes on with the segment that it holds. */
 static void cycle_over_nothing_with_a_mutator(void) {
     fresh();
-    ok("make", borvukhai_make(HEAP, 0, 0, 1, 600));
+    ok("make", borvukhai_make(HEAP, 0, 0, 1, VALUES));
     ok("start", borvukhai_start(HEAP));
     handshake(BORVUKHAI_SYNC1, BORVUKHAI_SYNC2);
     handshake(BORVUKHAI_SYNC2, BORVUKHAI_MARK);
     step("traced", BORVUKHAI_STEP_TRACED, BORVUKHAI_MARK);
     step("to sweep", BORVUKHAI_STEP_MOVED, BORVUKHAI_SWEEP);
-    ok("make", borvukhai_make(HEAP, 0, 1, 1, 600));
+    ok("make", borvukhai_make(HEAP, 0, 1, 1, VALUES));
     step("done", BORVUKHAI_STEP_DONE, BORVUKHAI_IDLE);
-    state("held", BORVUKHAI_SEGMENT_HELD, 12, 2, 0, 0, 2);
+    state("held", BORVUKHAI_SEGMENT_HELD, FOUR, 2, 0, 0, 2);
 }
 
 static void over_nothing(void) {
@@ -526,14 +618,14 @@ static void long_after_short(void) {
 static void results(void) {
     uint64_t answer;
     full();
-    ok("put", borvukhai_put(HEAP, 0, 2, 599, MANY));
-    expect("get", "a large value", borvukhai_result(borvukhai_get(HEAP, 0, 2, 599)), MANY);
+    ok("put", borvukhai_put(HEAP, 0, 2, VALUES - 1, MANY));
+    expect("get", "a large value", borvukhai_result(borvukhai_get(HEAP, 0, 2, VALUES - 1)), MANY);
     expect("same", "two records", borvukhai_same(HEAP, 0, 0, 1), 0);
     expect("same", "one record", borvukhai_result(borvukhai_same(HEAP, 0, 1, 1)), 1);
     expect("same", "nil and nil", borvukhai_result(borvukhai_same(HEAP, 0, 14, 15)), 1);
     answer = borvukhai_shape(HEAP, 0, 3);
     expect("shape", "pointers", borvukhai_pointers(answer), 1);
-    expect("shape", "values", borvukhai_values(answer), 600);
+    expect("shape", "values", borvukhai_values(answer), VALUES);
     ok("clear", borvukhai_clear(HEAP, 0, 0));
     ok("start", borvukhai_start(HEAP));
     expect("step", "waiting for", borvukhai_step_waiting(borvukhai_step(HEAP)), 1);
@@ -603,17 +695,17 @@ static void part_in(uint32_t now) {
 }
 
 /* One word of the memory is another number: the examination says no, and every call ends as it may. */
-static void torn_word(const char *who, int at, uint32_t number) {
+static void torn_word(const char *who, uint32_t at, uint32_t number) {
     memory[at] = number;
     examined(who, 0);
     memcpy(before, memory, LENT);
     torn_class();
 }
 
-/* The condemned segment's place is past its 512 blocks; it is on its class's part stack, or on the free stack, where its
- * entry still stands; block 3, or 511, which is not in use, has a mark. */
+/* The condemned segment's place is past its blocks, 512 at 16 KiB and 1,024 at 32; it is on its class's part stack, or
+ * on the free stack, where its entry still stands; block 3, or the last, which is not in use, has a mark. */
 static void torn_condemned(void) {
-    static const uint32_t places[] = {513, 1024, 2049, 0x80000000u, MANY};
+    const uint32_t all = kib == 32 ? 1024 : 512, places[] = {all + 1, 2 * all, 4 * all + 1, 0x80000000u, MANY};
     uint32_t now;
     size_t i;
     for (now = BORVUKHAI_SYNC1; now <= BORVUKHAI_SWEEP; now++) {
@@ -622,13 +714,13 @@ static void torn_condemned(void) {
             torn_word("a place past the blocks", TAG_AT + BORVUKHAI_STATE_PLACE, places[i]);
         }
         part_in(now);
-        torn_word("condemned, on a part stack", PARTS_AT + (int)(1 + SEGMENTS) * 2, 1);
+        torn_word("condemned, on a part stack", PARTS_AT + (1 + SEGMENTS) * 2, 1);
         part_in(now);
         torn_word("condemned, on the free stack", FREE_AT, 1);
         part_in(now);
         torn_word("a mark of block 3", MARKS_AT, 1u << 12);
         part_in(now);
-        torn_word("a mark of block 511", MARKS_AT + 63, 1u << 28);
+        torn_word("a mark of the last block", MARKS_AT + 4 * all / 32 - 1, 1u << 28);
     }
 }
 
@@ -640,7 +732,7 @@ static void torn_part_stacks(void) {
     for (c = 0; c < CLASSES; c++) {
         for (i = 0; i < sizeof numbers / sizeof numbers[0]; i++) {
             part_in(BORVUKHAI_IDLE);
-            memory[PARTS_AT + (int)(1 + SEGMENTS) * (int)c] = numbers[i];
+            memory[PARTS_AT + (1 + SEGMENTS) * c] = numbers[i];
             examined("a part stack's count", numbers[i] == (c == 2));
             ok("start", borvukhai_start(HEAP));
             state("condemned", BORVUKHAI_SEGMENT_CONDEMNED, 5, 3, 0, 0, 3);
@@ -664,11 +756,14 @@ int main(void) {
                  {"13 torn condemned segments", torn_condemned},
                  {"torn counts of part stacks", torn_part_stacks}};
     size_t i;
-    for (i = 0; i < sizeof parts / sizeof parts[0]; i++) {
-        int failed = failures;
-        int tried = checks;
-        parts[i].run();
-        printf("%s: %d checks, %d failed\n", parts[i].name, checks - tried, failures - failed);
+    for (kib = 16; kib <= 32; kib += 16) {
+        for (i = 0; i < sizeof parts / sizeof parts[0]; i++) {
+            int failed = failures;
+            int tried = checks;
+            parts[i].run();
+            printf("%u KiB, %s: %d checks, %d failed\n", (unsigned)kib, parts[i].name, checks - tried,
+                   failures - failed);
+        }
     }
     printf("%d checks, %d failed\n", checks, failures);
     return failures == 0 ? 0 : 1;

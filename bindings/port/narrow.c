@@ -3,9 +3,10 @@
 #include "borvukhai.h"
 
 #define SEGMENTS 1u
-static uint32_t memory[BORVUKHAI_LENGTH(SEGMENTS)];
+#define KIB 16u
+static uint32_t memory[BORVUKHAI_LENGTH(SEGMENTS, KIB)];
 
 int main(void) {
-    borvukhai_open(SEGMENTS, memory, BORVUKHAI_LENGTH(SEGMENTS));
-    return (int)borvukhai_attach(SEGMENTS, memory, BORVUKHAI_LENGTH(SEGMENTS), 1);
+    borvukhai_open(SEGMENTS, KIB, memory, BORVUKHAI_LENGTH(SEGMENTS, KIB));
+    return (int)borvukhai_attach(SEGMENTS, KIB, memory, BORVUKHAI_LENGTH(SEGMENTS, KIB), 1);
 }

@@ -1,15 +1,18 @@
 /* The same calls on every processor: a list that follows from one seed, by four mutators and the collector, with looks
- * and refusals among them. After each part of it, one line: two hashes, of every answer so far and of the lent slice;
- * and the makes, less the blocks that sweeps freed, are the blocks in use by the counts of a look. No C library. A
- * program that has this gives `say`, which writes a text, and calls `play`. */
+ * and refusals among them; once with segments of 16 KiB and once with segments of 32. After each part of it, one line:
+ * two hashes, of every answer so far and of the lent slice; and the makes, less the blocks that sweeps freed, are the
+ * blocks in use by the counts of a look. No C library. A program that has this gives `say`, which writes a text, and
+ * calls `play`. It has 1.1 MB of static memory. */
 #ifndef PLAY_H
 #define PLAY_H
 
 #include "borvukhai.h"
 
 #define PLAY_SEGMENTS 16u
-#define PLAY_WORDS BORVUKHAI_LENGTH(PLAY_SEGMENTS)
-#define PLAY_HEAP PLAY_SEGMENTS, play_memory, PLAY_WORDS
+#define PLAY_WORDS BORVUKHAI_LENGTH(PLAY_SEGMENTS, play_kib)
+#define PLAY_STATES BORVUKHAI_STATES_LENGTH(PLAY_SEGMENTS, play_kib)
+#define PLAY_SCRATCH BORVUKHAI_SCRATCH_LENGTH(PLAY_SEGMENTS, play_kib)
+#define PLAY_HEAP PLAY_SEGMENTS, play_kib, play_memory, PLAY_WORDS
 #ifndef PLAY_TURNS
 #define PLAY_TURNS 2000000u
 #endif
@@ -17,10 +20,10 @@
 
 void say(const char *text);
 
-static uint32_t play_memory[PLAY_WORDS];
-static uint32_t play_output[BORVUKHAI_STATES_LENGTH(PLAY_SEGMENTS)];
-static uint32_t play_scratch[BORVUKHAI_SCRATCH_LENGTH(PLAY_SEGMENTS)];
-static uint32_t play_seed, play_makes, play_freed, play_cycles;
+static uint32_t play_memory[BORVUKHAI_LENGTH(PLAY_SEGMENTS, 32u)];
+static uint32_t play_output[BORVUKHAI_STATES_LENGTH(PLAY_SEGMENTS, 32u)];
+static uint32_t play_scratch[BORVUKHAI_SCRATCH_LENGTH(PLAY_SEGMENTS, 32u)];
+static uint32_t play_kib, play_seed, play_makes, play_freed, play_cycles;
 static uint64_t play_answers;
 #define PLAY_EMPTY 0xcbf29ce484222325u /* the hash of no words */
 
@@ -105,11 +108,11 @@ static uint32_t play_coming(uint32_t mutator) {
 
 /* A look: the states' words, the phase, and rarely the examination. */
 static void play_look(void) {
-    play_answer(borvukhai_states(PLAY_HEAP, play_output, BORVUKHAI_STATES_LENGTH(PLAY_SEGMENTS)));
-    play_answer(play_hash_of(play_output, BORVUKHAI_STATES_LENGTH(PLAY_SEGMENTS)));
+    play_answer(borvukhai_states(PLAY_HEAP, play_output, PLAY_STATES));
+    play_answer(play_hash_of(play_output, PLAY_STATES));
     play_answer(borvukhai_phase(PLAY_HEAP));
     if (play_random(64) == 0) {
-        play_answer(borvukhai_examine(PLAY_HEAP, play_scratch, BORVUKHAI_SCRATCH_LENGTH(PLAY_SEGMENTS)));
+        play_answer(borvukhai_examine(PLAY_HEAP, play_scratch, PLAY_SCRATCH));
     }
 }
 
@@ -154,6 +157,8 @@ static void play_say_number(uint64_t number, uint32_t base) {
 }
 
 static void play_say_part(uint32_t turns) {
+    play_say_number(play_kib, 10);
+    say(" KiB, ");
     play_say_number(turns, 10);
     say(" turns, ");
     play_say_number(play_makes, 10);
@@ -169,7 +174,7 @@ static void play_say_part(uint32_t turns) {
 /* The blocks in use, by the counts of a look. */
 static uint32_t play_in_use(void) {
     uint32_t segment, sum = 0;
-    borvukhai_states(PLAY_HEAP, play_output, BORVUKHAI_STATES_LENGTH(PLAY_SEGMENTS));
+    borvukhai_states(PLAY_HEAP, play_output, PLAY_STATES);
     for (segment = 0; segment < PLAY_SEGMENTS; segment++) {
         const uint32_t *state = play_output + segment * BORVUKHAI_STATE_WORDS;
         sum += state[BORVUKHAI_STATE_KEPT] + state[BORVUKHAI_STATE_HANDED_OUT];
@@ -177,13 +182,15 @@ static uint32_t play_in_use(void) {
     return sum;
 }
 
-/* The whole list; 0 where the heap opens, the counts are right after each part, and the memory passes the examination
- * at the end. */
-static int play(void) {
+/* The whole list at one segment size; 0 where the heap opens, the counts are right after each part, and the memory
+ * passes the examination at the end. */
+static int play_at(uint32_t kib) {
     uint32_t turn;
     int counted = 1;
+    play_kib = kib;
     play_seed = 2463534242u;
     play_answers = PLAY_EMPTY;
+    play_makes = play_freed = play_cycles = 0;
     if (borvukhai_open(PLAY_HEAP) != BORVUKHAI_OK) {
         return 1;
     }
@@ -194,7 +201,12 @@ static int play(void) {
             counted = counted && play_in_use() == play_makes - play_freed;
         }
     }
-    return counted && borvukhai_is_sound(PLAY_HEAP, play_scratch, BORVUKHAI_SCRATCH_LENGTH(PLAY_SEGMENTS)) ? 0 : 1;
+    return counted && borvukhai_is_sound(PLAY_HEAP, play_scratch, PLAY_SCRATCH) ? 0 : 1;
+}
+
+static int play(void) {
+    int small = play_at(16), large = play_at(32);
+    return small || large;
 }
 
 #endif

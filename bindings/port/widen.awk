@@ -1,7 +1,7 @@
 # Makes the exported functions of the module those of the target's C interface.
 #   awk -v bits=32 -v extend=ATTRIBUTE -f widen.awk MODULE.ll
 # bits=32: size_t has 32 bits, and the module's lengths have 64. Each exported function becomes internal, and one
-# around it under its name takes 32-bit lengths and widens them (a length that is answered is at most 6 million and is
+# around it under its name takes 32-bit lengths and widens them (a length that is answered is at most 3,218,461 and is
 # cut). extend: what the target's C convention says of a 32-bit result in a wider register (signext on riscv64), or
 # nothing.
 

@@ -1,7 +1,9 @@
-"""docs/LAYOUT.md's words, by formulas of the segment count. Nothing else in this folder knows where anything stands in the lent slice."""
+"""docs/LAYOUT.md's words at the bracket program's segment size, 16 KiB, by formulas of the segment count. Nothing else in this folder knows where anything
+stands in the lent slice."""
 
 WORD_BITS = 32
-SEGMENT_WORDS = 4096
+KIB = 16  # the segment size
+SEGMENT_WORDS = KIB * 1024 * 8 // WORD_BITS
 CLASSES = range(3, 15)
 MUTATORS, ROOTS, ENTRY_WORDS = 32, 16, 32
 RECORD_WORDS = 6  # tag, class, place, mutator, blocks kept at the last sweep, blocks handed out since

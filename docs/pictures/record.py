@@ -22,7 +22,8 @@ class Library:
         words = layout.total(n)
         length = self.calls.borvukhai_length
         length.restype = ctypes.c_size_t
-        assert length(WORD(n)) == words, f"the library lends {length(WORD(n))} words to {n} segments, layout.py {words}"
+        asked = length(WORD(n), WORD(layout.KIB))
+        assert asked == words, f"the library asks for {asked} words for {n} segments, layout.py for {words}"
         self.n, self.memory = n, (WORD * words)(*[CONTENT] * words)  # an opening works on memory of any content
         return self.ask("open")
 
@@ -32,7 +33,7 @@ class Library:
         call.restype = ctypes.c_uint64 if name in ("get", "same", "shape", "step", "phase", "examine") else WORD
         slices = [self.memory] + ([lent] if lent is not None else [])
         lent_words = [x for s in slices for x in (s, ctypes.c_size_t(len(s)))]
-        return call(WORD(self.n), *lent_words, *map(WORD, numbers))
+        return call(WORD(self.n), WORD(layout.KIB), *lent_words, *map(WORD, numbers))
 
     def image(self):
         return layout.Image(array("I", bytes(self.memory)), self.n)
@@ -47,7 +48,7 @@ class Library:
         assert list(output) == [w for s in range(self.n) for w in image.segment(s)]
         words = self.calls.borvukhai_scratch_length
         words.restype = ctypes.c_size_t
-        scratch = (WORD * words(WORD(self.n)))(CONTENT, CONTENT)
+        scratch = (WORD * words(WORD(self.n), WORD(layout.KIB)))(CONTENT, CONTENT)
         assert self.ask("examine", lent=scratch) == 1 << 32, "the memory fails the examination"
         assert not any(bytes(scratch))
         segments = [image.segment(s) for s in range(self.n)]

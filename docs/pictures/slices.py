@@ -39,7 +39,7 @@ def label(picture, x, wide, y, name, words):
 def draw(path, n=2):
     lengths = layout.lengths(n)
     more, beside = layout.total(2) - layout.total(1), layout.total(0)
-    picture = Picture(WIDTH, f"The lent slice, to scale: {n} segments, {layout.total(n):,} words",
+    picture = Picture(WIDTH, f"The lent slice, to scale: {n} segments of {layout.KIB} KiB, {layout.total(n):,} words",
                       f"Each bar has its own scale. A further segment adds {more:,} words; {beside:,} are there beside the segments.")
     upper, lower = 84, 176
     whole = bar(picture, upper, list(lengths.items()))

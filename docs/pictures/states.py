@@ -23,13 +23,13 @@ EDGES = {
     ("part", "full", "make"): ("M545 318C640 290 690 220 728 158", (668, 262), (668, 278), "start", "takes it and fills it"),
     ("full", "condemned", "start"): ("M785 156V302", (776, 200), None, "end", ""),
     ("part", "condemned", "start"): ("M545 362H703", (625, 379), None, "middle", ""),
-    ("free", "full", "make"): ("M110 84V66H800V82", (810, 60), (810, 76), "start", "class 14, its one block"),
+    ("free", "full", "make"): ("M110 84V66H800V82", (810, 60), (810, 76), "start", "class 14 at 16 KiB"),
     ("condemned", "full", "step"): ("M825 304V158", (834, 236), (834, 252), "start", "all blocks marked"),
     ("condemned", "part", "step"): ("M705 336H547", (626, 328), (626, 352), "middle", "some blocks marked"),
     ("condemned", "free", "step"): ("M800 376C800 455 110 455 110 158", (222, 398), (222, 414), "end", "no block marked"),
 }
 # three moves that the longer runs have not: a part segment's last free block is handed out, a segment is swept whose blocks are all marked, and one of
-# class 14 is taken
+# class 14, which has one block at 16 KiB, is taken
 RARE = """
 (rack 2) (attach 0) (make (0 0) (0 600)) (make (0 1) (0 600)) (make (0 2) (0 600)) (detach 0) (attach 1) (make (1 0) (0 600)) (clear (1 0))
 (start) (leave 1) (step) (step) (step) (step) (step) (enter 1)

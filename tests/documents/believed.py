@@ -18,8 +18,8 @@ TOP = Path(__file__).resolve().parents[2]
 DEMAND3 = ("guarantee", "Demand3")
 KEEPING = ("guarantee", "Keeping")
 PROMISE = ("model", "Promise")
-BESIDE = [(("guarantee", file), None) for file in ("Demand3", "Keeping", "EmptyCycle", "HandsBack", "Totals", "Independent", "Elements")]
-BESIDE += [(("cycle_bound", file), None) for file in ("StepsLeft", "CycleBound")]
+BESIDE = [(("guarantee", file), None) for file in ("Demand3", "Keeping", "EmptyCycle", "HandsBack", "OtherSize", "Totals", "Independent", "Elements")]
+BESIDE += [(("cycle_bound", file), None) for file in ("StepsLeft", "CycleBound")] + [(("layout", "TwoSizes"), None)]
 # a claim, the statements that it begins with (a file's all where no name is given), and the files that are cut
 CLAIMS = [
     ("demand 3, each promise taken as the code's `ensures`", [(DEMAND3, "Demand3")], [PROMISE]),

@@ -100,14 +100,23 @@ def refusals():
 
 
 def lengths():
-    header = text("include/borvukhai.h")
-    for macro, row in (("LENGTH", "the memory"), ("STATES_LENGTH", "the output"), ("SCRATCH_LENGTH", "the scratch")):
-        by = re.search(rf"define BORVUKHAI_{macro}\(segments\) .*\((\d+)u \* \(segments\)(?: \+ (\d+)u)?\)", header)
-        a, b = int(by[1]), int(by[2] or 0)
-        cells = re.search(rf"(?m)^\| {row} \|.*$", text("docs/SPEC.md"))[0].split(" | ")[2:]
-        right = [f"{a:,} n" + (f" + {b:,}" if b else "")] + [f"{a * n + b:,}" for n in (1, 2, 256)]
-        if [c.rstrip(" |") for c in cells] != right:
-            wrong.append(f"docs/SPEC.md: {row} has {cells}, the header {right}")
+    """SPEC's table of slices at both segment sizes against the header's macros, and these against the formulas that are proved, `LengthsAre`."""
+    header, theorem = text("include/borvukhai.h").replace("\\\n", ""), text("crates/layout/specs/TwoSizes.antt")
+    table = [[cell.strip() for cell in line.strip("|").split("|")] for line in re.findall(r"(?m)^\| the .*\|$", text("docs/SPEC.md"))]
+    each = r"(?:\(\(kib\) == 32 \? (\d+)u : )?(\d+)u\)? \* \(segments\)(?: \+ (\d+)u)?"
+    macros = {16: [], 32: []}
+    for macro, lent in (("LENGTH", "the memory"), ("STATES_LENGTH", "the output"), ("SCRATCH_LENGTH", "the scratch")):
+        by = re.search(rf"define BORVUKHAI_{macro}\(segments, kib\) .*? \? {each} : 0u\)", header)
+        for kib, a, b in ((16, int(by[2]), int(by[3] or 0)), (32, int(by[1] or by[2]), int(by[3] or 0))):
+            macros[kib].append((a, b))
+            cells = [row[3:] for row in table if row[0] == lent and str(kib) in row[2].split(", ")]
+            right = [f"{a:,} n" + (f" + {b:,}" if b else "")] + [f"{a * n + b:,}" for n in (1, 2, 256)]
+            if cells != [right]:
+                wrong.append(f"docs/SPEC.md: {lent} at {kib} KiB has {cells}, the header {right}")
+    beside, states = (int(re.search(by, theorem)[1]) for by in (r"total g ≡ each \* g \.segments \+ (\d+)", r"Region\.segments ≡ (\d+) \* g \.segments"))
+    proved = [[(int(a), beside), (states, 0), (int(b), 0)] for a, b in re.findall(r"Lengths g (\d+) (\d+)", theorem)]
+    if list(macros.values()) != proved:
+        wrong.append(f"include/borvukhai.h: the lengths are {macros}, those of LengthsAre {proved}")
 
 
 def prose():

@@ -8,9 +8,11 @@ extern crate std as start;
 
 use core::sync::atomic::{AtomicU32, Ordering};
 
-use borvukhai::{Heap, MutatorId, Pacer, Refusal, Result, Root, Segments, Shape};
+use borvukhai::{Heap, MutatorId, Pacer, Refusal, Result, Root, SegmentSize, Segments, Shape};
 
 const SEGMENTS: Segments = Segments::new(2).unwrap();
+const SIZE: SegmentSize = SegmentSize::Kib16;
+const WORDS: usize = SEGMENTS.length(SIZE);
 const LOOP: MutatorId = MutatorId::new(0).unwrap();
 const FIRST: Root = Root::R0;
 const LAST: Root = Root::R1;
@@ -20,7 +22,7 @@ const EVENTS: u32 = 16;
 const TURNS: u32 = 100_000;
 
 /// The heap's memory, in the program's image.
-static mut MEMORY: [u32; SEGMENTS.length()] = [0; SEGMENTS.length()];
+static mut MEMORY: [u32; WORDS] = [0; WORDS];
 
 /// What the interrupt leaves: it makes no call, as one may be running.
 static PRESSED: AtomicU32 = AtomicU32::new(0);
@@ -29,7 +31,7 @@ fn interrupt() {
     PRESSED.fetch_add(1, Ordering::Relaxed);
 }
 
-type Board = Heap<&'static mut [u32; SEGMENTS.length()]>;
+type Board = Heap<&'static mut [u32; WORDS]>;
 type Pace = Pacer<[u32; SEGMENTS.states_length()]>;
 
 /// A new event at the list's end, and the oldest one gone where there are many.
@@ -54,7 +56,7 @@ fn main() -> core::result::Result<(), Refusal> {
     // SAFETY: the only use of MEMORY, once.
     #[allow(static_mut_refs)]
     let memory = unsafe { &mut MEMORY };
-    let mut heap: Board = Heap::open(SEGMENTS, memory)?;
+    let mut heap: Board = Heap::open(SEGMENTS, SIZE, memory)?;
     heap.attach(LOOP)?;
     let mut pacer = Pacer::new(&heap, [0; SEGMENTS.states_length()], 2, 1)?;
     let mut seen = 0;

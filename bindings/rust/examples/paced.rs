@@ -1,4 +1,4 @@
-//! A heap kept in room by pacing: ten million calls of a mutator over 8 segments, records of three classes in a
+//! A heap kept in room by pacing: ten million calls of a mutator over 8 segments of 16 KiB, records of three classes in a
 //! steady mix, half of the heap alive, and never a make refused NoRoom. After each make the collector does at most
 //! STEPS steps ([`Pacer`]).
 //!
@@ -7,7 +7,7 @@
 
 use std::time::Instant;
 
-use borvukhai::{Heap, MutatorId, Pacer, Refusal, Result, Root, SegmentRecord, Segments, Shape};
+use borvukhai::{Heap, MutatorId, Pacer, Refusal, Result, Root, SegmentRecord, SegmentSize, Segments, Shape};
 
 pub(crate) const SEGMENTS: Segments = Segments::new(8).unwrap();
 pub(crate) const STEPS: u32 = 128;
@@ -66,9 +66,9 @@ pub(crate) struct Play {
 }
 
 impl Play {
-    /// An empty heap, and a pacer of so many steps, or none.
-    pub(crate) fn new(steps: Option<u32>, seed: u32) -> Result<Play> {
-        let mut heap = Heap::open(SEGMENTS, vec![0; SEGMENTS.length()].into_boxed_slice())?;
+    /// An empty heap of segments of this size, and a pacer of so many steps, or none.
+    pub(crate) fn new(size: SegmentSize, steps: Option<u32>, seed: u32) -> Result<Play> {
+        let mut heap = Heap::open(SEGMENTS, size, vec![0; SEGMENTS.length(size)].into_boxed_slice())?;
         heap.attach(ID)?;
         let pacer = steps.map(|steps| Pacer::new(&heap, [0; SEGMENTS.states_length()], steps, 1)).transpose()?;
         let (calls, shares) = Default::default();
@@ -177,7 +177,7 @@ fn main() -> Result<()> {
     let steps = if std::env::args().any(|word| word == "late") { None } else { Some(STEPS) };
     let (mut calls, mut shares) = <(Lengths, Lengths)>::default();
     for round in 1..=ROUNDS {
-        let mut play = Play { calls, shares, ..Play::new(steps, 2_463_534_242)? };
+        let mut play = Play { calls, shares, ..Play::new(SegmentSize::Kib16, steps, 2_463_534_242)? };
         play.run(OPERATIONS)?;
         if round == ROUNDS {
             println!("{} operations, {} cycles; no room: {} times", play.operations, play.cycles, play.no_room);

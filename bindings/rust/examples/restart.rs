@@ -2,15 +2,16 @@
 //! `restart save FILE` fills a heap and saves it while a cycle marks; `restart load FILE` takes it up.
 //!
 //! Nothing is kept beside the lent words: which events the list has is read from the list. The file is
-//! examples/restart.c's: the layout's number, the count of segments, the words. One of another layout or count, or
-//! one that fails the examination, is refused.
+//! examples/restart.c's: the layout's number, the count of segments, their size in KiB, the words. One of another layout,
+//! count or size, or one that fails the examination, is refused.
 
 use std::error::Error;
 use std::{env, fs};
 
-use borvukhai::{Heap, LAYOUT, MutatorId, Pacer, Phase, Refusal, Root, Segments, Shape};
+use borvukhai::{Heap, LAYOUT, MutatorId, Pacer, Phase, Refusal, Root, SegmentSize, Segments, Shape};
 
 const SEGMENTS: Segments = Segments::new(4).unwrap();
+const SIZE: SegmentSize = SegmentSize::Kib16;
 const ID: MutatorId = MutatorId::new(0).unwrap();
 const FIRST: Root = Root::R0;
 const LAST: Root = Root::R1;
@@ -35,8 +36,8 @@ impl Program {
     }
 
     fn filled() -> Answer<Program> {
-        let memory = vec![0; SEGMENTS.length()].into_boxed_slice();
-        let mut program = Program::over(Heap::open(SEGMENTS, memory).map_err(Refusal::from)?)?;
+        let memory = vec![0; SEGMENTS.length(SIZE)].into_boxed_slice();
+        let mut program = Program::over(Heap::open(SEGMENTS, SIZE, memory).map_err(Refusal::from)?)?;
         program.heap.attach(ID)?;
         for number in 0..LIST {
             program.append(number, number == 0)?;
@@ -84,7 +85,7 @@ impl Program {
 }
 
 fn save(heap: &Heap<Box<[u32]>>, path: &str) -> Answer<()> {
-    let words = [LAYOUT, SEGMENTS.count()];
+    let words = [LAYOUT, SEGMENTS.count(), SIZE.kib()];
     let bytes: Vec<u8> = words.iter().chain(heap.memory()).flat_map(|word| word.to_ne_bytes()).collect();
     Ok(fs::write(path, bytes)?)
 }
@@ -92,11 +93,12 @@ fn save(heap: &Heap<Box<[u32]>>, path: &str) -> Answer<()> {
 fn load(path: &str) -> Answer<Heap<Box<[u32]>>> {
     let bytes = fs::read(path)?;
     let words: Vec<u32> = bytes.chunks_exact(4).map(|word| u32::from_ne_bytes([word[0], word[1], word[2], word[3]])).collect();
-    match words.split_at_checked(2) {
-        Some(([LAYOUT, count], memory)) if *count == SEGMENTS.count() => {
-            Ok(Heap::adopt(SEGMENTS, memory.into(), &mut vec![0; SEGMENTS.scratch_length()]).map_err(Refusal::from)?)
+    match words.split_at_checked(3) {
+        Some(([LAYOUT, count, kib], memory)) if [*count, *kib] == [SEGMENTS.count(), SIZE.kib()] => {
+            let mut scratch = vec![0; SEGMENTS.scratch_length(SIZE)];
+            Ok(Heap::adopt(SEGMENTS, SIZE, memory.into(), &mut scratch).map_err(Refusal::from)?)
         }
-        _ => Err("no file of this layout and count: open a heap anew".into()),
+        _ => Err("no file of this layout, count and size: open a heap anew".into()),
     }
 }
 

@@ -53,12 +53,13 @@ impl Step {
 /// [`States::most_at_mark`](crate::States::most_at_mark). Over memory that fails the examination this bounds nothing.
 ///
 /// ```
-/// use borvukhai::{Heap, MutatorId, Phase, Root, Segments, Shape, Step, cycle_end};
+/// use borvukhai::{Heap, MutatorId, Phase, Root, SegmentSize, Segments, Shape, Step, cycle_end};
 ///
 /// const SEGMENTS: Segments = Segments::new(2).unwrap();
+/// const SIZE: SegmentSize = SegmentSize::Kib16;
 /// const ID: MutatorId = MutatorId::new(0).unwrap();
 ///
-/// let mut heap = Heap::open(SEGMENTS, [0; SEGMENTS.length()])?;
+/// let mut heap = Heap::open(SEGMENTS, SIZE, [0; SEGMENTS.length(SIZE)])?;
 /// let mut mutator = heap.attach(ID)?;
 /// for root in [Root::R0, Root::R1, Root::R2, Root::R2] {
 ///     mutator.make(root, Shape::new(1, 600))?; // four fill a segment; the third is dead
@@ -98,7 +99,7 @@ impl<M: AsRef<[u32]> + AsMut<[u32]>> Heap<M> {
     /// are not. Where none is full or part it is a cycle over no segment: both handshakes and the marking are held as
     /// usual, the first step in sweep answers [`Step::Done`], and nothing is freed. Refused NotNow while a cycle runs.
     pub fn start(&mut self) -> Result<()> {
-        raw::start(self.segments().count(), self.words())
+        raw::start(self.segments().count(), self.segment_size().kib(), self.words())
     }
 
     /// One small step of the collector, to be called between the mutators' calls. Where no cycle runs it does nothing. Refused Torn,
@@ -107,7 +108,7 @@ impl<M: AsRef<[u32]> + AsMut<[u32]>> Heap<M> {
     /// A cycle needs the mutators: while a step answers [`Step::Waiting`], each mutator that is inside must
     /// [`check`](crate::Mutator::check) or [`leave`](crate::Mutator::leave).
     pub fn step(&mut self) -> Result<Step> {
-        raw::step(self.segments().count(), self.words())
+        raw::step(self.segments().count(), self.segment_size().kib(), self.words())
     }
 
     /// The cycle that runs, to its end, in this one call; the answer is how many blocks became free in it, not counting those of segments
@@ -116,14 +117,14 @@ impl<M: AsRef<[u32]> + AsMut<[u32]>> Heap<M> {
     /// This is the pause that steps avoid: for moments when time does not matter, or when no room is left. Where a
     /// handshake waits, it checks for every mutator that is inside; as the heap is borrowed, none of them is within a call.
     ///
-    /// For n segments it takes at most 2049 n + 6 steps: the B + C + 4 of [`cycle_end`], with at most 2048 blocks in each segment
-    /// and n segments condemned, and in each handshake one that waits. Over memory that fails the examination more might be
-    /// wanted; then it is refused Torn after so many.
+    /// For n segments it takes at most 2049 n + 6 steps at 16 KiB and 4097 n + 6 at 32 KiB: the B + C + 4 of [`cycle_end`], with at most
+    /// 2048 or 4096 blocks in each segment and n segments condemned, and in each handshake one that waits. Over memory that fails the
+    /// examination more might be wanted; then it is refused Torn after so many.
     ///
     /// ```
-    /// use borvukhai::{Heap, MutatorId, Refusal, Root, Segments, Shape};
+    /// use borvukhai::{Heap, MutatorId, Refusal, Root, SegmentSize, Segments, Shape};
     ///
-    /// let mut heap = Heap::new(Segments::MIN);
+    /// let mut heap = Heap::new(Segments::MIN, SegmentSize::Kib16);
     /// let mut mutator = heap.attach(MutatorId::new(0).unwrap())?;
     /// for _ in 0..4 {
     ///     mutator.make(Root::R0, Shape::new(1, 600))?;
@@ -135,7 +136,7 @@ impl<M: AsRef<[u32]> + AsMut<[u32]>> Heap<M> {
     /// ```
     pub fn finish_cycle(&mut self) -> Result<u32> {
         let mut total: u32 = 0;
-        for _ in 0..2049 * self.segments().count() + 6 {
+        for _ in 0..self.most_steps() {
             match self.step()? {
                 Step::Waiting(_) => self.check_all()?,
                 Step::Swept { freed, .. } => total = total.saturating_add(freed),
@@ -144,6 +145,11 @@ impl<M: AsRef<[u32]> + AsMut<[u32]>> Heap<M> {
             }
         }
         Err(Refusal::Torn)
+    }
+
+    /// The steps that a whole cycle takes at most, where every mutator checks whenever one waits.
+    pub(crate) fn most_steps(&self) -> u32 {
+        (self.segment_size().most_blocks() + 1) * self.segments().count() + 6
     }
 
     /// A check for each mutator that is inside.
@@ -168,7 +174,7 @@ mod tests {
         assert_eq!(Step::unpack(32 << 8 | 1), Ok(Step::Waiting(32)));
         assert_eq!(Step::unpack(2), Ok(Step::Moved));
         assert_eq!(Step::unpack(3), Ok(Step::Traced));
-        assert_eq!(Step::unpack(2048 << 16 | 255 << 8 | 4), Ok(Step::Swept { segment: 255, freed: 2048 }));
+        assert_eq!(Step::unpack(4096 << 16 | 255 << 8 | 4), Ok(Step::Swept { segment: 255, freed: 4096 }));
         assert_eq!(Step::unpack(5), Ok(Step::Done));
     }
 

@@ -7,16 +7,18 @@
 //!
 //! # The whole case of document 01
 //!
-//! Four records of one pointer and 600 values fill a segment. A pointer keeps one of them, two roots keep two; the fourth becomes free.
+//! Four records of one pointer and 600 values fill a segment of 16 KiB. A pointer keeps one of them, two roots keep two; the fourth becomes
+//! free.
 //!
 //! ```
-//! use borvukhai::{Heap, MutatorId, Root, Segments, Shape, Step};
+//! use borvukhai::{Heap, MutatorId, Root, SegmentSize, Segments, Shape, Step};
 //!
 //! const SEGMENTS: Segments = Segments::new(2).unwrap();
+//! const SIZE: SegmentSize = SegmentSize::Kib16;
 //! const ID: MutatorId = MutatorId::new(0).unwrap();
 //! const SHAPE: Shape = Shape::new(1, 600);
 //!
-//! let mut heap = Heap::open(SEGMENTS, [0; SEGMENTS.length()])?;
+//! let mut heap = Heap::open(SEGMENTS, SIZE, [0; SEGMENTS.length(SIZE)])?;
 //! let mut mutator = heap.attach(ID)?;
 //! for root in [Root::R0, Root::R1, Root::R2, Root::R3] {
 //!     mutator.make(root, SHAPE)?;
@@ -45,14 +47,19 @@
 //! # Ok::<(), borvukhai::Refusal>(())
 //! ```
 //!
+//! # Segments of 16 or 32 KiB
+//!
+//! A heap has 1 to 256 [`Segments`], all of one [`SegmentSize`]; the lengths of the slices follow from both. At 32 KiB every class has
+//! twice the blocks: a segment of class 14 has two, and is held or part like any other.
+//!
 //! # One call at a time
 //!
 //! No call that changes the heap may run while another call over the same memory runs; the looks may run beside each other. Calls that
 //! change the heap take `&mut Heap`, and a [`Mutator`] borrows the heap as long as it lives, so the compiler refuses what could overlap:
 //!
 //! ```compile_fail,E0499
-//! # use borvukhai::{Heap, MutatorId, Root, Segments};
-//! # let mut heap = Heap::new(Segments::MIN);
+//! # use borvukhai::{Heap, MutatorId, Root, SegmentSize, Segments};
+//! # let mut heap = Heap::new(Segments::MIN, SegmentSize::Kib16);
 //! # let (a, b) = (MutatorId::new(0).unwrap(), MutatorId::new(1).unwrap());
 //! let mut first = heap.mutator(a);
 //! let mut second = heap.mutator(b); // a second exclusive borrow
@@ -65,9 +72,9 @@
 //! ```
 //! use std::sync::Mutex;
 //! use std::thread;
-//! use borvukhai::{Heap, MutatorId, Root, Segments, Shape, Step};
+//! use borvukhai::{Heap, MutatorId, Root, SegmentSize, Segments, Shape, Step};
 //!
-//! let heap = Mutex::new(Heap::new(Segments::new(2).unwrap()));
+//! let heap = Mutex::new(Heap::new(Segments::new(2).unwrap(), SegmentSize::Kib32));
 //! thread::scope(|scope| {
 //!     for id in MutatorId::all().take(2) {
 //!         let heap = &heap;
@@ -134,7 +141,7 @@ pub use mutator::Mutator;
 pub use numbers::{MutatorId, Root, Shape};
 pub use pacer::Pacer;
 pub use refusal::{NoRefusal, Refusal, Refused, Result};
-pub use segments::Segments;
+pub use segments::{SegmentSize, Segments};
 
 /// The number of the layout of the lent words, as include/borvukhai.h has it (`BORVUKHAI_LAYOUT`). A landing that moves a word raises it:
 /// keep it beside memory that outlives a restart, and take up only memory of the same number.

@@ -4,7 +4,7 @@ use crate::heap::Heap;
 use crate::numbers::MutatorId;
 use crate::raw;
 use crate::refusal::{Refusal, Result};
-use crate::segments::STATE_WORDS;
+use crate::segments::{STATE_WORDS, SegmentSize};
 
 /// Where a cycle is.
 #[derive(Clone, Copy, Debug, PartialEq, Eq, PartialOrd, Ord, Hash)]
@@ -118,31 +118,20 @@ impl SegmentRecord {
     }
 
     /// The blocks in use: those kept, and those handed out since. In memory that passes the examination they are no more than the
-    /// segment's blocks, 2,048 at most. It has 64 bits, as over other memory the sum may not fit in 32.
+    /// segment's blocks, [`SegmentSize::most_blocks`] at most. It has 64 bits, as over other memory the sum may not fit in 32.
     #[inline]
     pub const fn in_use(self) -> u64 {
         self.kept as u64 + self.handed_out as u64
     }
 
     /// The most that can be in use when the phase becomes mark.
-    const fn most_at_mark(self) -> u64 {
+    const fn most_at_mark(self, size: SegmentSize) -> u64 {
         match self.state {
-            SegmentState::Free => blocks(LOWEST),
-            SegmentState::Part { class, .. } | SegmentState::Full { class, .. } => blocks(class),
-            SegmentState::Held { class, .. } => blocks(class),
+            SegmentState::Free => size.most_blocks() as u64,
+            SegmentState::Part { class, .. } | SegmentState::Full { class, .. } => size.blocks(class) as u64,
+            SegmentState::Held { class, .. } => size.blocks(class) as u64,
             SegmentState::Condemned { .. } => self.in_use(),
         }
-    }
-}
-
-/// The class of the smallest blocks.
-const LOWEST: u32 = 3;
-
-/// The blocks of a segment of a class; none where it is no class.
-const fn blocks(class: u32) -> u64 {
-    match class {
-        LOWEST..=14 => 16384 >> class,
-        _ => 0,
     }
 }
 
@@ -150,16 +139,17 @@ const fn blocks(class: u32) -> u64 {
 #[derive(Clone, Debug)]
 pub struct States<'o> {
     words: core::slice::ChunksExact<'o, u32>,
+    size: SegmentSize,
 }
 
 impl<'o> States<'o> {
-    /// The records in these words, if every six of them are one.
-    pub(crate) fn of(words: &'o [u32]) -> Result<States<'o>> {
+    /// The records in these words, if every six of them are one, of segments of this size.
+    pub(crate) fn of(words: &'o [u32], size: SegmentSize) -> Result<States<'o>> {
         let words = words.chunks_exact(STATE_WORDS);
         for record in words.clone() {
             SegmentRecord::unpack(record)?;
         }
-        Ok(States { words })
+        Ok(States { words, size })
     }
 
     /// The blocks in use, of the segments that are still to come. In a look just after the step that moves to mark they
@@ -176,9 +166,9 @@ impl<'o> States<'o> {
 
     /// The most blocks that can be in use when the phase next becomes mark, in the segments that are still to come, by a
     /// look in idle or in a handshake: of a condemned segment its blocks in use, as no make takes it; of any other that
-    /// is not free all its blocks; of a free one 2,048, as a make of any class may take it.
+    /// is not free all its blocks; of a free one [`SegmentSize::most_blocks`], as a make of any class may take it.
     pub fn most_at_mark(&self) -> u64 {
-        self.clone().map(SegmentRecord::most_at_mark).sum()
+        self.clone().map(|record| record.most_at_mark(self.size)).sum()
     }
 }
 
@@ -200,7 +190,7 @@ impl ExactSizeIterator for States<'_> {}
 impl<M: AsRef<[u32]> + AsMut<[u32]>> Heap<M> {
     /// Where the cycle is. Refused Torn, over memory that fails the examination only.
     pub fn phase(&self) -> Result<Phase> {
-        raw::phase(self.segments().count(), self.memory())
+        raw::phase(self.segments().count(), self.segment_size().kib(), self.memory())
     }
 
     /// The record of each segment, its state and its counts of blocks, from segment 0 on, through an output of
@@ -210,9 +200,9 @@ impl<M: AsRef<[u32]> + AsMut<[u32]>> Heap<M> {
     /// words that the library wrote. Otherwise a refusal leaves the output as it was.
     ///
     /// ```
-    /// use borvukhai::{Heap, MutatorId, Root, SegmentRecord, SegmentState, Segments, Shape};
+    /// use borvukhai::{Heap, MutatorId, Root, SegmentRecord, SegmentSize, SegmentState, Segments, Shape};
     ///
-    /// let mut heap = Heap::new(Segments::new(2).unwrap());
+    /// let mut heap = Heap::new(Segments::new(2).unwrap(), SegmentSize::Kib16);
     /// let id = MutatorId::new(5).unwrap();
     /// let mut mutator = heap.attach(id)?;
     /// for root in [Root::R0, Root::R1, Root::R2, Root::R2] {
@@ -238,15 +228,15 @@ impl<M: AsRef<[u32]> + AsMut<[u32]>> Heap<M> {
     /// # Ok::<(), borvukhai::Refusal>(())
     /// ```
     pub fn states<'o>(&self, output: &'o mut [u32]) -> Result<States<'o>> {
-        raw::states(self.segments().count(), self.memory(), output)?;
-        States::of(output)
+        raw::states(self.segments().count(), self.segment_size().kib(), self.memory(), output)?;
+        States::of(output, self.segment_size())
     }
 
     /// The examination: whether the memory is consistent, through a scratch of
     /// [`Segments::scratch_length`](crate::Segments::scratch_length) words of any content, which ends all 0. Refused Size where the
     /// scratch has another length.
     pub fn examine(&self, scratch: &mut [u32]) -> Result<bool> {
-        raw::examine(self.segments().count(), self.memory(), scratch)
+        raw::examine(self.segments().count(), self.segment_size().kib(), self.memory(), scratch)
     }
 }
 
@@ -259,18 +249,20 @@ mod tests {
         assert_eq!(Phase::unpack(5), Err(Refusal::Torn));
         assert_eq!(SegmentState::unpack(&[5, 12, 0, 0]), Err(Refusal::Torn));
         assert_eq!(SegmentState::unpack(&[2, 12, 0, 32]), Err(Refusal::Torn));
-        assert!(States::of(&[0, 0, 0, 0, 0, 0, 5, 12, 0, 0, 0, 0]).is_err());
+        assert!(States::of(&[0, 0, 0, 0, 0, 0, 5, 12, 0, 0, 0, 0], SegmentSize::Kib16).is_err());
         assert_eq!(SegmentRecord::unpack(&[]), Err(Refusal::Torn));
         assert_eq!(SegmentRecord::unpack(&[0, 0, 0, 0]), Err(Refusal::Torn));
     }
 
-    /// Each state with class 12, four blocks, of which two are in use.
+    /// Each state with class 12, four or eight blocks, of which two are in use.
     #[test]
     fn the_most_by_state() {
-        for (tag, most, condemned) in [(0, 2048, 0), (1, 4, 0), (2, 4, 0), (3, 4, 0), (4, 2, 1)] {
-            let words = [tag, 12, 2, 0, 1, 1];
-            let states = States::of(&words).unwrap();
-            assert_eq!((states.blocks_in_use(), states.most_at_mark(), states.condemned()), (2, most, condemned));
+        for (size, free, all) in [(SegmentSize::Kib16, 2048, 4), (SegmentSize::Kib32, 4096, 8)] {
+            for (tag, most, condemned) in [(0, free, 0), (1, all, 0), (2, all, 0), (3, all, 0), (4, 2, 1)] {
+                let words = [tag, 12, 2, 0, 1, 1];
+                let states = States::of(&words, size).unwrap();
+                assert_eq!((states.blocks_in_use(), states.most_at_mark(), states.condemned()), (2, most, condemned));
+            }
         }
     }
 
@@ -279,11 +271,13 @@ mod tests {
     fn sums_of_any_words() {
         let many = u32::MAX;
         let words = [4, many, many, many, many, many, 1, many, many, many, many, many, 0, many, many, many, many, many];
-        let mut states = States::of(&words).unwrap();
         let sums = |states: &States<'_>| (states.blocks_in_use(), states.most_at_mark(), states.condemned());
-        assert_eq!(sums(&states), (25_769_803_770, 8_589_936_638, 1));
-        states.next();
-        assert_eq!(sums(&states), (17_179_869_180, 2048, 0));
+        for (size, all, left) in [(SegmentSize::Kib16, 8_589_936_638, 2048), (SegmentSize::Kib32, 8_589_938_686, 4096)] {
+            let mut states = States::of(&words, size).unwrap();
+            assert_eq!(sums(&states), (25_769_803_770, all, 1));
+            states.next();
+            assert_eq!(sums(&states), (17_179_869_180, left, 0));
+        }
     }
 
     #[test]

@@ -7,6 +7,7 @@ use crate::heap::Heap;
 use crate::looks::{Phase, SegmentRecord, SegmentState, States};
 use crate::numbers::{MutatorId, Root, Shape};
 use crate::refusal::{Refusal, Result};
+use crate::segments::SegmentSize;
 
 /// Runs the collector beside the makes: at most so many steps after each of them, and a cycle begun as late as that
 /// pace allows, so that it finds the most to free. docs/PACING.md says why and when this holds.
@@ -26,12 +27,13 @@ use crate::refusal::{Refusal, Result};
 /// records of a class that it makes no more may lie dead there until it is detached.
 ///
 /// ```
-/// use borvukhai::{Heap, MutatorId, Pacer, Root, Segments, Shape};
+/// use borvukhai::{Heap, MutatorId, Pacer, Root, SegmentSize, Segments, Shape};
 ///
 /// const SEGMENTS: Segments = Segments::new(2).unwrap();
+/// const SIZE: SegmentSize = SegmentSize::Kib32;
 /// const ID: MutatorId = MutatorId::new(0).unwrap();
 ///
-/// let mut heap = Heap::open(SEGMENTS, [0; SEGMENTS.length()])?;
+/// let mut heap = Heap::open(SEGMENTS, SIZE, [0; SEGMENTS.length(SIZE)])?;
 /// heap.attach(ID)?;
 /// let mut pacer = Pacer::new(&heap, [0; SEGMENTS.states_length()], 2, 1)?;
 /// for _ in 0..100_000 {
@@ -56,11 +58,6 @@ const CLASSES: usize = 15;
 /// Mutators' numbers are 0 to 31.
 const MUTATORS: usize = 32;
 
-/// The blocks of a segment of a class.
-const fn blocks(class: usize) -> u32 {
-    16384 >> class
-}
-
 /// What the look says of the segments of one class. Open are those that a make may take a block of: held ones, and part
 /// ones where no start comes before.
 #[derive(Clone, Copy, Default)]
@@ -75,8 +72,8 @@ struct Class {
 }
 
 /// What the look says of all segments.
-#[derive(Default)]
 struct Look {
+    size: SegmentSize,
     /// Whether part segments are open.
     parts: bool,
     free: u32,
@@ -88,6 +85,11 @@ struct Look {
 }
 
 impl Look {
+    /// Of no segment yet.
+    fn new(size: SegmentSize, parts: bool) -> Look {
+        Look { size, parts, free: 0, due: 0, in_use: 0, classes: [Class::default(); CLASSES] }
+    }
+
     fn see(&mut self, record: SegmentRecord) {
         let due = matches!(record.state, SegmentState::Full { .. } | SegmentState::Part { .. });
         self.due += u32::from(due);
@@ -105,11 +107,12 @@ impl Look {
     /// class, which is then the last one, and any counts: no more than all are in use.
     fn used(&mut self, class: u32, record: &SegmentRecord) -> (&mut Class, u32) {
         let class = (class as usize).min(CLASSES - 1);
-        let used = record.kept.saturating_add(record.handed_out).min(blocks(class));
+        let blocks = self.size.blocks(class as u32);
+        let used = record.kept.saturating_add(record.handed_out).min(blocks);
         self.in_use += used;
         let of = &mut self.classes[class];
         of.segments += 1;
-        (of, blocks(class) - used)
+        (of, blocks - used)
     }
 
     /// Of a part one its taker uses a block.
@@ -223,7 +226,7 @@ impl<O: AsRef<[u32]> + AsMut<[u32]>> Pacer<O> {
             heap.start()?;
             self.running = true;
         }
-        for _ in 0..2049 * heap.segments().count() + 6 {
+        for _ in 0..heap.most_steps() {
             if !self.running {
                 return Ok(());
             }
@@ -277,7 +280,7 @@ impl<O: AsRef<[u32]> + AsMut<[u32]>> Pacer<O> {
     fn look<M: AsRef<[u32]> + AsMut<[u32]>>(&mut self, heap: &Heap<M>) -> Result<Look> {
         (self.room, self.wait, self.kept) = (0, 0, false);
         heap.states(self.output.as_mut())?;
-        let look = self.seen(false)?;
+        let look = self.seen(heap.segment_size(), false)?;
         for (makers, of) in self.makers.iter_mut().zip(&look.classes) {
             *makers = if *makers == 0 && of.segments != 0 { self.mutators } else { *makers };
             *makers = (*makers).max(of.held).min(MUTATORS as u32);
@@ -287,7 +290,7 @@ impl<O: AsRef<[u32]> + AsMut<[u32]>> Pacer<O> {
         self.kept = ahead >= work;
         self.wait = u32::try_from(ahead.saturating_sub(work) / (u64::from(self.steps) + 1)).unwrap_or(u32::MAX);
         if !self.kept {
-            let room = self.certain(&self.seen(true)?);
+            let room = self.certain(&self.seen(heap.segment_size(), true)?);
             self.open_parts(room, work);
         }
         Ok(look)
@@ -305,9 +308,9 @@ impl<O: AsRef<[u32]> + AsMut<[u32]>> Pacer<O> {
     }
 
     /// What the states say that the output has, the part segments open or not.
-    fn seen(&self, parts: bool) -> Result<Look> {
-        let mut look = Look { parts, ..Look::default() };
-        States::of(self.output.as_ref())?.for_each(|record| look.see(record));
+    fn seen(&self, size: SegmentSize, parts: bool) -> Result<Look> {
+        let mut look = Look::new(size, parts);
+        States::of(self.output.as_ref(), size)?.for_each(|record| look.see(record));
         Ok(look)
     }
 
@@ -319,7 +322,7 @@ impl<O: AsRef<[u32]> + AsMut<[u32]>> Pacer<O> {
         let played = (0..CLASSES).filter(|&class| self.makers[class] != 0);
         for class in played.clone() {
             costs.add(&look.classes[class], self.makers[class]);
-            costs.smallest = blocks(class);
+            costs.smallest = look.size.blocks(class as u32);
         }
         costs.cost[..costs.count].sort_unstable();
         let (all, beside) = (costs.sum(look.free), costs.sum(look.free + 1));

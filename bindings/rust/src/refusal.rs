@@ -9,7 +9,7 @@ use core::fmt;
 #[derive(Clone, Copy, Debug, PartialEq, Eq, PartialOrd, Ord, Hash)]
 #[repr(u32)]
 pub enum Refusal {
-    /// The segment count is not 1 to 256, or a slice is not of its length.
+    /// The segment count is not 1 to 256, the segment size is neither 16 nor 32 KiB, or a slice is not of its length.
     Size = 1,
     /// A mutator's number over 31.
     Script = 2,
@@ -97,7 +97,9 @@ impl Refusal {
 
     const fn sentence(self) -> &'static str {
         match self {
-            Refusal::Size => "the segment count is not 1 to 256, or a slice is not of its length",
+            Refusal::Size => {
+                "the segment count is not 1 to 256, the segment size is neither 16 nor 32 KiB, or a slice is not of its length"
+            }
             Refusal::Script => "the mutator's number is over 31",
             Refusal::Taken => "the mutator's number is in use",
             Refusal::Absent => "the mutator is not attached",

@@ -2,67 +2,84 @@
 
 mod common;
 
-use borvukhai::{Heap, Refusal, Root, Segments, Shape, Step};
-use common::{OFF_HEAP, ONE, SCRATCH, STATES, at, fresh, full, id};
+use borvukhai::{Heap, Refusal, Root, SegmentSize, Segments, Shape, Step};
+use common::{ONE, SHAPE, STATES, at, fill, fresh, full, id, off_heap, scratch};
 
 #[test]
 fn a_heap_goes_on_in_the_middle_of_a_cycle() {
-    let mut words = full();
-    let mut heap = Heap::open(ONE, &mut words[..]).unwrap();
-    let mut mutator = heap.attach(id(9)).unwrap();
-    for root in [Root::R0, Root::R1, Root::R1, Root::R1] {
-        mutator.make(root, Shape::new(1, 600)).unwrap();
-    }
-    mutator.put(Root::R0, 599, 123).unwrap();
-    heap.start().unwrap();
-    assert_eq!(heap.step(), Ok(Step::Waiting(1)));
+    for size in SegmentSize::ALL {
+        let mut words = full(size);
+        let mut heap = Heap::open(ONE, size, &mut words[..]).unwrap();
+        let mut mutator = heap.attach(id(9)).unwrap();
+        mutator.make(Root::R0, SHAPE).unwrap();
+        for _ in 1..fill(size) {
+            mutator.make(Root::R1, SHAPE).unwrap();
+        }
+        mutator.put(Root::R0, 599, 123).unwrap();
+        heap.start().unwrap();
+        assert_eq!(heap.step(), Ok(Step::Waiting(1)));
 
-    let mut heap = Heap::adopt(ONE, words, &mut [7; SCRATCH]).unwrap();
-    assert_eq!(heap.finish_cycle(), Ok(2));
-    assert_eq!(heap.mutator(id(9)).get(Root::R0, 599), Ok(123));
+        let mut heap = Heap::adopt(ONE, size, words, &mut scratch(size)).unwrap();
+        assert_eq!(heap.finish_cycle(), Ok(fill(size) - 2));
+        assert_eq!(heap.mutator(id(9)).get(Root::R0, 599), Ok(123));
+    }
 }
 
 #[test]
 fn torn_memory_is_refused_and_handed_back() {
-    let breaks: [(usize, u32); 8] = [
-        (at::PHASE, 5),
-        (at::TRACE_COUNT, 1),
-        (at::ROOT, OFF_HEAP),
-        (at::HELD, 1),
-        (at::TAG, 0),
-        (at::KEPT, 1),
-        (at::HANDED_OUT, 3),
-        (at::FREE_COUNT, 1),
-    ];
-    for (word, value) in breaks {
-        let mut words = full();
-        words[word] = value;
-        let mut scratch = [7; SCRATCH];
-        let refused = Heap::adopt(ONE, words.clone(), &mut scratch).unwrap_err();
-        assert_eq!(refused.refusal, Refusal::Torn, "word {word}");
-        assert!(refused.memory == words, "word {word}");
-        assert_eq!(scratch, [0; SCRATCH]);
+    for size in SegmentSize::ALL {
+        let breaks: [(usize, u32); 8] = [
+            (at::PHASE, 5),
+            (at::TRACE_COUNT, 1),
+            (at::ROOT, off_heap(size)),
+            (at::HELD, 1),
+            (at::tag(size), 0),
+            (at::kept(size), 1),
+            (at::handed_out(size), 3),
+            (at::free_count(size), 1),
+        ];
+        for (word, value) in breaks {
+            let mut words = full(size);
+            words[word] = value;
+            let mut scratch = scratch(size);
+            let refused = Heap::adopt(ONE, size, words.clone(), &mut scratch).unwrap_err();
+            assert_eq!(refused.refusal, Refusal::Torn, "word {word}");
+            assert!(refused.memory == words, "word {word}");
+            assert!(scratch.iter().all(|&word| word == 0));
+        }
     }
 }
 
 #[test]
-fn another_length_is_refused() {
-    for scratch in [0, SCRATCH - 1, SCRATCH + 1] {
-        let refused = Heap::adopt(ONE, fresh(), &mut vec![0; scratch]).unwrap_err();
-        assert_eq!(refused.refusal, Refusal::Size);
+fn another_length_count_or_size_is_refused() {
+    for size in SegmentSize::ALL {
+        let right = ONE.scratch_length(size);
+        for length in [0, right - 1, right + 1] {
+            let refused = Heap::adopt(ONE, size, fresh(size), &mut vec![0; length]).unwrap_err();
+            assert_eq!(refused.refusal, Refusal::Size);
+        }
+        for (segments, other) in [1, 2, 255].into_iter().flat_map(|count| SegmentSize::ALL.map(|other| (count, other))) {
+            let segments = Segments::new(segments).unwrap();
+            if (segments, other) == (ONE, size) {
+                continue;
+            }
+            let mut scratch = vec![7; segments.scratch_length(other)];
+            let refused = Heap::adopt(segments, other, fresh(size), &mut scratch).unwrap_err();
+            assert_eq!(refused.refusal, Refusal::Size);
+            assert!(refused.memory == fresh(size) && scratch.iter().all(|&word| word == 7));
+        }
     }
-    let two = Segments::new(2).unwrap();
-    let refused = Heap::adopt(two, fresh(), &mut vec![0; two.scratch_length()]).unwrap_err();
-    assert_eq!(refused.refusal, Refusal::Size);
 }
 
 /// Zeros that nobody opened: a mutator attaches, and every make is refused NoRoom. The examination finds it.
 #[test]
 fn memory_that_was_never_opened() {
-    let mut heap = Heap::adopt_unexamined(ONE, vec![0; ONE.length()]).unwrap();
-    assert_eq!(heap.attach(id(0)).unwrap().make(Root::R0, Shape::new(1, 2)), Err(Refusal::NoRoom));
-    let refused = Heap::adopt(ONE, vec![0; ONE.length()], &mut [7; SCRATCH]).unwrap_err();
-    assert_eq!(refused.refusal, Refusal::Torn);
+    for size in SegmentSize::ALL {
+        let mut heap = Heap::adopt_unexamined(ONE, size, vec![0; ONE.length(size)]).unwrap();
+        assert_eq!(heap.attach(id(0)).unwrap().make(Root::R0, Shape::new(1, 2)), Err(Refusal::NoRoom));
+        let refused = Heap::adopt(ONE, size, vec![0; ONE.length(size)], &mut scratch(size)).unwrap_err();
+        assert_eq!(refused.refusal, Refusal::Torn);
+    }
 }
 
 /// Numbers by a xorshift.
@@ -106,13 +123,13 @@ fn any_call(heap: &mut Heap<Vec<u32>>, dice: &mut Dice) {
 #[test]
 fn calls_over_words_of_any_content_end() {
     let mut dice = Dice(0x9e37_79b9_7f4a_7c15);
-    for round in 0..200 {
-        let mut words = full();
+    for (round, size) in (0..200).flat_map(|round| SegmentSize::ALL.map(|size| (round, size))) {
+        let mut words = full(size);
         for _ in 0..1 << (round % 13) {
             let word = dice.below(words.len() as u32) as usize;
             words[word] = if round % 2 == 0 { dice.below(u32::MAX) } else { dice.below(40) };
         }
-        let mut heap = Heap::adopt_unexamined(ONE, words).unwrap();
+        let mut heap = Heap::adopt_unexamined(ONE, size, words).unwrap();
         for _ in 0..100 {
             any_call(&mut heap, &mut dice);
         }

@@ -3,15 +3,15 @@
 
 mod common;
 
-use borvukhai::{Heap, Phase, Refusal, Result, Root, SegmentState, Segments, Shape, Step, cycle_end};
-use common::{SHAPE, id};
+use borvukhai::{Heap, Phase, Refusal, Result, Root, SegmentSize, SegmentState, Segments, Shape, Step, cycle_end};
+use common::{SHAPE, fill, id};
 
 type Words = Heap<Vec<u32>>;
 
 /// A heap with mutator 0 inside, in memory that was not 0.
-fn opened(count: u32) -> Result<Words> {
+fn opened(count: u32, size: SegmentSize) -> Result<Words> {
     let segments = Segments::new(count).unwrap();
-    let mut heap = Heap::open(segments, vec![0xa5a5_a5a5; segments.length()])?;
+    let mut heap = Heap::open(segments, size, vec![0xa5a5_a5a5; segments.length(size)])?;
     heap.attach(id(0))?;
     Ok(heap)
 }
@@ -23,12 +23,18 @@ fn look(heap: &Words) -> Result<(u64, u64, u32)> {
     Ok((states.blocks_in_use(), states.most_at_mark(), states.condemned()))
 }
 
-/// Makes by mutator 0 into these roots, of class 12, of which a segment has four blocks.
+/// Makes by mutator 0 into these roots, of class 12, of which a segment has four blocks at 16 KiB and eight at 32.
 fn make(heap: &mut Words, roots: &[Root]) -> Result<()> {
     roots.iter().try_for_each(|&root| heap.mutator(id(0)).make(root, SHAPE))
 }
 
-const FOUR: [Root; 4] = [Root::R0, Root::R1, Root::R2, Root::R3];
+/// Roots for as many records as fill a segment.
+fn roots(size: SegmentSize) -> Vec<Root> {
+    Root::all().take(fill(size) as usize).collect()
+}
+
+/// The sizes, each with the blocks of class 12 and of class 3.
+const SIZES: [(SegmentSize, u64, u64); 2] = [(SegmentSize::Kib16, 4, 2048), (SegmentSize::Kib32, 8, 4096)];
 
 /// A cycle since its start.
 struct Cycle {
@@ -76,51 +82,60 @@ impl Cycle {
     }
 }
 
-/// Document 01's whole case: of four records three are reached. Segment 1 is free, and may be taken for 2,048 blocks.
+/// Document 01's whole case: of four records three are reached, at 32 KiB of eight seven. Segment 1 is free, and may be taken for as many
+/// blocks as class 3 has.
 #[test]
 fn whole_case() -> Result<()> {
-    let mut heap = opened(2)?;
-    make(&mut heap, &FOUR)?;
-    heap.mutator(id(0)).store(Root::R0, 0, Root::R1)?;
-    heap.mutator(id(0)).clear(Root::R1)?;
-    heap.mutator(id(0)).clear(Root::R2)?;
-    assert_eq!(look(&heap)?, (4, 4 + 2048, 0));
-    let cycle = Cycle::start(&mut heap)?;
-    assert_eq!(look(&heap)?, (4, 4 + 2048, 1));
-    assert_eq!(cycle.finish(&mut heap)?, (8, 9, 2057));
+    for (size, all, most) in SIZES {
+        let mut heap = opened(2, size)?;
+        make(&mut heap, &roots(size))?;
+        heap.mutator(id(0)).store(Root::R0, 0, Root::R1)?;
+        heap.mutator(id(0)).clear(Root::R1)?;
+        heap.mutator(id(0)).clear(Root::R2)?;
+        assert_eq!(look(&heap)?, (all, all + most, 0));
+        let cycle = Cycle::start(&mut heap)?;
+        assert_eq!(look(&heap)?, (all, all + most, 1));
+        assert_eq!(cycle.finish(&mut heap)?, (all + 4, all + 5, all + most + 5));
+    }
     Ok(())
 }
 
-/// All four are reached: the bound itself, in the only segment, where it was known at the start.
+/// All are reached: the bound itself, in the only segment, where it was known at the start.
 #[test]
 fn all_reached() -> Result<()> {
-    let mut heap = opened(1)?;
-    make(&mut heap, &FOUR)?;
-    assert_eq!(Cycle::start(&mut heap)?.finish(&mut heap)?, (9, 9, 9));
+    for (size, all, _) in SIZES {
+        let mut heap = opened(1, size)?;
+        make(&mut heap, &roots(size))?;
+        assert_eq!(Cycle::start(&mut heap)?.finish(&mut heap)?, (all + 5, all + 5, all + 5));
+    }
     Ok(())
 }
 
 /// Nothing in use, and nothing condemned: two handshakes, the mark, done. With two records in a held segment, two more.
 #[test]
 fn nothing_condemned() -> Result<()> {
-    let mut heap = opened(1)?;
-    assert_eq!(Cycle::start(&mut heap)?.finish(&mut heap)?, (4, 4, 2052));
-    make(&mut heap, &FOUR[..2])?;
-    assert_eq!(Cycle::start(&mut heap)?.finish(&mut heap)?, (6, 6, 8));
+    for (size, all, most) in SIZES {
+        let mut heap = opened(1, size)?;
+        assert_eq!(Cycle::start(&mut heap)?.finish(&mut heap)?, (4, 4, most + 4));
+        make(&mut heap, &roots(size)[..2])?;
+        assert_eq!(Cycle::start(&mut heap)?.finish(&mut heap)?, (6, 6, all + 4));
+    }
     Ok(())
 }
 
-/// A part segment is condemned too: three blocks in use of its four, and no make takes the fourth; one is reached.
+/// A part segment is condemned too: three blocks in use, and no make takes another; one is reached.
 #[test]
 fn a_part_segment() -> Result<()> {
-    let mut heap = opened(1)?;
-    make(&mut heap, &FOUR[..3])?;
-    heap.spawn(id(1), id(0), Root::R2)?.leave()?; // the collector acknowledges for it: no step waits
-    heap.mutator(id(0)).detach()?;
-    assert_eq!(look(&heap)?, (3, 4, 0));
-    let cycle = Cycle::start(&mut heap)?;
-    assert_eq!(look(&heap)?, (3, 3, 1));
-    assert_eq!(cycle.finish(&mut heap)?, (6, 8, 8));
+    for (size, all, _) in SIZES {
+        let mut heap = opened(1, size)?;
+        make(&mut heap, &roots(size)[..3])?;
+        heap.spawn(id(1), id(0), Root::R2)?.leave()?; // the collector acknowledges for it: no step waits
+        heap.mutator(id(0)).detach()?;
+        assert_eq!(look(&heap)?, (3, all, 0));
+        let cycle = Cycle::start(&mut heap)?;
+        assert_eq!(look(&heap)?, (3, 3, 1));
+        assert_eq!(cycle.finish(&mut heap)?, (6, 8, 8));
+    }
     Ok(())
 }
 
@@ -128,17 +143,19 @@ fn a_part_segment() -> Result<()> {
 /// at the start, none, there would be 4 steps. What is made in mark is born marked, and adds no step.
 #[test]
 fn made_meanwhile() -> Result<()> {
-    let mut heap = opened(2)?;
-    let mut cycle = Cycle::start(&mut heap)?;
-    make(&mut heap, &FOUR[..2])?;
-    assert_eq!(look(&heap)?, (2, 4 + 2048, 0));
-    while heap.phase()? != Phase::Mark {
-        heap.mutator(id(0)).check()?;
-        assert_eq!(cycle.step(&mut heap), Ok(Step::Moved));
+    for (size, all, most) in SIZES {
+        let mut heap = opened(2, size)?;
+        let mut cycle = Cycle::start(&mut heap)?;
+        make(&mut heap, &roots(size)[..2])?;
+        assert_eq!(look(&heap)?, (2, all + most, 0));
+        while heap.phase()? != Phase::Mark {
+            heap.mutator(id(0)).check()?;
+            assert_eq!(cycle.step(&mut heap), Ok(Step::Moved));
+        }
+        make(&mut heap, &roots(size)[2..])?;
+        assert_eq!(look(&heap)?.0, all);
+        assert_eq!(cycle.finish(&mut heap)?, (6, 6, 2 * most + 4));
     }
-    make(&mut heap, &FOUR[2..])?;
-    assert_eq!(look(&heap)?.0, 4);
-    assert_eq!(cycle.finish(&mut heap)?, (6, 6, 4100));
     Ok(())
 }
 
@@ -146,16 +163,36 @@ fn made_meanwhile() -> Result<()> {
 /// be.
 #[test]
 fn filled_in_a_handshake() -> Result<()> {
-    let mut heap = opened(2)?;
-    make(&mut heap, &FOUR[..1])?;
-    let cycle = Cycle::start(&mut heap)?;
-    assert_eq!(look(&heap)?, (1, 4 + 2048, 0));
-    for _ in 0..2048 {
-        heap.mutator(id(0)).make(Root::R9, Shape::new(1, 0))?;
+    for (size, all, most) in SIZES {
+        let mut heap = opened(2, size)?;
+        make(&mut heap, &roots(size)[..1])?;
+        let cycle = Cycle::start(&mut heap)?;
+        assert_eq!(look(&heap)?, (1, all + most, 0));
+        for _ in 0..most {
+            heap.mutator(id(0)).make(Root::R9, Shape::new(1, 0))?;
+        }
+        make(&mut heap, &roots(size)[1..])?;
+        assert_eq!(heap.mutator(id(0)).make(Root::R10, SHAPE), Err(Refusal::NoRoom));
+        assert_eq!(cycle.finish(&mut heap)?, (1 + all + 4, all + most + 4, all + most + 4));
     }
-    make(&mut heap, &FOUR[1..])?;
-    assert_eq!(heap.mutator(id(0)).make(Root::R4, SHAPE), Err(Refusal::NoRoom));
-    assert_eq!(cycle.finish(&mut heap)?, (1 + 4 + 4, 2056, 2056));
+    Ok(())
+}
+
+/// All blocks of two segments of the smallest records are reached, one from another: the far end of a bar is met.
+#[test]
+fn every_block_of_class_3_reached() -> Result<()> {
+    for (size, _, most) in SIZES {
+        let mut heap = opened(2, size)?;
+        for _ in 0..2 * most {
+            let mut mutator = heap.mutator(id(0));
+            mutator.make(Root::R1, Shape::new(1, 0))?;
+            mutator.store(Root::R1, 0, Root::R0)?;
+            mutator.copy(Root::R0, Root::R1)?;
+        }
+        assert_eq!(look(&heap)?, (2 * most, 2 * most, 0));
+        let end = cycle_end(2 * most, 2);
+        assert_eq!(Cycle::start(&mut heap)?.finish(&mut heap)?, (end, end, end));
+    }
     Ok(())
 }
 
@@ -164,6 +201,7 @@ fn filled_in_a_handshake() -> Result<()> {
 fn the_end_of_any_numbers() {
     assert_eq!(cycle_end(0, 0), 4);
     assert_eq!(cycle_end(2048 * 256, 256), 2049 * 256 + 4);
+    assert_eq!(cycle_end(4096 * 256, 256), 4097 * 256 + 4);
     assert_eq!(cycle_end(u64::MAX, u32::MAX), u64::MAX);
 }
 
@@ -176,8 +214,8 @@ fn many_cycles() -> Result<()> {
         seed = seed.wrapping_mul(1_664_525).wrapping_add(1_013_904_223);
         (seed >> 8) % below
     };
-    for list in 0..300 {
-        let mut heap = opened(1 + any(3))?;
+    for (list, size) in (0..300).flat_map(|list| SegmentSize::ALL.map(|size| (list, size))) {
+        let mut heap = opened(1 + any(3), size)?;
         heap.attach(id(1))?;
         for _ in 0..any(40) {
             turn(&mut heap, &mut any, list)?;
@@ -190,7 +228,7 @@ fn many_cycles() -> Result<()> {
         reached += u32::from(Some(cycle.steps) == cycle.end);
         beyond_start += u32::from(cycle.steps > at_start);
     }
-    assert!(reached > 5 && beyond_start > 5, "{reached} and {beyond_start} of 300");
+    assert!(reached > 10 && beyond_start > 10, "{reached} and {beyond_start} of 600");
     Ok(())
 }
 
@@ -212,10 +250,12 @@ fn turn(heap: &mut Words, any: &mut impl FnMut(u32) -> u32, list: u32) -> Result
 /// After done no segment is condemned.
 #[test]
 fn no_condemned_after_done() -> Result<()> {
-    let mut heap = opened(1)?;
-    make(&mut heap, &FOUR)?;
-    Cycle::start(&mut heap)?.finish(&mut heap)?;
-    assert_eq!(look(&heap)?.2, 0);
-    assert_eq!(heap.states(&mut [0; 6])?.next().unwrap().state, SegmentState::Full { class: 12, place: 4 });
+    for size in SegmentSize::ALL {
+        let mut heap = opened(1, size)?;
+        make(&mut heap, &roots(size))?;
+        Cycle::start(&mut heap)?.finish(&mut heap)?;
+        assert_eq!(look(&heap)?.2, 0);
+        assert_eq!(heap.states(&mut [0; 6])?.next().unwrap().state, SegmentState::Full { class: 12, place: fill(size) });
+    }
     Ok(())
 }

@@ -1,9 +1,9 @@
-//! Records of every class, and those of up to 4,095 fields above all: a detach that hands back eleven segments, the first and last field
-//! of the longest records and a cycle over them, and where refusals 9 and 10 begin.
+//! Records of every class, and those of up to 4,095 fields above all: a detach that hands back eleven segments, or twelve, the first and last
+//! field of the longest records and a cycle over them, and where refusals 9 and 10 begin.
 
 mod common;
 
-use borvukhai::{Heap, Refusal, Result, Root, SegmentState, Segments, Shape, Step};
+use borvukhai::{Heap, Refusal, Result, Root, SegmentSize, SegmentState, Segments, Shape, Step};
 use common::{ONE, id};
 
 const TWO: Segments = Segments::new(2).unwrap();
@@ -11,15 +11,15 @@ const TWO: Segments = Segments::new(2).unwrap();
 const MOST: u32 = 4095;
 
 /// A heap with mutator 0 inside, in memory that was not 0.
-fn opened(segments: Segments) -> Result<Heap<Vec<u32>>> {
-    let mut heap = Heap::open(segments, vec![0xa5a5_a5a5; segments.length()])?;
+fn opened(segments: Segments, size: SegmentSize) -> Result<Heap<Vec<u32>>> {
+    let mut heap = Heap::open(segments, size, vec![0xa5a5_a5a5; segments.length(size)])?;
     heap.attach(id(0))?;
     Ok(heap)
 }
 
 /// The states of all segments, over memory that passes the examination.
 fn look(heap: &Heap<Vec<u32>>) -> Vec<SegmentState> {
-    assert_eq!(heap.examine(&mut vec![7; heap.segments().scratch_length()]), Ok(true));
+    assert_eq!(heap.examine(&mut vec![7; heap.segments().scratch_length(heap.segment_size())]), Ok(true));
     let mut output = vec![0; heap.segments().states_length()];
     heap.states(&mut output).unwrap().map(|record| record.state).collect()
 }
@@ -48,40 +48,39 @@ fn shape_of(class: u32) -> Shape {
     Shape::new(fields / 2, fields - fields / 2)
 }
 
-/// Twelve segments: mutator 0 holds one of each class but 14, and has a full one of class 14. Its detach makes eleven of them part, each
-/// with its class and place, and mutator 1 finds each of them by its class.
+/// What a segment is while mutator `holder` holds it, or nobody: full where its place is past its last block.
+fn shared(size: SegmentSize, class: u32, place: u32, holder: Option<u32>) -> SegmentState {
+    match holder {
+        _ if place == size.blocks(class) => SegmentState::Full { class, place },
+        Some(holder) => SegmentState::Held { class, place, mutator: id(holder) },
+        None => SegmentState::Part { class, place },
+    }
+}
+
+/// Twelve segments: mutator 0 has records in one of each class. That of class 14 is full at 16 KiB, and it holds the others. Its detach makes
+/// them part, eleven or all twelve, each with its class and place, and mutator 1 finds each of them by its class.
 #[test]
-fn a_detach_hands_back_eleven() -> Result<()> {
-    let classes = (3..=14).zip([1, 2, 3, 1, 2, 3, 1, 2, 3, 1, 1, 1]);
-    let mut heap = opened(Segments::new(12).unwrap())?;
-    for (class, place) in classes.clone() {
-        for _ in 0..place {
-            heap.mutator(id(0)).make(Root::new(class).unwrap(), shape_of(class))?;
+fn a_detach_hands_back_eleven_or_twelve() -> Result<()> {
+    for (size, handed_back) in [(SegmentSize::Kib16, 11), (SegmentSize::Kib32, 12)] {
+        let classes = (3..=14).zip([1, 2, 3, 1, 2, 3, 1, 2, 3, 1, 1, 1]);
+        let mut heap = opened(Segments::new(12).unwrap(), size)?;
+        for (class, place) in classes.clone() {
+            for _ in 0..place {
+                heap.mutator(id(0)).make(Root::new(class).unwrap(), shape_of(class))?;
+            }
         }
+        assert!(look(&heap).into_iter().eq(classes.clone().map(|(class, place)| shared(size, class, place, Some(0)))));
+        heap.mutator(id(0)).detach()?;
+        assert!(look(&heap).into_iter().eq(classes.clone().map(|(class, place)| shared(size, class, place, None))));
+        assert_eq!(look(&heap).iter().filter(|state| matches!(state, SegmentState::Part { .. })).count(), handed_back);
+        let mut mutator = heap.attach(id(1))?;
+        for class in 3..=14 {
+            let room = handed_back == 12 || class != 14;
+            assert_eq!(mutator.make(Root::R0, shape_of(class)), if room { Ok(()) } else { Err(Refusal::NoRoom) });
+        }
+        let again = classes.map(|(class, place)| shared(size, class, size.blocks(class).min(place + 1), Some(1)));
+        assert!(look(&heap).into_iter().eq(again));
     }
-    let before = classes.clone().map(|(class, place)| match class {
-        14 => SegmentState::Full { class, place },
-        _ => SegmentState::Held { class, place, mutator: id(0) },
-    });
-    assert!(look(&heap).into_iter().eq(before));
-    heap.mutator(id(0)).detach()?;
-    let after = classes.clone().map(|(class, place)| match class {
-        14 => SegmentState::Full { class, place },
-        _ => SegmentState::Part { class, place },
-    });
-    assert!(look(&heap).into_iter().eq(after));
-    assert_eq!(look(&heap).iter().filter(|state| matches!(state, SegmentState::Part { .. })).count(), 11);
-    let mut mutator = heap.attach(id(1))?;
-    for class in 3..=13 {
-        mutator.make(Root::R0, shape_of(class))?;
-    }
-    assert_eq!(mutator.make(Root::R0, shape_of(14)), Err(Refusal::NoRoom));
-    let again = classes.map(|(class, place)| match class {
-        14 => SegmentState::Full { class, place },
-        13 => SegmentState::Full { class, place: place + 1 },
-        _ => SegmentState::Held { class, place: place + 1, mutator: id(1) },
-    });
-    assert!(look(&heap).into_iter().eq(again));
     Ok(())
 }
 
@@ -104,7 +103,7 @@ fn make_new(heap: &mut Heap<Vec<u32>>, shape: Shape) -> Result<()> {
     Ok(())
 }
 
-/// Two records of class 13, which fill segment 1, go behind the first and the last pointer, and 33 and 44 into the first and last value.
+/// Two records of class 13, in segment 1, go behind the first and the last pointer, and 33 and 44 into the first and last value.
 fn store_first_and_last(heap: &mut Heap<Vec<u32>>, shape: Shape) -> Result<()> {
     let mut mutator = heap.mutator(id(0));
     for (root, value) in [(Root::R1, 11), (Root::R2, 22)] {
@@ -140,24 +139,32 @@ fn is_kept(heap: &mut Heap<Vec<u32>>, shape: Shape) -> Result<()> {
     mutator.clear(Root::R2)
 }
 
-/// A record of 4,095 fields, from its make to the sweep that frees it. A cycle keeps it while a root has it, and what its pointers have;
-/// when it is cleared, the next cycle makes its segment free, and that of what was behind its pointers, be it full or part.
+/// A record of 4,095 fields, from its make to the sweep that frees it. Dead records fill its segment, and that of the two of class 13, where
+/// these do not. A cycle keeps it while a root has it, and what its pointers have; when it is cleared, the next cycle makes its segment free,
+/// and that of what was behind its pointers, be it full or part.
 #[test]
 fn records_of_the_most_fields() -> Result<()> {
-    let long = SegmentState::Full { class: 14, place: 1 };
-    // Segment 1 with so many of the two records of class 13 kept.
-    let beside = [SegmentState::Free, SegmentState::Part { class: 13, place: 0 }, SegmentState::Full { class: 13, place: 2 }];
-    for pointers in [0, 1, 2, MOST / 2, MOST - 1, MOST] {
-        let shape = Shape::new(pointers, MOST - pointers);
-        let kept = pointers.min(2);
-        let mut heap = opened(TWO)?;
+    for (size, pointers) in
+        SegmentSize::ALL.into_iter().flat_map(|size| [0, 1, 2, MOST / 2, MOST - 1, MOST].map(|pointers| (size, pointers)))
+    {
+        let (shape, kept) = (Shape::new(pointers, MOST - pointers), pointers.min(2));
+        let (long, beside) = (size.blocks(14), size.blocks(13));
+        let swept_to = |class, kept| match kept {
+            0 => SegmentState::Free,
+            kept if kept == size.blocks(class) => SegmentState::Full { class, place: kept },
+            _ => SegmentState::Part { class, place: 0 },
+        };
+        let mut heap = opened(TWO, size)?;
         make_new(&mut heap, shape)?;
         store_first_and_last(&mut heap, shape)?;
+        for (class, dead) in [(14, long - 1), (13, beside - 2)] {
+            (0..dead).try_for_each(|_| heap.mutator(id(0)).make(Root::R1, shape_of(class)))?;
+        }
         is_kept(&mut heap, shape)?;
-        assert_eq!(look(&heap), [long, beside[2]]);
-        assert_eq!(cycle(&mut heap)?, (1 + kept, vec![(0, 0), (1, 2 - kept)]));
+        assert_eq!(look(&heap), [SegmentState::Full { class: 14, place: long }, SegmentState::Full { class: 13, place: beside }]);
+        assert_eq!(cycle(&mut heap)?, (1 + kept, vec![(0, long - 1), (1, beside - kept)]));
         is_kept(&mut heap, shape)?;
-        assert_eq!(look(&heap), [long, beside[kept as usize]]);
+        assert_eq!(look(&heap), [swept_to(14, 1), swept_to(13, kept)]);
         heap.mutator(id(0)).clear(Root::R0)?;
         let swept = match kept {
             0 => vec![(0, 1)],
@@ -172,8 +179,8 @@ fn records_of_the_most_fields() -> Result<()> {
 /// 4,095 fields are accepted and 4,096 refused, however they are split.
 #[test]
 fn every_split() -> Result<()> {
-    for pointers in 0..=MOST + 1 {
-        let mut heap = opened(ONE)?;
+    for (size, pointers) in SegmentSize::ALL.into_iter().flat_map(|size| (0..=MOST + 1).map(move |pointers| (size, pointers))) {
+        let mut heap = opened(ONE, size)?;
         let mut mutator = heap.mutator(id(0));
         assert_eq!(mutator.make(Root::R0, Shape::new(pointers, MOST + 1 - pointers)), Err(Refusal::TooBig));
         if pointers <= MOST {
@@ -186,30 +193,49 @@ fn every_split() -> Result<()> {
 /// Counts whose sum would wrap are refused too.
 #[test]
 fn sums_that_would_wrap() -> Result<()> {
-    let mut heap = opened(ONE)?;
-    let mut mutator = heap.mutator(id(0));
-    for high in [MOST + 1, 65_535, 65_536, u32::MAX / 2, u32::MAX / 2 + 1, u32::MAX - MOST, u32::MAX - 1, u32::MAX] {
-        for low in [0, 1, 1023, MOST, MOST + 1].into_iter().flat_map(|sum: u32| [0, sum.wrapping_sub(high)]) {
-            assert_eq!(mutator.make(Root::R0, Shape::new(high, low)), Err(Refusal::TooBig));
-            assert_eq!(mutator.make(Root::R0, Shape::new(low, high)), Err(Refusal::TooBig));
+    for size in SegmentSize::ALL {
+        let mut heap = opened(ONE, size)?;
+        let mut mutator = heap.mutator(id(0));
+        for high in [MOST + 1, 65_535, 65_536, u32::MAX / 2, u32::MAX / 2 + 1, u32::MAX - MOST, u32::MAX - 1, u32::MAX] {
+            for low in [0, 1, 1023, MOST, MOST + 1].into_iter().flat_map(|sum: u32| [0, sum.wrapping_sub(high)]) {
+                assert_eq!(mutator.make(Root::R0, Shape::new(high, low)), Err(Refusal::TooBig));
+                assert_eq!(mutator.make(Root::R0, Shape::new(low, high)), Err(Refusal::TooBig));
+            }
         }
     }
     Ok(())
 }
 
-/// Two records of class 14 fill two segments, and the third is refused; what a cycle frees is used again.
+/// Records of class 14 fill two segments, and the next is refused; what a cycle frees is used again. At 16 KiB a segment has one of them,
+/// and is full at once; at 32 KiB it has two, is held with the first, and is full with the second.
 #[test]
-fn two_of_class_14_and_a_third() -> Result<()> {
-    let mut heap = opened(TWO)?;
-    let mut mutator = heap.mutator(id(0));
-    mutator.make(Root::R0, Shape::new(0, 2048))?;
-    mutator.make(Root::R1, Shape::new(MOST, 0))?;
-    assert_eq!(mutator.make(Root::R2, Shape::new(0, MOST)), Err(Refusal::NoRoom));
-    assert_eq!(mutator.make(Root::R2, Shape::new(0, 0)), Err(Refusal::NoRoom));
-    mutator.clear(Root::R1)?;
-    assert_eq!(look(&heap), [SegmentState::Full { class: 14, place: 1 }; 2]);
-    assert_eq!(cycle(&mut heap)?, (1, vec![(0, 0), (1, 1)]));
-    assert_eq!(heap.mutator(id(0)).make(Root::R2, Shape::new(0, MOST)), Ok(()));
-    assert_eq!(heap.mutator(id(0)).make(Root::R1, Shape::new(0, MOST)), Err(Refusal::NoRoom));
+fn class_14_fills_two_segments() -> Result<()> {
+    for size in SegmentSize::ALL {
+        let place = size.blocks(14);
+        let mut heap = opened(TWO, size)?;
+        let mut mutator = heap.mutator(id(0));
+        for _ in 0..place {
+            mutator.make(Root::R0, Shape::new(0, 2048))?;
+        }
+        mutator.make(Root::R1, Shape::new(MOST, 0))?;
+        let second = heap.states(&mut [0; TWO.states_length()])?.nth(1).unwrap().state;
+        match size {
+            SegmentSize::Kib16 => assert_eq!(second, SegmentState::Full { class: 14, place: 1 }),
+            SegmentSize::Kib32 => assert_eq!(second, SegmentState::Held { class: 14, place: 1, mutator: id(0) }),
+        }
+        let mut mutator = heap.mutator(id(0));
+        for _ in 1..place {
+            mutator.make(Root::R1, Shape::new(MOST, 0))?;
+        }
+        assert_eq!(mutator.make(Root::R2, Shape::new(0, MOST)), Err(Refusal::NoRoom));
+        assert_eq!(mutator.make(Root::R2, Shape::new(0, 0)), Err(Refusal::NoRoom));
+        mutator.clear(Root::R1)?;
+        assert_eq!(look(&heap), [SegmentState::Full { class: 14, place }; 2]);
+        assert_eq!(cycle(&mut heap)?, (1, vec![(0, place - 1), (1, place)]));
+        for _ in 0..2 * place - 1 {
+            assert_eq!(heap.mutator(id(0)).make(Root::R2, Shape::new(0, MOST)), Ok(()));
+        }
+        assert_eq!(heap.mutator(id(0)).make(Root::R1, Shape::new(0, MOST)), Err(Refusal::NoRoom));
+    }
     Ok(())
 }

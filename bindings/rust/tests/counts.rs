@@ -1,22 +1,25 @@
 //! The two counts of a segment, blocks kept at its last sweep and blocks handed out since, against figures that were reckoned by hand from
 //! document 01 and requests No. 3 and 5; over memory whose counts are torn; and over lists of calls, where the makes less the blocks that
 //! sweeps freed are the blocks in use.
+//!
+//! A case by hand names its classes as at 16 KiB. At 32 KiB it has the next class for each, which has as many blocks there.
 
 mod common;
 
-use borvukhai::{Heap, MutatorId, Phase, Refusal, Result, Root, SegmentRecord, SegmentState, Segments, Shape, Step, raw};
-use common::{ONE, id};
+use borvukhai::{Heap, MutatorId, Phase, Refusal, Result, Root, SegmentRecord, SegmentSize, SegmentState, Segments, Shape, Step, raw};
+use common::{ONE, at, id};
 
 const SIX: Segments = Segments::new(6).unwrap();
 
-/// Document 01's table of blocks, by class from 3 on, with the two classes of request No. 2.
+/// Document 01's table of blocks, by class from 3 on, with the two classes of request No. 2; and that of request No. 6.
 const BLOCKS: [u32; 12] = [2048, 1024, 512, 256, 128, 64, 32, 16, 8, 4, 2, 1];
+const BLOCKS_AT_32: [u32; 12] = [4096, 2048, 1024, 512, 256, 128, 64, 32, 16, 8, 4, 2];
 
 type Words = Heap<Vec<u32>>;
 
 /// A heap with mutator 0 inside, in memory that was not 0.
-fn opened(segments: Segments) -> Result<Words> {
-    let mut heap = Heap::open(segments, vec![0xa5a5_a5a5; segments.length()])?;
+fn opened(segments: Segments, size: SegmentSize) -> Result<Words> {
+    let mut heap = Heap::open(segments, size, vec![0xa5a5_a5a5; segments.length(size)])?;
     heap.attach(id(0))?;
     Ok(heap)
 }
@@ -35,13 +38,27 @@ fn makes(heap: &mut Words, class: u32, count: u32) -> Result<()> {
     (0..count).try_for_each(|_| heap.mutator(id(0)).make(Root::R0, shape_of(class)))
 }
 
+/// The class that a case by hand has at this size.
+fn class_at(size: SegmentSize, class: u32) -> u32 {
+    match size {
+        SegmentSize::Kib16 => class,
+        SegmentSize::Kib32 => class + 1,
+    }
+}
+
+/// A make of such a class by a mutator.
+fn make(heap: &mut Words, mutator: u32, to: Root, class: u32) -> Result<()> {
+    let class = class_at(heap.segment_size(), class);
+    heap.mutator(id(mutator)).make(to, shape_of(class))
+}
+
 /// The records of all segments.
 fn records(heap: &Words) -> Vec<SegmentRecord> {
     heap.states(&mut vec![0; heap.segments().states_length()]).unwrap().collect()
 }
 
 fn sound(heap: &Words) -> bool {
-    heap.examine(&mut vec![7; heap.segments().scratch_length()]).unwrap()
+    heap.examine(&mut vec![7; heap.segments().scratch_length(heap.segment_size())]).unwrap()
 }
 
 /// The records of all segments, over memory that passes the examination.
@@ -64,8 +81,28 @@ fn full(class: u32, kept: u32, handed_out: u32) -> SegmentRecord {
     SegmentRecord { state: SegmentState::Full { class, place: BLOCKS[class as usize - 3] }, kept, handed_out }
 }
 
+/// The records of a case by hand, with the classes that it has at this size.
+fn at_size<const N: usize>(size: SegmentSize, records: [SegmentRecord; N]) -> [SegmentRecord; N] {
+    records.map(|record| match record.state {
+        SegmentState::Free => record,
+        SegmentState::Part { class, place } => part(class_at(size, class), place, record.kept, record.handed_out),
+        SegmentState::Held { class, place, mutator } => {
+            held(mutator.number(), class_at(size, class), place, record.kept, record.handed_out)
+        }
+        SegmentState::Full { class, place } => {
+            SegmentRecord { state: SegmentState::Full { class: class_at(size, class), place }, ..record }
+        }
+        SegmentState::Condemned { class, place } => condemned(class_at(size, class), place, record.kept, record.handed_out),
+    })
+}
+
 fn condemned(class: u32, place: u32, kept: u32, handed_out: u32) -> SegmentRecord {
     SegmentRecord { state: SegmentState::Condemned { class, place }, kept, handed_out }
+}
+
+/// The heap passes the examination, and a look shows these records of a case by hand.
+fn shows<const N: usize>(heap: &Words, records: [SegmentRecord; N]) {
+    assert_eq!(look(heap), at_size(heap.segment_size(), records));
 }
 
 /// Both handshakes of a started cycle, mutator 0 inside.
@@ -86,31 +123,33 @@ fn mark(heap: &mut Words, traced: u32) {
 }
 
 /// The sweep: these segments, each with the blocks that become free.
-fn sweep(heap: &mut Words, swept: &[(u32, u32)]) -> Vec<SegmentRecord> {
+fn sweep(heap: &mut Words, swept: &[(u32, u32)]) {
     for &(segment, freed) in swept {
         assert_eq!(heap.step(), Ok(Step::Swept { segment, freed }));
     }
     assert_eq!(heap.step(), Ok(Step::Done));
-    look(heap)
 }
 
 /// A whole cycle: so many records are marked, and these segments are swept.
-fn cycle(heap: &mut Words, traced: u32, swept: &[(u32, u32)]) -> Result<Vec<SegmentRecord>> {
+fn cycle(heap: &mut Words, traced: u32, swept: &[(u32, u32)]) -> Result<()> {
     heap.start()?;
     handshakes(heap)?;
     mark(heap, traced);
-    Ok(sweep(heap, swept))
+    sweep(heap, swept);
+    Ok(())
 }
 
 /// After an opening both counts of every segment are 0, also where a heap with counts was there.
 #[test]
 fn an_opening() -> Result<()> {
-    let mut heap = opened(SIX)?;
-    assert_eq!(look(&heap), [FREE; 6]);
-    makes(&mut heap, 12, 5)?;
-    assert_eq!(look(&heap), [full(12, 0, 4), held(0, 12, 1, 0, 1), FREE, FREE, FREE, FREE]);
-    let heap = Heap::open(SIX, heap.into_memory())?;
-    assert_eq!(look(&heap), [FREE; 6]);
+    for size in SegmentSize::ALL {
+        let mut heap = opened(SIX, size)?;
+        shows(&heap, [FREE; 6]);
+        (0..5).try_for_each(|_| make(&mut heap, 0, Root::R0, 12))?;
+        shows(&heap, [full(12, 0, 4), held(0, 12, 1, 0, 1), FREE, FREE, FREE, FREE]);
+        let heap = Heap::open(SIX, size, heap.into_memory())?;
+        shows(&heap, [FREE; 6]);
+    }
     Ok(())
 }
 
@@ -118,38 +157,42 @@ fn an_opening() -> Result<()> {
 /// leaves the place at n, so n blocks before it have a 0 bit, and none was kept. A detach keeps places and counts.
 #[test]
 fn makes_in_three_classes() -> Result<()> {
-    let mut heap = opened(SIX)?;
-    heap.attach(id(1))?;
-    for (mutator, class, count) in [(0, 3, 3), (0, 4, 2), (0, 12, 1), (1, 4, 1)] {
-        for _ in 0..count {
-            heap.mutator(id(mutator)).make(Root::R0, shape_of(class))?;
+    for size in SegmentSize::ALL {
+        let mut heap = opened(SIX, size)?;
+        heap.attach(id(1))?;
+        for (mutator, class, count) in [(0, 3, 3), (0, 4, 2), (0, 12, 1), (1, 4, 1)] {
+            (0..count).try_for_each(|_| make(&mut heap, mutator, Root::R0, class))?;
         }
+        let made = [held(0, 3, 3, 0, 3), held(0, 4, 2, 0, 2), held(0, 12, 1, 0, 1), held(1, 4, 1, 0, 1), FREE, FREE];
+        shows(&heap, made);
+        assert_eq!(heap.mutator(id(0)).make(Root::R0, Shape::new(0, 4096)), Err(Refusal::TooBig));
+        shows(&heap, made);
+        heap.mutator(id(0)).detach()?;
+        shows(&heap, [part(3, 3, 0, 3), part(4, 2, 0, 2), part(12, 1, 0, 1), held(1, 4, 1, 0, 1), FREE, FREE]);
+        make(&mut heap, 1, Root::R0, 3)?; // from segment 0, block 3
+        shows(&heap, [held(1, 3, 4, 0, 4), part(4, 2, 0, 2), part(12, 1, 0, 1), held(1, 4, 1, 0, 1), FREE, FREE]);
     }
-    let made = [held(0, 3, 3, 0, 3), held(0, 4, 2, 0, 2), held(0, 12, 1, 0, 1), held(1, 4, 1, 0, 1), FREE, FREE];
-    assert_eq!(look(&heap), made);
-    assert_eq!(heap.mutator(id(0)).make(Root::R0, Shape::new(0, 4096)), Err(Refusal::TooBig));
-    assert_eq!(look(&heap), made);
-    heap.mutator(id(0)).detach()?;
-    assert_eq!(look(&heap), [part(3, 3, 0, 3), part(4, 2, 0, 2), part(12, 1, 0, 1), held(1, 4, 1, 0, 1), FREE, FREE]);
-    heap.mutator(id(1)).make(Root::R0, shape_of(3))?; // from segment 0, block 3
-    assert_eq!(look(&heap)[0], held(1, 3, 4, 0, 4));
     Ok(())
 }
 
 /// The make that fills a segment counts too, and a start changes no count.
 #[test]
 fn a_fill_of_each_class() -> Result<()> {
-    for (class, blocks) in (3..).zip(BLOCKS) {
-        let mut heap = opened(ONE)?;
-        makes(&mut heap, class, blocks - 1)?;
-        let before = if blocks == 1 { FREE } else { held(0, class, blocks - 1, 0, blocks - 1) };
-        assert_eq!(look(&heap), [before]);
-        makes(&mut heap, class, 1)?;
-        assert_eq!(look(&heap), [full(class, 0, blocks)]);
-        assert_eq!(makes(&mut heap, class, 1), Err(Refusal::NoRoom));
-        assert_eq!(look(&heap), [full(class, 0, blocks)]);
-        heap.start()?;
-        assert_eq!(look(&heap), [condemned(class, blocks, 0, blocks)]);
+    for (size, table) in [(SegmentSize::Kib16, BLOCKS), (SegmentSize::Kib32, BLOCKS_AT_32)] {
+        for (class, blocks) in (3..).zip(table) {
+            assert_eq!(size.blocks(class), blocks);
+            let full = SegmentRecord { state: SegmentState::Full { class, place: blocks }, kept: 0, handed_out: blocks };
+            let mut heap = opened(ONE, size)?;
+            makes(&mut heap, class, blocks - 1)?;
+            let before = if blocks == 1 { FREE } else { held(0, class, blocks - 1, 0, blocks - 1) };
+            assert_eq!(look(&heap), [before]);
+            makes(&mut heap, class, 1)?;
+            assert_eq!(look(&heap), [full]);
+            assert_eq!(makes(&mut heap, class, 1), Err(Refusal::NoRoom));
+            assert_eq!(look(&heap), [full]);
+            heap.start()?;
+            assert_eq!(look(&heap), [condemned(class, blocks, 0, blocks)]);
+        }
     }
     Ok(())
 }
@@ -170,72 +213,96 @@ fn a_fill_of_each_class() -> Result<()> {
 fn sweeps_to_part_full_and_free() -> Result<()> {
     let cleared = [0, 1, 2, 6, 7, 8, 10, 11, 12, 13, 14];
     let places = [1, 2, 3, 7, 8, 9, 11, 12, 13, 14];
-    let mut heap = opened(Segments::new(2).unwrap())?;
-    Root::all().try_for_each(|to| heap.mutator(id(0)).make(to, shape_of(10)))?;
-    cleared.into_iter().try_for_each(|at| heap.mutator(id(0)).clear(root(at)))?;
-    assert_eq!(cycle(&mut heap, 5, &[(0, 11)])?, [part(10, 0, 5, 0), FREE]);
-    for (at, (place, count)) in cleared.into_iter().zip(places.into_iter().zip(1..)) {
-        heap.mutator(id(0)).make(root(at), shape_of(10))?;
-        assert_eq!(look(&heap), [held(0, 10, place, 5, count), FREE]);
+    for size in SegmentSize::ALL {
+        let mut heap = opened(Segments::new(2).unwrap(), size)?;
+        Root::all().try_for_each(|to| make(&mut heap, 0, to, 10))?;
+        cleared.into_iter().try_for_each(|at| heap.mutator(id(0)).clear(root(at)))?;
+        cycle(&mut heap, 5, &[(0, 11)])?;
+        shows(&heap, [part(10, 0, 5, 0), FREE]);
+        for (at, (place, count)) in cleared.into_iter().zip(places.into_iter().zip(1..)) {
+            make(&mut heap, 0, root(at), 10)?;
+            shows(&heap, [held(0, 10, place, 5, count), FREE]);
+        }
+        make(&mut heap, 0, root(14), 10)?;
+        shows(&heap, [full(10, 5, 11), FREE]);
+
+        cycle(&mut heap, 16, &[(0, 0)])?;
+        shows(&heap, [full(10, 16, 0), FREE]);
+        heap.mutator(id(0)).clear(Root::R0)?;
+        cycle(&mut heap, 15, &[(0, 1)])?;
+        shows(&heap, [part(10, 0, 15, 0), FREE]);
+        make(&mut heap, 0, Root::R0, 10)?;
+        shows(&heap, [full(10, 15, 1), FREE]);
+
+        Root::all().try_for_each(|at| heap.mutator(id(0)).clear(at))?;
+        cycle(&mut heap, 0, &[(0, 16)])?;
+        shows(&heap, [FREE, FREE]);
+        (0..2).try_for_each(|_| make(&mut heap, 0, Root::R0, 5))?;
+        shows(&heap, [held(0, 5, 2, 0, 2), FREE]);
     }
-    heap.mutator(id(0)).make(root(14), shape_of(10))?;
-    assert_eq!(look(&heap), [full(10, 5, 11), FREE]);
-
-    assert_eq!(cycle(&mut heap, 16, &[(0, 0)])?, [full(10, 16, 0), FREE]);
-    heap.mutator(id(0)).clear(Root::R0)?;
-    assert_eq!(cycle(&mut heap, 15, &[(0, 1)])?, [part(10, 0, 15, 0), FREE]);
-    makes(&mut heap, 10, 1)?;
-    assert_eq!(look(&heap), [full(10, 15, 1), FREE]);
-
-    Root::all().try_for_each(|at| heap.mutator(id(0)).clear(at))?;
-    assert_eq!(cycle(&mut heap, 0, &[(0, 16)])?, [FREE, FREE]);
-    makes(&mut heap, 5, 2)?;
-    assert_eq!(look(&heap), [held(0, 5, 2, 0, 2), FREE]);
     Ok(())
 }
 
-/// A list of 2,048 records of class 3, each with a pointer to the one made before it, fills a segment. Root 1 has the 777th, so blocks 0
-/// to 776 are reached; the sweep keeps them, and 2,048 - 777 = 1,271 become free. The next make finds block 777 behind 24 whole words and
-/// 9 bits that are 1; one 0 bit lies before place 778. 1,271 makes fill the segment, the last but one with block 2,046.
+/// A list of records of class 3, each with a pointer to the one made before it, fills a segment. Root 1 has the 777th, or another one, so
+/// blocks 0 to 776 are reached; the sweep keeps them, and 2,048 - 777 = 1,271 become free. The next make finds block 777 behind 24 whole
+/// words and 9 bits that are 1; one 0 bit lies before place 778. 1,271 makes fill the segment, the last but one with block 2,046.
+///
+/// At 32 KiB so many of 4,096. With the 2,345th the search goes past 73 whole words of level 0, and so past two of level 1; with the 4,095th
+/// one block is left, the last.
 #[test]
 fn a_bitmap_of_three_levels() -> Result<()> {
-    let mut heap = opened(ONE)?;
-    let mut mutator = heap.mutator(id(0));
-    for made in 1..=2048 {
-        mutator.make(Root::R0, shape_of(3))?;
-        mutator.store(Root::R0, 0, Root::R2)?;
-        mutator.copy(Root::R2, Root::R0)?;
-        if made == 777 {
-            mutator.copy(Root::R1, Root::R0)?;
+    for (size, blocks, kept) in [
+        (SegmentSize::Kib16, 2048, 777),
+        (SegmentSize::Kib16, 2048, 2047),
+        (SegmentSize::Kib32, 4096, 777),
+        (SegmentSize::Kib32, 4096, 2047),
+        (SegmentSize::Kib32, 4096, 2048),
+        (SegmentSize::Kib32, 4096, 2345),
+        (SegmentSize::Kib32, 4096, 4095),
+    ] {
+        let mut heap = opened(ONE, size)?;
+        let mut mutator = heap.mutator(id(0));
+        for made in 1..=blocks {
+            mutator.make(Root::R0, shape_of(3))?;
+            mutator.store(Root::R0, 0, Root::R2)?;
+            mutator.copy(Root::R2, Root::R0)?;
+            if made == kept {
+                mutator.copy(Root::R1, Root::R0)?;
+            }
         }
+        mutator.clear(Root::R0)?;
+        mutator.clear(Root::R2)?;
+        cycle(&mut heap, kept, &[(0, blocks - kept)])?;
+        assert_eq!(look(&heap), [part(3, 0, kept, 0)]);
+        for made in 1..blocks - kept {
+            makes(&mut heap, 3, 1)?;
+            if [1, blocks - kept - 1].contains(&made) {
+                assert_eq!(look(&heap), [held(0, 3, kept + made, kept, made)]);
+            }
+        }
+        makes(&mut heap, 3, 1)?;
+        let state = SegmentState::Full { class: 3, place: blocks };
+        assert_eq!(look(&heap), [SegmentRecord { state, kept, handed_out: blocks - kept }]);
+        assert_eq!(makes(&mut heap, 3, 1), Err(Refusal::NoRoom));
     }
-    mutator.clear(Root::R0)?;
-    mutator.clear(Root::R2)?;
-    assert_eq!(cycle(&mut heap, 777, &[(0, 1271)])?, [part(3, 0, 777, 0)]);
-    makes(&mut heap, 3, 1)?;
-    assert_eq!(look(&heap), [held(0, 3, 778, 777, 1)]);
-    makes(&mut heap, 3, 1269)?;
-    assert_eq!(look(&heap), [held(0, 3, 2047, 777, 1270)]);
-    makes(&mut heap, 3, 1)?;
-    assert_eq!(look(&heap), [full(3, 777, 1271)]);
     Ok(())
 }
 
 /// Four segments are filled: 0, 1 and 3 of class 12, 4 blocks, by mutator 0 with roots 0 to 11; 2 of class 11, 8 blocks, by mutator 1 with
 /// roots 0 to 7. With these roots cleared the sweeps keep block 2 of segment 0, blocks 1 and 3 of segment 1, blocks 0 and 4 of segment 2
 /// and blocks 0, 1 and 3 of segment 3, and free 4 - 1, 4 - 2, 8 - 2 and 4 - 3. All four are part, 3 on top of class 12's stack.
-fn four_parts() -> Result<Words> {
-    let mut heap = opened(SIX)?;
+fn four_parts(size: SegmentSize) -> Result<Words> {
+    let mut heap = opened(SIX, size)?;
     heap.attach(id(1))?;
     for (mutator, class, mut roots) in [(0, 12, 0..8), (1, 11, 0..8), (0, 12, 8..12)] {
-        roots.try_for_each(|to| heap.mutator(id(mutator)).make(root(to), shape_of(class)))?;
+        roots.try_for_each(|to| make(&mut heap, mutator, root(to), class))?;
     }
     for (mutator, roots) in [(0, [0, 1, 3, 4, 6, 10]), (1, [1, 2, 3, 5, 6, 7])] {
         roots.into_iter().try_for_each(|at| heap.mutator(id(mutator)).clear(root(at)))?;
     }
     heap.mutator(id(1)).leave()?;
-    let swept = cycle(&mut heap, 8, &[(0, 3), (1, 2), (2, 6), (3, 1)])?;
-    assert_eq!(swept, [part(12, 0, 1, 0), part(12, 0, 2, 0), part(11, 0, 2, 0), part(12, 0, 3, 0), FREE, FREE]);
+    cycle(&mut heap, 8, &[(0, 3), (1, 2), (2, 6), (3, 1)])?;
+    shows(&heap, [part(12, 0, 1, 0), part(12, 0, 2, 0), part(11, 0, 2, 0), part(12, 0, 3, 0), FREE, FREE]);
     Ok(heap)
 }
 
@@ -245,19 +312,17 @@ fn four_parts() -> Result<Words> {
 /// - 1: one more gets block 0; block 2 remains: held with 2 and 1, the place 1.
 /// - 2: mutator 1 makes two, blocks 1 and 2 past block 0, and is detached: part with 2 and 2, the place 3.
 /// - 0: mutator 2 makes one, block 0; blocks 1 and 3 remain: held with 1 and 1, the place 1. It goes outside.
-fn in_idle() -> Result<Words> {
-    let mut heap = four_parts()?;
-    [10, 4].into_iter().try_for_each(|to| heap.mutator(id(0)).make(root(to), shape_of(12)))?;
-    let mut second = heap.mutator(id(1));
-    second.enter()?;
-    second.make(root(1), shape_of(11))?;
-    second.make(root(2), shape_of(11))?;
-    second.detach()?;
-    let mut third = heap.attach(id(2))?;
-    third.make(Root::R0, shape_of(12))?;
-    third.leave()?;
+fn in_idle(size: SegmentSize) -> Result<Words> {
+    let mut heap = four_parts(size)?;
+    [10, 4].into_iter().try_for_each(|to| make(&mut heap, 0, root(to), 12))?;
+    heap.mutator(id(1)).enter()?;
+    [1, 2].into_iter().try_for_each(|to| make(&mut heap, 1, root(to), 11))?;
+    heap.mutator(id(1)).detach()?;
+    heap.attach(id(2))?;
+    make(&mut heap, 2, Root::R0, 12)?;
+    heap.mutator(id(2)).leave()?;
     heap.mutator(id(0)).clear(root(9))?;
-    assert_eq!(look(&heap), [held(2, 12, 1, 1, 1), held(0, 12, 1, 2, 1), part(11, 3, 2, 2), full(12, 3, 1), FREE, FREE]);
+    shows(&heap, [held(2, 12, 1, 1, 1), held(0, 12, 1, 2, 1), part(11, 3, 2, 2), full(12, 3, 1), FREE, FREE]);
     Ok(heap)
 }
 
@@ -268,22 +333,22 @@ fn beside(first: SegmentRecord) -> [SegmentRecord; 6] {
 
 /// A start condemns the full segment 3 and the part segment 2, each with its place and counts. Mutator 0 then makes one of class 12, block 2
 /// of segment 1, which is full with 2 and 2 and not condemned; and one of class 5 in segment 4.
-fn in_sync1() -> Result<Words> {
-    let mut heap = in_idle()?;
+fn in_sync1(size: SegmentSize) -> Result<Words> {
+    let mut heap = in_idle(size)?;
     heap.start()?;
-    heap.mutator(id(0)).make(root(6), shape_of(12))?;
-    heap.mutator(id(0)).make(root(0), shape_of(5))?;
-    assert_eq!(look(&heap), beside(held(2, 12, 1, 1, 1)));
+    make(&mut heap, 0, root(6), 12)?;
+    make(&mut heap, 0, root(0), 5)?;
+    shows(&heap, beside(held(2, 12, 1, 1, 1)));
     Ok(heap)
 }
 
 /// All five states, in mark: mutator 2 is detached, and segment 0, which it held, is part with its place and counts.
-fn five_states() -> Result<Words> {
-    let mut heap = in_sync1()?;
+fn five_states(size: SegmentSize) -> Result<Words> {
+    let mut heap = in_sync1(size)?;
     handshakes(&mut heap)?;
     heap.mutator(id(2)).enter()?;
     heap.mutator(id(2)).detach()?;
-    assert_eq!(look(&heap), beside(part(12, 1, 1, 1)));
+    shows(&heap, beside(part(12, 1, 1, 1)));
     Ok(heap)
 }
 
@@ -295,20 +360,23 @@ fn five_states() -> Result<Words> {
 /// part ones no more than that. Segment 4 stays held.
 #[test]
 fn all_five_states() -> Result<()> {
-    let mut heap = five_states()?;
-    mark(&mut heap, 10);
-    let last = held(0, 5, 1, 0, 1);
-    let swept = sweep(&mut heap, &[(2, 4), (3, 1)]);
-    assert_eq!(swept, [part(12, 1, 1, 1), full(12, 2, 2), FREE, part(12, 0, 3, 0), last, FREE]);
+    for size in SegmentSize::ALL {
+        let mut heap = five_states(size)?;
+        mark(&mut heap, 10);
+        let last = held(0, 5, 1, 0, 1);
+        sweep(&mut heap, &[(2, 4), (3, 1)]);
+        shows(&heap, [part(12, 1, 1, 1), full(12, 2, 2), FREE, part(12, 0, 3, 0), last, FREE]);
 
-    Root::all().try_for_each(|at| heap.mutator(id(0)).clear(at))?;
-    assert_eq!(cycle(&mut heap, 0, &[(0, 2), (1, 4), (3, 3)])?, [FREE, FREE, FREE, FREE, last, FREE]);
+        Root::all().try_for_each(|at| heap.mutator(id(0)).clear(at))?;
+        cycle(&mut heap, 0, &[(0, 2), (1, 4), (3, 3)])?;
+        shows(&heap, [FREE, FREE, FREE, FREE, last, FREE]);
+    }
     Ok(())
 }
 
 /// Where docs/LAYOUT.md puts the two counts of a segment, kept and handed out.
-fn counts_at(segments: Segments, segment: usize) -> [usize; 2] {
-    let record = 1040 + 4096 * segments.count() as usize + 6 * segment;
+fn counts_at(heap: &Words, segment: usize) -> [usize; 2] {
+    let record = 1040 + at::words(heap.segment_size()) * heap.segments().count() as usize + 6 * segment;
     [record + 4, record + 5]
 }
 
@@ -316,13 +384,13 @@ fn counts_at(segments: Segments, segment: usize) -> [usize; 2] {
 fn with(heap: &Words, word: usize, number: u32) -> Words {
     let mut words = heap.memory().to_vec();
     words[word] = number;
-    Heap::adopt_unexamined(heap.segments(), words).unwrap()
+    Heap::adopt_unexamined(heap.segments(), heap.segment_size(), words).unwrap()
 }
 
 /// Makes of every class, the calls of coming and going, a start, steps and checks over the words as they are: none panics, and none is
 /// refused Size.
 fn calls_over(torn: &Words) {
-    let anew = || Heap::adopt_unexamined(torn.segments(), torn.memory().to_vec()).unwrap();
+    let anew = || Heap::adopt_unexamined(torn.segments(), torn.segment_size(), torn.memory().to_vec()).unwrap();
     for class in 3..=14 {
         assert_ne!(anew().mutator(id(0)).make(Root::R0, shape_of(class)), Err(Refusal::Size));
     }
@@ -350,9 +418,9 @@ fn torn_counts(heap: &Words) {
             SegmentState::Part { class, .. }
             | SegmentState::Held { class, .. }
             | SegmentState::Full { class, .. }
-            | SegmentState::Condemned { class, .. } => BLOCKS[class as usize - 3],
+            | SegmentState::Condemned { class, .. } => heap.segment_size().blocks(class),
         };
-        let [kept_at, handed_out_at] = counts_at(heap.segments(), segment);
+        let [kept_at, handed_out_at] = counts_at(heap, segment);
         for number in [0, 1, 2, 3, blocks, blocks + 1, 1 << 31, u32::MAX] {
             let torn = with(heap, kept_at, number);
             assert_eq!(records(&torn)[segment], SegmentRecord { kept: number, ..right });
@@ -381,27 +449,32 @@ fn torn_counts_in(mut heap: Words, phases: &[Phase]) -> Result<()> {
 /// A segment in each state, in each phase of a cycle; and one whose blocks were all handed out, and then all kept.
 #[test]
 fn torn_counts_in_every_state() -> Result<()> {
-    torn_counts(&in_idle()?);
-    torn_counts_in(in_sync1()?, &[Phase::Sync1, Phase::Sync2])?;
-    torn_counts_in(five_states()?, &[Phase::Mark, Phase::Sweep, Phase::Idle])?;
-    let mut heap = opened(ONE)?;
-    (0..4).try_for_each(|to| heap.mutator(id(0)).make(root(to), shape_of(12)))?;
-    assert_eq!(look(&heap), [full(12, 0, 4)]);
-    torn_counts(&heap);
-    assert_eq!(cycle(&mut heap, 4, &[(0, 0)])?, [full(12, 4, 0)]);
-    torn_counts(&heap);
+    for size in SegmentSize::ALL {
+        torn_counts(&in_idle(size)?);
+        torn_counts_in(in_sync1(size)?, &[Phase::Sync1, Phase::Sync2])?;
+        torn_counts_in(five_states(size)?, &[Phase::Mark, Phase::Sweep, Phase::Idle])?;
+        let mut heap = opened(ONE, size)?;
+        (0..4).try_for_each(|to| make(&mut heap, 0, root(to), 12))?;
+        shows(&heap, [full(12, 0, 4)]);
+        torn_counts(&heap);
+        cycle(&mut heap, 4, &[(0, 0)])?;
+        shows(&heap, [full(12, 4, 0)]);
+        torn_counts(&heap);
+    }
     Ok(())
 }
 
 /// A number moved from one count to the other: the sum is right, and the counts are not.
 #[test]
 fn the_sum_alone_is_not_enough() -> Result<()> {
-    let heap = five_states()?;
-    for segment in 0..5 {
-        let [kept, handed_out] = counts_at(SIX, segment);
-        let torn = with(&with(&heap, kept, heap.memory()[kept] + 1), handed_out, heap.memory()[handed_out] - 1);
-        assert_eq!(records(&torn)[segment].in_use(), records(&heap)[segment].in_use());
-        assert!(!sound(&torn));
+    for size in SegmentSize::ALL {
+        let heap = five_states(size)?;
+        for segment in 0..5 {
+            let [kept, handed_out] = counts_at(&heap, segment);
+            let torn = with(&with(&heap, kept, heap.memory()[kept] + 1), handed_out, heap.memory()[handed_out] - 1);
+            assert_eq!(records(&torn)[segment].in_use(), records(&heap)[segment].in_use());
+            assert!(!sound(&torn));
+        }
     }
     Ok(())
 }
@@ -411,35 +484,37 @@ fn the_sum_alone_is_not_enough() -> Result<()> {
 /// other segment's count, and for none of blocks kept. One less than that number is counted on.
 #[test]
 fn makes_over_torn_counts() -> Result<()> {
-    let heap = five_states()?;
-    let takes = [(12, 0), (11, 5), (5, 4)];
-    for segment in 0..6 {
-        let [kept, handed_out] = counts_at(SIX, segment);
-        for (class, from) in takes {
-            let expected = if from == segment { Err(Refusal::Torn) } else { Ok(()) };
-            assert_eq!(makes(&mut with(&heap, handed_out, u32::MAX), class, 1), expected);
-            let mut torn = with(&heap, kept, u32::MAX);
-            assert_eq!(makes(&mut torn, class, 1), Ok(()));
-            assert_eq!(torn.memory()[kept], u32::MAX);
+    for size in SegmentSize::ALL {
+        let heap = five_states(size)?;
+        let takes = [(12, 0), (11, 5), (5, 4)];
+        for segment in 0..6 {
+            let [kept, handed_out] = counts_at(&heap, segment);
+            for (class, from) in takes {
+                let expected = if from == segment { Err(Refusal::Torn) } else { Ok(()) };
+                assert_eq!(make(&mut with(&heap, handed_out, u32::MAX), 0, Root::R0, class), expected);
+                let mut torn = with(&heap, kept, u32::MAX);
+                assert_eq!(make(&mut torn, 0, Root::R0, class), Ok(()));
+                assert_eq!(torn.memory()[kept], u32::MAX);
+            }
         }
-    }
-    for (class, from) in takes {
-        let [_, handed_out] = counts_at(SIX, from);
-        let mut torn = with(&heap, handed_out, u32::MAX - 1);
-        assert_eq!(makes(&mut torn, class, 1), Ok(()));
-        assert_eq!(torn.memory()[handed_out], u32::MAX);
-        assert_eq!(makes(&mut torn, class, 1), Err(Refusal::Torn));
+        for (class, from) in takes {
+            let [_, handed_out] = counts_at(&heap, from);
+            let mut torn = with(&heap, handed_out, u32::MAX - 1);
+            assert_eq!(make(&mut torn, 0, Root::R0, class), Ok(()));
+            assert_eq!(torn.memory()[handed_out], u32::MAX);
+            assert_eq!(make(&mut torn, 0, Root::R0, class), Err(Refusal::Torn));
+        }
     }
     Ok(())
 }
 
-/// The same at every place of the first two words of a bitmap, of every class but 14, which nobody holds.
+/// The same at every place of the first two words of a bitmap, of every class that somebody holds: at 16 KiB nobody holds class 14.
 #[test]
 fn makes_over_torn_counts_at_every_place() -> Result<()> {
-    let [_, handed_out] = counts_at(ONE, 0);
-    for (class, blocks) in (3..14).zip(BLOCKS) {
-        let mut heap = opened(ONE)?;
-        for _ in 1..blocks.min(65) {
+    for (size, class) in SegmentSize::ALL.into_iter().flat_map(|size| (3..=14).map(move |class| (size, class))) {
+        let mut heap = opened(ONE, size)?;
+        let [_, handed_out] = counts_at(&heap, 0);
+        for _ in 1..size.blocks(class).min(65) {
             makes(&mut heap, class, 1)?;
             assert_eq!(makes(&mut with(&heap, handed_out, u32::MAX), class, 1), Err(Refusal::Torn));
         }
@@ -450,7 +525,7 @@ fn makes_over_torn_counts_at_every_place() -> Result<()> {
 /// A step over a condemned segment, for each pair of these counts: Torn where they are more than its blocks together, no sum wrapping; else
 /// it is swept, and its counts are right again, so many blocks being marked.
 fn torn_sweeps(heap: &Words, segment: usize, blocks: u32, marked: u32) {
-    let [kept_at, handed_out_at] = counts_at(heap.segments(), segment);
+    let [kept_at, handed_out_at] = counts_at(heap, segment);
     let numbers = [0, 1, blocks - 1, blocks, blocks + 1, 1 << 31, u32::MAX - blocks, u32::MAX];
     for (kept, handed_out) in numbers.into_iter().flat_map(|kept| numbers.map(|handed_out| (kept, handed_out))) {
         let mut torn = with(&with(heap, kept_at, kept), handed_out_at, handed_out);
@@ -467,14 +542,14 @@ fn torn_sweeps(heap: &Words, segment: usize, blocks: u32, marked: u32) {
 /// Segments 2 and 3 of the heap with all five states, of which 2 was part; and a full segment of each class, with no record marked, or one.
 #[test]
 fn sweeps_over_torn_counts() -> Result<()> {
-    let mut heap = five_states()?;
-    mark(&mut heap, 10);
-    torn_sweeps(&heap, 2, 8, 0);
-    assert_eq!(heap.step(), Ok(Step::Swept { segment: 2, freed: 4 }));
-    torn_sweeps(&heap, 3, 4, 3);
-    for (class, blocks) in (3..).zip(BLOCKS) {
-        for alive in 0..2 {
-            let mut heap = opened(ONE)?;
+    for size in SegmentSize::ALL {
+        let mut heap = five_states(size)?;
+        mark(&mut heap, 10);
+        torn_sweeps(&heap, 2, 8, 0);
+        assert_eq!(heap.step(), Ok(Step::Swept { segment: 2, freed: 4 }));
+        torn_sweeps(&heap, 3, 4, 3);
+        for (class, alive) in (3..=14).flat_map(|class| [(class, 0), (class, 1)]) {
+            let (mut heap, blocks) = (opened(ONE, size)?, size.blocks(class));
             makes(&mut heap, class, blocks)?;
             heap.mutator(id(0)).clear(root(alive))?; // root 0 has the last record, root 1 none
             heap.start()?;
@@ -515,8 +590,8 @@ fn counts_of(record: &SegmentRecord) -> (u32, u32) {
 }
 
 impl List {
-    fn new(segments: Segments, classes: &'static [u32], seed: u64) -> Result<List> {
-        let mut heap = opened(segments)?;
+    fn new(segments: Segments, size: SegmentSize, classes: &'static [u32], seed: u64) -> Result<List> {
+        let mut heap = opened(segments, size)?;
         heap.attach(id(1))?;
         heap.attach(id(2))?;
         let records = look(&heap);
@@ -631,16 +706,23 @@ impl List {
 /// of the counts of all segments; and each call changes the counts that it may change, and no other.
 #[test]
 fn made_less_freed_is_in_use() -> Result<()> {
-    let lists: [(u64, u32, &'static [u32]); 4] =
-        [(1, 6, &[12, 13, 14]), (22, 10, &[11, 12, 13, 14]), (333, 16, &[10, 11, 12, 13, 14]), (4444, 24, &[3, 5, 10, 11, 12, 13, 14])];
-    for (seed, segments, classes) in lists {
-        let mut list = List::new(Segments::new(segments).unwrap(), classes, 0x9e37_79b9_7f4a_7c15 ^ seed)?;
+    let lists: [(u64, [u32; 2], &'static [u32]); 4] = [
+        (1, [6, 4], &[12, 13, 14]),
+        (22, [10, 8], &[11, 12, 13, 14]),
+        (333, [16, 10], &[10, 11, 12, 13, 14]),
+        (4444, [24, 16], &[3, 5, 10, 11, 12, 13, 14]),
+    ];
+    let lists = lists.into_iter().flat_map(|(seed, counts, classes)| {
+        SegmentSize::ALL.into_iter().zip(counts).map(move |(size, segments)| (seed, segments, size, classes))
+    });
+    for (seed, segments, size, classes) in lists {
+        let mut list = List::new(Segments::new(segments).unwrap(), size, classes, 0x9e37_79b9_7f4a_7c15 ^ seed)?;
         for _ in 0..5000 {
             list.turn()?;
         }
         let Seen { to_part, to_full, to_free, no_room, filled, past_kept } = list.seen;
         let least = [to_part, to_full, to_free, no_room, filled, past_kept].into_iter().min();
-        assert!(least > Some(5), "{segments} segments: {:?}", list.seen);
+        assert!(least > Some(5), "{segments} segments of {} KiB: {:?}", size.kib(), list.seen);
     }
     Ok(())
 }
@@ -648,11 +730,13 @@ fn made_less_freed_is_in_use() -> Result<()> {
 /// The raw look: six words for each segment, the counts the last two.
 #[test]
 fn the_words_of_the_look() -> Result<()> {
-    let heap = five_states()?;
-    let mut output = [9; SIX.states_length()];
-    raw::states(6, heap.memory(), &mut output)?;
-    let used = [[1, 12, 1, 0, 1, 1], [3, 12, 4, 0, 2, 2], [4, 11, 3, 0, 2, 2], [4, 12, 4, 0, 3, 1], [2, 5, 1, 0, 0, 1]];
-    assert_eq!(output[..30], *used.as_flattened());
-    assert_eq!(output[30..], [0; 6]);
+    for (size, [four, eight, small]) in [(SegmentSize::Kib16, [12, 11, 5]), (SegmentSize::Kib32, [13, 12, 6])] {
+        let heap = five_states(size)?;
+        let mut output = [9; SIX.states_length()];
+        raw::states(6, size.kib(), heap.memory(), &mut output)?;
+        let used = [[1, four, 1, 0, 1, 1], [3, four, 4, 0, 2, 2], [4, eight, 3, 0, 2, 2], [4, four, 4, 0, 3, 1], [2, small, 1, 0, 0, 1]];
+        assert_eq!(output[..30], *used.as_flattened());
+        assert_eq!(output[30..], [0; 6]);
+    }
     Ok(())
 }

@@ -6,7 +6,7 @@ mod common;
 
 use std::collections::VecDeque;
 
-use borvukhai::{Heap, Mutator, Refusal, Result, Root, SegmentRecord, SegmentState, Segments, Shape, Step};
+use borvukhai::{Heap, Mutator, Refusal, Result, Root, SegmentRecord, SegmentSize, SegmentState, Segments, Shape, Step};
 use common::id;
 
 const SEGMENTS: Segments = Segments::new(4).unwrap();
@@ -63,7 +63,7 @@ fn turn(queue: &mut Queue, mutator: &mut Mutator<'_>, value: u32) -> Result<()> 
 }
 
 fn examined(heap: &Heap<Box<[u32]>>) -> bool {
-    heap.examine(&mut vec![1; SEGMENTS.scratch_length()]) == Ok(true)
+    heap.examine(&mut vec![1; SEGMENTS.scratch_length(heap.segment_size())]) == Ok(true)
 }
 
 /// Cycles that ended, by whether they had a segment to sweep.
@@ -99,7 +99,11 @@ impl Cycles {
 
 #[test]
 fn lists_live_through_cycles() -> Result<()> {
-    let mut heap = Heap::new(SEGMENTS);
+    SegmentSize::ALL.into_iter().try_for_each(lists_live_at)
+}
+
+fn lists_live_at(size: SegmentSize) -> Result<()> {
+    let mut heap = Heap::new(SEGMENTS, size);
     let mut queues = [Queue::default(), Queue::default()];
     heap.attach(id(0))?;
     heap.attach(id(1))?;
@@ -123,19 +127,21 @@ fn lists_live_through_cycles() -> Result<()> {
 
 #[test]
 fn a_cycle_in_one_call_makes_room() -> Result<()> {
-    let mut heap = Heap::new(Segments::MIN);
-    heap.attach(id(0))?;
-    heap.attach(id(1))?.leave()?;
-    let mut freed = 0;
-    for made in 1..=10_000 {
-        if heap.mutator(id(0)).make(FIRST, Shape::new(0, 1000)) == Err(Refusal::NoRoom) {
-            heap.start()?;
-            freed += heap.finish_cycle()?;
-            assert!(heap.mutator(id(0)).make(FIRST, Shape::new(0, 1000)).is_ok());
+    for size in SegmentSize::ALL {
+        let mut heap = Heap::new(Segments::MIN, size);
+        heap.attach(id(0))?;
+        heap.attach(id(1))?.leave()?;
+        let mut freed = 0;
+        for made in 1..=10_000 {
+            if heap.mutator(id(0)).make(FIRST, Shape::new(0, 1000)) == Err(Refusal::NoRoom) {
+                heap.start()?;
+                freed += heap.finish_cycle()?;
+                assert!(heap.mutator(id(0)).make(FIRST, Shape::new(0, 1000)).is_ok());
+            }
+            assert!(made - freed <= size.blocks(12));
         }
-        assert!(made - freed <= 4);
+        assert_eq!(heap.finish_cycle(), Ok(0), "no cycle runs");
     }
-    assert_eq!(heap.finish_cycle(), Ok(0), "no cycle runs");
     Ok(())
 }
 
@@ -145,43 +151,47 @@ fn a_cycle_in_one_call_makes_room() -> Result<()> {
 #[test]
 fn long_records_after_short_ones() -> Result<()> {
     let (short, long) = (Shape::new(1, 5), Shape::new(0, 2000));
-    let mut heap = Heap::new(Segments::MIN);
-    let state = |heap: &Heap<Box<[u32]>>| heap.states(&mut [0; 6]).unwrap().next().unwrap();
-    let mut mutator = heap.attach(id(0))?;
-    [FIRST, LAST, NEW].into_iter().try_for_each(|to| mutator.make(to, short))?;
-    mutator.detach()?;
-    assert_eq!(state(&heap), SegmentRecord { state: SegmentState::Part { class: 5, place: 3 }, kept: 0, handed_out: 3 });
+    for size in SegmentSize::ALL {
+        let mut heap = Heap::new(Segments::MIN, size);
+        let state = |heap: &Heap<Box<[u32]>>| heap.states(&mut [0; 6]).unwrap().next().unwrap();
+        let mut mutator = heap.attach(id(0))?;
+        [FIRST, LAST, NEW].into_iter().try_for_each(|to| mutator.make(to, short))?;
+        mutator.detach()?;
+        assert_eq!(state(&heap), SegmentRecord { state: SegmentState::Part { class: 5, place: 3 }, kept: 0, handed_out: 3 });
 
-    assert_eq!(heap.attach(id(1))?.make(FIRST, long), Err(Refusal::NoRoom));
-    heap.start()?;
-    assert_eq!(state(&heap), SegmentRecord { state: SegmentState::Condemned { class: 5, place: 3 }, kept: 0, handed_out: 3 });
-    heap.mutator(id(1)).leave()?;
-    for _ in 0..3 {
-        assert_eq!(heap.step(), Ok(Step::Moved));
+        assert_eq!(heap.attach(id(1))?.make(FIRST, long), Err(Refusal::NoRoom));
+        heap.start()?;
+        assert_eq!(state(&heap), SegmentRecord { state: SegmentState::Condemned { class: 5, place: 3 }, kept: 0, handed_out: 3 });
+        heap.mutator(id(1)).leave()?;
+        for _ in 0..3 {
+            assert_eq!(heap.step(), Ok(Step::Moved));
+        }
+        heap.mutator(id(1)).enter()?;
+        assert_eq!(heap.mutator(id(1)).make(FIRST, long), Err(Refusal::NoRoom));
+        assert_eq!(heap.mutator(id(1)).make(FIRST, short), Err(Refusal::NoRoom));
+        assert_eq!(heap.step(), Ok(Step::Swept { segment: 0, freed: 3 }));
+        assert_eq!(heap.mutator(id(1)).make(FIRST, long), Ok(()));
+        assert_eq!(heap.step(), Ok(Step::Done));
     }
-    heap.mutator(id(1)).enter()?;
-    assert_eq!(heap.mutator(id(1)).make(FIRST, long), Err(Refusal::NoRoom));
-    assert_eq!(heap.mutator(id(1)).make(FIRST, short), Err(Refusal::NoRoom));
-    assert_eq!(heap.step(), Ok(Step::Swept { segment: 0, freed: 3 }));
-    assert_eq!(heap.mutator(id(1)).make(FIRST, long), Ok(()));
-    assert_eq!(heap.step(), Ok(Step::Done));
     Ok(())
 }
 
 /// The bound of finish_cycle is met by a heap full of the smallest records, all of them alive.
 #[test]
 fn a_cycle_of_all_the_blocks_ends_within_the_bound() -> Result<()> {
-    let mut heap = Heap::new(SEGMENTS);
-    let mut mutator = heap.attach(id(0))?;
-    while mutator.make(NEW, Shape::new(1, 0)).is_ok() {
-        mutator.store(NEW, 0, FIRST)?;
-        mutator.copy(FIRST, NEW)?;
+    for size in SegmentSize::ALL {
+        let mut heap = Heap::new(SEGMENTS, size);
+        let mut mutator = heap.attach(id(0))?;
+        while mutator.make(NEW, Shape::new(1, 0)).is_ok() {
+            mutator.store(NEW, 0, FIRST)?;
+            mutator.copy(FIRST, NEW)?;
+        }
+        heap.start()?;
+        assert_eq!(heap.finish_cycle(), Ok(0));
+        heap.mutator(id(0)).clear(FIRST)?;
+        heap.mutator(id(0)).clear(NEW)?;
+        heap.start()?;
+        assert_eq!(heap.finish_cycle(), Ok(size.most_blocks() * SEGMENTS.count()));
     }
-    heap.start()?;
-    assert_eq!(heap.finish_cycle(), Ok(0));
-    heap.mutator(id(0)).clear(FIRST)?;
-    heap.mutator(id(0)).clear(NEW)?;
-    heap.start()?;
-    assert_eq!(heap.finish_cycle(), Ok(2048 * SEGMENTS.count()));
     Ok(())
 }

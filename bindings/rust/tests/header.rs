@@ -3,7 +3,7 @@
 
 mod common;
 
-use borvukhai::{Heap, LAYOUT, SegmentRecord, SegmentState, Shape};
+use borvukhai::{Heap, LAYOUT, SegmentRecord, SegmentSize, SegmentState, Shape};
 use common::{ONE, STATES, at, full, id};
 
 const HEADER: &str = include_str!("../../../include/borvukhai.h");
@@ -30,13 +30,15 @@ fn version_and_layout() {
 #[test]
 fn the_words_of_a_segment() {
     assert_eq!(state_word("WORDS"), STATES);
-    let mut words = full();
-    for (name, word) in [("TAG", 2), ("CLASS", 12), ("PLACE", 3), ("MUTATOR", 7), ("KEPT", 10), ("HANDED_OUT", 11)] {
-        words[at::TAG + state_word(name)] = word;
+    for size in SegmentSize::ALL {
+        let mut words = full(size);
+        for (name, word) in [("TAG", 2), ("CLASS", 12), ("PLACE", 3), ("MUTATOR", 7), ("KEPT", 10), ("HANDED_OUT", 11)] {
+            words[at::tag(size) + state_word(name)] = word;
+        }
+        let heap = Heap::adopt_unexamined(ONE, size, words).unwrap();
+        let state = SegmentState::Held { class: 12, place: 3, mutator: id(7) };
+        assert!(heap.states(&mut [0; STATES]).unwrap().eq([SegmentRecord { state, kept: 10, handed_out: 11 }]));
     }
-    let heap = Heap::adopt_unexamined(ONE, words).unwrap();
-    let state = SegmentState::Held { class: 12, place: 3, mutator: id(7) };
-    assert!(heap.states(&mut [0; STATES]).unwrap().eq([SegmentRecord { state, kept: 10, handed_out: 11 }]));
 }
 
 /// Document 01's table as document 02 has it, where each of the two longest classes ends, and numbers whose sum would wrap.

@@ -7,7 +7,7 @@ mod common;
 #[allow(dead_code)] // its main
 mod paced;
 
-use borvukhai::{Heap, Pacer, Phase, Refusal, Result, Root, SegmentRecord, SegmentState, Segments, Shape};
+use borvukhai::{Heap, Pacer, Phase, Refusal, Result, Root, SegmentRecord, SegmentSize, SegmentState, Segments, Shape};
 use common::id;
 use paced::{Play, STEPS};
 
@@ -16,12 +16,13 @@ const STATES: usize = SEGMENTS.states_length();
 
 #[test]
 fn no_make_is_refused_in_a_steady_mix() -> Result<()> {
-    for seed in [1, 22, 333, 4444] {
-        for steps in [96, STEPS, 256] {
-            let mut play = Play::new(Some(steps), seed)?;
+    let seeds: [(SegmentSize, u32, &[u32]); 2] = [(SegmentSize::Kib16, 100, &[1, 22, 333, 4444]), (SegmentSize::Kib32, 40, &[1, 22])];
+    for (size, cycles, seeds) in seeds {
+        for (&seed, steps) in seeds.iter().flat_map(|seed| [96, STEPS, 256].map(|steps| (seed, steps))) {
+            let mut play = Play::new(size, Some(steps), seed)?;
             play.run(500_000)?;
             assert_eq!(play.no_room, 0);
-            assert!(play.cycles > 100, "{} cycles", play.cycles);
+            assert!(play.cycles > cycles, "{} cycles", play.cycles);
         }
     }
     Ok(())
@@ -29,9 +30,11 @@ fn no_make_is_refused_in_a_steady_mix() -> Result<()> {
 
 #[test]
 fn without_it_makes_are_refused() -> Result<()> {
-    let mut play = Play::new(None, 1)?;
-    play.run(500_000)?;
-    assert!(play.no_room > 50, "{} times", play.no_room);
+    for (size, times) in [(SegmentSize::Kib16, 50), (SegmentSize::Kib32, 20)] {
+        let mut play = Play::new(size, None, 1)?;
+        play.run(500_000)?;
+        assert!(play.no_room > times, "{} times", play.no_room);
+    }
     Ok(())
 }
 
@@ -56,8 +59,8 @@ impl Lists {
         Ok(Lists { heap, pacer })
     }
 
-    fn built() -> Result<Lists> {
-        let mut lists = Lists::over(Heap::new(SEGMENTS))?;
+    fn built(size: SegmentSize) -> Result<Lists> {
+        let mut lists = Lists::over(Heap::new(SEGMENTS, size))?;
         for number in 0..3 {
             lists.heap.attach(id(number))?;
             lists.pacer.make(&mut lists.heap, id(number), LAST, shape_of(number))?;
@@ -94,18 +97,24 @@ impl Lists {
 
 #[test]
 fn three_mutators() -> Result<()> {
-    let mut lists = Lists::built()?;
-    for _ in 0..100_000 {
-        lists.turn()?;
+    for size in SegmentSize::ALL {
+        let mut lists = Lists::built(size)?;
+        for _ in 0..100_000 {
+            lists.turn()?;
+        }
+        assert_eq!(lists.heap.examine(&mut vec![0; SEGMENTS.scratch_length(size)]), Ok(true));
     }
-    assert_eq!(lists.heap.examine(&mut vec![0; SEGMENTS.scratch_length()]), Ok(true));
     Ok(())
 }
 
 /// Every phase of a cycle is left by a restart: another pacer goes on with what the memory holds.
 #[test]
 fn after_a_restart() -> Result<()> {
-    let mut lists = Lists::built()?;
+    SegmentSize::ALL.into_iter().try_for_each(restarts)
+}
+
+fn restarts(size: SegmentSize) -> Result<()> {
+    let mut lists = Lists::built(size)?;
     for phase in [Phase::Sync1, Phase::Sync2, Phase::Mark, Phase::Sweep, Phase::Idle].into_iter().cycle().take(50) {
         let mut turns = 0;
         while turns < 5_000 || (lists.heap.phase()? != phase && turns < 20_000) {
@@ -113,7 +122,7 @@ fn after_a_restart() -> Result<()> {
             turns += 1;
         }
         let words = lists.heap.into_memory();
-        lists = Lists::over(Heap::adopt(SEGMENTS, words, &mut vec![0; SEGMENTS.scratch_length()])?)?;
+        lists = Lists::over(Heap::adopt(SEGMENTS, size, words, &mut vec![0; SEGMENTS.scratch_length(size)])?)?;
     }
     Ok(())
 }
@@ -139,9 +148,9 @@ struct Mixed {
 }
 
 impl Mixed {
-    fn new(mix: Mix, seed: u32) -> Result<Mixed> {
+    fn new(mix: Mix, size: SegmentSize, seed: u32) -> Result<Mixed> {
         let segments = Segments::new(mix.segments).unwrap();
-        let mut heap = Heap::new(segments);
+        let mut heap = Heap::new(segments, size);
         for number in 0..mix.mutators {
             heap.attach(id(number))?;
         }
@@ -209,7 +218,8 @@ impl Mixed {
 #[test]
 fn room_is_certain() -> Result<()> {
     const TURNS: u32 = 20_000;
-    for seed in [1, 22, 333, 4444, 55_555] {
+    let seeds = [1, 22, 333, 4444, 55_555].map(|seed| (SegmentSize::Kib16, seed)).into_iter();
+    for (size, seed) in seeds.chain([1, 22].map(|seed| (SegmentSize::Kib32, seed))) {
         let mixes = [
             Mix { segments: 2, steps: 8, mutators: 2, values: &[1, 5], often: 0, alone: false },
             Mix { segments: 8, steps: 64, mutators: 1, values: &[6, 14, 30], often: 950, alone: false },
@@ -222,12 +232,12 @@ fn room_is_certain() -> Result<()> {
             Mix { segments: 40, steps: 64, mutators: 2, values: &[6, 1500, 3000], often: 500, alone: true },
         ];
         for mix in mixes {
-            let mut mixed = Mixed::new(mix, seed)?;
+            let mut mixed = Mixed::new(mix, size, seed)?;
             for _ in 0..TURNS {
                 mixed.turn()?;
             }
             let often = TURNS / 1000 * mixed.mix.often;
-            assert!(mixed.kept >= often, "{} segments: kept at {} of {TURNS}", mixed.mix.segments, mixed.kept);
+            assert!(mixed.kept >= often, "{} segments of {} KiB: kept at {} of {TURNS}", mixed.mix.segments, size.kib(), mixed.kept);
         }
     }
     Ok(())
@@ -238,39 +248,51 @@ fn room_is_certain() -> Result<()> {
 #[test]
 fn one_mutator_holds_all() -> Result<()> {
     const TWO: Segments = Segments::new(2).unwrap();
-    let mut heap = Heap::new(TWO);
-    let mut pacer = Pacer::new(&heap, [0; TWO.states_length()], 8, 2)?;
-    for number in 0..2 {
-        heap.attach(id(number))?;
+    for size in SegmentSize::ALL {
+        let mut heap = Heap::new(TWO, size);
+        let mut pacer = Pacer::new(&heap, [0; TWO.states_length()], 8, 2)?;
+        for number in 0..2 {
+            heap.attach(id(number))?;
+        }
+        for values in [1, 5] {
+            pacer.make(&mut heap, id(0), NEW, Shape::new(1, values))?;
+        }
+        assert_eq!((pacer.room(), pacer.kept()), (0, false));
+        assert_eq!(pacer.make(&mut heap, id(1), NEW, Shape::new(1, 1)), Err(Refusal::NoRoom));
+        for values in [1, 5] {
+            pacer.makers(&heap, Shape::new(1, values), 1)?;
+        }
+        assert_eq!((pacer.room(), pacer.kept()), (size.blocks(5) - 1, true));
     }
-    for values in [1, 5] {
-        pacer.make(&mut heap, id(0), NEW, Shape::new(1, values))?;
-    }
-    assert_eq!((pacer.room(), pacer.kept()), (0, false));
-    assert_eq!(pacer.make(&mut heap, id(1), NEW, Shape::new(1, 1)), Err(Refusal::NoRoom));
-    for values in [1, 5] {
-        pacer.makers(&heap, Shape::new(1, values), 1)?;
-    }
-    assert_eq!((pacer.room(), pacer.kept()), (511, true));
     Ok(())
 }
 
-/// Classes of 2 blocks and of 1, in two segments: as many makes as the pacer says find room, and the next finds none.
+/// Classes of few blocks in two segments, 13 and 14: as many makes as the pacer says find room in any order, and in the worst one the next
+/// finds none.
 #[test]
 fn classes_of_few_blocks() -> Result<()> {
     const TWO: Segments = Segments::new(2).unwrap();
-    for (values, other, room) in [(2046, 2046, 4), (4094, 4094, 2), (4094, 2046, 2)] {
-        let mut heap = Heap::new(TWO);
+    let (long, longer) = (2046, 4094);
+    let worst: [(SegmentSize, &[u32], &[u32]); 6] = [
+        (SegmentSize::Kib16, &[long], &[long; 4]),
+        (SegmentSize::Kib16, &[longer], &[longer; 2]),
+        (SegmentSize::Kib16, &[longer, long], &[longer; 2]),
+        (SegmentSize::Kib32, &[long], &[long; 8]),
+        (SegmentSize::Kib32, &[longer], &[longer; 4]),
+        (SegmentSize::Kib32, &[longer, long], &[long, longer, longer]),
+    ];
+    for (size, played, makes) in worst {
+        let mut heap = Heap::new(TWO, size);
         heap.attach(id(0))?;
         let mut pacer = Pacer::new(&heap, [0; TWO.states_length()], 8, 1)?;
-        for values in [values, other] {
+        for &values in played {
             pacer.makers(&heap, Shape::new(1, values), 1)?;
         }
-        assert_eq!(pacer.room(), room);
-        for _ in 0..room {
+        assert_eq!(pacer.room() as usize, makes.len());
+        for &values in makes {
             heap.mutator(id(0)).make(NEW, Shape::new(1, values))?;
         }
-        assert_eq!(heap.mutator(id(0)).make(NEW, Shape::new(1, values)), Err(Refusal::NoRoom));
+        assert_eq!(heap.mutator(id(0)).make(NEW, Shape::new(1, played[0])), Err(Refusal::NoRoom));
     }
     Ok(())
 }
@@ -279,55 +301,61 @@ fn classes_of_few_blocks() -> Result<()> {
 #[test]
 fn all_mutators_and_classes() -> Result<()> {
     const MANY: Segments = Segments::new(24).unwrap();
-    let mut heap = Heap::new(MANY);
-    let mut pacer = Pacer::new(&heap, [0; MANY.states_length()], 8, 32)?;
-    for class in 3..=14 {
-        pacer.makers(&heap, Shape::new(0, (1 << class) / 4 - 1), 32)?;
+    for size in SegmentSize::ALL {
+        let mut heap = Heap::new(MANY, size);
+        let mut pacer = Pacer::new(&heap, [0; MANY.states_length()], 8, 32)?;
+        for class in 3..=14 {
+            pacer.makers(&heap, Shape::new(0, (1 << class) / 4 - 1), 32)?;
+        }
+        assert_eq!(pacer.room(), 24);
+        for number in 0..24 {
+            heap.attach(id(number))?.make(NEW, Shape::new(0, 1))?;
+        }
+        assert_eq!(heap.attach(id(31))?.make(NEW, Shape::new(0, 1)), Err(Refusal::NoRoom));
     }
-    assert_eq!(pacer.room(), 24);
-    for number in 0..24 {
-        heap.attach(id(number))?.make(NEW, Shape::new(0, 1))?;
-    }
-    assert_eq!(heap.attach(id(31))?.make(NEW, Shape::new(0, 1)), Err(Refusal::NoRoom));
     Ok(())
 }
 
 /// A heap of one segment: no step in between helps, and a whole cycle before the next make does.
 #[test]
 fn a_small_heap_by_whole_cycles() -> Result<()> {
-    let mut heap = Heap::new(common::ONE);
-    heap.attach(id(0))?;
-    let mut pacer = Pacer::new(&heap, [0; common::STATES], 1, 1)?;
-    let mut refused = 0;
-    for _ in 0..1000 {
-        if pacer.make(&mut heap, id(0), NEW, common::SHAPE) == Err(Refusal::NoRoom) {
-            refused += 1;
-            pacer.finish(&mut heap)?;
-            pacer.make(&mut heap, id(0), NEW, common::SHAPE)?;
+    for size in SegmentSize::ALL {
+        let mut heap = Heap::new(common::ONE, size);
+        heap.attach(id(0))?;
+        let mut pacer = Pacer::new(&heap, [0; common::STATES], 1, 1)?;
+        let mut refused = 0;
+        for _ in 0..1000 {
+            if pacer.make(&mut heap, id(0), NEW, common::SHAPE) == Err(Refusal::NoRoom) {
+                refused += 1;
+                pacer.finish(&mut heap)?;
+                pacer.make(&mut heap, id(0), NEW, common::SHAPE)?;
+            }
+            assert!(!pacer.kept());
         }
-        assert!(!pacer.kept());
+        assert!(refused > 100, "{refused}");
     }
-    assert!(refused > 100, "{refused}");
     Ok(())
 }
 
-/// A venue plays long chases after short ones: 200 acts, each with a mutator that makes one class, of 3 to 13 in turn, one
-/// and a half segments of it. What an act held is part then, and all dead; a part segment of each class that no act makes
-/// for ten acts would fill the heap. No make is refused.
+/// A venue plays long chases after short ones: 200 acts, each with a mutator that makes one class, of 3 to 13 in turn, and
+/// to 14 at 32 KiB, one and a half segments of it. What an act held is part then, and all dead; a part segment of each
+/// class that no act makes for ten acts would fill the heap. No make is refused.
 #[test]
 fn acts_of_changing_classes() -> Result<()> {
     const SIX: Segments = Segments::new(6).unwrap();
-    let mut heap = Heap::new(SIX);
-    let mut pacer = Pacer::new(&heap, [0; SIX.states_length()], 64, 1)?;
-    for act in 0..200 {
-        let class = 3 + act * 7 % 11;
-        heap.attach(id(0))?;
-        for at in 0..(16384 >> class) * 3 / 2 {
-            pacer.make(&mut heap, id(0), Root::new(at % 16).unwrap(), Shape::new(0, (1 << class) / 4 - 1))?;
-        }
-        if heap.mutator(id(0)).detach() == Err(Refusal::NotNow) {
-            pacer.finish(&mut heap)?;
-            heap.mutator(id(0)).detach()?;
+    for (size, classes) in [(SegmentSize::Kib16, 11), (SegmentSize::Kib32, 12)] {
+        let mut heap = Heap::new(SIX, size);
+        let mut pacer = Pacer::new(&heap, [0; SIX.states_length()], 64, 1)?;
+        for act in 0..200 {
+            let class = 3 + act * 7 % classes;
+            heap.attach(id(0))?;
+            for at in 0..size.blocks(class) * 3 / 2 {
+                pacer.make(&mut heap, id(0), Root::new(at % 16).unwrap(), Shape::new(0, (1 << class) / 4 - 1))?;
+            }
+            if heap.mutator(id(0)).detach() == Err(Refusal::NotNow) {
+                pacer.finish(&mut heap)?;
+                heap.mutator(id(0)).detach()?;
+            }
         }
     }
     Ok(())
@@ -338,42 +366,47 @@ fn acts_of_changing_classes() -> Result<()> {
 #[test]
 fn a_class_that_is_no_longer_made() -> Result<()> {
     const TWO: Segments = Segments::new(2).unwrap();
-    let mut heap = Heap::new(TWO);
-    heap.attach(id(0))?;
-    let mut pacer = Pacer::new(&heap, [0; TWO.states_length()], 100, 1)?;
-    for shape in [Shape::new(1, 2), Shape::new(1, 6)] {
-        pacer.make(&mut heap, id(0), NEW, shape)?;
+    for size in SegmentSize::ALL {
+        let mut heap = Heap::new(TWO, size);
+        heap.attach(id(0))?;
+        let mut pacer = Pacer::new(&heap, [0; TWO.states_length()], 100, 1)?;
+        for shape in [Shape::new(1, 2), Shape::new(1, 6)] {
+            pacer.make(&mut heap, id(0), NEW, shape)?;
+        }
+        heap.mutator(id(0)).clear(NEW)?;
+        assert_eq!(pacer.make(&mut heap, id(0), NEW, Shape::new(1, 14)), Err(Refusal::NoRoom));
+        heap.start()?;
+        assert_eq!(heap.finish_cycle(), Ok(0));
+        assert_eq!(heap.mutator(id(0)).make(NEW, Shape::new(1, 14)), Err(Refusal::NoRoom));
+        assert!(heap.states(&mut [0; TWO.states_length()])?.all(|record| matches!(record.state, SegmentState::Held { .. })));
+        heap.mutator(id(0)).detach()?;
+        heap.attach(id(0))?;
+        heap.start()?;
+        assert_eq!(heap.finish_cycle(), Ok(2));
+        heap.mutator(id(0)).make(NEW, Shape::new(1, 14))?;
     }
-    heap.mutator(id(0)).clear(NEW)?;
-    assert_eq!(pacer.make(&mut heap, id(0), NEW, Shape::new(1, 14)), Err(Refusal::NoRoom));
-    heap.start()?;
-    assert_eq!(heap.finish_cycle(), Ok(0));
-    assert_eq!(heap.mutator(id(0)).make(NEW, Shape::new(1, 14)), Err(Refusal::NoRoom));
-    assert!(heap.states(&mut [0; TWO.states_length()])?.all(|record| matches!(record.state, SegmentState::Held { .. })));
-    heap.mutator(id(0)).detach()?;
-    heap.attach(id(0))?;
-    heap.start()?;
-    assert_eq!(heap.finish_cycle(), Ok(2));
-    heap.mutator(id(0)).make(NEW, Shape::new(1, 14))
+    Ok(())
 }
 
 #[test]
 fn another_output_is_refused() {
-    let heap = Heap::new(SEGMENTS);
-    assert_eq!(Pacer::new(&heap, [0; common::STATES], 1, 1).unwrap_err(), Refusal::Size);
+    for size in SegmentSize::ALL {
+        let heap = Heap::new(SEGMENTS, size);
+        assert_eq!(Pacer::new(&heap, [0; common::STATES], 1, 1).unwrap_err(), Refusal::Size);
+    }
 }
 
 /// Over words of any content a pacer ends and panics never, as the calls below it.
 #[test]
 fn torn_memory() {
-    let mut words = common::full();
-    for (n, word) in words.iter_mut().enumerate() {
-        *word = (n as u32).wrapping_mul(0x9e37_79b9) >> (n % 32);
-    }
-    for phase in 0..=5 {
-        for tag in 0..=5 {
-            (words[common::at::PHASE], words[common::at::TAG]) = (phase, tag);
-            let mut heap = Heap::adopt_unexamined(common::ONE, words.clone()).unwrap();
+    for size in SegmentSize::ALL {
+        let mut words = common::full(size);
+        for (n, word) in words.iter_mut().enumerate() {
+            *word = (n as u32).wrapping_mul(0x9e37_79b9) >> (n % 32);
+        }
+        for (phase, tag) in (0..=5).flat_map(|phase| (0..=5).map(move |tag| (phase, tag))) {
+            (words[common::at::PHASE], words[common::at::tag(size)]) = (phase, tag);
+            let mut heap = Heap::adopt_unexamined(common::ONE, size, words.clone()).unwrap();
             if let Ok(mut pacer) = Pacer::new(&heap, [0; common::STATES], 7, 1) {
                 for number in 0..200 {
                     let _ = pacer.make(&mut heap, id(number % 32), NEW, Shape::new(1, number));
@@ -384,32 +417,20 @@ fn torn_memory() {
     }
 }
 
-/// The same where a segment's class word is another class's or none: a look may then show one of class 14 as part or held.
+/// The same where a segment's class word is another class's or none, so that at 16 KiB a look may show one of class 14 as part or held; and
+/// where its counts are others, so that a make or a sweep may be refused Torn.
 #[test]
-fn torn_class_words() {
-    for words in common::torn_classes() {
-        let mut heap = Heap::adopt_unexamined(common::ONE, words).unwrap();
-        if let Ok(mut pacer) = Pacer::new(&heap, [0; common::STATES], 7, 1) {
-            for values in [6, 600, 2000, 4000] {
-                let _ = pacer.make(&mut heap, id(0), NEW, Shape::new(1, values));
-                let _ = pacer.made(&mut heap, Shape::new(1, values));
+fn torn_class_words_and_counts() {
+    for size in SegmentSize::ALL {
+        for words in common::torn_classes(size).chain(common::torn_counts(size)) {
+            let mut heap = Heap::adopt_unexamined(common::ONE, size, words).unwrap();
+            if let Ok(mut pacer) = Pacer::new(&heap, [0; common::STATES], 7, 1) {
+                for values in [6, 600, 2000, 4000] {
+                    let _ = pacer.make(&mut heap, id(0), NEW, Shape::new(1, values));
+                    let _ = pacer.made(&mut heap, Shape::new(1, values));
+                }
+                let _ = pacer.finish(&mut heap);
             }
-            let _ = pacer.finish(&mut heap);
-        }
-    }
-}
-
-/// The same where a segment's counts are others: a make or a sweep may then be refused Torn.
-#[test]
-fn torn_counts() {
-    for words in common::torn_counts() {
-        let mut heap = Heap::adopt_unexamined(common::ONE, words).unwrap();
-        if let Ok(mut pacer) = Pacer::new(&heap, [0; common::STATES], 7, 1) {
-            for values in [6, 600, 2000, 4000] {
-                let _ = pacer.make(&mut heap, id(0), NEW, Shape::new(1, values));
-                let _ = pacer.made(&mut heap, Shape::new(1, values));
-            }
-            let _ = pacer.finish(&mut heap);
         }
     }
 }

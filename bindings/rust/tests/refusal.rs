@@ -3,7 +3,7 @@
 use std::collections::HashSet;
 use std::error::Error;
 
-use borvukhai::{Heap, MutatorId, NoRefusal, Refusal, Root, Segments};
+use borvukhai::{Heap, MutatorId, NoRefusal, Refusal, Root, SegmentSize, Segments};
 
 const TABLE: [(u32, &str); 12] = [
     (1, "size"),
@@ -52,7 +52,7 @@ fn a_sentence_of_its_own_for_each() {
 }
 
 fn opened(words: &mut [u32]) -> Result<(), Box<dyn Error + '_>> {
-    Heap::open(Segments::MIN, words)?;
+    Heap::open(Segments::MIN, SegmentSize::Kib32, words)?;
     Ok(())
 }
 

@@ -22,10 +22,10 @@ use borrow.Rule.Slice.PartMut.{midOf, putMid}
 use Rattle.words.specs.Levels.{wordsFor, treeWords}
 use Rattle.classes.specs.Class.{IsClass, blockWords}
 use Rattle.layout.specs.declared.Geometry.{Geometry}
-use Rattle.layout.specs.Geometry.{from, markWords, bitmapWords, blocksIn, mostBlocks, markBit, Sized}
+use Rattle.layout.specs.Geometry.{largeKib, from, markWords, bitmapWords, blocksIn, mostBlocks, markBit, Sized}
 use Rattle.layout.specs.Mem.{memOf, readRun}
 use Rattle.layout.proofs.Regions.{read-at, part-at}
-use Rattle.layout.proofs.Sizes.{class-fits, marks-are, marks-words, most-small}
+use Rattle.layout.proofs.Sizes.{large-bytes, small-bytes, class-fits, marks-are, marks-words, most-small}
 use Rattle.bitmap_write.specs.Completed.{adopted, gatheredBit, gathered}
 use Rattle.bitmap_write.proofs.Copied.{length-adopted, adopted-bit}
 use Rattle.bitmap_write.proofs.Local.{adopted-append}
@@ -35,6 +35,20 @@ use Rattle.model_laws.proofs.Lengths.{sizes-of}
 use Rattle.model_laws.proofs.Bitmaps.{tree-room}
 use Rattle.bitmaps.specs.Given.{Unmarked}
 use Rattle.layout.specs.Region as Region
+
+-- ---- the marks of one segment by a number of words
+
+pub marks-large : (g : Geometry) → g .kib ≡ largeKib → markWords g ≡ 128
+marks-large g e = let z = large-bytes g e in omega arith
+
+pub marks-small : (g : Geometry) → (g .kib ≡ largeKib → ⊥) → markWords g ≡ 64
+marks-small g e = let z = small-bytes g e in omega arith
+
+-- where they end
+marks-next : (g : Geometry) (s a w : ℕ) → a ≡ from g Region.marks + s * markWords g → markWords g ≡ w → a + w ≡ from g Region.marks + (s + 1) * markWords g
+marks-next g s a w e f =
+    let q : (s + 1) * markWords g ≡ s * markWords g + markWords g = ap (λ z. z * markWords g) (add-one s) ∙ suc-mul s (markWords g) in
+    omega arith
 
 -- ---- lists
 
@@ -139,6 +153,14 @@ module _ (g : Geometry) (l : List ℕ) (z : Sized g (length l)) (s : ℕ) (h : s
     -- none of them is 1
     pub unmarked-part : ((k : ℕ) → bitAt (midOf a (b - a) l) k ≡ 0) → Unmarked g (memOf g l) s
     unmarked-part f c i k h = sym (bit-of c k i h) ∙ ap (λ (ws : List ℕ). bitAt ws (i * (blockWords c / 2))) (sym marks-part) ∙ f (i * (blockWords c / 2))
+
+  -- the same by their number of words
+  module _ (a w : ℕ) (at : a ≡ from g Region.marks + s * markWords g) (are : markWords g ≡ w) where
+    pub marks-inside : a + w ≤ length l
+    marks-inside = marks-end a (a + w) at (marks-next g s a w at are) .1
+
+    pub unmarked-words : ((k : ℕ) → bitAt (midOf a (a + w - a) l) k ≡ 0) → Unmarked g (memOf g l) s
+    unmarked-words = unmarked-part a (a + w) at (marks-next g s a w at are)
 
   -- from the bitmap to the end of the marks
   module _ (a m b : ℕ) (tree : a ≡ from g Region.bitmaps + s * bitmapWords g) (at : m ≡ from g Region.marks + s * markWords g) (end : b ≡ from g Region.marks + (s + 1) * markWords g) where

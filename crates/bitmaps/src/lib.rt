@@ -98,14 +98,19 @@ pub fn adopt(g: Geometry, mem: &mut [u32], s: usize, class: u32) -> u32
     )
 }
 
-// Whether no word of the marks of segment s has a bit.
+// Whether no word of the marks of segment s has a bit. There is an arm for each size, so that each asks a number of words that is a constant.
 pub fn unmarked(g: Geometry, mem: &[u32], s: usize) -> bool
     requires { ⌜ (Sized g (length (now mem))) × (s < g .segments) ⌝ }
     ensures { λ r. ⌜ (r ≡ true → Unmarked g (memOf g (now (mem .entry))) s) ⌝ }
 {
     let a = layout::marks_from(g, s);
-    let b = layout::marks_from(g, s + 1);
-    bitmap_write::none_set(&mem[a..b])
+    if g.kib == layout::LARGE_KIB {
+        let b = a + layout::LARGE_MARK_WORDS;
+        bitmap_write::none_set(&mem[a..b])
+    } else {
+        let b = a + layout::MARK_WORDS;
+        bitmap_write::none_set(&mem[a..b])
+    }
 }
 
 // How many of the first n bits are 1, where those before a place count as 1.

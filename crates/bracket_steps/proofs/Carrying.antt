@@ -61,7 +61,8 @@ module _ (t : Task) (s : State) (n : ℕ) (is : n ≡ segmentsFor t (s .segments
     unfolding withMemory
     carries-whole l p =
         let k = few n f in
-        let w : wrongSize (heap n) (length (take (total (heap n)) (s .words))) ≡ false = right-size (heap n) _ (record { some = k .0; few = omega arith; is = first }) in
+        let w : wrongSize (heap n) (length (take (total (heap n)) (s .words))) ≡ false =
+        right-size (heap n) _ (record { some = k .0; few = omega arith; whole = refl; small = omega arith; large = omega arith; is = first }) in
         let long : length ys ≡ total (heap n) = l ∙ first in
         record {
           exact = λ h.

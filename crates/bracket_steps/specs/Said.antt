@@ -8,7 +8,7 @@ use lib.ListN.{take, drop}
 use Rattle.basics.specs.Pick.{pick, oneIf}
 use Rattle.classes.specs.Record.{pointerCountOf, valueCountOf}
 use Rattle.layout.specs.declared.Geometry.{Geometry}
-use Rattle.layout.specs.Geometry.{total}
+use Rattle.layout.specs.Geometry.{smallKib, total}
 use Rattle.layout.specs.Mem.{Mem, memOf, flat}
 use Rattle.theory.specs.Calls.{a-ok, a-moved, a-traced, a-done, a-idle, a-num, a-flag, a-shape, a-no, a-waiting, a-swept}
 use Rattle.model.specs.Calls.{exec}
@@ -34,8 +34,9 @@ pub record State : Type 0 where
   pub segments : ℕ
   pub words : List ℕ
 
+-- document 02, No. 6: "The bracket program keeps 16 KiB"
 abbrev pub heap : ℕ → Geometry
-heap n = record { segments = n }
+heap n = record { segments = n; kib = smallKib }
 
 -- the lent words are as many as two segments need
 abbrev pub roomWords : ℕ

@@ -169,7 +169,10 @@ fn carry_out(session: Session, mem: &mut [u32], task: Task) -> Said
 {
     let n = segments_for(session, task);
     if one_or_two(n) {
-        let g = Geometry { segments: n };
+        let g = Geometry {
+            segments: n,
+            kib: layout::SMALL_KIB,
+        };
         let end = layout::total_words(g);
         let reply = run(g, &mut mem[0..end], task);
         return Said {

@@ -67,7 +67,10 @@ fn say_step(a: Step) {
 }
 
 fn heap() -> Geometry {
-    Geometry { segments: 2 }
+    Geometry {
+        segments: 2,
+        kib: layout::SMALL_KIB,
+    }
 }
 
 fn ask(mem: &mut [u32], request: Request) {

@@ -262,6 +262,7 @@ fn say_step(torn: bool, a: Step) {
 fn call(mem: &mut [u32], segments: u32, kind: u32, torn: bool, d: Dice) {
     let g = Geometry {
         segments: segments as usize,
+        kib: layout::SMALL_KIB,
     };
     if kind < 15 {
         say(kind, torn, perform::perform(g, mem, request_of(kind, d)));
@@ -375,7 +376,10 @@ fn settle(mem: &mut [u32], d: Dice) {
         0,
         false,
         perform::perform(
-            Geometry { segments: 1 },
+            Geometry {
+                segments: 1,
+                kib: layout::SMALL_KIB,
+            },
             mem,
             Request::Attach { mutator: 0 },
         ),
@@ -384,7 +388,10 @@ fn settle(mem: &mut [u32], d: Dice) {
         0,
         false,
         perform::perform(
-            Geometry { segments: 1 },
+            Geometry {
+                segments: 1,
+                kib: layout::SMALL_KIB,
+            },
             mem,
             Request::Attach { mutator: 1 },
         ),

@@ -1,2 +1,3 @@
--- The rows hold.
+-- The rows and the shapes hold.
 pub mod Hold
+pub mod Shapes

@@ -1,2 +1,3 @@
--- The rows.
+-- The rows, and the shapes of all classes.
 pub mod Rows
+pub mod Shapes

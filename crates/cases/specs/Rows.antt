@@ -36,23 +36,23 @@ rows =
     ∷ blockRow 9 ((2 ^ 31 - 1) ∷ []) 0 (Block 31) ∷ blockRow 9 ((2 ^ 31 - 1) ∷ []) 32 Nothing ∷ blockRow 10 (0 ∷ []) 16 Nothing
     ∷ longRows
 
--- the levels above level 0 of a class's bitmap, and the tree over its blocks' bits
-abbrev pub above : ℕ → ℕ
-above class = shapeFor (blocksOf segmentSize class) .levels - 1
+-- in a segment of z bytes: the levels above level 0 of a class's bitmap, and the tree over its blocks' bits
+abbrev pub above : ℕ → ℕ → ℕ
+above z class = shapeFor (blocksOf z class) .levels - 1
 
-abbrev pub treeOf : ℕ → List ℕ → List ℕ
-treeOf class bits = completed (above class) (blocksOf segmentSize class) bits
+abbrev pub treeOf : ℕ → ℕ → List ℕ → List ℕ
+treeOf z class bits = completed (above z class) (blocksOf z class) bits
 
 -- a block row: there is such a class, the words are a consistent tree, and the search finds what a plain scan does
-pub record BlockHolds (class : ℕ) (bits : List ℕ) (place : ℕ) (found : Found) : Type 0 where
-  pub class-is : segmentShape segmentSize class ≡ Of (shapeFor (blocksOf segmentSize class))
-  pub consistent : Tree (above class) (blocksOf segmentSize class) (treeOf class bits)
-  pub search : searched (above class) (treeOf class bits) (blocksOf segmentSize class) place ≡ found
-  pub scan : nextFree (bitAt (treeOf class bits)) (blocksOf segmentSize class) place ≡ found
+pub record BlockHolds (z class : ℕ) (bits : List ℕ) (place : ℕ) (found : Found) : Type 0 where
+  pub class-is : segmentShape z class ≡ Of (shapeFor (blocksOf z class))
+  pub consistent : Tree (above z class) (blocksOf z class) (treeOf z class bits)
+  pub search : searched (above z class) (treeOf z class bits) (blocksOf z class) place ≡ found
+  pub scan : nextFree (bitAt (treeOf z class bits)) (blocksOf z class) place ≡ found
 
 abbrev pub Holds : Row → Type 0
 Holds (fieldsRow n answer) = outcomeOf (classOf n) ≡ answer
-Holds (blockRow class bits place found) = BlockHolds class bits place found
+Holds (blockRow class bits place found) = BlockHolds segmentSize class bits place found
 
 abbrev pub All : List Row → Type 0
 All [] = Unit

@@ -50,7 +50,7 @@ module _ (u : ℕ) (t : T (everyClass (divides u))) (n c : ℕ) (l : 1 ≤ n) (k
   bytes : n * u ≡ n * blocksOf u c * 2 ^ c
   bytes = ap (λ z. n * z) (sym (tested .0)) ∙ sym (mul-assoc n (blocksOf u c) (2 ^ c))
 
-  blocks : blocksOf (n * u) c ≡ n * blocksOf u c
+  pub blocks : blocksOf (n * u) c ≡ n * blocksOf u c
   blocks = ap (λ z. z / 2 ^ c) bytes ∙ mul-div-cancel (n * blocksOf u c) (pow-pos c)
 
   bytes-of-words : n * u ≡ n * blocksOf u c * blockWords c * wordBytes

@@ -4,4 +4,5 @@ pub mod Smallest
 pub mod Rows
 pub mod ClassTable
 pub mod Shapes
+pub mod ShapeTable
 pub mod Filling

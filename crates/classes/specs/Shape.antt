@@ -1,6 +1,6 @@
 -- The shape of a segment of a class: its blocks and the levels of their bitmap. Document 01: "segments of 16,384 bytes",
 -- "Class c, 3 to 12, has blocks of 2^c bytes", and the table of blocks and bitmap levels; document 02, No. 2: "Classes 13 (two
--- blocks a segment) and 14 (one block) are added".
+-- blocks a segment) and 14 (one block) are added"; No. 6: "Segments of 32 KiB".
 use Prim.Native.Nat.{ℕ, _-_, _/_, _^_}
 use lib.ListN.{getD}
 use Rattle.basics.specs.Pick.{pick}
@@ -10,9 +10,13 @@ use Rattle.classes.specs.declared.SegmentShape.{SegmentShape}
 use Rattle.classes.specs.declared.ClassShape.{ClassShape}
 use Rattle.classes.specs.declared.ClassShape.the-variants.{Of, NoClass}
 
--- the bytes of a segment
+-- the bytes of a segment of 16 KiB
 abbrev pub segmentSize : ℕ
 segmentSize = 16384
+
+-- and of one of 32 KiB
+abbrev pub largeSize : ℕ
+largeSize = 32768
 
 -- how many blocks of class c a segment of z bytes has
 abbrev pub blocksOf : ℕ → ℕ → ℕ

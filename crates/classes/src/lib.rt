@@ -10,7 +10,7 @@ ghost use lib.ListN.{getD};
 ghost use Rattle.classes.specs.Class.{IsClass, classTest, blockWords, classOf};
 ghost use Rattle.classes.specs.Record.{classOfRecord};
 ghost use Rattle.classes.specs.declared.SizeClass.the-variants.{Class};
-ghost use Rattle.classes.specs.Shape.{segmentSize, segmentShape};
+ghost use Rattle.classes.specs.Shape.{segmentSize, largeSize, segmentShape};
 
 pub const FIRST_CLASS: u32 = 3;
 
@@ -112,92 +112,141 @@ const CLASS_30: u32 = CLASSES[0][30] as u32;
 
 const CLASS_31: u32 = CLASSES[0][31] as u32;
 
-// The shape of a class, indexed by the class less 3.
+// The shape of a segment of so many blocks.
+const OF_4096: SegmentShape = SegmentShape {
+    blocks: 4096,
+    levels: 3,
+    words0: 128,
+    words1: 4,
+    words2: 1,
+};
+
+const OF_2048: SegmentShape = SegmentShape {
+    blocks: 2048,
+    levels: 3,
+    words0: 64,
+    words1: 2,
+    words2: 1,
+};
+
+const OF_1024: SegmentShape = SegmentShape {
+    blocks: 1024,
+    levels: 2,
+    words0: 32,
+    words1: 1,
+    words2: 0,
+};
+
+const OF_512: SegmentShape = SegmentShape {
+    blocks: 512,
+    levels: 2,
+    words0: 16,
+    words1: 1,
+    words2: 0,
+};
+
+const OF_256: SegmentShape = SegmentShape {
+    blocks: 256,
+    levels: 2,
+    words0: 8,
+    words1: 1,
+    words2: 0,
+};
+
+const OF_128: SegmentShape = SegmentShape {
+    blocks: 128,
+    levels: 2,
+    words0: 4,
+    words1: 1,
+    words2: 0,
+};
+
+const OF_64: SegmentShape = SegmentShape {
+    blocks: 64,
+    levels: 2,
+    words0: 2,
+    words1: 1,
+    words2: 0,
+};
+
+const OF_32: SegmentShape = SegmentShape {
+    blocks: 32,
+    levels: 1,
+    words0: 1,
+    words1: 0,
+    words2: 0,
+};
+
+const OF_16: SegmentShape = SegmentShape {
+    blocks: 16,
+    levels: 1,
+    words0: 1,
+    words1: 0,
+    words2: 0,
+};
+
+const OF_8: SegmentShape = SegmentShape {
+    blocks: 8,
+    levels: 1,
+    words0: 1,
+    words1: 0,
+    words2: 0,
+};
+
+const OF_4: SegmentShape = SegmentShape {
+    blocks: 4,
+    levels: 1,
+    words0: 1,
+    words1: 0,
+    words2: 0,
+};
+
+const OF_2: SegmentShape = SegmentShape {
+    blocks: 2,
+    levels: 1,
+    words0: 1,
+    words1: 0,
+    words2: 0,
+};
+
+const OF_1: SegmentShape = SegmentShape {
+    blocks: 1,
+    levels: 1,
+    words0: 1,
+    words1: 0,
+    words2: 0,
+};
+
+// The shape of a class in a segment of 16 KiB, indexed by the class less 3.
 const SHAPES: [SegmentShape; 12] = [
-    SegmentShape {
-        blocks: 2048,
-        levels: 3,
-        words0: 64,
-        words1: 2,
-        words2: 1,
-    },
-    SegmentShape {
-        blocks: 1024,
-        levels: 2,
-        words0: 32,
-        words1: 1,
-        words2: 0,
-    },
-    SegmentShape {
-        blocks: 512,
-        levels: 2,
-        words0: 16,
-        words1: 1,
-        words2: 0,
-    },
-    SegmentShape {
-        blocks: 256,
-        levels: 2,
-        words0: 8,
-        words1: 1,
-        words2: 0,
-    },
-    SegmentShape {
-        blocks: 128,
-        levels: 2,
-        words0: 4,
-        words1: 1,
-        words2: 0,
-    },
-    SegmentShape {
-        blocks: 64,
-        levels: 2,
-        words0: 2,
-        words1: 1,
-        words2: 0,
-    },
-    SegmentShape {
-        blocks: 32,
-        levels: 1,
-        words0: 1,
-        words1: 0,
-        words2: 0,
-    },
-    SegmentShape {
-        blocks: 16,
-        levels: 1,
-        words0: 1,
-        words1: 0,
-        words2: 0,
-    },
-    SegmentShape {
-        blocks: 8,
-        levels: 1,
-        words0: 1,
-        words1: 0,
-        words2: 0,
-    },
-    SegmentShape {
-        blocks: 4,
-        levels: 1,
-        words0: 1,
-        words1: 0,
-        words2: 0,
-    },
-    SegmentShape {
-        blocks: 2,
-        levels: 1,
-        words0: 1,
-        words1: 0,
-        words2: 0,
-    },
-    SegmentShape {
-        blocks: 1,
-        levels: 1,
-        words0: 1,
-        words1: 0,
-        words2: 0,
-    },
+    OF_2048,
+    OF_1024,
+    OF_512,
+    OF_256,
+    OF_128,
+    OF_64,
+    OF_32,
+    OF_16,
+    OF_8,
+    OF_4,
+    OF_2,
+    OF_1,
+];
+
+// The same in a segment of 32 KiB: each class has twice the blocks.
+const LARGE_SHAPES: [SegmentShape; 12] = [
+    OF_4096,
+    OF_2048,
+    OF_1024,
+    OF_512,
+    OF_256,
+    OF_128,
+    OF_64,
+    OF_32,
+    OF_16,
+    OF_8,
+    OF_4,
+    OF_2,
 ];
 
 // Whether a number is a class's.
@@ -367,12 +416,34 @@ pub fn class_of_record(shape: RecordShape) -> SizeClass
     class_of(fields as u32)
 }
 
-// The shape of a segment of a class: the table's entry at the class less 3, a literal in each arm, so that it folds too. Any number
+// The shape of a segment of 16 KiB of a class: the table's entry at the class less 3, a literal in each arm, so that it folds too. Any number
 // may be asked for.
 pub fn segment_shape(class: u32) -> ClassShape
     ensures { λ r. ⌜ r ≡ segmentShape segmentSize class ⌝ }
 {
     let shapes = SHAPES;
+    match class {
+        3 => ClassShape::Of(shapes[0]),
+        4 => ClassShape::Of(shapes[1]),
+        5 => ClassShape::Of(shapes[2]),
+        6 => ClassShape::Of(shapes[3]),
+        7 => ClassShape::Of(shapes[4]),
+        8 => ClassShape::Of(shapes[5]),
+        9 => ClassShape::Of(shapes[6]),
+        10 => ClassShape::Of(shapes[7]),
+        11 => ClassShape::Of(shapes[8]),
+        12 => ClassShape::Of(shapes[9]),
+        13 => ClassShape::Of(shapes[10]),
+        14 => ClassShape::Of(shapes[11]),
+        _ => ClassShape::NoClass,
+    }
+}
+
+// The same of 32 KiB.
+pub fn large_shape(class: u32) -> ClassShape
+    ensures { λ r. ⌜ r ≡ segmentShape largeSize class ⌝ }
+{
+    let shapes = LARGE_SHAPES;
     match class {
         3 => ClassShape::Of(shapes[0]),
         4 => ClassShape::Of(shapes[1]),

@@ -45,7 +45,10 @@ fn say_step(a: Step) {
 }
 
 fn heap() -> Geometry {
-    Geometry { segments: SEGMENTS }
+    Geometry {
+        segments: SEGMENTS,
+        kib: layout::SMALL_KIB,
+    }
 }
 
 fn step(mem: &mut [u32]) {

@@ -11,7 +11,10 @@ fn word(text: &[u8]) {
 }
 
 fn heap() -> Geometry {
-    Geometry { segments: 2 }
+    Geometry {
+        segments: 2,
+        kib: layout::SMALL_KIB,
+    }
 }
 
 // A line: what was changed, and the answer.

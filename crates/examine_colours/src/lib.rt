@@ -6,7 +6,7 @@ ghost use mathlib.Core.Path.{_≡_};
 ghost use Prim.Native.Nat.{ℕ, _+_, _≤_, _<_};
 ghost use lib.ListN.{length, take, drop};
 ghost use Rattle.basics.specs.Decides.{Decides};
-ghost use Rattle.layout.specs.Geometry.{Sized, len, scratchWords, maxSegments, mutatorCount};
+ghost use Rattle.layout.specs.Geometry.{Sized, IsSize, len, scratchWords, maxSegments, mutatorCount};
 ghost use Rattle.layout.specs.Mem.{memOf};
 ghost use Rattle.model.specs.Reaching.{Live, Reached};
 ghost use Rattle.examine_search.specs.Found.{BitsOf, Finds, ByEntries};
@@ -17,7 +17,7 @@ ghost use Rattle.layout.specs.Region as Region;
 
 // The words of one field of bits.
 fn front(g: Geometry) -> usize
-    requires { ⌜ g .segments ≤ maxSegments ⌝ }
+    requires { ⌜ (g .segments ≤ maxSegments) × (IsSize (g .kib)) ⌝ }
     ensures { λ r. ⌜ r ≡ len g Region.marks ⌝ }
 {
     layout::trace_words(g) / 32

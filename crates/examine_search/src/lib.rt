@@ -7,7 +7,7 @@ ghost use mathlib.Core.Bool.{true};
 ghost use Prim.Native.Nat.{ℕ, suc, _+_, _-_, _*_, _≤_, _<_};
 ghost use lib.ListN.{length, getD, replicate};
 ghost use Rattle.words.specs.Bits.{bitAt};
-ghost use Rattle.layout.specs.Geometry.{Sized, len, maxSegments, mutatorCount};
+ghost use Rattle.layout.specs.Geometry.{Sized, IsSize, len, maxSegments, mutatorCount};
 ghost use Rattle.layout.specs.Mem.{memOf};
 ghost use Rattle.model.specs.Reaching.{IsRoot, IsEntry, Live, Reached};
 ghost use Rattle.model.specs.Consistent.{RecordOk};
@@ -56,7 +56,7 @@ pub fn pointers(g: Geometry, mem: &[u32], edges: Edges, at: usize) -> usize
 
 // A record with bit k becomes seen; the stack's entries afterwards.
 fn enter(g: Geometry, scratch: &mut [u32], at: u32, k: usize, top: usize) -> usize
-    requires { ⌜ (g .segments ≤ maxSegments) × (length (now scratch) ≡ searchWords g) × (k < len g Region.trace) × ((bitAt (now scratch) k ≡ 1 → ⊥) → top < len g Region.trace) ⌝ }
+    requires { ⌜ (g .segments ≤ maxSegments) × (length (now scratch) ≡ searchWords g) × (k < len g Region.trace) × ((bitAt (now scratch) k ≡ 1 → ⊥) → top < len g Region.trace) × (IsSize (g .kib)) ⌝ }
     ensures { λ r. ⌜ Enters g at k (now (scratch .entry)) top r (now (scratch .exit)) ⌝ }
 {
     let bit = k as u32;
@@ -303,7 +303,7 @@ fn seed_entries(g: Geometry, mem: &[u32], scratch: &mut [u32]) -> Met
 
 // Every bit of the scratch becomes 0.
 fn clear(g: Geometry, scratch: &mut [u32])
-    requires { ⌜ (g .segments ≤ maxSegments) × (length (now scratch) ≡ searchWords g) ⌝ }
+    requires { ⌜ (g .segments ≤ maxSegments) × (length (now scratch) ≡ searchWords g) × (IsSize (g .kib)) ⌝ }
     ensures { λ _. ⌜ Blank g (now (scratch .exit)) ⌝ }
 {
     let n = scratch.len() - layout::trace_words(g);

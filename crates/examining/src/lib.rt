@@ -6,14 +6,14 @@ ghost use mathlib.Core.Path.{_≡_};
 ghost use Prim.Native.Nat.{ℕ, _≤_};
 ghost use lib.ListN.{length, replicate};
 ghost use Rattle.basics.specs.Decides.{Decides};
-ghost use Rattle.layout.specs.Geometry.{Sized, scratchWords, maxSegments};
+ghost use Rattle.layout.specs.Geometry.{Sized, IsSize, scratchWords, maxSegments};
 ghost use Rattle.layout.specs.Mem.{memOf};
 ghost use Rattle.model.specs.Consistent.{Consistent};
 ghost use Rattle.model.specs.Promise.{ExaminePromise};
 
 // The length of the scratch: two bits for each block, and a stack with an entry for each.
 pub fn scratch_words(g: Geometry) -> usize
-    requires { ⌜ g .segments ≤ maxSegments ⌝ }
+    requires { ⌜ (g .segments ≤ maxSegments) × (IsSize (g .kib)) ⌝ }
     ensures { λ r. ⌜ r ≡ scratchWords g ⌝ }
 {
     let entries = layout::trace_words(g);

@@ -5,20 +5,20 @@ use mathlib.Core.Bool.{Bool, true, false}
 use mathlib.Core.List.{List, [], _∷_, _++_}
 use Prim.Native.Nat.{ℕ, zero, suc, _+_, _≤_, _<_}
 use native.Mathlib.Omega.{arith}
-use lib.Dec.{leb}
+use lib.Dec.{leb, eqb}
 use lib.ListN.{length, getD, length-append, List·getD-append}
 use lib.Seq.{getD-append-add}
-use borrow.Author.Tests.{le-leb}
-use Rattle.basics.specs.Pick.{oneIf}
+use borrow.Author.Tests.{le-leb, eq-eqb, ne-eqb}
+use Rattle.basics.specs.Pick.{pick, oneIf}
 use Rattle.basics.proofs.Order.{same-or-not}
 use Rattle.words.specs.Bits.{onesAmong}
 use Rattle.classes.specs.Class.{firstClass, classCount, IsClass}
 use Rattle.classes.specs.Shape.{blocksOf}
 use Rattle.layout.specs.declared.Geometry.{Geometry}
-use Rattle.layout.specs.Geometry.{mutatorCount, blocksIn}
+use Rattle.layout.specs.Geometry.{largeKib, segmentBytes, mutatorCount, blocksIn}
 use Rattle.layout.specs.Mem.{Mem, memOf, setRun, Sizes}
 use Rattle.layout.proofs.Regions.{sized}
-use Rattle.layout.proofs.Sizes.{size-is}
+use Rattle.layout.proofs.Sizes.{large-bytes, small-bytes}
 use Rattle.theory.specs.Phases.{inHandshake}
 use Rattle.theory.specs.Calls.{c-detach, a-ok, refusal, refuse, unless}
 use Rattle.theory.proofs.Refusals.{by-ok}
@@ -31,13 +31,21 @@ use Rattle.model_laws.proofs.Lengths.{sizes-of}
 use Rattle.model_laws.proofs.Words.{Recorded, Untouched, untouched-as, recorded-as}
 use Rattle.model_laws.proofs.Releasing.{Gone, Releasing, held-range}
 use Rattle.model_laws.proofs.Released.{releasing, releasable}
-use Rattle.guarantee.specs.HandsBack.{Eleven, namedBy, namedIn, handedBack, StandsIn, HeldBy, HandsBack, EveryHandsBack}
+use Rattle.guarantee.specs.HandsBack.{Shared, namedBy, namedIn, handedBack, StandsIn, HeldBy, HandsBack, EveryHandsBack}
 use Rattle.guarantee.proofs.Refused.{result}
 use Rattle.model.specs.Tag as Tag
 
-pub eleven : Eleven
+-- by counting at each size
+pub shared-classes : Shared
 unfolding onesAmong
-eleven g = ap (λ z. onesAmong (λ i. oneIf (leb 2 (blocksOf z (firstClass + i)))) classCount) (size-is g)
+shared-classes g = go (same-or-not (g .kib) largeKib)
+  where
+    among : ℕ → ℕ
+    among z = onesAmong (λ i. oneIf (leb 2 (blocksOf z (firstClass + i)))) classCount
+
+    go : (g .kib ≡ largeKib) ⊎ (g .kib ≡ largeKib → ⊥) → among (segmentBytes g) ≡ pick (eqb (g .kib) largeKib) 12 11
+    go (inl e) = ap among (large-bytes g e) ∙ ap (λ b. pick b 12 11) (sym (eq-eqb (g .kib) largeKib e))
+    go (inr f) = ap among (small-bytes g f) ∙ ap (λ b. pick b 12 11) (sym (ne-eqb (g .kib) largeKib f))
 
 -- ---- places of a list that is put together
 

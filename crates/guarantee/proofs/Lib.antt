@@ -22,6 +22,7 @@ pub mod Stepping
 pub mod EmptyCycle
 pub mod Independent
 pub mod HandsBack
+pub mod OtherSize
 pub mod FullAtOnce
 pub mod Counting
 pub mod Totals

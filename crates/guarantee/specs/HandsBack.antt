@@ -4,14 +4,14 @@
 use mathlib.Core.Path.{_≡_}
 use mathlib.Core.List.{List, [], _∷_, _++_}
 use Prim.Native.Nat.{ℕ, zero, suc, _+_, _≤_, _<_}
-use lib.Dec.{leb}
+use lib.Dec.{leb, eqb}
 use lib.ListN.{length, getD}
-use Rattle.basics.specs.Pick.{oneIf}
+use Rattle.basics.specs.Pick.{pick, oneIf}
 use Rattle.words.specs.Bits.{onesAmong}
 use Rattle.classes.specs.Class.{firstClass, classCount, classOf}
 use Rattle.classes.specs.declared.SizeClass.the-variants.{Class}
 use Rattle.layout.specs.declared.Geometry.{Geometry}
-use Rattle.layout.specs.Geometry.{blocksIn, segmentOf}
+use Rattle.layout.specs.Geometry.{largeKib, blocksIn, segmentOf}
 use Rattle.layout.specs.Mem.{Mem, memOf}
 use Rattle.theory.specs.Calls.{c-detach, c-make}
 use Rattle.model.specs.declared.Answer.the-variants.{Ok}
@@ -24,9 +24,9 @@ use Rattle.model.specs.Tag as Tag
 abbrev pub sharedClasses : Geometry → ℕ
 sharedClasses g = onesAmong (λ i. oneIf (leb 2 (blocksIn g (firstClass + i)))) classCount
 
--- "up to eleven"
-abbrev pub Eleven : Type 0
-Eleven = (g : Geometry) → sharedClasses g ≡ 11
+-- No. 2: "up to eleven"; No. 6: "Each class has twice the blocks it has at 16 KiB, so a detach may hand back twelve segments."
+abbrev pub Shared : Type 0
+Shared = (g : Geometry) → sharedClasses g ≡ pick (eqb (g .kib) largeKib) 12 11
 
 -- ---- what a detach hands back
 
@@ -77,6 +77,7 @@ pub record FullAtOnce (g : Geometry) (m m′ : Mem) (k d : ℕ) : Type 0 where
   pub free : tag m (segmentOf g at) ≡ Tag.free
   pub full : tag m′ (segmentOf g at) ≡ Tag.full
 
+-- at 32 KiB no class has one block, so this says nothing there
 abbrev pub EveryFullAtOnce : Type 0
 EveryFullAtOnce =
     (g : Geometry) (words after : List ℕ) (k d p n c : ℕ) → Applied g words (callElement (c-make k d p n) g words Ok after)

@@ -63,7 +63,8 @@ LentStays (lookCall (sawPhase r)) = Unit
 LentStays (lookCall (sawStates output r after)) = after ≡ output
 LentStays (lookCall (examinedBy scratch r after)) = after ≡ scratch
 
--- "1, size: segment count not 1 to 256, or a slice not of its length (any call)": whatever the call was lent
+-- "1, size: segment count not 1 to 256, or a slice not of its length (any call)": whatever the call was lent; No. 6: "1 now covers a segment size
+-- other than these two"
 pub record SizeRefusal (e : Element) : Type 0 where
   -- then it is refused 1, and with 1 only then
   pub whenever : wrongSized e ≡ true → numberOf e ≡ some 1

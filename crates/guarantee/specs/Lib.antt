@@ -5,4 +5,5 @@ pub mod Keeping
 pub mod EmptyCycle
 pub mod Independent
 pub mod HandsBack
+pub mod OtherSize
 pub mod Totals

@@ -1,11 +1,13 @@
 -- A case as a list of calls: the model's own run of its left column, with the answers of its right column.
 use mathlib.Core.Path.{_≡_, refl, sym, _∙_, ap, subst}
+use mathlib.Core.Logic.{_⊎_, inl, inr}
 use mathlib.Core.Option.{Option, none, some}
 use mathlib.Core.List.{List, [], _∷_, tail}
 use Prim.Native.Nat.{ℕ, zero, suc, _≤_}
+use native.Mathlib.Omega.{arith}
 use lib.ListN.{length}
 use Rattle.layout.specs.declared.Geometry.{Geometry}
-use Rattle.layout.specs.Geometry.{Sized, maxSegments}
+use Rattle.layout.specs.Geometry.{Sized, IsSize, maxSegments, smallKib, largeKib}
 use Rattle.layout.specs.Mem.{Mem, memOf, flat, Sizes}
 use Rattle.layout.proofs.Regions.{right-size, length-flat, memOf-flat}
 use Rattle.model.specs.Lists.{Event, mutatorCall, startCall, stepCall, lookCall, Element, Chain, Opened, prepend}
@@ -50,6 +52,11 @@ commandsIn (e ∷ es) = prepend (commandIn e) (commandsIn es)
 
 abbrev pub asked : List Line → List Command
 asked ls = commandsIn (inputs ls)
+
+-- 16 or 32, by arithmetic
+is-size : {k : ℕ} → (k ≡ smallKib) ⊎ (k ≡ largeKib) → IsSize k
+is-size (inl e) = omega arith
+is-size (inr e) = omega arith
 
 module _ (g : Geometry) where
   -- the event of a command with its reply
@@ -112,13 +119,13 @@ module _ (g : Geometry) where
   memory-at words z m e (r ∷ rs) (suc n) = memory-at (answered g words r .after) (sized-left g words z r) (does g m (inputOf r) .1) (does-as words z m e r) rs n
 
   -- with the memory at each of its points
-  pub case-known : 1 ≤ g .segments → g .segments ≤ maxSegments → (m : Mem) → Sizes g m → (rs : List Command) (bs : List Reply) → replies g m (input.opening ∷ inputsOf rs) ≡ ok ∷ bs
-      → (p : CaseRun rs bs) × ((n : ℕ) → memOf g (p .at n) ≡ memoryAt (opening.opened g m) rs n)
+  pub case-known : 1 ≤ g .segments → g .segments ≤ maxSegments → (g .kib ≡ smallKib) ⊎ (g .kib ≡ largeKib) → (m : Mem) → Sizes g m → (rs : List Command) (bs : List Reply)
+      → replies g m (input.opening ∷ inputsOf rs) ≡ ok ∷ bs → (p : CaseRun rs bs) × ((n : ℕ) → memOf g (p .at n) ≡ memoryAt (opening.opened g m) rs n)
   unfolding replies
-  case-known l h m z rs bs told =
+  case-known l h k m z rs bs told =
       let content = flat m in
       let words = flat (opening.opened g (memOf g content)) in
-      let x : Sized g (length content) = record { some = l; few = h; is = length-flat g m z } in
+      let x : Sized g (length content) = record { some = l; few = h; whole = is-size k .0; small = is-size k .1; large = is-size k .2; is = length-flat g m z } in
       let own = runs-itself g content rs (right-size g (length content) x) in
       let e : opening.opened g m ≡ memOf g words =
       ap (opening.opened g) (sym (memOf-flat g m z))
@@ -127,5 +134,6 @@ module _ (g : Geometry) where
       let y = run-elements words s (opening.opened g m) e rs ∙ ap (elementsOf (wordsAt words rs) rs) (ap tail told) in
       (record { content = content; at = wordsAt words rs; opened = own .opening; chain = subst (Chain g words) y (own .chain) }, memory-at words s (opening.opened g m) e rs)
 
-  pub case-run : 1 ≤ g .segments → g .segments ≤ maxSegments → (m : Mem) → Sizes g m → (rs : List Command) (bs : List Reply) → replies g m (input.opening ∷ inputsOf rs) ≡ ok ∷ bs → CaseRun rs bs
-  case-run l h m z rs bs told = case-known l h m z rs bs told .0
+  pub case-run : 1 ≤ g .segments → g .segments ≤ maxSegments → (g .kib ≡ smallKib) ⊎ (g .kib ≡ largeKib) → (m : Mem) → Sizes g m → (rs : List Command) (bs : List Reply)
+      → replies g m (input.opening ∷ inputsOf rs) ≡ ok ∷ bs → CaseRun rs bs
+  case-run l h k m z rs bs told = case-known l h k m z rs bs told .0

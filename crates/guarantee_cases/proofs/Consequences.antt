@@ -1,6 +1,6 @@
 -- What the guarantee and the theorems beside it say of document 01's whole case and of the case of its refusals.
 use mathlib.Core.Path.{_≡_, refl, sym, _∙_, ap}
-use mathlib.Core.Bool.{true≢false}
+use mathlib.Core.Logic.{inl}
 use mathlib.Core.List.{List, tail}
 use mathlib.Core.Option.{Option·some-injective}
 use native.Mathlib.Omega.{arith}
@@ -30,7 +30,7 @@ use Rattle.model_cases.proofs.Refusals.{refusals-hold}
 use Rattle.guarantee_cases.specs.Columns.{leftColumn, rightColumn}
 use Rattle.guarantee_cases.specs.Consequences.{Answered, OfWhole, OfRefusals}
 use Rattle.guarantee_cases.proofs.CaseRun.{commandsIn, elementsOf, CaseRun, case-run}
-use Rattle.guarantee_cases.proofs.Instance.{asked, replied, anyStart, has-start, case-from, sizes-sevens, whole-run, full-then, whole-case}
+use Rattle.guarantee_cases.proofs.Instance.{asked, replied, ended-at, case-from, sizes-sevens, whole-run, full-then, whole-case}
 use Rattle.guarantee_cases.proofs.Along.{applied-to, along}
 use Rattle.model.specs.Tag as Tag
 
@@ -55,19 +55,7 @@ refusals-answered g words es b ch e = guarantee .answers g words ghostStart es b
 module _ (g : Geometry) (p : CaseRun g asked replied) (full : tag (memOf g (p .at 9)) 0 ≡ Tag.full) where
   -- from the start (9) to done (20)
   abbrev ended : EndedIn g (case-from g p full .calls)
-  ended =
-      let l = case-from g p full .calls in
-      record {
-        before = take 9 l;
-        during = take 10 (drop 10 l);
-        rest = drop 21 l;
-        startBefore = p .at 9;
-        startAfter = p .at 10;
-        stepBefore = p .at 20;
-        stepAfter = p .at 21;
-        whole = refl;
-        oneStart = λ xs ys u v e. true≢false (sym (has-start g xs ys u v) ∙ ap anyStart (sym e));
-      }
+  ended = ended-at g (p .at) (case-from g p full .calls) 9 10 refl refl
 
   of-whole : OfWhole (case-from g p full)
   of-whole =
@@ -135,4 +123,4 @@ module _ (g : Geometry) (p : CaseRun g (commandsIn (inputs refusals)) (tail (out
 pub refusals-consequences : OfRefusals
 refusals-consequences =
     of-refusals (geometry 1)
-    (case-run (geometry 1) (omega arith) (omega arith) (sevens (geometry 1)) (sizes-sevens (geometry 1)) (commandsIn (inputs refusals)) (tail (outputs refusals)) refusals-hold)
+    (case-run (geometry 1) (omega arith) (omega arith) (inl refl) (sevens (geometry 1)) (sizes-sevens (geometry 1)) (commandsIn (inputs refusals)) (tail (outputs refusals)) refusals-hold)

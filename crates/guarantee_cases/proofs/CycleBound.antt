@@ -1,6 +1,7 @@
 -- The theorem of request No. 7, applied to five computed cases. How many steps are counted is computed from the answers, and B and C from the memory
 -- at the points of the case; that the steps are at most B + C + 4, with all that is said of such a cycle, is what the theorem says.
 use mathlib.Core.Path.{_≡_, refl, sym, _∙_, ap, subst}
+use mathlib.Core.Logic.{_⊎_, inl}
 use mathlib.Core.Bool.{Bool, true, false, _&&_, true≢false}
 use mathlib.Core.Option.{Option, none, some}
 use mathlib.Core.List.{List, [], _∷_, _++_, tail}
@@ -11,7 +12,7 @@ use lib.ListN.{take, drop}
 use borrow.Author.Tests.{eqb-true}
 use Rattle.basics.specs.Pick.{pick}
 use Rattle.layout.specs.declared.Geometry.{Geometry}
-use Rattle.layout.specs.Geometry.{maxSegments}
+use Rattle.layout.specs.Geometry.{maxSegments, smallKib, largeKib}
 use Rattle.layout.specs.Mem.{Mem, memOf}
 use Rattle.model.specs.declared.Answer.the-variants.{Ok}
 use Rattle.model.specs.declared.Step.{Step}
@@ -74,7 +75,7 @@ done-inside (x ∷ xs) ys e d i = go (isDone (x .event) && hasMore (xs ++ (e ∷
     go true q = refl
     go false q = q
 
-done-last : (ds : List Element) → doneInside ds ≡ false → DoneLast ds
+pub done-last : (ds : List Element) → doneInside ds ≡ false → DoneLast ds
 done-last ds f xs [] e i j = refl
 done-last ds f xs (d ∷ ys) e i j = absurd (true≢false (sym (done-inside xs ys e d j) ∙ ap doneInside (sym i) ∙ f))
 
@@ -117,7 +118,7 @@ module _ (g : Geometry) where
 
 -- ---- a case over segments of sevens, with the memory at each of its points
 
-abbrev replied : List Line → List Reply
+abbrev pub replied : List Line → List Reply
 replied ls = tail (outputs ls)
 
 -- the memories before the first command, before the second, and so on: computed once for all points
@@ -125,11 +126,11 @@ abbrev memories : Geometry → Mem → List Command → List Mem
 memories g m [] = m ∷ []
 memories g m (r ∷ rs) = m ∷ memories g (does g m (inputOf r) .1) rs
 
-abbrev memoriesOf : Geometry → List Line → List Mem
+abbrev pub memoriesOf : Geometry → List Line → List Mem
 memoriesOf g ls = memories g (opened g (sevens g)) (asked ls)
 
 -- the n-th of them; past the end the last, which is x where there is none
-abbrev nth : Mem → List Mem → ℕ → Mem
+abbrev pub nth : Mem → List Mem → ℕ → Mem
 nth x [] n = x
 nth x (m ∷ ms) zero = m
 nth x (m ∷ ms) (suc n) = nth m ms n
@@ -140,30 +141,30 @@ nth-is g x m [] (suc n) = refl
 nth-is g x m (r ∷ rs) zero = refl
 nth-is g x m (r ∷ rs) (suc n) = nth-is g m (does g m (inputOf r) .1) rs n
 
-abbrev Known : Geometry → List Line → Type 0
+abbrev pub Known : Geometry → List Line → Type 0
 Known g ls = (p : CaseRun g (asked ls) (replied ls)) × ((n : ℕ) → memOf g (p .at n) ≡ nth (sevens g) (memoriesOf g ls) n)
 
-known : (n : ℕ) (ls : List Line) → 1 ≤ n → n ≤ maxSegments → replies (geometry n) (sevens (geometry n)) (opening ∷ inputsOf (asked ls)) ≡ ok ∷ replied ls → Known (geometry n) ls
-known n ls l h told =
-    let g = geometry n in
-    let k = case-known g l h (sevens g) (sizes-sevens g) (asked ls) (replied ls) told in
+pub known : (g : Geometry) (ls : List Line) → 1 ≤ g .segments → g .segments ≤ maxSegments → (g .kib ≡ smallKib) ⊎ (g .kib ≡ largeKib)
+    → replies g (sevens g) (opening ∷ inputsOf (asked ls)) ≡ ok ∷ replied ls → Known g ls
+known g ls l h z told =
+    let k = case-known g l h z (sevens g) (sizes-sevens g) (asked ls) (replied ls) told in
     (k .0, λ i. k .1 i ∙ nth-is g (sevens g) (opened g (sevens g)) (asked ls) i)
 
-abbrev elements : (g : Geometry) (ls : List Line) → Known g ls → List Element
+abbrev pub elements : (g : Geometry) (ls : List Line) → Known g ls → List Element
 elements g ls k = elementsOf g (k .0 .at) (asked ls) (replied ls)
 
 -- its calls, perhaps with others between them: so many before the start, and so many after it, up to done
-record Case : Type 0 where
-  geometry : Geometry
-  lines : List Line
-  known : Known geometry lines
-  calls : List Element
-  chain : Chain geometry (known .0 .at 0) calls
-  early : ℕ
-  long : ℕ
+pub record Case : Type 0 where
+  pub geometry : Geometry
+  pub lines : List Line
+  pub known : Known geometry lines
+  pub calls : List Element
+  pub chain : Chain geometry (known .0 .at 0) calls
+  pub early : ℕ
+  pub long : ℕ
 
 -- those of the case alone
-abbrev alone : (g : Geometry) (ls : List Line) → Known g ls → (early long : ℕ) → Case
+abbrev pub alone : (g : Geometry) (ls : List Line) → Known g ls → (early long : ℕ) → Case
 alone g ls k s d = record { geometry = g; lines = ls; known = k; calls = elements g ls k; chain = k .0 .chain; early = s; long = d }
 
 -- the points of a list, from the n-th on: after a call refused 1 it is the same
@@ -204,22 +205,22 @@ module _ (x : Case) where
   points = pointsOf (suc (x .early)) during
 
   -- B and C, by the memories
-  abbrev both : List Mem → ℕ × ℕ
+  abbrev pub both : List Mem → ℕ × ℕ
   both ms = (usedIn g (markAt (nth (sevens g) ms) points), condemnedIn g (nth (sevens g) ms (suc (x .early))))
 
   module _ (cut : x .calls ≡ before ++ (begin ∷ (during ++ rest))) where
-    in-cycle : DoneLast during → InCycle g startBefore startAfter during
+    pub in-cycle : DoneLast during → InCycle g startBefore startAfter during
     in-cycle last =
         every-start-begins .fromOpening g (at 0) ghostStart (x .calls) before during rest startBefore startAfter (byOpening (x .known .0 .opened)) (x .chain) cut last
 
-    used-is : InCycle g startBefore startAfter during → markOf g startAfter during ≡ markAt (λ n. memOf g (at n)) points
+    pub used-is : InCycle g startBefore startAfter during → markOf g startAfter during ≡ markAt (λ n. memOf g (at n)) points
         → usedAtMark g startAfter during ≡ both (memoriesOf g (x .lines)) .0
     used-is i e =
         let c = i .chain in
         let n : nextWords startBefore begin ≡ startAfter = ahead g startBefore begin (c .0) (not-refused g startBefore begin (c .0) refl (c .2)) in
         ap (usedIn g) (mark-of g during startAfter (subst (λ u. Chain g u during) n (c .3)) ∙ e ∙ λ j. markAt (λ n. x .known .1 n j) points)
 
-    abbrev of-cycle : {rs : List Step} {n B C : ℕ} → remainingCalls struckOut (x .calls) ≡ leftColumn (x .lines) → remainingAnswers struckOut (x .calls) ≡ rightColumn (x .lines)
+    abbrev pub of-cycle : {rs : List Step} {n B C : ℕ} → remainingCalls struckOut (x .calls) ≡ leftColumn (x .lines) → remainingAnswers struckOut (x .calls) ≡ rightColumn (x .lines)
         → doneInside during ≡ false → markOf g startAfter during ≡ markAt (λ n. memOf g (at n)) points → stepsIn during ≡ rs → counted during ≡ n
         → both (memoriesOf g (x .lines)) ≡ (B, C) → OfCycleBound (x .lines) rs n B C
     of-cycle l r last marks answers steps e =
@@ -262,19 +263,19 @@ unfolding replies
 meanwhile-holds = refl
 
 whole-known : Known (geometry 2) whole
-whole-known = known 2 whole (omega arith) (omega arith) whole-holds
+whole-known = known (geometry 2) whole (omega arith) (omega arith) (inl refl) whole-holds
 
 reaching-known : Known (geometry 1) reaching
-reaching-known = known 1 reaching (omega arith) (omega arith) reaching-holds
+reaching-known = known (geometry 1) reaching (omega arith) (omega arith) (inl refl) reaching-holds
 
 nothing-known : Known (geometry 1) overNothing
-nothing-known = known 1 overNothing (omega arith) (omega arith) nothing-holds
+nothing-known = known (geometry 1) overNothing (omega arith) (omega arith) (inl refl) nothing-holds
 
 part-known : Known (geometry 1) overPart
-part-known = known 1 overPart (omega arith) (omega arith) part-holds
+part-known = known (geometry 1) overPart (omega arith) (omega arith) (inl refl) part-holds
 
 meanwhile-known : Known (geometry 1) madeMeanwhile
-meanwhile-known = known 1 madeMeanwhile (omega arith) (omega arith) meanwhile-holds
+meanwhile-known = known (geometry 1) madeMeanwhile (omega arith) (omega arith) (inl refl) meanwhile-holds
 
 -- a step refused 1 behind the first one that waits: 257 segments and no word
 abbrev aStep : Element

@@ -1,8 +1,8 @@
 -- The guarantee and the theorems beside it, applied to request No. 5's own case. What the memory is at its points is computed; that the block was not
 -- reached, that there is no room, the one sweep and the free block are what the theorems say.
 use mathlib.Core.Path.{_≡_, refl, sym, _∙_, ap, subst}
-use mathlib.Core.Bool.{true, true≢false}
-use mathlib.Core.Logic.{inr}
+use mathlib.Core.Bool.{true}
+use mathlib.Core.Logic.{inl, inr}
 use mathlib.Core.Option.{Option·some-injective}
 use mathlib.Core.List.{List, tail}
 use Prim.Native.Nat.{ℕ, _<_}
@@ -38,7 +38,7 @@ use Rattle.model_cycles.proofs.PartCycles.{long-after-short-holds}
 use Rattle.guarantee_cases.specs.Columns.{leftColumn, rightColumn}
 use Rattle.guarantee_cases.specs.HalfEmpty.{OfHalfEmpty}
 use Rattle.guarantee_cases.proofs.CaseRun.{commandsIn, elementsOf, CaseRun, memoryAt, case-known}
-use Rattle.guarantee_cases.proofs.Instance.{anyStart, has-start, check-heap, sizes-sevens}
+use Rattle.guarantee_cases.proofs.Instance.{swept-at, ended-at, check-heap, sizes-sevens}
 use Rattle.guarantee_cases.proofs.GarbageFound.{unreached-at}
 use Rattle.guarantee_cases.proofs.Along.{applied-to, along}
 use Rattle.model.specs.Tag as Tag
@@ -91,32 +91,10 @@ module _ (g : Geometry) (p : CaseRun g asked replied) (w : Points g (memOf g (p 
       (λ e. let y : _≡_ {A = ℕ} 10 1 = Option·some-injective 10 1 e in omega arith)
 
   abbrev swept-in : SweptIn g elements
-  swept-in = record {
-    before = take 8 elements;
-    during = take 7 (drop 9 elements);
-    rest = drop 17 elements;
-    startBefore = at 8;
-    startAfter = at 9;
-    stepBefore = at 16;
-    stepAfter = at 17;
-    segment = 0;
-    freed = 3;
-    whole = refl;
-    oneStart = λ xs ys u v e. true≢false (sym (has-start g xs ys u v) ∙ ap anyStart (sym e));
-  }
+  swept-in = swept-at g at elements 8 7 0 3 refl refl
 
   abbrev ended : EndedIn g elements
-  ended = record {
-    before = take 8 elements;
-    during = take 9 (drop 9 elements);
-    rest = drop 19 elements;
-    startBefore = at 8;
-    startAfter = at 9;
-    stepBefore = at 18;
-    stepAfter = at 19;
-    whole = refl;
-    oneStart = λ xs ys u v e. true≢false (sym (has-start g xs ys u v) ∙ ap anyStart (sym e));
-  }
+  ended = ended-at g at elements 8 9 refl refl
 
   abbrev then : Ghost
   then = ghostAfter struckOut ghostStart (take 8 elements)
@@ -184,7 +162,7 @@ abbrev memory : ℕ → Mem
 memory = memoryAt (geometry 1) (opened (geometry 1) (sevens (geometry 1))) asked
 
 known : (p : CaseRun (geometry 1) asked replied) × ((n : ℕ) → memOf (geometry 1) (p .at n) ≡ memory n)
-known = case-known (geometry 1) (omega arith) (omega arith) (sevens (geometry 1)) (sizes-sevens (geometry 1)) asked replied long-after-short-holds
+known = case-known (geometry 1) (omega arith) (omega arith) (inl refl) (sevens (geometry 1)) (sizes-sevens (geometry 1)) asked replied long-after-short-holds
 
 points : (a b c d : Mem) → a ≡ memory 8 → b ≡ memory 9 → c ≡ memory 17 → d ≡ memory 20 → Points (geometry 1) a b c d
 unfolding replies

@@ -1,6 +1,7 @@
 -- The theorems of request No. 2, applied to a computed case. What the memory is before the detach is computed; what it is afterwards, and that the
 -- make filled its segment, is what they say.
 use mathlib.Core.Path.{_≡_, refl, sym, _∙_, ap, subst}
+use mathlib.Core.Logic.{inl}
 use mathlib.Core.List.{List, [], _∷_, tail}
 use Prim.Native.Nat.{ℕ, suc}
 use native.Mathlib.Omega.{arith}
@@ -111,7 +112,7 @@ module _ (g : Geometry) (p : CaseRun g asked replied) (w : Between g (memOf g (p
 -- ---- over three segments of sevens
 
 known : (p : CaseRun (geometry 3) asked replied) × ((n : ℕ) → memOf (geometry 3) (p .at n) ≡ memoryAt (geometry 3) (opened (geometry 3) (sevens (geometry 3))) asked n)
-known = case-known (geometry 3) (omega arith) (omega arith) (sevens (geometry 3)) (sizes-sevens (geometry 3)) asked replied long-detach-holds
+known = case-known (geometry 3) (omega arith) (omega arith) (inl refl) (sevens (geometry 3)) (sizes-sevens (geometry 3)) asked replied long-detach-holds
 
 between : (m : Mem) → m ≡ memoryAt (geometry 3) (opened (geometry 3) (sevens (geometry 3))) asked 4 → Between (geometry 3) m
 unfolding replies

@@ -1,8 +1,9 @@
 -- The guarantee is not empty: document 01's whole case, over two segments of sevens, is a list as the guarantee speaks of.
 use mathlib.Core.Path.{_≡_, refl, sym, _∙_, ap}
+use mathlib.Core.Logic.{inl}
 use mathlib.Core.Bool.{Bool, true, false, true≢false}
 use mathlib.Core.List.{List, [], _∷_, _++_, tail}
-use Prim.Native.Nat.{ℕ, zero, suc}
+use Prim.Native.Nat.{ℕ, zero, suc, _+_}
 use native.Mathlib.Omega.{arith}
 use lib.ListN.{take, drop, length-replicate}
 use Rattle.basics.specs.Pick.{pick}
@@ -12,11 +13,14 @@ use Rattle.layout.specs.Mem.{memOf, Sizes}
 use Rattle.theory.specs.Calls.{c-check, a-ok, refusal, refuse}
 use Rattle.theory.specs.Unbounded.{Unbounded, uexec, uobserve}
 use Rattle.model.specs.declared.Answer.the-variants.{Ok}
-use Rattle.model.specs.Lists.{Event, mutatorCall, startCall, stepCall, openingCall, lookCall, Element, startElement, Ghost, ghostStart, byOpening, ghostAfter}
+use Rattle.model.specs.declared.Step.{Step}
+use Rattle.model.specs.declared.Step.the-variants.{Swept, Done}
+use Rattle.model.specs.Lists.{Event, mutatorCall, startCall, stepCall, openingCall, lookCall, Element, startElement, stepElement, Ghost, ghostStart, byOpening, ghostAfter}
 use Rattle.model.specs.Run.{Command}
 use Rattle.model.specs.Fields.{tag}
 use Rattle.model.specs.Opening.{opened}
 use Rattle.guarantee.specs.Demand3.{struckOut, SweptIn}
+use Rattle.guarantee.specs.Keeping.{EndedIn}
 use Rattle.guarantee.proofs.Cycle.{cycle-of}
 use Rattle.model_cases.specs.Replies.{Reply, replies, inputs, outputs, geometry, sevens}
 use Rattle.model_cases.specs.Whole.{whole}
@@ -63,6 +67,46 @@ anyStart = anyOf isStart
 pub has-start : (g : Geometry) (xs ys : List Element) (u v : List ℕ) → anyStart (xs ++ (startElement g u Ok v ∷ ys)) ≡ true
 has-start g xs ys u v = has-any isStart xs ys (startElement g u Ok v) refl
 
+-- ---- a cycle in a list: s calls, the start, d calls with no start among them, and a step; at n: the words before the n-th call
+
+module _ (g : Geometry) (at : ℕ → List ℕ) (es : List Element) (s d : ℕ) where
+  abbrev pub within : List Element
+  within = take d (drop (1 + s) es)
+
+  abbrev pub cutAt : Step → List Element
+  cutAt r = take s es ++ (startElement g (at s) Ok (at (1 + s)) ∷ (within ++ (stepElement g (at (1 + s + d)) r (at (2 + s + d)) ∷ drop (2 + s + d) es)))
+
+  pub one-start : anyStart within ≡ false → (xs ys : List Element) (u v : List ℕ) → within ≡ xs ++ (startElement g u Ok v ∷ ys) → ⊥
+  one-start none xs ys u v e = true≢false (sym (has-start g xs ys u v) ∙ ap anyStart (sym e) ∙ none)
+
+  abbrev pub swept-at : (segment freed : ℕ) → es ≡ cutAt (Swept segment freed) → anyStart within ≡ false → SweptIn g es
+  swept-at segment freed whole none = record {
+    before = take s es;
+    during = within;
+    rest = drop (2 + s + d) es;
+    startBefore = at s;
+    startAfter = at (1 + s);
+    stepBefore = at (1 + s + d);
+    stepAfter = at (2 + s + d);
+    segment = segment;
+    freed = freed;
+    whole = whole;
+    oneStart = one-start none;
+  }
+
+  abbrev pub ended-at : es ≡ cutAt Done → anyStart within ≡ false → EndedIn g es
+  ended-at whole none = record {
+    before = take s es;
+    during = within;
+    rest = drop (2 + s + d) es;
+    startBefore = at s;
+    startAfter = at (1 + s);
+    stepBefore = at (1 + s + d);
+    stepAfter = at (2 + s + d);
+    whole = whole;
+    oneStart = one-start none;
+  }
+
 -- a check leaves the unbounded heap as it was
 pub check-heap : (un : Unbounded) (k : ℕ) → uexec un (c-check k) .1 ≡ un
 check-heap un k = go (refusal (uobserve un) (c-check k))
@@ -79,19 +123,7 @@ module _ (g : Geometry) (p : CaseRun g asked replied) (full : tag (memOf g (p .a
   elements = elementsOf g at asked replied
 
   abbrev pub swept-in : SweptIn g elements
-  swept-in = record {
-    before = take 9 elements;
-    during = take 9 (drop 10 elements);
-    rest = drop 20 elements;
-    startBefore = at 9;
-    startAfter = at 10;
-    stepBefore = at 19;
-    stepAfter = at 20;
-    segment = 0;
-    freed = 1;
-    whole = refl;
-    oneStart = λ xs ys u v e. true≢false (sym (has-start g xs ys u v) ∙ ap anyStart (sym e));
-  }
+  swept-in = swept-at g at elements 9 9 0 1 refl refl
 
   still : (w : Ghost) → ghostAfter struckOut w (take 9 (drop 10 elements)) ≡ w
   still w = λ i. record { heap = (check-heap (uexec (w .heap) (c-check 0) .1) 0 ∙ check-heap (w .heap) 0) i; put = w .put }
@@ -154,7 +186,7 @@ sizes-sevens g = record {
 }
 
 known : (p : CaseRun (geometry 2) asked replied) × ((n : ℕ) → memOf (geometry 2) (p .at n) ≡ memoryAt (geometry 2) (opened (geometry 2) (sevens (geometry 2))) asked n)
-known = case-known (geometry 2) (omega arith) (omega arith) (sevens (geometry 2)) (sizes-sevens (geometry 2)) asked replied whole-holds
+known = case-known (geometry 2) (omega arith) (omega arith) (inl refl) (sevens (geometry 2)) (sizes-sevens (geometry 2)) asked replied whole-holds
 
 pub whole-run : CaseRun (geometry 2) asked replied
 whole-run = known .0

@@ -1,6 +1,7 @@
 -- The theorem of the cycle over no segments, applied to a computed case. That nothing is full or part at the start follows from the replies:
 -- no step answers swept before done, and each such segment would have been swept.
 use mathlib.Core.Path.{_≡_, refl, sym, _∙_, ap}
+use mathlib.Core.Logic.{inl}
 use mathlib.Core.Bool.{Bool, true, false, true≢false}
 use mathlib.Core.List.{List, [], _∷_, tail}
 use Prim.Native.Nat.{ℕ}
@@ -31,7 +32,7 @@ use Rattle.guarantee.proofs.EmptyCycle.{empty-cycle, idle-accepts}
 use Rattle.model_cases.specs.Replies.{Reply, replies, inputs, outputs, Holds, geometry, sevens}
 use Rattle.guarantee_cases.specs.OverNothing.{overNothing, OfOverNothing}
 use Rattle.guarantee_cases.proofs.CaseRun.{commandsIn, elementsOf, CaseRun, memoryAt, case-known}
-use Rattle.guarantee_cases.proofs.Instance.{anyOf, has-any, anyStart, has-start, sizes-sevens}
+use Rattle.guarantee_cases.proofs.Instance.{anyOf, has-any, anyStart, has-start, ended-at, sizes-sevens}
 use Rattle.guarantee_cases.proofs.Along.{applied-to, chain-to, along}
 use Rattle.model.specs.declared.Step.the-variants as stepAnswer
 use Rattle.model.specs.Tag as Tag
@@ -92,17 +93,7 @@ module _ (g : Geometry) (p : CaseRun g asked replied) (used : BlockInUse g (memO
   third-applied = applied-to g (at 0) ghostStart elements (byOpening (p .opened)) (p .chain) (take 20 elements) (drop 21 elements) third refl (λ e. none-some e)
 
   abbrev ended : EndedIn g elements
-  ended = record {
-    before = take 5 elements;
-    during = take 16 (drop 6 elements);
-    rest = drop 23 elements;
-    startBefore = at 5;
-    startAfter = at 6;
-    stepBefore = at 22;
-    stepAfter = at 23;
-    whole = refl;
-    oneStart = λ xs ys u v e. true≢false (sym (has-start g xs ys u v) ∙ ap anyStart (sym e));
-  }
+  ended = ended-at g at elements 5 16 refl refl
 
   none-such : (s : ℕ) → fullOrPart (memOf g (at 5)) s ≡ true → collects (memOf g (at 5)) s ≡ false
   none-such s t =
@@ -174,7 +165,7 @@ module _ (g : Geometry) (p : CaseRun g asked replied) (used : BlockInUse g (memO
 -- ---- over one segment of sevens
 
 known : (p : CaseRun (geometry 1) asked replied) × ((n : ℕ) → memOf (geometry 1) (p .at n) ≡ memoryAt (geometry 1) (opened (geometry 1) (sevens (geometry 1))) asked n)
-known = case-known (geometry 1) (omega arith) (omega arith) (sevens (geometry 1)) (sizes-sevens (geometry 1)) asked replied nothing-holds
+known = case-known (geometry 1) (omega arith) (omega arith) (inl refl) (sevens (geometry 1)) (sizes-sevens (geometry 1)) asked replied nothing-holds
 
 -- the dropped record's block, by computing
 block-used : (m : Mem) → m ≡ memoryAt (geometry 1) (opened (geometry 1) (sevens (geometry 1))) asked 5 → BlockInUse (geometry 1) m 0 1

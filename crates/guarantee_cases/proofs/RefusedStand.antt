@@ -1,15 +1,19 @@
 -- Calls refused 1 stand in a list.
 use mathlib.Core.Path.{_≡_, refl, sym, _∙_, ap, subst}
-use mathlib.Core.Logic.{inl}
-use mathlib.Core.Bool.{true, false, not, true≢false}
+use mathlib.Core.Logic.{_⊎_, inl, inr}
+use mathlib.Core.Bool.{Bool, true, false, not, true≢false}
 use mathlib.Core.List.{List, [], _∷_}
 use mathlib.Core.Option.{some, Option·some-injective}
-use Prim.Native.Nat.{ℕ}
+use Prim.Native.Nat.{ℕ, _*_, _≤_, _<_}
+use native.Mathlib.Omega.{arith}
+use lib.Dec.{ltb}
 use lib.ListN.{length, drop}
 use Rattle.basics.specs.Pick.{pick}
+use Rattle.basics.proofs.Order.{le-or-lt}
 use Rattle.layout.specs.declared.Geometry.{Geometry}
-use Rattle.layout.specs.Geometry.{wrongSize, segmentBytes, total}
+use Rattle.layout.specs.Geometry.{maxSegments, wrongSize, segmentBytes, total}
 use Rattle.layout.specs.Mem.{Mem}
+use Rattle.layout.proofs.Regions.{sized}
 use Rattle.theory.specs.Calls.{c-check, a-no}
 use Rattle.theory.proofs.Invariant.{none-some}
 use Rattle.model.specs.declared.Answer.the-variants.{Refused}
@@ -18,8 +22,8 @@ use Rattle.model.specs.Promise.{PromiseOf}
 use Rattle.model.specs.Looks.{Look, sawPhase, sawStates, examinedBy, lookSized}
 use Rattle.model.specs.Lists.{Event, lookCall, Element, Meets, wrongSized, Chain}
 use Rattle.model.proofs.Numbers.{gives-1}
-use Rattle.model_cases.specs.Replies.{geometry}
-use Rattle.guarantee_cases.specs.RefusedStand.{RefusedSize, refusedCall, refusedStart, refusedStep, refusedOpening, refusedPhase, refusedStates, refusedExamination, leaving, four, RefusedStand}
+use Rattle.model_cases.specs.Replies.{geometry, largeGeometry}
+use Rattle.guarantee_cases.specs.RefusedStand.{RefusedSize, refusedCall, refusedStart, refusedStep, refusedOpening, refusedPhase, refusedStates, refusedExamination, leaving, four, three, RefusedStand}
 use Rattle.theory.specs.Calls as theory
 use Rattle.model.specs.declared.Step.the-variants as stepAnswer
 use Rattle.model.specs.declared.PhaseLook.the-variants as look
@@ -87,6 +91,46 @@ too-short : wrongSize (geometry 2) (total (geometry 1)) ≡ true
 unfolding wrongSize segmentBytes
 too-short = refl
 
+-- 48 KiB are no size
+no-size : (n x : ℕ) → wrongSize (record { segments = n; kib = 48 }) x ≡ true
+unfolding wrongSize
+no-size n x = go (ltb n 1) (ltb maxSegments n)
+  where
+    go : (a b : Bool) → pick a true (pick b true true) ≡ true
+    go true b = refl
+    go false true = refl
+    go false false = refl
+
+-- of a length that is none of the count's
+other-length : (g : Geometry) (x : ℕ) → (1 ≤ g .segments → g .segments ≤ maxSegments → x ≡ total g → ⊥) → wrongSize g x ≡ true
+other-length g x f = go (wrongSize g x) refl
+  where
+    go : (b : Bool) → wrongSize g x ≡ b → b ≡ true
+    go true e = refl
+    go false e = let s = sized g x e in absurd (f (s .some) (s .few) (s .is))
+
+-- k segments of 32 KiB need fewer words than 2 k of 16 KiB, and more than 2 k - 1
+apart : (n k : ℕ) → 1 ≤ k → k ≤ maxSegments → total (geometry n) ≡ total (largeGeometry k) → ⊥
+unfolding segmentBytes
+apart n k l h e = go (le-or-lt (2 * k) n)
+  where
+    go : (2 * k ≤ n) ⊎ (n < 2 * k) → ⊥
+    go (inl q) = omega arith
+    go (inr q) = omega arith
+
+never-both : (n k : ℕ) → (wrongSize (largeGeometry k) (total (geometry n)) ≡ true) × (wrongSize (geometry k) (total (largeGeometry n)) ≡ true)
+unfolding segmentBytes
+never-both n k = (
+  other-length (largeGeometry k) (total (geometry n)) (λ a b e. apart n k a b e),
+  other-length (geometry k) (total (largeGeometry n)) (λ a b e. apart k n (omega arith) (omega arith) (sym e)),
+)
+
+three-stand : (other : Geometry) (lent : List ℕ) → wrongSize other (length lent) ≡ true → (g : Geometry) (words : List ℕ) → Chain g words (three other lent)
+three-stand other lent wrong g words =
+    let third = stands (record { segments = other .segments; kib = 48 }) lent (no-size (other .segments) (length lent)) g words [] tt _ refusedStep in
+    let second = stands other lent wrong g words (drop 2 (three other lent)) third _ (refusedCall (c-check 0)) in
+    stands other lent wrong g words (drop 1 (three other lent)) second _ refusedOpening
+
 pub refused-stand : RefusedStand
 refused-stand = record {
   stands = λ g words es ch count lent wrong v r. stands count lent wrong g words es ch v r;
@@ -96,4 +140,7 @@ refused-stand = record {
       let third = stands (geometry 2) lent short g words (drop 3 (four lent)) fourth _ refusedStart in
       let second = stands (geometry 257) [] no-count g words (drop 2 (four lent)) third _ (refusedCall (c-check 0)) in
       stands (geometry 257) [] no-count g words (drop 1 (four lent)) second _ refusedOpening;
+  threeStand = λ g words lent n k l. three-stand (largeGeometry k) lent (ap (wrongSize (largeGeometry k)) l ∙ never-both n k .0) g words;
+  otherWay = λ g words lent n k l. three-stand (geometry k) lent (ap (wrongSize (geometry k)) l ∙ never-both n k .1) g words;
+  neverBoth = never-both;
 }

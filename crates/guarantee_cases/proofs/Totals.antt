@@ -2,6 +2,7 @@
 -- use at the end is what the theorem says.
 use mathlib.Core.Path.{_≡_, refl}
 use mathlib.Core.Option.{Option, none, some}
+use mathlib.Core.Logic.{inl}
 use mathlib.Core.List.{List, [], _∷_}
 use Prim.Native.Nat.{ℕ, _+_}
 use native.Mathlib.Omega.{arith}
@@ -44,7 +45,7 @@ elements g ls p = elementsOf g (p .at) (asked ls) (replied ls)
 
 -- the case's calls, perhaps with others before them
 module _ (g : Geometry) (ls : List Line) (p : CaseRun g (asked ls) (replied ls)) (calls : List Element) (chain : Chain g (p .at 0) calls) (made freed used : ℕ) where
-  of-totals : remainingCalls struckOut calls ≡ leftColumn ls → remainingAnswers struckOut calls ≡ rightColumn ls → makesIn calls ≡ made → freedIn calls ≡ freed
+  abbrev pub of-totals : remainingCalls struckOut calls ≡ leftColumn ls → remainingAnswers struckOut calls ≡ rightColumn ls → makesIn calls ≡ made → freedIn calls ≡ freed
       → made ≡ freed + used → OfTotals ls made freed used
   of-totals l r m f s =
       let t = totals g (p .at 0) ghostStart calls (byOpening (p .opened)) chain in
@@ -65,17 +66,17 @@ module _ (g : Geometry) (ls : List Line) (p : CaseRun g (asked ls) (replied ls))
 -- ---- over segments of sevens
 
 whole-run : CaseRun (geometry 2) (asked whole) (replied whole)
-whole-run = case-run (geometry 2) (omega arith) (omega arith) (sevens (geometry 2)) (sizes-sevens (geometry 2)) (asked whole) (replied whole) whole-holds
+whole-run = case-run (geometry 2) (omega arith) (omega arith) (inl refl) (sevens (geometry 2)) (sizes-sevens (geometry 2)) (asked whole) (replied whole) whole-holds
 
 refusals-run : CaseRun (geometry 1) (asked refusals) (replied refusals)
-refusals-run = case-run (geometry 1) (omega arith) (omega arith) (sevens (geometry 1)) (sizes-sevens (geometry 1)) (asked refusals) (replied refusals) refusals-hold
+refusals-run = case-run (geometry 1) (omega arith) (omega arith) (inl refl) (sevens (geometry 1)) (sizes-sevens (geometry 1)) (asked refusals) (replied refusals) refusals-hold
 
 counted-told : replies (geometry 4) (sevens (geometry 4)) (opening ∷ inputsOf (asked counted)) ≡ ok ∷ replied counted
 unfolding replies
 counted-told = refl
 
 counted-run : CaseRun (geometry 4) (asked counted) (replied counted)
-counted-run = case-run (geometry 4) (omega arith) (omega arith) (sevens (geometry 4)) (sizes-sevens (geometry 4)) (asked counted) (replied counted) counted-told
+counted-run = case-run (geometry 4) (omega arith) (omega arith) (inl refl) (sevens (geometry 4)) (sizes-sevens (geometry 4)) (asked counted) (replied counted) counted-told
 
 -- a call refused 1 before others: 257 segments and no word
 abbrev refusedThen : Event → List Element → List Element

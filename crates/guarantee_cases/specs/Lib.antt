@@ -8,3 +8,4 @@ pub mod RefusedStand
 pub mod HandsBack
 pub mod Totals
 pub mod CycleBound
+pub mod Large

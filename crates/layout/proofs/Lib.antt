@@ -3,5 +3,5 @@ pub mod Cut
 pub mod Spliced
 pub mod Regions
 pub mod Sizes
+pub mod TwoSizes
 pub mod Filled
-pub mod Places

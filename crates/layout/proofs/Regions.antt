@@ -1,19 +1,21 @@
 -- The words of the lent slice and those of the regions; k is the region.
 use Prim.Native.Nat.{ℕ, _+_, _-_, _≤_, _<_}
 use mathlib.Core.Path.{_≡_, refl, sym, _∙_, ap, subst}
-use mathlib.Core.Bool.{Bool, true, false, true≢false}
+use mathlib.Core.Logic.{_⊎_, inl, inr}
+use mathlib.Core.Bool.{Bool, true, false, not, true≢false}
 use mathlib.Core.List.{List, [], _∷_, append-assoc, append-nil}
 use native.Mathlib.Omega.{arith}
 use lib.ListN.{length, getD, take, drop, set, replicate, length-append, length-take, length-drop, length-replicate, drop-of-length-le}
 use lib.Seq.{sets, sets-eq, drop-drop, length-take-le}
-use lib.Dec.{ltb}
+use lib.Dec.{eqb, ltb}
 use borrow.Rule.Slice.PartMut.{midOf, putMid}
 use borrow.Author.Tests.{le-ltb, eq-eqb, ltb-false, eqb-true, not-false}
 use Rattle.basics.specs.Pick.{pick}
 use Rattle.layout.specs.declared.Geometry.{Geometry}
 use Rattle.layout.specs.Parts.{parts, joined, start, lengths}
-use Rattle.layout.specs.Geometry.{lens, len, from, total, regionCount, maxSegments, Sized, wrongSize}
+use Rattle.layout.specs.Geometry.{smallKib, largeKib, IsSize, noKib, lens, len, from, total, regionCount, maxSegments, Sized, wrongSize}
 use Rattle.layout.specs.Mem.{Mem, memOf, flat, ofParts, regions, region, readRun, withRegion, setRun, clearRegion, Sizes}
+use Rattle.layout.proofs.Sizes.{either-of}
 use Rattle.layout.proofs.Spliced.{run-sets}
 use Rattle.layout.proofs.Cut.{read, write, writes, lent, whole, apart, long-at}
 
@@ -104,17 +106,41 @@ or-false : (b : Bool) {x : Bool} → pick b true x ≡ false → (b ≡ false) �
 or-false true e = absurd (true≢false e)
 or-false false e = (refl, e)
 
+-- one of the two sizes
+pub a-size : (k : ℕ) → noKib k ≡ false → IsSize k
+a-size k e = go (eqb k smallKib) refl e
+  where
+    go : (t : Bool) → eqb k smallKib ≡ t → pick t false (not (eqb k largeKib)) ≡ false → IsSize k
+    go true q f = let h = eqb-true k smallKib q in omega arith
+    go false q f = let h = eqb-true k largeKib (not-false _ f) in omega arith
+
+pub is-size : (k : ℕ) → IsSize k → noKib k ≡ false
+is-size k z = go (either-of k z)
+  where
+    go : (k ≡ smallKib) ⊎ (k ≡ largeKib) → noKib k ≡ false
+    go (inl e) = rw e refl
+    go (inr e) = rw e refl
+
 pub sized : (g : Geometry) (x : ℕ) → wrongSize g x ≡ false → Sized g x
 unfolding wrongSize
 sized g x e =
     let a = or-false (ltb (g .segments) 1) e in
     let b = or-false (ltb maxSegments (g .segments)) (a .1) in
-    record { some = ltb-false (g .segments) 1 (a .0); few = ltb-false maxSegments (g .segments) (b .0); is = eqb-true x (total g) (not-false _ (b .1)) }
+    let d = or-false (noKib (g .kib)) (b .1) in
+    let z = a-size (g .kib) (d .0) in
+    record {
+      some = ltb-false (g .segments) 1 (a .0);
+      few = ltb-false maxSegments (g .segments) (b .0);
+      whole = z .0;
+      small = z .1;
+      large = z .2;
+      is = eqb-true x (total g) (not-false _ (d .1));
+    }
 
 pub right-size : (g : Geometry) (x : ℕ) → Sized g x → wrongSize g x ≡ false
 unfolding wrongSize
-right-size g x s = rw (le-ltb (g .segments) 1 (s .some), le-ltb maxSegments (g .segments) (s .few), eq-eqb x (total g) (s .is)) refl
+right-size g x s = rw (le-ltb (g .segments) 1 (s .some), le-ltb maxSegments (g .segments) (s .few), is-size (g .kib) (s .whole, s .small, s .large), eq-eqb x (total g) (s .is)) refl
 
 -- a slice of the same length
 pub resized : (g : Geometry) (x y : ℕ) → Sized g x → y ≡ x → Sized g y
-resized g x y s e = record { some = s .some; few = s .few; is = e ∙ s .is }
+resized g x y s e = record { some = s .some; few = s .few; whole = s .whole; small = s .small; large = s .large; is = e ∙ s .is }

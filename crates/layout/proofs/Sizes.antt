@@ -1,16 +1,20 @@
--- A segment's bytes, and what follows for its words, blocks, bits and bitmap. Only `bytes-are`, `size-is` and `class-fits` look at how
--- many they are.
+-- A segment's bytes, and what follows for its words, blocks, bits and bitmap. Only the laws of the size look at how many they are.
 use mathlib.Core.Path.{_≡_, refl, sym, _∙_, ap, subst}
-use Prim.Native.Nat.{ℕ, suc, _+_, _-_, _*_, _/_, _%_, _^_, _≤_, _<_}
-use native.Mathlib.Nat.{mul-assoc, div-lt-iff-lt-mul, mul-add-div-right, div-eq-of-lt, mul-add-mod-self-right, mod-eq-of-lt, suc-mul, mul-le-mul-right}
+use mathlib.Core.Logic.{_⊎_, inl, inr}
+use mathlib.Core.Bool.{Bool, true, false}
+use Prim.Native.Nat.{ℕ, zero, suc, _+_, _-_, _*_, _/_, _%_, _^_, _≤_, _<_}
+use native.Mathlib.Nat.{mul-assoc, mul-add, div-lt-iff-lt-mul, mul-add-div-right, div-eq-of-lt, mul-add-mod-self-right, mod-eq-of-lt, suc-mul, le-trans, mul-le-mul-left, mul-le-mul-right}
 use native.Mathlib.Omega.{arith}
+use lib.Dec.{eqb}
+use borrow.Author.Tests.{eq-eqb, ne-eqb, eqb-true, eqb-false}
+use Rattle.basics.specs.Pick.{pick}
 use Rattle.words.specs.Levels.{Height, treeWords}
 use Rattle.classes.specs.Class.{IsClass}
-use Rattle.classes.specs.Shape.{segmentSize, shapeFor}
+use Rattle.classes.specs.Shape.{segmentSize, largeSize, blocksOf, longestOf, shapeFor}
 use Rattle.classes.proofs.Filling.{divides, Filled, filled}
 use Rattle.classes.proofs.Shapes.{fits, longest, blocks-most, shape-height}
 use Rattle.layout.specs.declared.Geometry.{Geometry}
-use Rattle.layout.specs.Geometry.{segmentBytes, segmentWords, blocksIn, mostBlocks, markWords, bitmapWords, len, maxSegments, segmentOf}
+use Rattle.layout.specs.Geometry.{smallKib, largeKib, IsSize, Units, segmentBytes, segmentWords, blocksIn, mostBlocks, markWords, bitmapWords, len, maxSegments, segmentOf}
 use Rattle.layout.specs.Region as Region
 
 -- ---- rows of w words
@@ -27,20 +31,77 @@ within w a n i l h = let e : suc a * w ≤ n * w = mul-le-mul-right w l in let f
 
 -- ---- the size
 
+-- by the number of KiB that the geometry names, as the source asks for it
+pub large-bytes : (g : Geometry) → g .kib ≡ largeKib → segmentBytes g ≡ largeSize
+unfolding segmentBytes
+large-bytes g e = rw (eq-eqb (g .kib) largeKib e)
+
+pub small-bytes : (g : Geometry) → (g .kib ≡ largeKib → ⊥) → segmentBytes g ≡ segmentSize
+unfolding segmentBytes
+small-bytes g e = rw (ne-eqb (g .kib) largeKib e)
+
+-- one of the two sizes is 16 or 32
+pub either-of : (k : ℕ) → IsSize k → (k ≡ smallKib) ⊎ (k ≡ largeKib)
+either-of k z = go (eqb k smallKib) refl
+  where
+    go : (t : Bool) → eqb k smallKib ≡ t → (k ≡ smallKib) ⊎ (k ≡ largeKib)
+    go true q = inl (eqb-true k smallKib q)
+    go false q = let h = eqb-false k smallKib q in inr (omega arith)
+
+-- what holds of a segment of either size holds of each geometry's
+pub either-size : (P : ℕ → Type 0) → P segmentSize → P largeSize → (g : Geometry) → P (segmentBytes g)
+unfolding segmentBytes
+either-size P small large g = go (eqb (g .kib) largeKib)
+  where
+    go : (t : Bool) → P (pick t largeSize segmentSize)
+    go true = large
+    go false = small
+
+-- by the number itself, where it is one of the two sizes
+pub units-are : (g : Geometry) → IsSize (g .kib) → Units g (g .kib / smallKib)
+units-are g z = go (either-of (g .kib) z)
+  where
+    go : (g .kib ≡ smallKib) ⊎ (g .kib ≡ largeKib) → Units g (g .kib / smallKib)
+    go (inl e) = let b = small-bytes g (λ q. omega arith) in omega arith
+    go (inr e) = let b = large-bytes g e in omega arith
+
 -- a segment's bytes are 16 KiB (`segmentSize`) some times over, and no more than three levels of bits reach
 pub bytes-are : (g : Geometry) → (n : ℕ) × (segmentBytes g ≡ n * segmentSize) × (1 ≤ n) × (n ≤ 2)
-unfolding segmentBytes
-bytes-are g = (1, refl, omega arith, omega arith)
-
--- they are 16 KiB once
-pub size-is : (g : Geometry) → segmentBytes g ≡ segmentSize
-unfolding segmentBytes
-size-is g = refl
+bytes-are = either-size (λ z. (n : ℕ) × (z ≡ n * segmentSize) × (1 ≤ n) × (n ≤ 2)) (1, refl, omega arith, omega arith) (2, refl, omega arith, omega arith)
 
 -- every class's bitmap is within the longest
 pub class-fits : (g : Geometry) (c : ℕ) → IsClass c → treeWords (shapeFor (blocksIn g c) .levels - 1) (blocksIn g c) ≤ bitmapWords g
-unfolding segmentBytes fits
-class-fits g c k = longest segmentSize tt c k
+unfolding fits
+class-fits g c k =
+    either-size (λ z. treeWords (shapeFor (blocksOf z c) .levels - 1) (blocksOf z c) ≤ longestOf z) (longest segmentSize tt c k) (longest largeSize tt c k) g
+
+-- ---- u times 16 KiB in each of n segments
+
+pub times : {n u : ℕ} → n ≤ maxSegments → u ≤ 2 → n * u ≤ 2 * maxSegments
+times {n} {u} l h = le-trans (mul-le-mul-right u l) (mul-le-mul-left maxSegments h)
+
+spread : (n u a b : ℕ) {z : ℕ} → z ≡ u * a + b → n * z ≡ n * u * a + n * b
+spread n u a b e = ap (λ x. n * x) e ∙ mul-add n (u * a) b ∙ ap (λ x. x + n * b) (sym (mul-assoc n u a))
+
+longest-units : (u : ℕ) → 1 ≤ u → u ≤ 2 → longestOf (u * segmentSize) ≡ u * 66 + 1
+longest-units zero l h = absurd (omega arith)
+longest-units (suc zero) l h = refl
+longest-units (suc (suc zero)) l h = refl
+longest-units (suc (suc (suc u))) l h = absurd (omega arith)
+
+-- the words, the blocks, the words of a bitmap and of marks
+module _ (g : Geometry) (n u : ℕ) (z : Units g u) where
+  pub words-spread : n * segmentWords g ≡ n * u * 4096
+  words-spread = let e = z .0 in spread n u 4096 0 (let f : segmentWords g ≡ u * 4096 + 0 = omega arith in f) ∙ omega arith
+
+  pub most-spread : n * mostBlocks g ≡ n * u * 2048
+  most-spread = let e = z .0 in spread n u 2048 0 (let f : mostBlocks g ≡ u * 2048 + 0 = omega arith in f) ∙ omega arith
+
+  pub bitmap-spread : n * bitmapWords g ≡ n * u * 66 + n
+  bitmap-spread = spread n u 66 1 (ap longestOf (z .0) ∙ longest-units u (z .1) (z .2)) ∙ omega arith
+
+  pub mark-spread : n * markWords g ≡ n * u * 64
+  mark-spread = let e = z .0 in spread n u 64 0 (let f : markWords g ≡ u * 64 + 0 = omega arith in f) ∙ omega arith
 
 -- ---- what follows
 

@@ -1,15 +1,16 @@
--- The numbers of the layout, each a name, and the lengths of the regions for a number of segments. Document 01: "Memory is 1 to
--- 256 segments of 16,384 bytes (4,096 words of 32 bits). The lengths of the lent slices are formulas of the segment count".
-use Prim.Native.Nat.{ℕ, _+_, _*_, _/_, _≤_}
+-- The numbers of the layout, each a name, and the lengths of the regions for a number of segments and their size. Document 01: "Memory is 1 to
+-- 256 segments of 16,384 bytes (4,096 words of 32 bits). The lengths of the lent slices are formulas of the segment count"; document 02, No. 6:
+-- "Each call names 16 or 32 KiB for the whole heap beside the segment count, and slice lengths follow from both".
+use Prim.Native.Nat.{ℕ, _+_, _*_, _/_, _%_, _≤_}
 use mathlib.Core.Path.{_≡_}
-use mathlib.Core.Bool.{Bool, true, not}
+use mathlib.Core.Bool.{Bool, true, false, not}
 use mathlib.Core.List.{List, [], _∷_}
 use lib.Dec.{eqb, ltb}
 use lib.ListN.{getD}
 use Rattle.basics.specs.Pick.{pick}
 use Rattle.words.specs.Levels.{wordsFor}
 use Rattle.classes.specs.Class.{firstClass, classCount, wordBytes, blockWords}
-use Rattle.classes.specs.Shape.{segmentSize, blocksOf, longestOf}
+use Rattle.classes.specs.Shape.{segmentSize, largeSize, blocksOf, longestOf}
 use Rattle.layout.specs.declared.Geometry.{Geometry}
 use Rattle.layout.specs.Parts.{start}
 use Rattle.layout.specs.Region as Region
@@ -24,10 +25,17 @@ mutatorCount = 32
 abbrev pub rootCount : ℕ
 rootCount = 16
 
--- the bytes of a segment: one size, whatever the geometry. Above this crate proofs go by the laws of proofs/Sizes, and only the evaluated
--- cases unfold it
+-- the two sizes of a segment, in KiB
+abbrev pub smallKib : ℕ
+smallKib = 16
+
+abbrev pub largeKib : ℕ
+largeKib = 32
+
+-- the bytes of a segment. A geometry of neither size is refused before a segment's bytes are asked for, so what stands here for one binds nothing.
+-- Above this crate proofs go by the laws of proofs/Sizes; what is said of one size alone, as the cases, unfolds it
 unfoldable pub segmentBytes : Geometry → ℕ
-segmentBytes g = segmentSize
+segmentBytes g = pick (eqb (g .kib) largeKib) largeSize segmentSize
 
 abbrev pub segmentWords : Geometry → ℕ
 segmentWords g = segmentBytes g / wordBytes
@@ -103,12 +111,26 @@ total g = from g regionCount
 abbrev pub scratchWords : Geometry → ℕ
 scratchWords g = len g Region.marks + len g Region.marks + len g Region.trace
 
--- "segment count not 1 to 256, or a slice not of its length"
+-- one of the two sizes, said by arithmetic alone, and how many times 16 KiB a segment has then (in no statement: contracts and proofs use them)
+abbrev pub IsSize : ℕ → Type 0
+IsSize k = (k % smallKib ≡ 0) × (smallKib ≤ k) × (k ≤ largeKib)
+
+abbrev pub Units : Geometry → ℕ → Type 0
+Units g u = (segmentBytes g ≡ u * segmentSize) × (1 ≤ u) × (u ≤ 2)
+
+-- No. 6: "a segment size other than these two"
+abbrev pub noKib : ℕ → Bool
+noKib k = pick (eqb k smallKib) false (not (eqb k largeKib))
+
+-- "segment count not 1 to 256, or a slice not of its length"; No. 6: "1 now covers a segment size other than these two"
 unfoldable pub wrongSize : Geometry → ℕ → Bool
-wrongSize g x = pick (ltb (g .segments) 1) true (pick (ltb maxSegments (g .segments)) true (not (eqb x (total g))))
+wrongSize g x = pick (ltb (g .segments) 1) true (pick (ltb maxSegments (g .segments)) true (pick (noKib (g .kib)) true (not (eqb x (total g)))))
 
 -- the contrary, taken apart (in no statement: contracts and proofs use it)
 pub record Sized (g : Geometry) (x : ℕ) : Type 0 where
   pub some : 1 ≤ g .segments
   pub few : g .segments ≤ maxSegments
+  pub whole : g .kib % smallKib ≡ 0
+  pub small : smallKib ≤ g .kib
+  pub large : g .kib ≤ largeKib
   pub is : x ≡ total g

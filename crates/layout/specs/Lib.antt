@@ -2,4 +2,5 @@
 pub mod Parts
 pub mod Region
 pub mod Geometry
+pub mod TwoSizes
 pub mod Mem

@@ -14,7 +14,7 @@ ghost use lib.ListN.{length};
 ghost use Rattle.classes.specs.Class.{IsClass};
 ghost use Rattle.classes.specs.Record.{fieldCountOf, classOfRecord};
 ghost use Rattle.classes.specs.declared.SizeClass.the-variants.{Class};
-ghost use Rattle.layout.specs.Geometry.{Sized, len, maxSegments, mutatorCount, rootCount, blocksIn};
+ghost use Rattle.layout.specs.Geometry.{Sized, IsSize, len, maxSegments, mutatorCount, rootCount, blocksIn};
 ghost use Rattle.layout.specs.Mem.{memOf};
 ghost use Rattle.theory.specs.Calls.{c-make};
 ghost use Rattle.model.specs.Fields.{setRoot};
@@ -160,7 +160,7 @@ fn blacken(g: Geometry, mem: &mut [u32], mutator: u32, at: usize)
 
 // The word of block b of segment s. Whatever b is, a block of the class begins there.
 fn word_of(g: Geometry, class: u32, s: usize, b: u32) -> usize
-    requires { ⌜ (g .segments ≤ maxSegments) × (IsClass class) × (s < g .segments) ⌝ }
+    requires { ⌜ (g .segments ≤ maxSegments) × (IsClass class) × (s < g .segments) × (IsSize (g .kib)) ⌝ }
     ensures { λ r. ⌜ r ≡ headerOf g s class (b % blocksIn g class) ⌝ }
 {
     let block = b as usize;

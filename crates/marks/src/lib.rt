@@ -6,7 +6,7 @@ ghost use Prim.Native.Nat.{_*_, _≤_, _<_};
 ghost use lib.ListN.{length};
 ghost use Rattle.basics.specs.Decides.{Decides};
 ghost use Rattle.words.specs.Bits.{bitAt, onesAmong};
-ghost use Rattle.layout.specs.Geometry.{Sized, maxSegments, mostBlocks};
+ghost use Rattle.layout.specs.Geometry.{Sized, IsSize, maxSegments, mostBlocks};
 ghost use Rattle.layout.specs.Mem.{memOf};
 ghost use Rattle.marks.specs.Bits.{recordBitAt, withMark};
 
@@ -18,7 +18,7 @@ pub enum Bit {
 
 // The bit of the record at a word; none off the heap.
 pub fn record_bit(g: Geometry, at: usize) -> Bit
-    requires { ⌜ g .segments ≤ maxSegments ⌝ }
+    requires { ⌜ (g .segments ≤ maxSegments) × (IsSize (g .kib)) ⌝ }
     ensures { λ r. ⌜ r ≡ recordBitAt g at ⌝ }
 {
     if layout::heap_words(g) <= at {

@@ -7,7 +7,7 @@ use lib.ListN.{take, drop, replicate}
 use Rattle.basics.specs.Pick.{pick}
 use Rattle.words.specs.Bits.{bitOf, bitAt, withBit, setBit, onesAmong}
 use Rattle.layout.specs.declared.Geometry.{Geometry}
-use Rattle.layout.specs.Geometry.{len, blocksIn, segmentBytes}
+use Rattle.layout.specs.Geometry.{smallKib, largeKib, len, blocksIn, segmentBytes}
 use Rattle.layout.specs.Mem.{Mem, setControl, setMutator, setSegment, setStack, setTrace, setHeap, setRun, spliced}
 use Rattle.bitmap_search.specs.Scan.{nextFree}
 use Rattle.bitmap_write.specs.Rebuild.{wordFrom, packed, fullBit, summed, rebuilt}
@@ -95,9 +95,13 @@ unfolding segmentBytes headerShape bitOf bitAt withBit setBit onesAmong setContr
 replies g m [] = []
 replies g m (e ∷ es) = let r = does g m e in r .0 ∷ replies g (r .1) es
 
--- so many segments
+-- so many segments of 16 KiB
 abbrev pub geometry : ℕ → Geometry
-geometry n = record { segments = n }
+geometry n = record { segments = n; kib = smallKib }
+
+-- and of 32 KiB
+abbrev pub largeGeometry : ℕ → Geometry
+largeGeometry n = record { segments = n; kib = largeKib }
 
 -- lent memory of the right lengths, in which every word is 7
 abbrev pub sevens : Geometry → Mem

@@ -5,7 +5,7 @@ use lib.Dec.{eqb, ltb}
 use Rattle.basics.specs.Pick.{pick}
 use Rattle.classes.specs.Record.{pointerCountOf, valueCountOf}
 use Rattle.layout.specs.declared.Geometry.{Geometry}
-use Rattle.layout.specs.Geometry.{maxSegments, len}
+use Rattle.layout.specs.Geometry.{maxSegments, noKib, len}
 use Rattle.model.specs.declared.Answer.{Answer}
 use Rattle.model.specs.declared.Answer.the-variants.{Ok, Number, Same, Shape, Refused}
 use Rattle.model.specs.declared.Step.{Step}
@@ -17,16 +17,17 @@ use Rattle.model.specs.declared.Step.the-variants as step
 use Rattle.model.specs.declared.PhaseLook.the-variants as look
 use Rattle.model.specs.declared.Examined.the-variants as examination
 
-abbrev pub geometryOf : ℕ → Geometry
-geometryOf n = record { segments = n }
+-- "Each call names 16 or 32 KiB for the whole heap beside the segment count"
+abbrev pub geometryOf : (segments kib : ℕ) → Geometry
+geometryOf n k = record { segments = n; kib = k }
 
--- "segment count not 1 to 256"
-abbrev pub noCount : ℕ → Bool
-noCount n = pick (ltb n 1) true (ltb maxSegments n)
+-- "segment count not 1 to 256", "a segment size other than these two"
+abbrev pub noSize : (segments kib : ℕ) → Bool
+noSize n k = pick (ltb n 1) true (pick (ltb maxSegments n) true (noKib k))
 
--- the length of a lent slice for a count of segments, 0 for one that is none
-abbrev pub lengthFor : (Geometry → ℕ) → ℕ → ℕ
-lengthFor words n = pick (noCount n) 0 (words (geometryOf n))
+-- the length of a lent slice for a count of segments and their size, 0 where either is none
+abbrev pub lengthFor : (Geometry → ℕ) → (segments kib : ℕ) → ℕ
+lengthFor words n k = pick (noSize n k) 0 (words (geometryOf n k))
 
 -- the length of the output of the look at the segments' states
 abbrev pub statesWords : Geometry → ℕ

@@ -6,16 +6,17 @@ use model::Examined;
 use model::PhaseLook;
 use model::Step;
 ghost use mathlib.Core.Path.{_≡_};
-ghost use Rattle.packing.specs.Packed.{geometryOf, noCount, pack, packValue, packStep, packPhase, packExamined};
+ghost use Rattle.packing.specs.Packed.{geometryOf, noSize, pack, packValue, packStep, packPhase, packExamined};
 
 // The lowest of the upper 32 bits.
 const UPPER: u64 = 4294967296;
 
-pub fn geometry(segments: u32) -> Geometry
-    ensures { λ r. ⌜ r ≡ geometryOf segments ⌝ }
+pub fn geometry(segments: u32, kib: u32) -> Geometry
+    ensures { λ r. ⌜ r ≡ geometryOf segments kib ⌝ }
 {
     Geometry {
         segments: segments as usize,
+        kib,
     }
 }
 
@@ -85,12 +86,15 @@ pub fn packed_examined(a: Examined) -> u64
     }
 }
 
-// Whether a count of segments is none.
-pub fn no_count(segments: u32) -> bool
-    ensures { λ r. ⌜ r ≡ noCount segments ⌝ }
+// Whether a count of segments or a size in KiB is none.
+pub fn no_size(segments: u32, kib: u32) -> bool
+    ensures { λ r. ⌜ r ≡ noSize segments kib ⌝ }
 {
     if segments < 1 {
         return true;
     }
-    256 < segments
+    if layout::MAX_SEGMENTS < segments as usize {
+        return true;
+    }
+    layout::no_kib(kib)
 }

@@ -3,14 +3,14 @@
 //! (docs/LAYOUT.md). So are the blocks in use and each segment's two counts, by calls alone: a make adds a block, a sweep leaves those whose
 //! records are marked.
 
-use crate::layout;
+use crate::layout::{self, Geometry};
 use crate::unbounded::{Reference, UnboundedHeap};
 
-const PER_SEGMENT: usize = 2048;
-
 pub struct Blocks {
-    segments: u32,
-    /// The record last put into each block, 0 for none: 2048 to a segment.
+    g: Geometry,
+    /// The blocks of a segment in the lists below: the most that one can have.
+    per_segment: usize,
+    /// The record last put into each block, 0 for none.
     held: Vec<Reference>,
     /// For each block whether it is in use, and how many are.
     used: Vec<bool>,
@@ -29,10 +29,12 @@ pub struct Put {
 }
 
 impl Blocks {
-    pub fn new(segments: u32) -> Blocks {
-        let (count, words) = (segments as usize, segments as usize * PER_SEGMENT);
+    pub fn new(g: Geometry) -> Blocks {
+        let per_segment = g.most_blocks() as usize;
+        let (count, words) = (g.n(), g.n() * per_segment);
         Blocks {
-            segments,
+            g,
+            per_segment,
             held: vec![0; words],
             used: vec![false; words],
             in_use: 0,
@@ -44,7 +46,7 @@ impl Blocks {
 
     /// The block is found to be in use, with the record.
     pub fn adopt(&mut self, segment: u32, block: u32, record: Reference) {
-        self.fill(segment as usize * PER_SEGMENT + block as usize, record);
+        self.fill(segment as usize * self.per_segment + block as usize, record);
     }
 
     /// The segment is found with the class and the counts.
@@ -71,19 +73,19 @@ impl Blocks {
 
     /// A make that was not refused put record `record` into the block that its root now names.
     pub fn put(&mut self, memory: &[u32], class: u32, root: u32, record: Reference) -> Result<Put, String> {
-        if root == 0 || root as usize > self.segments as usize * layout::SEGMENT_WORDS {
+        if root == 0 || root as usize > self.g.n() * self.g.segment_words() {
             return Err(format!("make left reference {root} in its root"));
         }
         let word = root as usize - 1;
-        let segment = (word / layout::SEGMENT_WORDS) as u32;
+        let segment = (word / self.g.segment_words()) as u32;
         let size = (1usize << class) / 4;
-        let within = word % layout::SEGMENT_WORDS;
-        let [state, of_class, ..] = layout::segment(memory, self.segments, segment);
+        let within = word % self.g.segment_words();
+        let [state, of_class, ..] = layout::segment(memory, self.g, segment);
         if within & (size - 1) != 0 || of_class != class || !matches!(state, 2 | 3) {
             return Err(format!("make of class {class} took word {within} of segment {segment}, state {state}, class {of_class}"));
         }
         let block = within / size;
-        let at = segment as usize * PER_SEGMENT + block;
+        let at = segment as usize * self.per_segment + block;
         if self.used[at] {
             return Err(format!("make took block {block} of segment {segment}, which was in use"));
         }
@@ -95,9 +97,9 @@ impl Blocks {
 
     /// A segment of the class is swept: the blocks whose records are marked stay in use, and are those kept.
     pub fn keep(&mut self, segment: u32, class: u32, marked: impl Fn(Reference) -> bool) {
-        let at = segment as usize * PER_SEGMENT;
+        let at = segment as usize * self.per_segment;
         let mut kept = 0;
-        for at in at..at + layout::blocks(class) as usize {
+        for at in at..at + self.g.blocks(class) as usize {
             self.in_use -= u64::from(self.used[at]);
             self.used[at] &= marked(self.held[at]);
             kept += u32::from(self.used[at]);
@@ -106,27 +108,32 @@ impl Blocks {
         self.counts[segment as usize] = [kept, 0];
     }
 
+    /// Whether the block is in use.
+    pub fn is_used(&self, segment: u32, block: u32) -> bool {
+        self.used[segment as usize * self.per_segment + block as usize]
+    }
+
     /// The records last put into the blocks of a segment of the class.
     pub fn records(&self, segment: usize, class: u32) -> &[Reference] {
-        let at = segment * PER_SEGMENT;
-        &self.held[at..at + layout::blocks(class) as usize]
+        let at = segment * self.per_segment;
+        &self.held[at..at + self.g.blocks(class) as usize]
     }
 
     /// Those in the blocks that are in use.
     pub fn records_in_use(&self, segment: usize, class: u32) -> impl Iterator<Item = Reference> + '_ {
-        let used = &self.used[segment * PER_SEGMENT..];
+        let used = &self.used[segment * self.per_segment..];
         self.records(segment, class).iter().zip(used).filter(|(_, &used)| used).map(|(&record, _)| record)
     }
 
     /// The record in the block that a reference in the verified library's memory names.
     pub fn named(&self, memory: &[u32], reference: u32) -> Option<Reference> {
         let word = (reference as usize).checked_sub(1)?;
-        let segment = word / layout::SEGMENT_WORDS;
-        if segment >= self.segments as usize {
+        let segment = word / self.g.segment_words();
+        if segment >= self.g.n() {
             return None;
         }
-        let class = layout::segment(memory, self.segments, segment as u32)[1];
-        let block = (word % layout::SEGMENT_WORDS * 4) >> class;
+        let class = layout::segment(memory, self.g, segment as u32)[1];
+        let block = (word % self.g.segment_words() * 4) >> class;
         self.records(segment, class).get(block).copied()
     }
 
@@ -138,8 +145,8 @@ impl Blocks {
             if !matches!(state[0], 1 | 3) {
                 continue;
             }
-            for block in 0..layout::blocks(state[1]) as usize {
-                let at = segment * PER_SEGMENT + block;
+            for block in 0..self.g.blocks(state[1]) as usize {
+                let at = segment * self.per_segment + block;
                 self.dead[at] = self.used[at] && !heap.was_reached(self.held[at]);
             }
         }
@@ -149,9 +156,9 @@ impl Blocks {
     pub fn swept(&self, memory: &[u32], segment: u32, before: &[u32], freed: u32) -> Result<u32, String> {
         let mut due = 0;
         let mut became_free = 0;
-        for block in 0..layout::blocks(before[1]) {
-            let at = segment as usize * PER_SEGMENT + block as usize;
-            let (was_used, is_used) = (self.used[at], layout::in_use(memory, self.segments, segment, block));
+        for block in 0..self.g.blocks(before[1]) {
+            let at = segment as usize * self.per_segment + block as usize;
+            let (was_used, is_used) = (self.used[at], layout::in_use(memory, self.g, segment, block));
             became_free += u32::from(was_used && !is_used);
             due += u32::from(self.dead[at]);
             if is_used && (self.dead[at] || !was_used) {

@@ -3,7 +3,7 @@
 //! that owe, and only while there is one. All of it by the library's answers and by its memory.
 
 use crate::calls::*;
-use crate::layout;
+use crate::layout::{self, Geometry};
 use crate::situations::owes;
 
 /// What was seen of it.
@@ -56,17 +56,18 @@ struct Top {
 }
 
 impl Top {
-    fn see(memory: &[u32], segments: u32) -> Option<Top> {
+    fn see(memory: &[u32], g: Geometry) -> Option<Top> {
         let last = layout::trace_count(memory).checked_sub(1)?;
-        let word = layout::trace_entry(memory, segments, last).checked_sub(1)?;
-        let (segment, within) = (word / layout::SEGMENT_WORDS as u32, word % layout::SEGMENT_WORDS as u32);
-        if segment >= segments {
+        let word = layout::trace_entry(memory, g, last).checked_sub(1)?;
+        let words = g.segment_words() as u32;
+        let (segment, within) = (word / words, word % words);
+        if segment >= g.segments {
             return None;
         }
-        let class = layout::segment(memory, segments, segment)[1];
+        let class = layout::segment(memory, g, segment)[1];
         let (block, bit) = ((within * 4) >> class, word as usize / 2);
-        let begins = (block << class) / 4 == within && layout::mark_bit(segment, class, block) == bit;
-        Some(Top { segment, class, block, bit, in_use: begins && layout::in_use(memory, segments, segment, block) })
+        let begins = (block << class) / 4 == within && layout::mark_bit(g, segment, class, block) == bit;
+        Some(Top { segment, class, block, bit, in_use: begins && layout::in_use(memory, g, segment, block) })
     }
 }
 
@@ -79,11 +80,16 @@ pub struct Lent {
 }
 
 impl Lent {
-    pub fn see(memory: &[u32], segments: u32) -> Lent {
+    pub fn see(memory: &[u32], g: Geometry) -> Lent {
         let phase = layout::phase(memory);
         let owing = |m: &u32| layout::side(memory, *m) == 1 && owes(phase, layout::acknowledgements(memory, *m));
         let owing = if matches!(phase, SYNC1 | SYNC2) { (0..32).filter(owing).count() as u32 } else { 0 };
-        Lent { phase, owing, top: (phase == MARK).then(|| Top::see(memory, segments)).flatten() }
+        Lent { phase, owing, top: (phase == MARK).then(|| Top::see(memory, g)).flatten() }
+    }
+
+    /// The class and the block of the record that a step in mark traces.
+    pub fn traces(&self) -> Option<(u32, u32)> {
+        self.top.as_ref().map(|top| (top.class, top.block))
     }
 
     /// Waiting is answered in a handshake, for as many as owe, and for one at least; where nobody owes, it moves on.
@@ -106,26 +112,26 @@ impl Lent {
 struct AtMark {
     /// B: how many.
     blocks: u64,
-    /// By segment: its class, and a bit for each of its blocks, in 64 words.
+    /// By segment: its class, and a bit for each of its blocks, in so many words.
     classes: Vec<u32>,
     used: Vec<u32>,
+    words: usize,
 }
 
-const WORDS: usize = 64;
-
 impl AtMark {
-    fn see(memory: &[u32], segments: u32) -> AtMark {
-        let mut used = vec![0; WORDS * segments as usize];
-        for (number, words) in (0..segments).zip(used.chunks_exact_mut(WORDS)) {
-            words.iter_mut().zip(layout::used(memory, segments, number)).for_each(|(word, bits)| *word = bits);
+    fn see(memory: &[u32], g: Geometry) -> AtMark {
+        let words = g.mark_words();
+        let mut used = vec![0; words * g.n()];
+        for (number, words) in (0..g.segments).zip(used.chunks_exact_mut(words)) {
+            words.iter_mut().zip(layout::used(memory, g, number)).for_each(|(word, bits)| *word = bits);
         }
-        let classes = layout::each_segment(layout::all_records(memory, segments)).map(|record| record[1]).collect();
-        AtMark { blocks: used.iter().map(|word| u64::from(word.count_ones())).sum(), classes, used }
+        let classes = layout::each_segment(layout::all_records(memory, g)).map(|record| record[1]).collect();
+        AtMark { blocks: used.iter().map(|word| u64::from(word.count_ones())).sum(), classes, used, words }
     }
 
     fn has(&self, top: &Top) -> bool {
         let Top { segment, class, block, .. } = *top;
-        let word = self.used[WORDS * segment as usize + block as usize / 32];
+        let word = self.used[self.words * segment as usize + block as usize / 32];
         self.classes[segment as usize] == class && word >> (block % 32) & 1 == 1
     }
 }
@@ -137,12 +143,12 @@ fn counted(states: &[u32]) -> u64 {
 
 /// The most blocks that can be in use when the phase next becomes mark, by a look in idle or in a handshake: of a
 /// condemned segment those in use, as no make takes it, of another that is not free all its blocks, and of a free one
-/// 2,048.
-fn most_at_mark(states: &[u32]) -> u64 {
+/// those of class 3.
+fn most_at_mark(g: Geometry, states: &[u32]) -> u64 {
     let most = |state: &[u32]| match state[0] {
-        0 => u64::from(layout::blocks(layout::LOWEST)),
+        0 => u64::from(g.most_blocks()),
         4 => counted(state),
-        _ => u64::from(layout::blocks(state[1])),
+        _ => u64::from(g.blocks(state[1])),
     };
     layout::each_segment(states).map(most).sum()
 }
@@ -163,12 +169,12 @@ struct Cycle {
 }
 
 impl Cycle {
-    fn start(memory: &[u32], segments: u32) -> Cycle {
-        let states = layout::all_records(memory, segments);
+    fn start(memory: &[u32], g: Geometry) -> Cycle {
+        let states = layout::all_records(memory, g);
         let condemned = layout::each_segment(states).filter(|state| state[0] == 4).count() as u64;
-        let at_start = layout::blocks_in_use(memory, segments);
-        let traced = vec![false; 2048 * segments as usize];
-        Cycle { condemned, at_start, made: 0, most: most_at_mark(states), at_mark: None, traced, steps: 0 }
+        let at_start = layout::blocks_in_use(memory, g);
+        let traced = vec![false; g.most_blocks() as usize * g.n()];
+        Cycle { condemned, at_start, made: 0, most: most_at_mark(g, states), at_mark: None, traced, steps: 0 }
     }
 
     /// With so many blocks for B.
@@ -186,9 +192,9 @@ impl Cycle {
     }
 
     /// Before mark a block comes in use by a make alone, and none becomes free. B is the sum of the counts too.
-    fn became_mark(&mut self, memory: &[u32], segments: u32) -> Result<(), String> {
-        let at = AtMark::see(memory, segments);
-        let (blocks, states) = (at.blocks, layout::all_records(memory, segments));
+    fn became_mark(&mut self, memory: &[u32], g: Geometry) -> Result<(), String> {
+        let at = AtMark::see(memory, g);
+        let (blocks, states) = (at.blocks, layout::all_records(memory, g));
         if blocks != counted(states) || blocks != self.at_start + self.made || blocks > self.most {
             let Cycle { at_start, made, most, .. } = self;
             return Err(format!("{blocks} blocks in use at mark, {at_start} before it, {made} made, at most {most}"));
@@ -218,18 +224,18 @@ impl Cycle {
 
 /// The cycle that runs, where its start was seen.
 pub struct Bound {
-    segments: u32,
+    g: Geometry,
     cycle: Option<Cycle>,
 }
 
 impl Bound {
-    pub fn new(segments: u32) -> Bound {
-        Bound { segments, cycle: None }
+    pub fn new(g: Geometry) -> Bound {
+        Bound { g, cycle: None }
     }
 
     /// A cycle has begun, over the memory as its start left it.
     pub fn start(&mut self, memory: &[u32]) {
-        self.cycle = Some(Cycle::start(memory, self.segments));
+        self.cycle = Some(Cycle::start(memory, self.g));
     }
 
     /// A make was not refused.
@@ -246,8 +252,8 @@ impl Bound {
         let Some(cycle) = self.cycle.as_mut().filter(|_| kind != WAITING) else { return Ok(()) };
         cycle.steps += 1;
         match (lent.phase, layout::phase(memory)) {
-            (SYNC1, _) => cycle.most = cycle.most.min(most_at_mark(layout::all_records(memory, self.segments))),
-            (SYNC2, MARK) => cycle.became_mark(memory, self.segments)?,
+            (SYNC1, _) => cycle.most = cycle.most.min(most_at_mark(self.g, layout::all_records(memory, self.g))),
+            (SYNC2, MARK) => cycle.became_mark(memory, self.g)?,
             _ => {}
         }
         if kind == TRACED {

@@ -1,6 +1,8 @@
 //! The calls of the C interface as data: what is called, with which numbers, and over which lengths.
 //! Answers are 64 bits for every call; those of 32 bits are widened.
 
+use crate::layout::Geometry;
+
 #[derive(Clone, Copy, PartialEq, Eq, Debug)]
 pub enum Kind {
     Open,
@@ -55,11 +57,11 @@ pub const DONE: u32 = 5;
 pub enum Length {
     Right,
     Zero,
-    /// The right length of another segment count.
-    Of(u32),
+    /// The right length of another count or size.
+    Of(Geometry),
     Longer(u32),
     Shorter(u32),
-    /// The length that the memory, or the output of the look at the states, had before request No. 3.
+    /// The length that the memory, or the output of the look at the states, had before request No. 3; at 32 KiB shorter by as much.
     Former,
 }
 
@@ -67,7 +69,8 @@ pub enum Length {
 pub struct Call {
     pub kind: Kind,
     pub args: [u32; 4],
-    pub segments: u32,
+    /// The count of segments and their size that it names, which may be none.
+    pub named: Geometry,
     pub length: Length,
     /// The length of the output of States or the scratch of Examine.
     pub extra: Length,
@@ -138,18 +141,18 @@ impl Kind {
 }
 
 impl Call {
-    pub fn new(kind: Kind, segments: u32, args: [u32; 4]) -> Call {
-        Call { kind, args, segments, length: Length::Right, extra: Length::Right }
+    pub fn new(kind: Kind, named: Geometry, args: [u32; 4]) -> Call {
+        Call { kind, args, named, length: Length::Right, extra: Length::Right }
     }
 
     pub fn has_extra(&self) -> bool {
         matches!(self.kind, States | Examine)
     }
 
-    /// Whether the call over the memory of `count` segments must be refused 1.
-    pub fn wrong_size(&self, count: u32) -> bool {
+    /// Whether the call over a heap of this count and size must be refused 1.
+    pub fn wrong_size(&self, g: Geometry) -> bool {
         let extra = self.has_extra() && self.extra != Length::Right;
-        self.segments != count || self.length != Length::Right || extra
+        self.named != g || self.length != Length::Right || extra
     }
 }
 
@@ -157,7 +160,7 @@ impl std::fmt::Display for Call {
     fn fmt(&self, out: &mut std::fmt::Formatter<'_>) -> std::fmt::Result {
         let name = format!("{:?}", self.kind).to_lowercase();
         let args: Vec<String> = self.args[..self.kind.arguments()].iter().map(u32::to_string).collect();
-        write!(out, "{name}({}) n={}", args.join(", "), self.segments)?;
+        write!(out, "{name}({}) n={} kib={}", args.join(", "), self.named.segments, self.named.kib)?;
         if self.length != Length::Right || self.extra != Length::Right {
             write!(out, " length {:?} extra {:?}", self.length, self.extra)?;
         }

@@ -5,12 +5,16 @@ use crate::profile::Plan;
 use crate::rng::Rng;
 use crate::unbounded::UnboundedHeap;
 use std::collections::VecDeque;
+use std::ops::Range;
 
 pub struct Chooser {
     pub plan: Plan,
     pub rng: Rng,
-    /// Calls of a pattern that are still to come.
+    /// Calls of a pattern that are still to come, and whether the last one was of it.
     pub queue: VecDeque<Call>,
+    of_pattern: bool,
+    /// While so many calls of it are to come, no other comes between.
+    pub calm: Range<usize>,
     /// Steps of a run that are still to come.
     run: u32,
     /// Calls during which room is sought, after a make that found none.
@@ -19,21 +23,21 @@ pub struct Chooser {
 
 impl Chooser {
     pub fn new(plan: Plan, rng: Rng) -> Chooser {
-        Chooser { plan, rng, queue: VecDeque::new(), run: 0, starved: 0 }
+        Chooser { plan, rng, queue: VecDeque::new(), of_pattern: false, calm: 0..0, run: 0, starved: 0 }
     }
 
-    /// Hears the answer to a call.
+    /// Hears the answer to a call. A pattern ends with a call of it that is refused.
     pub fn heard(&mut self, call: &Call, answer: u64) {
         if call.kind == Make && refusal(answer) == NO_ROOM && self.plan.relieves {
             self.starved = 48;
         }
-        if matches!(call.kind, Make | Load | Store) && refusal(answer) != 0 && self.rng.chance(900) {
+        if self.of_pattern && matches!(call.kind, Make | Load | Store) && refusal(answer) != 0 && self.rng.chance(900) {
             self.queue.clear();
         }
     }
 
     fn call(&self, kind: Kind, args: [u32; 4]) -> Call {
-        Call::new(kind, self.plan.segments, args)
+        Call::new(kind, self.plan.g, args)
     }
 
     /// The next call; `due` says whether some segment was full or part not long ago.
@@ -41,11 +45,13 @@ impl Chooser {
         if self.rng.below(16384) < self.plan.wrong_size {
             return self.wrong(heap);
         }
-        let between = !self.queue.is_empty() && self.rng.chance(256);
+        self.of_pattern = false;
+        let between = !self.queue.is_empty() && !self.calm.contains(&self.queue.len()) && self.rng.chance(256);
         if let Some(call) = between.then(|| self.of_the_cycle(heap, phase, due)).flatten() {
             return call;
         }
-        if let Some(call) = self.queued(heap) {
+        if let Some(call) = self.queued(heap, phase) {
+            self.of_pattern = true;
             return call;
         }
         if self.run > 0 && (phase != IDLE || self.rng.chance(64)) {
@@ -72,8 +78,11 @@ impl Chooser {
         self.of_kind(kind, heap)
     }
 
-    /// The next call of a pattern; a chain that has ended ends the pattern.
-    fn queued(&mut self, heap: &UnboundedHeap) -> Option<Call> {
+    /// The next call of a pattern; a chain that has ended ends the pattern, and a cycle that has ended its steps.
+    fn queued(&mut self, heap: &UnboundedHeap, phase: u32) -> Option<Call> {
+        while phase == IDLE && self.queue.front().is_some_and(|call| call.kind == Step) {
+            self.queue.pop_front();
+        }
         let call = self.queue.pop_front()?;
         if call.kind == Load && heap.record(call.args[0], call.args[2]).is_none() {
             self.queue.clear();
@@ -113,8 +122,9 @@ impl Chooser {
         call
     }
 
+    /// A check, or a leave, which in a long pattern would end it.
     fn acknowledging(&mut self, heap: &UnboundedHeap) -> Call {
-        let kind = if self.rng.chance(100) { Leave } else { Check };
+        let kind = if self.queue.len() < 200 && self.rng.chance(100) { Leave } else { Check };
         self.of_kind(kind, heap)
     }
 
@@ -124,7 +134,7 @@ impl Chooser {
             return self.call(Start, [0; 4]);
         }
         if self.plan.bursts && self.rng.chance(100) {
-            self.run = self.rng.below(40 * self.plan.segments.min(20));
+            self.run = self.rng.below(40 * self.plan.g.segments.min(20));
         }
         self.call(Step, [0; 4])
     }

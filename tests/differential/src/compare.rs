@@ -1,6 +1,7 @@
 //! What a list compares beside answers: phase, states, counts, the trace stack, the examination, and words that may not change.
 
 use crate::calls::*;
+use crate::coverage::Situation;
 use crate::layout;
 use crate::list::List;
 
@@ -10,7 +11,7 @@ impl List<'_> {
         let refused = expected.is_some_and(|answer| refusal(answer) != 0);
         let likely = refused || call.kind.only_reads() || matches!(call.kind, Start | Attach | Spawn | Detach);
         let rarity = if likely { 4 } else { 32 };
-        let watched = (likely || call.kind == Make) && self.rng.below(rarity * self.n) == 0;
+        let watched = (likely || call.kind == Make) && self.rng.below(rarity * self.g.segments) == 0;
         if watched {
             self.remember();
         }
@@ -72,8 +73,11 @@ impl List<'_> {
             let [first, second] = [first, second].map(|states| layout::each_segment(states).nth(at).unwrap_or_default());
             return Err(format!("state of segment {at}: verified {first:?}, independent {second:?}"));
         }
-        if let Some(at) = layout::each_segment(first).position(layout::shared_of_one_block) {
+        if let Some(at) = layout::each_segment(first).position(|state| layout::shared_of_one_block(self.g, state)) {
             return Err(format!("segment {at} has one block and is part or held"));
+        }
+        if layout::each_segment(first).any(|state| state[..2] == [1, layout::HIGHEST]) {
+            self.coverage.met(Situation::LargestClassPart);
         }
         self.same_counts(first)?;
         self.nothing.looked(&self.states, first)?;
@@ -97,7 +101,7 @@ impl List<'_> {
     /// The blocks in use by the calls are those handed out less those freed; by samples, so are those that places and bits tell.
     pub fn compare_totals(&mut self) -> Result<(), String> {
         self.totals.agree(self.blocks.in_use(), "the calls")?;
-        match self.rng.below(8 * self.n) {
+        match self.rng.below(8 * self.g.segments) {
             0 => self.count_blocks(),
             _ => Ok(()),
         }
@@ -105,13 +109,13 @@ impl List<'_> {
 
     fn count_blocks(&mut self) -> Result<(), String> {
         self.coverage.counted += 1;
-        let in_use = layout::blocks_in_use(self.pair.verified.memory.words(), self.n);
+        let in_use = layout::blocks_in_use(self.pair.verified.memory.words(), self.g);
         self.totals.agree(in_use, "places and bits")
     }
 
     /// The steps that the cycle can still take are fewer by those since the last time at least.
     pub fn take_measure(&mut self) -> Result<(), String> {
-        let compared = self.measure.take(self.pair.verified.memory.words(), self.n)?;
+        let compared = self.measure.take(self.pair.verified.memory.words(), self.g)?;
         self.coverage.bound.measured += u64::from(compared);
         Ok(())
     }
@@ -130,7 +134,7 @@ impl List<'_> {
 
     fn compare_entry(&self, number: usize) -> Result<(), String> {
         let memory = self.pair.verified.memory.words();
-        let found = self.blocks.named(memory, layout::trace_entry(memory, self.n, number));
+        let found = self.blocks.named(memory, layout::trace_entry(memory, self.g, number));
         match found == Some(self.cycle.stack[number]) {
             true => Ok(()),
             false => Err(format!("entry {number} of the trace stack is record {found:?}, by document 01 {}", self.cycle.stack[number])),
@@ -139,11 +143,14 @@ impl List<'_> {
 
     fn compare_stack(&mut self) -> Result<(), String> {
         self.coverage.compared_stacks += 1;
+        if 2 * self.cycle.stack.len() > self.g.most_blocks() as usize * self.g.n() {
+            self.coverage.met(Situation::TraceStackOverHalf);
+        }
         self.coverage.longest_stack = self.coverage.longest_stack.max(self.cycle.stack.len());
         (0..self.cycle.stack.len()).try_for_each(|number| self.compare_entry(number))
     }
 
-    /// The examination says yes, leaves the memory as it was and the scratch all zero; guard words stand.
+    /// The examination says yes, leaves the memory as it was and the scratch all zero; the bitmaps are trees; guard words stand.
     pub fn examine(&mut self) -> Result<(), String> {
         let call = self.right(Examine);
         self.unexamined = 0;
@@ -164,6 +171,9 @@ impl List<'_> {
         }
         if self.pair.verified.scratch.words().iter().any(|&word| word != 0) {
             return Err("examine left a word of the scratch that is not 0".into());
+        }
+        if !layout::all_trees(self.pair.verified.memory.words(), self.g) {
+            return Err("a bit above level 0 of a bitmap, or past the end of a level, is not what it is to be".into());
         }
         match self.pair.verified.guards_hold() && self.pair.independent.guards_hold() {
             true => Ok(()),

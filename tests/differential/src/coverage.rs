@@ -2,7 +2,7 @@
 
 use crate::bound::Seen;
 use crate::calls::*;
-use crate::layout;
+use crate::layout::{self, Geometry};
 
 macro_rules! situations {
     ($($name:ident),* $(,)?) => {
@@ -36,6 +36,14 @@ situations! {
     MakeClass13,
     MakeClass14,
     MakeFullAtOnce,
+    LastBlockMade,
+    LastBlockTraced,
+    LastBlockKept,
+    LastBlockFreed,
+    SearchClimbsTwoLevels,
+    SearchClimbsPast2048,
+    TraceStackOverHalf,
+    LargestClassPart,
     MakeBesideKept,
     FreedTakenByAnotherClass,
     AttachIdle,
@@ -49,6 +57,7 @@ situations! {
     DetachSweep,
     DetachGivesBack,
     DetachGivesBackEleven,
+    DetachGivesBackTwelve,
     CheckOwingSync1,
     CheckOwingSync2,
     LeaveOwingSync1,
@@ -103,8 +112,22 @@ situations! {
     OpenOverUsed,
 }
 
+/// Whether the situation can come at this size: at 16 KiB a segment of class 14 has one block.
+fn comes(situation: Situation, kib: u32) -> bool {
+    match situation {
+        Situation::MakeFullAtOnce | Situation::DetachGivesBackEleven => kib == 16,
+        Situation::SearchClimbsPast2048 | Situation::LargestClassPart | Situation::DetachGivesBackTwelve => kib == 32,
+        _ => true,
+    }
+}
+
+/// What a call that is refused 1 names over the heap's own slice that is not the heap's.
+const NAMES: [&str; 4] = ["the other size", "no size", "another count", "no count"];
+
+/// The calls over heaps of one size.
 #[derive(Clone)]
 pub struct Coverage {
+    kib: u32,
     pub calls: u64,
     pub lists: u64,
     pub cycles: u64,
@@ -124,14 +147,17 @@ pub struct Coverage {
     /// By kind: calls with the length that the memory had before request No. 3; and looks at the states with the output's.
     pub former: [u64; KINDS],
     pub former_output: u64,
+    /// By what it names wrongly and by kind: calls over the heap's own slice.
+    names: [[u64; KINDS]; NAMES.len()],
     pub steps: [u64; 6],
     pub bound: Seen,
     pub situations: Vec<u64>,
 }
 
 impl Coverage {
-    pub fn new() -> Coverage {
+    pub fn new(kib: u32) -> Coverage {
         Coverage {
+            kib,
             calls: 0,
             lists: 0,
             cycles: 0,
@@ -148,6 +174,7 @@ impl Coverage {
             by_kind: [[0; 14]; KINDS],
             former: [0; KINDS],
             former_output: 0,
+            names: [[0; KINDS]; NAMES.len()],
             steps: [0; 6],
             bound: Seen::default(),
             situations: vec![0; SITUATIONS.len()],
@@ -166,17 +193,36 @@ impl Coverage {
         }
     }
 
-    /// Counts a length of the former layout.
-    pub fn count_former(&mut self, call: &Call) {
-        self.former[call.kind as usize] += u64::from(call.length == Length::Former);
+    /// Counts what a call that is refused 1 has wrong: a length of the former layout, or what it names over the heap's own slice.
+    pub fn count_wrong(&mut self, call: &Call, g: Geometry) {
+        let (kind, named) = (call.kind as usize, call.named);
+        self.former[kind] += u64::from(call.length == Length::Former);
         self.former_output += u64::from(call.kind == States && call.extra == Length::Former);
+        let (count, size) = (named.segments == g.segments, named.kib == g.kib);
+        let wrong = [named == g.other_size(), count && !named.is_size(), size && !count && named.is_count(), size && !named.is_count()];
+        for (counts, _) in self.names.iter_mut().zip(wrong).filter(|(_, wrong)| *wrong && call.length == Length::Right) {
+            counts[kind] += 1;
+        }
     }
 
-    /// The kinds of call that never met a length of the former layout.
-    pub fn missing_former(&self) -> Vec<String> {
-        let never = ALL_KINDS.into_iter().filter(|&kind| self.former[kind as usize] == 0);
+    /// The kinds of call that never met a length of the former layout, or never named what is not the heap's.
+    pub fn missing_wrong(&self) -> Vec<String> {
+        let never = |counts: &[u64; KINDS], what: &str| {
+            let kinds = ALL_KINDS.into_iter().filter(|&kind| counts[kind as usize] == 0);
+            kinds.map(|kind| format!("{kind:?} with {what}")).collect::<Vec<_>>()
+        };
         let output = (self.former_output == 0).then(|| "States with the former layout's output".into());
-        never.map(|kind| format!("{kind:?} with the former layout's length")).chain(output).collect()
+        let names = NAMES.iter().zip(&self.names).flat_map(|(what, counts)| never(counts, what));
+        never(&self.former, "the former layout's length").into_iter().chain(output).chain(names).collect()
+    }
+
+    /// How often a call named each of what is not the heap's, all kinds together and the fewest of one.
+    fn print_names(&self) {
+        let said = NAMES.iter().zip(&self.names).map(|(what, counts)| {
+            let fewest = counts.iter().min().copied().unwrap_or(0);
+            format!("{what} {} times, each kind {fewest} times at least", counts.iter().sum::<u64>())
+        });
+        println!("  refused 1 over the heap's own slice, for naming {}", said.collect::<Vec<_>>().join("; "));
     }
 
     fn refusals(&self) -> [u64; 14] {
@@ -202,11 +248,12 @@ impl Coverage {
                 missing.push(format!("{kind:?} not refused"));
             }
         }
-        missing.extend(self.missing_former());
+        missing.extend(self.missing_wrong());
         missing.extend(self.bound.missing());
         for (class, [free, part, full]) in (layout::LOWEST..).zip(self.by_class) {
             // That all of more than 256 blocks are reached is rare; a segment of one block is never part.
-            if free == 0 || part == 0 && layout::blocks(class) > 1 || class > 5 && full == 0 {
+            let blocks = layout::blocks(self.kib, class);
+            if free == 0 || part == 0 && blocks > 1 || full == 0 && blocks <= 256 {
                 missing.push(format!("a segment of class {class} swept to free, to part and to full"));
             }
         }
@@ -214,7 +261,7 @@ impl Coverage {
             missing.push(format!("Step answered {name}"));
         }
         for &situation in SITUATIONS {
-            if self.situations[situation as usize] == 0 {
+            if self.situations[situation as usize] == 0 && comes(situation, self.kib) {
                 missing.push(format!("{situation:?}"));
             }
         }
@@ -235,6 +282,7 @@ impl Coverage {
         println!("  {:<9}{:>11}{}", "all", sums[0], cells.join(""));
         let steps: Vec<String> = STEP_KINDS.iter().zip(self.steps).map(|(name, count)| format!("{name} {count}")).collect();
         println!("  steps: {}", steps.join(", "));
+        self.print_names();
     }
 
     pub fn print_cycles(&self) {
@@ -261,7 +309,8 @@ impl Coverage {
         let classes: Vec<String> =
             (layout::LOWEST..).zip(self.by_class).map(|(class, [free, part, full])| format!("{class}: {free}/{part}/{full}")).collect();
         println!("  swept to free/part/full by class: {}", classes.join(", "));
-        let met: Vec<String> = SITUATIONS.iter().map(|&situation| format!("{situation:?} {}", self.situations[situation as usize])).collect();
+        let come = SITUATIONS.iter().filter(|&&situation| comes(situation, self.kib));
+        let met: Vec<String> = come.map(|&situation| format!("{situation:?} {}", self.situations[situation as usize])).collect();
         for line in met.chunks(5) {
             println!("  {}", line.join(", "));
         }

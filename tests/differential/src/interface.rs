@@ -2,6 +2,7 @@
 //! (prefix independent), each as a table of functions.
 
 use crate::calls::*;
+use crate::layout::Geometry;
 // Links the independent implementation.
 use independent as _;
 
@@ -14,18 +15,18 @@ macro_rules! implementation {
         mod $module {
             extern "C" {
                 #[link_name = concat!($prefix, "_length")]
-                pub fn length(segments: u32) -> usize;
+                pub fn length(segments: u32, kib: u32) -> usize;
                 #[link_name = concat!($prefix, "_states_length")]
-                pub fn states_length(segments: u32) -> usize;
+                pub fn states_length(segments: u32, kib: u32) -> usize;
                 #[link_name = concat!($prefix, "_scratch_length")]
-                pub fn scratch_length(segments: u32) -> usize;
+                pub fn scratch_length(segments: u32, kib: u32) -> usize;
                 #[link_name = concat!($prefix, "_states")]
-                pub fn states(n: u32, mem: *const u32, length: usize, output: *mut u32, output_length: usize) -> u32;
+                pub fn states(n: u32, kib: u32, mem: *const u32, length: usize, output: *mut u32, output_length: usize) -> u32;
                 #[link_name = concat!($prefix, "_examine")]
-                pub fn examine(n: u32, mem: *const u32, length: usize, scratch: *mut u32, scratch_length: usize) -> u64;
+                pub fn examine(n: u32, kib: u32, mem: *const u32, length: usize, scratch: *mut u32, scratch_length: usize) -> u64;
                 $(
                     #[link_name = concat!($prefix, "_", stringify!($link))]
-                    pub fn $link(n: u32, mem: *mut u32, length: usize, $($number: u32),*) -> $answer;
+                    pub fn $link(n: u32, kib: u32, mem: *mut u32, length: usize, $($number: u32),*) -> $answer;
                 )*
             }
             pub static TABLE: super::Interface = super::Interface {
@@ -38,12 +39,12 @@ macro_rules! implementation {
 macro_rules! interface {
     ($($link:ident: ($($number:ident),*) -> $answer:ty;)*) => {
         pub struct Interface {
-            length: unsafe extern "C" fn(u32) -> usize,
-            states_length: unsafe extern "C" fn(u32) -> usize,
-            scratch_length: unsafe extern "C" fn(u32) -> usize,
-            states: unsafe extern "C" fn(u32, *const u32, usize, *mut u32, usize) -> u32,
-            examine: unsafe extern "C" fn(u32, *const u32, usize, *mut u32, usize) -> u64,
-            $($link: unsafe extern "C" fn(u32, *mut u32, usize, $(interface!(@word $number)),*) -> $answer,)*
+            length: unsafe extern "C" fn(u32, u32) -> usize,
+            states_length: unsafe extern "C" fn(u32, u32) -> usize,
+            scratch_length: unsafe extern "C" fn(u32, u32) -> usize,
+            states: unsafe extern "C" fn(u32, u32, *const u32, usize, *mut u32, usize) -> u32,
+            examine: unsafe extern "C" fn(u32, u32, *const u32, usize, *mut u32, usize) -> u64,
+            $($link: unsafe extern "C" fn(u32, u32, *mut u32, usize, $(interface!(@word $number)),*) -> $answer,)*
         }
         implementation!(borvukhai, "borvukhai"; $($link: ($($number),*) -> $answer;)*);
         implementation!(second, "independent"; $($link: ($($number),*) -> $answer;)*);
@@ -82,16 +83,16 @@ pub fn independent() -> &'static Interface {
 }
 
 impl Interface {
-    pub fn length(&self, segments: u32) -> usize {
-        unsafe { (self.length)(segments) }
+    pub fn length(&self, g: Geometry) -> usize {
+        unsafe { (self.length)(g.segments, g.kib) }
     }
 
-    pub fn states_length(&self, segments: u32) -> usize {
-        unsafe { (self.states_length)(segments) }
+    pub fn states_length(&self, g: Geometry) -> usize {
+        unsafe { (self.states_length)(g.segments, g.kib) }
     }
 
-    pub fn scratch_length(&self, segments: u32) -> usize {
-        unsafe { (self.scratch_length)(segments) }
+    pub fn scratch_length(&self, g: Geometry) -> usize {
+        unsafe { (self.scratch_length)(g.segments, g.kib) }
     }
 
     /// Plays one call.
@@ -99,30 +100,30 @@ impl Interface {
     /// # Safety
     /// `mem`, and `extra` where the call takes one, are valid for reads and writes over their lengths, and do not overlap.
     pub unsafe fn play(&self, call: &Call, mem: Slice, extra: Slice) -> u64 {
-        let (n, Slice(at, length)) = (call.segments, mem);
+        let (Geometry { segments: n, kib }, Slice(at, length)) = (call.named, mem);
         let [w, x, y, z] = call.args;
         match call.kind {
-            Open => (self.open)(n, at, length).into(),
-            Attach => (self.attach)(n, at, length, w).into(),
-            Spawn => (self.spawn)(n, at, length, w, x, y).into(),
-            Detach => (self.detach)(n, at, length, w).into(),
-            Make => (self.make)(n, at, length, w, x, y, z).into(),
-            Load => (self.load)(n, at, length, w, x, y, z).into(),
-            Store => (self.store)(n, at, length, w, x, y, z).into(),
-            Put => (self.put)(n, at, length, w, x, y, z).into(),
-            Copy => (self.copy)(n, at, length, w, x, y).into(),
-            Clear => (self.clear)(n, at, length, w, x).into(),
-            Check => (self.check)(n, at, length, w).into(),
-            Leave => (self.leave)(n, at, length, w).into(),
-            Enter => (self.enter)(n, at, length, w).into(),
-            Start => (self.start)(n, at, length).into(),
-            Step => (self.step)(n, at, length),
-            Get => (self.get)(n, at, length, w, x, y),
-            Same => (self.same)(n, at, length, w, x, y),
-            Shape => (self.shape)(n, at, length, w, x),
-            Phase => (self.phase)(n, at, length),
-            States => (self.states)(n, at, length, extra.0, extra.1).into(),
-            Examine => (self.examine)(n, at, length, extra.0, extra.1),
+            Open => (self.open)(n, kib, at, length).into(),
+            Attach => (self.attach)(n, kib, at, length, w).into(),
+            Spawn => (self.spawn)(n, kib, at, length, w, x, y).into(),
+            Detach => (self.detach)(n, kib, at, length, w).into(),
+            Make => (self.make)(n, kib, at, length, w, x, y, z).into(),
+            Load => (self.load)(n, kib, at, length, w, x, y, z).into(),
+            Store => (self.store)(n, kib, at, length, w, x, y, z).into(),
+            Put => (self.put)(n, kib, at, length, w, x, y, z).into(),
+            Copy => (self.copy)(n, kib, at, length, w, x, y).into(),
+            Clear => (self.clear)(n, kib, at, length, w, x).into(),
+            Check => (self.check)(n, kib, at, length, w).into(),
+            Leave => (self.leave)(n, kib, at, length, w).into(),
+            Enter => (self.enter)(n, kib, at, length, w).into(),
+            Start => (self.start)(n, kib, at, length).into(),
+            Step => (self.step)(n, kib, at, length),
+            Get => (self.get)(n, kib, at, length, w, x, y),
+            Same => (self.same)(n, kib, at, length, w, x, y),
+            Shape => (self.shape)(n, kib, at, length, w, x),
+            Phase => (self.phase)(n, kib, at, length),
+            States => (self.states)(n, kib, at, length, extra.0, extra.1).into(),
+            Examine => (self.examine)(n, kib, at, length, extra.0, extra.1),
         }
     }
 }

@@ -2,6 +2,7 @@
 
 use crate::calls::{Call, Kind, Length};
 use crate::interface::{Interface, Slice};
+use crate::layout::Geometry;
 
 /// Words in a block of their own. With a guard of 0 the block ends where the slice ends, so that valgrind sees a step outside.
 pub struct Guarded {
@@ -55,33 +56,35 @@ impl Guarded {
 /// What one implementation is lent for a list: memory, output of the look at the states, and scratch of the examination.
 pub struct Lent {
     interface: &'static Interface,
-    segments: u32,
+    g: Geometry,
     guard: usize,
     pub memory: Guarded,
     pub output: Guarded,
     pub scratch: Guarded,
 }
 
+/// The right length of a slice, by count and size.
+type Right = fn(&Interface, Geometry) -> usize;
+
 impl Lent {
-    pub fn new(interface: &'static Interface, segments: u32, guard: usize) -> Lent {
+    pub fn new(interface: &'static Interface, g: Geometry, guard: usize) -> Lent {
         Lent {
             interface,
-            segments,
+            g,
             guard,
-            memory: Guarded::new(interface.length(segments), guard),
-            output: Guarded::new(interface.states_length(segments), guard),
-            scratch: Guarded::new(interface.scratch_length(segments), guard),
+            memory: Guarded::new(interface.length(g), guard),
+            output: Guarded::new(interface.states_length(g), guard),
+            scratch: Guarded::new(interface.scratch_length(g), guard),
         }
     }
 
-    /// The words that `length` names, where `right` says the right length by count and `former` is the one before request No. 3; never more
-    /// than is there.
-    fn named(&self, length: Length, right: fn(&Interface, u32) -> usize, former: usize, present: usize) -> usize {
-        let whole = right(self.interface, self.segments);
+    /// The words that `length` names, where `former` is the one before request No. 3; never more than is there.
+    fn words(&self, length: Length, right: Right, former: usize, present: usize) -> usize {
+        let whole = right(self.interface, self.g);
         let named = match length {
             Length::Right => whole,
             Length::Zero => 0,
-            Length::Of(count) => right(self.interface, count),
+            Length::Of(other) => right(self.interface, other),
             Length::Longer(by) => whole + by as usize,
             Length::Shorter(by) => whole.saturating_sub(by as usize),
             Length::Former => former,
@@ -89,19 +92,32 @@ impl Lent {
         named.min(present + self.guard)
     }
 
+    /// The words of the memory that the call names, and of its output or scratch: how the right number follows, and the number.
+    fn lengths(&self, call: &Call) -> (usize, Option<(Right, usize)>) {
+        let [former, output, _] = self.g.lengths();
+        let memory = self.words(call.length, Interface::length, former - 2 * self.g.n(), self.memory.len());
+        let right: Right = match call.kind {
+            Kind::States => Interface::states_length,
+            Kind::Examine => Interface::scratch_length,
+            _ => return (memory, None),
+        };
+        let (former, present) = if call.kind == Kind::States { (output - 2 * self.g.n(), self.output.len()) } else { (0, self.scratch.len()) };
+        (memory, Some((right, self.words(call.extra, right, former, present))))
+    }
+
+    /// Whether all lengths are right for the count and the size that the call names: of this heap, or of another one.
+    pub fn fits(&self, call: &Call) -> bool {
+        let (memory, extra) = self.lengths(call);
+        let is_right = |right: Right, length: usize| length != 0 && right(self.interface, call.named) == length;
+        is_right(Interface::length, memory) && extra.is_none_or(|(right, length)| is_right(right, length))
+    }
+
     pub fn play(&mut self, call: &Call) -> u64 {
-        let n = self.segments as usize;
-        let length = self.named(call.length, Interface::length, 6292 * n + 1053, self.memory.len());
+        let (length, extra) = self.lengths(call);
         let memory = self.memory.slice(length);
-        let extra = match call.kind {
-            Kind::States => {
-                let words = self.named(call.extra, Interface::states_length, 4 * n, self.output.len());
-                self.output.slice(words)
-            }
-            Kind::Examine => {
-                let words = self.named(call.extra, Interface::scratch_length, 0, self.scratch.len());
-                self.scratch.slice(words)
-            }
+        let extra = match (call.kind, extra) {
+            (Kind::States, Some((_, words))) => self.output.slice(words),
+            (_, Some((_, words))) => self.scratch.slice(words),
             _ => Slice(std::ptr::NonNull::dangling().as_ptr(), 0),
         };
         // Each slice lies within its own block, guard included.

@@ -8,7 +8,7 @@ use crate::calls::*;
 use crate::choose::Chooser;
 use crate::coverage::{Coverage, Situation};
 use crate::cycle::Cycle;
-use crate::layout;
+use crate::layout::{self, Geometry};
 use crate::lent::Lent;
 use crate::measure::Measure;
 use crate::nothing::OverNothing;
@@ -25,8 +25,15 @@ pub struct Pair {
     pub independent: Lent,
 }
 
+impl Pair {
+    /// Whether the lengths of a call are right for what it names, on one side at least: then it is a call over another heap.
+    fn fits(&self, call: &Call) -> bool {
+        self.verified.fits(call) || self.independent.fits(call)
+    }
+}
+
 pub struct List<'a> {
-    pub n: u32,
+    pub g: Geometry,
     pub pair: &'a mut Pair,
     pub coverage: &'a mut Coverage,
     pub chooser: Chooser,
@@ -56,28 +63,28 @@ pub struct List<'a> {
 }
 
 /// The records of one list take no more than this many words, and not less than eight heaps.
-fn most_words(segments: u32) -> usize {
-    (4 << 20).max(8 * layout::SEGMENT_WORDS * segments as usize)
+fn most_words(g: Geometry) -> usize {
+    (4 << 20).max(8 * g.segment_words() * g.n())
 }
 
 impl<'a> List<'a> {
     pub fn new(pair: &'a mut Pair, coverage: &'a mut Coverage, chooser: Chooser, seed: u64, examine_every: u32) -> List<'a> {
-        let n = chooser.plan.segments;
+        let g = chooser.plan.g;
         List {
-            n,
+            g,
             pair,
             coverage,
             chooser,
             heap: UnboundedHeap::new(),
-            blocks: Blocks::new(n),
+            blocks: Blocks::new(g),
             cycle: Cycle::new(),
-            bound: Bound::new(n),
+            bound: Bound::new(g),
             measure: Measure::default(),
             nothing: OverNothing::default(),
-            parts: Parts::new(n),
+            parts: Parts::new(g),
             totals: Totals::new(0),
             phase: IDLE,
-            states: vec![0; layout::RECORD_WORDS * n as usize],
+            states: vec![0; layout::RECORD_WORDS * g.n()],
             shadow: Vec::new(),
             recent: Recent::new(),
             rng: Rng::new(!seed),
@@ -98,9 +105,9 @@ impl<'a> List<'a> {
     /// The list goes on from the memory as it is, which passes the examination.
     pub fn adopt(mut self) -> List<'a> {
         let memory = self.pair.verified.memory.words();
-        let Adopted { heap, blocks, cycle } = adopt(memory, self.n);
+        let Adopted { heap, blocks, cycle } = adopt(memory, self.g);
         (self.heap, self.blocks, self.cycle) = (heap, blocks, cycle);
-        self.totals = Totals::new(layout::blocks_in_use(memory, self.n));
+        self.totals = Totals::new(layout::blocks_in_use(memory, self.g));
         self.alone = true;
         self
     }
@@ -125,7 +132,7 @@ impl<'a> List<'a> {
         } else {
             self.open()?;
         }
-        while self.calls < self.chooser.plan.calls && self.heap.words() < most_words(self.n) {
+        while self.calls < self.chooser.plan.calls && self.heap.words() < most_words(self.g) {
             let due = self.phase != IDLE || self.some_due();
             if self.may_end(due) {
                 break;
@@ -133,10 +140,10 @@ impl<'a> List<'a> {
             let call = self.chooser.next(&self.heap, self.phase, due);
             self.calls += 1;
             crate::watchdog::beat();
-            if call.wrong_size(self.n) {
-                self.play_wrong(&call)?;
-            } else {
-                self.play_one(&call)?;
+            match call.wrong_size(self.g) {
+                false => self.play_one(&call)?,
+                true if self.pair.fits(&call) => {}
+                true => self.play_wrong(&call)?,
             }
             self.compare_totals()?;
             self.unexamined += 1;
@@ -151,13 +158,14 @@ impl<'a> List<'a> {
     /// Whether a segment was full at the last look, or part, which counts more rarely, so that cycles begin with either and with both; with
     /// many segments only eight of them are asked.
     fn some_due(&mut self) -> bool {
-        let from = if self.n > 8 { self.rng.below(self.n - 7) as usize } else { 0 };
+        let n = self.g.segments;
+        let from = if n > 8 { self.rng.below(n - 7) as usize } else { 0 };
         let parts_too = self.rng.chance(64);
         layout::each_segment(&self.states).skip(from).take(8).any(|state| state[0] == 3 || parts_too && state[0] == 1)
     }
 
     pub fn right(&self, kind: Kind) -> Call {
-        Call::new(kind, self.n, [0; 4])
+        Call::new(kind, self.g, [0; 4])
     }
 
     /// An opening over random words, or over what the last list left.
@@ -202,11 +210,11 @@ impl<'a> List<'a> {
             self.compare_states()?;
         }
         if call.kind == Start {
-            self.parts.remember(self.pair.verified.memory.words(), self.n);
+            self.parts.remember(self.pair.verified.memory.words());
         }
         let watched = self.watch(call, expected);
         let facts = Facts::see(self.pair.verified.memory.words(), self.phase, call, &self.heap);
-        let lent = (call.kind == Step).then(|| bound::Lent::see(self.pair.verified.memory.words(), self.n));
+        let lent = (call.kind == Step).then(|| bound::Lent::see(self.pair.verified.memory.words(), self.g));
         let answer = self.both(call)?;
         self.chooser.heard(call, answer);
         self.totals.heard(call, answer);
@@ -223,19 +231,22 @@ impl<'a> List<'a> {
             facts.note(memory, call, answer, self.coverage);
             if let Some(lent) = lent {
                 self.bound.stepped(&lent, answer, memory, &mut self.coverage.bound)?;
+                if step_kind(answer) == TRACED && lent.traces() == Some((layout::LOWEST, self.g.most_blocks() - 1)) {
+                    self.coverage.met(Situation::LastBlockTraced);
+                }
             }
             self.performed(call, answer)?;
         }
         self.compare_top()?;
-        if self.n <= 4 || self.rng.below(self.n) == 0 {
+        if self.g.segments <= 4 || self.rng.below(self.g.segments) == 0 {
             self.compare_states()?;
         }
         Ok(())
     }
 
-    /// A call with a wrong count or length: refused 1 and nothing changes.
+    /// A call with a wrong count, size or length: refused 1 and nothing changes.
     fn play_wrong(&mut self, call: &Call) -> Result<(), String> {
-        let watched = self.rng.below(2 * self.n) == 0;
+        let watched = self.rng.below(2 * self.g.segments) == 0;
         let extra = |lent: &Lent| (lent.output.words().to_vec(), lent.scratch.words().to_vec());
         let before = (watched && call.has_extra()).then(|| extra(&self.pair.verified));
         if watched {
@@ -245,7 +256,7 @@ impl<'a> List<'a> {
         if answer != u64::from(SIZE) {
             return Err(format!("{call}: {}, not refused 1", answer_words(call.kind, answer)));
         }
-        self.coverage.count_former(call);
+        self.coverage.count_wrong(call, self.g);
         if watched {
             self.unchanged(call)?;
         }
@@ -321,7 +332,7 @@ impl<'a> List<'a> {
             1 => {}
             _ => self.coverage.met(Situation::CycleOverManySegments),
         }
-        self.nothing = OverNothing::begin(self.pair.verified.memory.words(), self.n, condemned);
+        self.nothing = OverNothing::begin(self.pair.verified.memory.words(), self.g, condemned);
         self.bound.start(self.pair.verified.memory.words());
         self.blocks.start(&self.states, &mut self.heap);
         self.parts.start(&self.states);
@@ -333,7 +344,8 @@ impl<'a> List<'a> {
         self.parts.started(self.pair.verified.memory.words(), &before, &self.states)
     }
 
-    /// What the mutator held, at most eleven segments, is part with its class, place and counts; every other segment is as it was.
+    /// What the mutator held, at most eleven segments at 16 KiB and twelve at 32, is part with its class, place and counts; every other segment
+    /// is as it was.
     fn detached(&mut self, m: u32) -> Result<(), String> {
         let before = self.states.clone();
         self.compare_states()?;
@@ -349,9 +361,10 @@ impl<'a> List<'a> {
                 given += 1;
             }
         }
-        match given {
-            12.. => return Err(format!("detach({m}) handed back {given} segments")),
-            11 => self.coverage.met(Situation::DetachGivesBackEleven),
+        match (given, self.g.kib) {
+            (13.., _) | (12, 16) => return Err(format!("detach({m}) handed back {given} segments")),
+            (12, _) => self.coverage.met(Situation::DetachGivesBackTwelve),
+            (11, 16) => self.coverage.met(Situation::DetachGivesBackEleven),
             _ => {}
         }
         Ok(())
@@ -363,12 +376,12 @@ impl<'a> List<'a> {
         let memory = self.pair.verified.memory.words();
         let root = layout::root(memory, m, to);
         let Put { segment, other_class } = self.blocks.put(memory, class, root, self.heap.records.len() as u32)?;
-        let state = layout::segment(memory, self.n, segment);
+        let state = layout::segment(memory, self.g, segment);
         let at = layout::RECORD_WORDS * segment as usize;
         self.counted_out(call, segment, &state, other_class)?;
         self.bound.made();
         self.parts.made(segment, class, other_class, self.coverage);
-        if layout::blocks(class) == 1 {
+        if self.g.blocks(class) == 1 {
             if state[0] != 3 {
                 return Err(format!("{call}: segment {segment} has one block and is {state:?}"));
             }
@@ -413,7 +426,7 @@ impl<'a> List<'a> {
                 self.moved_to(IDLE)?;
                 self.compare_states()?;
                 self.parts.done(&self.states, self.coverage)?;
-                self.nothing.ended(self.pair.verified.memory.words(), self.n)
+                self.nothing.ended(self.pair.verified.memory.words(), self.g)
             }
             SWEPT => {
                 self.swept(step_number(answer), step_freed(answer))?;
@@ -432,7 +445,12 @@ impl<'a> List<'a> {
         let before: Vec<u32> = self.states[at..at + layout::RECORD_WORDS].to_vec();
         let memory = self.pair.verified.memory.words();
         let due = self.blocks.swept(memory, segment, &before, freed)?;
+        let last = self.g.most_blocks() - 1;
+        let was_used = before[1] == layout::LOWEST && self.blocks.is_used(segment, last);
         self.blocks.keep(segment, before[1], |record| self.cycle.is_marked(record));
+        if was_used {
+            self.coverage.met(if self.blocks.is_used(segment, last) { Situation::LastBlockKept } else { Situation::LastBlockFreed });
+        }
         self.coverage.swept += 1;
         self.coverage.freed += u64::from(freed);
         self.coverage.unreached += u64::from(due);
@@ -459,14 +477,14 @@ impl<'a> List<'a> {
     fn recounted(&mut self, segment: u32, before: &[u32], freed: u32) -> Result<(), String> {
         let after = &self.states[layout::RECORD_WORDS * segment as usize..][..layout::RECORD_WORDS];
         let [kept, handed_out] = layout::counts_of(before);
-        let (class, blocks) = (before[1], layout::blocks(before[1]));
+        let (class, blocks) = (before[1], self.g.blocks(before[1]));
         let (record, stack) = match (kept + handed_out).wrapping_sub(freed) {
             0 => ([0; layout::RECORD_WORDS], Some(0)),
             left if left == blocks => ([3, class, blocks, 0, left, 0], None),
             left => ([1, class, 0, 0, left, 0], Some(1 + (class - layout::LOWEST) as usize)),
         };
         let memory = self.pair.verified.memory.words();
-        if after != record || stack.is_some_and(|stack| layout::top(memory, self.n, stack) != Some(segment)) {
+        if after != record || stack.is_some_and(|stack| layout::top(memory, self.g, stack) != Some(segment)) {
             return Err(format!("segment {segment}, of which {freed} blocks were freed, was {before:?} and is {after:?}, or not on its stack"));
         }
         if kept > 0 && handed_out > 0 {

@@ -16,6 +16,7 @@ mod layout;
 mod lent;
 mod list;
 mod measure;
+mod misnamed;
 mod nothing;
 mod numbers;
 mod options;
@@ -34,58 +35,73 @@ mod unbounded;
 mod watchdog;
 
 use calls::*;
-use campaign::Campaign;
+use campaign::{AtSize, Campaign};
 use options::{Options, HELP};
 use std::process::ExitCode;
 use std::time::{Duration, Instant};
 
-/// Calls by segment count, the counts in groups.
-fn print_counts(campaign: &Campaign) {
+/// Calls by segment count at a size, the counts in groups.
+fn print_counts(campaign: &Campaign, kib: u32) {
     let groups = [1..=1, 2..=2, 3..=3, 4..=4, 5..=8, 9..=16, 17..=64, 65..=128, 129..=255, 256..=256];
-    let calls = |group: &std::ops::RangeInclusive<u32>| campaign.by_count.range(group.clone()).map(|(_, calls)| calls).sum::<u64>();
+    let of_size: Vec<_> = campaign.by_count.iter().filter(|(g, _)| g.kib == kib).collect();
+    let calls =
+        |group: &std::ops::RangeInclusive<u32>| of_size.iter().filter(|(g, _)| group.contains(&g.segments)).map(|(_, calls)| **calls).sum::<u64>();
     let said: Vec<String> = groups.iter().map(|group| format!("{}-{}: {}", group.start(), group.end(), calls(group))).collect();
-    println!("  {} segment counts, calls by count: {}", campaign.by_count.len(), said.join(", "));
+    println!("  {} segment counts, calls by count: {}", of_size.len(), said.join(", "));
+}
+
+fn summary_at(campaign: &Campaign, at: &AtSize) {
+    let kib = at.kib;
+    at.lists.print(&format!("{kib} KiB: lists on consistent memory"));
+    at.lists.print_lists();
+    print_counts(campaign, kib);
+    at.torn.print(&format!("{kib} KiB: torn memory"));
+    at.tally.print();
+    at.adopted.print(&format!("{kib} KiB: lists gone on from changed memory that passes the examination"));
+    at.adopted.print_cycles();
+    let said = "the examination said no with the counts as they were, and yes with those of the change";
+    println!("  {} heaps changed in places or bits, of which {said}", at.recounted);
+    println!("  {} lists gone on with another place of a condemned segment, less than its blocks", at.places);
 }
 
 fn summary(campaign: &Campaign, seconds: f64) {
-    campaign.lists.print("lists on consistent memory");
-    campaign.lists.print_lists();
-    print_counts(campaign);
-    campaign.torn.print("torn memory");
-    campaign.tally.print();
-    campaign.adopted.print("lists gone on from changed memory that passes the examination");
-    campaign.adopted.print_cycles();
-    let said = "the examination said no with the counts as they were, and yes with those of the change";
-    println!("  {} heaps changed in places or bits, of which {said}", campaign.recounted);
-    println!("  {} lists gone on with another place of a condemned segment, less than its blocks", campaign.places);
+    for at in campaign.sizes.iter().filter(|at| at.calls() > 0) {
+        summary_at(campaign, at);
+    }
+    println!("{} calls that name no count, no size or another heap's, over slices of both sizes, refused 1", campaign.misnamed);
+    let said: Vec<String> = campaign.sizes.iter().map(|at| format!("{} at {} KiB", at.calls(), at.kib)).collect();
     let calls = campaign.calls();
-    println!("{calls} calls in {seconds:.1} s ({:.2} million a second)", calls as f64 / seconds / 1e6);
+    println!("{calls} calls, {}, in {seconds:.1} s ({:.2} million a second)", said.join(" and "), calls as f64 / seconds / 1e6);
 }
 
 /// The calls that docs/PROMISES.md says may meet 13: the others read nothing that could lead them astray.
 const LED_ASTRAY: [Kind; 12] = [Detach, Make, Load, Store, Put, Get, Shape, Check, Leave, Step, Phase, States];
 
-/// What a whole campaign must have met: everything on consistent memory, and 13 on torn memory.
-fn missing(campaign: &Campaign) -> Vec<String> {
-    let mut missing = campaign.lists.missing();
+/// What a whole campaign must have met at a size: everything on consistent memory, and 13 on torn memory.
+fn missing_at(at: &AtSize) -> Vec<String> {
+    let mut missing = at.lists.missing();
     for kind in LED_ASTRAY {
-        if campaign.torn.by_kind[kind as usize][13] == 0 {
+        if at.torn.by_kind[kind as usize][13] == 0 {
             missing.push(format!("{kind:?} refused 13 on torn memory"));
         }
     }
-    missing.extend(campaign.torn.missing_former().into_iter().map(|what| format!("{what}, over torn memory")));
-    missing.extend(campaign.tally.missing());
-    if campaign.recounted == 0 {
+    missing.extend(at.torn.missing_wrong().into_iter().map(|what| format!("{what}, over torn memory")));
+    missing.extend(at.tally.missing());
+    if at.recounted == 0 {
         missing.push("memory changed in places or bits that passes the examination with its counts, and not without".into());
     }
-    if campaign.places == 0 {
+    if at.places == 0 {
         missing.push("memory that passes the examination with another place of a condemned segment".into());
     }
-    missing.extend(campaign.adopted.bound.missing().into_iter().map(|what| format!("{what}, on changed memory")));
-    for (name, _) in STEP_KINDS.iter().zip(campaign.adopted.steps).filter(|(_, count)| *count == 0) {
+    missing.extend(at.adopted.bound.missing().into_iter().map(|what| format!("{what}, on changed memory")));
+    for (name, _) in STEP_KINDS.iter().zip(at.adopted.steps).filter(|(_, count)| *count == 0) {
         missing.push(format!("Step answered {name} on changed memory"));
     }
-    missing
+    missing.into_iter().map(|what| format!("at {} KiB {what}", at.kib)).collect()
+}
+
+fn missing(campaign: &Campaign) -> Vec<String> {
+    campaign.sizes.iter().flat_map(missing_at).collect()
 }
 
 fn run(options: Options) -> ExitCode {

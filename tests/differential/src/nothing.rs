@@ -3,7 +3,7 @@
 
 use crate::calls::*;
 use crate::coverage::{Coverage, Situation::*};
-use crate::layout;
+use crate::layout::{self, Geometry};
 
 /// Whether such a cycle runs, and with which blocks in use it began: segment and block of each.
 #[derive(Default)]
@@ -11,19 +11,19 @@ pub struct OverNothing {
     used: Option<Vec<(u32, u32)>>,
 }
 
-fn blocks_in_use(memory: &[u32], segments: u32) -> Vec<(u32, u32)> {
-    let blocks = |segment| match layout::segment(memory, segments, segment) {
+fn blocks_in_use(memory: &[u32], g: Geometry) -> Vec<(u32, u32)> {
+    let blocks = |segment| match layout::segment(memory, g, segment) {
         [0, ..] => 0,
-        [_, class, ..] => layout::blocks(class),
+        [_, class, ..] => g.blocks(class),
     };
-    let all = (0..segments).flat_map(|segment| (0..blocks(segment)).map(move |block| (segment, block)));
-    all.filter(|&(segment, block)| layout::in_use(memory, segments, segment, block)).collect()
+    let all = (0..g.segments).flat_map(|segment| (0..blocks(segment)).map(move |block| (segment, block)));
+    all.filter(|&(segment, block)| layout::in_use(memory, g, segment, block)).collect()
 }
 
 impl OverNothing {
     /// A cycle has begun that condemned so many segments.
-    pub fn begin(memory: &[u32], segments: u32, condemned: usize) -> OverNothing {
-        OverNothing { used: (condemned == 0).then(|| blocks_in_use(memory, segments)) }
+    pub fn begin(memory: &[u32], g: Geometry, condemned: usize) -> OverNothing {
+        OverNothing { used: (condemned == 0).then(|| blocks_in_use(memory, g)) }
     }
 
     pub fn runs(&self) -> bool {
@@ -64,9 +64,9 @@ impl OverNothing {
     }
 
     /// The cycle that runs is done.
-    pub fn ended(&mut self, memory: &[u32], segments: u32) -> Result<(), String> {
+    pub fn ended(&mut self, memory: &[u32], g: Geometry) -> Result<(), String> {
         let used = self.used.take().unwrap_or_default();
-        match used.iter().find(|&&(segment, block)| !layout::in_use(memory, segments, segment, block)) {
+        match used.iter().find(|&&(segment, block)| !layout::in_use(memory, g, segment, block)) {
             Some((segment, block)) => Err(format!("block {block} of segment {segment} became free in a cycle over nothing")),
             None => Ok(()),
         }

@@ -1,5 +1,7 @@
 //! The command line.
 
+use crate::layout::SIZES;
+
 pub struct Options {
     pub seed: u64,
     /// Calls on consistent memory and calls on torn memory.
@@ -7,6 +9,8 @@ pub struct Options {
     pub torn: u64,
     /// The segment counts to draw from; empty for the usual mix.
     pub segments: Vec<u32>,
+    /// The segment sizes to draw from, in KiB.
+    pub sizes: Vec<u32>,
     /// Examine after so many calls; 0 for the usual number at the segment count.
     pub examine_every: u32,
     /// Only this list, or only this case of torn memory.
@@ -27,6 +31,7 @@ heap, compares every answer, and plays calls on torn memory.
   --long              400 million calls and 20 million on torn memory
   --mode lists|torn   only the one or the other
   --segments 1,2,64   segment counts to draw from (default a mix of 1 to 256)
+  --kib 32            segment sizes to draw from (default 16,32)
   --examine-every K   calls between examinations (default by segment count)
   --only L            only list L (with --mode torn: case L)
   --exact             no guard words around the slices: each ends where its block ends (for valgrind)
@@ -45,6 +50,7 @@ impl Options {
             calls: 40_000_000,
             torn: 4_000_000,
             segments: Vec::new(),
+            sizes: SIZES.to_vec(),
             examine_every: 0,
             only: None,
             guard: 64,
@@ -63,7 +69,8 @@ impl Options {
                 "--torn" => options.torn = number(&name, args.next())?,
                 "--long" => (options.calls, options.torn) = (400_000_000, 20_000_000),
                 "--mode" => mode = args.next().unwrap_or_default(),
-                "--segments" => options.segments = counts(args.next())?,
+                "--segments" => options.segments = numbers(&name, args.next(), |count| (1..=256).contains(&count))?,
+                "--kib" => options.sizes = numbers(&name, args.next(), |kib| SIZES.contains(&kib))?,
                 "--examine-every" => options.examine_every = number(&name, args.next())?,
                 "--only" => options.only = Some(number(&name, args.next())?),
                 "--exact" => options.guard = 0,
@@ -82,16 +89,17 @@ impl Options {
             "torn" => self.calls = 0,
             _ => return Err(format!("--mode {mode}: lists or torn")),
         }
-        self.complete &= self.only.is_none() && mode.is_empty() && self.segments.is_empty();
+        self.complete &= self.only.is_none() && mode.is_empty() && self.segments.is_empty() && self.sizes == SIZES;
         Ok(self)
     }
 }
 
-fn counts(value: Option<String>) -> Result<Vec<u32>, String> {
-    let value = value.ok_or("--segments wants numbers")?;
-    let counts: Result<Vec<u32>, _> = value.split(',').map(str::parse).collect();
-    match counts {
-        Ok(counts) if counts.iter().all(|count| (1..=256).contains(count)) => Ok(counts),
-        _ => Err(format!("--segments {value}: numbers from 1 to 256, with commas")),
+/// Numbers with commas, each of which is one of the option's.
+fn numbers(name: &str, value: Option<String>, is_one: fn(u32) -> bool) -> Result<Vec<u32>, String> {
+    let value = value.ok_or(format!("{name} wants numbers"))?;
+    let numbers: Result<Vec<u32>, _> = value.split(',').map(str::parse).collect();
+    match numbers {
+        Ok(numbers) if numbers.iter().all(|&number| is_one(number)) => Ok(numbers),
+        _ => Err(format!("{name} {value}: counts from 1 to 256, or sizes of 16 or 32, with commas")),
     }
 }

@@ -3,10 +3,11 @@
 
 use crate::calls::*;
 use crate::coverage::{Coverage, Situation::*};
-use crate::layout;
+use crate::layout::{self, Geometry};
 
-/// Of the cycle that runs, by segment unless said otherwise.
+/// Of the cycle that runs, by segment unless said otherwise; and of which heap.
 pub struct Parts {
+    g: Geometry,
     /// Condemned, and still to be swept.
     due: Vec<bool>,
     /// Part when the cycle began.
@@ -21,14 +22,14 @@ pub struct Parts {
     stacks: Vec<u32>,
 }
 
-fn stacks(memory: &[u32], segments: u32) -> &[u32] {
-    let regions = layout::regions(segments);
+fn stacks(memory: &[u32], g: Geometry) -> &[u32] {
+    let regions = layout::regions(g);
     &memory[regions[4]..regions[5]]
 }
 
 /// Whether a word of the stacks is the count of a part stack.
-fn is_part_count(segments: u32, at: usize) -> bool {
-    let stride = 1 + segments as usize;
+fn is_part_count(g: Geometry, at: usize) -> bool {
+    let stride = 1 + g.n();
     at >= stride && at.is_multiple_of(stride)
 }
 
@@ -42,10 +43,10 @@ fn condemned(record: &[u32]) -> Vec<u32> {
 }
 
 impl Parts {
-    pub fn new(segments: u32) -> Parts {
-        let none = vec![false; segments as usize];
-        let held = vec![None; segments as usize];
-        Parts { due: none.clone(), part: none.clone(), held, given: none, refused: [false; layout::CLASSES], stacks: Vec::new() }
+    pub fn new(g: Geometry) -> Parts {
+        let none = vec![false; g.n()];
+        let held = vec![None; g.n()];
+        Parts { g, due: none.clone(), part: none.clone(), held, given: none, refused: [false; layout::CLASSES], stacks: Vec::new() }
     }
 
     /// The states are found, in a cycle or not.
@@ -56,9 +57,9 @@ impl Parts {
     }
 
     /// A start is about to come.
-    pub fn remember(&mut self, memory: &[u32], segments: u32) {
+    pub fn remember(&mut self, memory: &[u32]) {
         self.stacks.clear();
-        self.stacks.extend_from_slice(stacks(memory, segments));
+        self.stacks.extend_from_slice(stacks(memory, self.g));
     }
 
     /// A cycle has begun; `before` is the look just before it.
@@ -78,9 +79,8 @@ impl Parts {
         if let Some((segment, (was, is))) = looks.find(|(_, (was, is))| condemned(was) != *is) {
             return Err(format!("a start: segment {segment} was {was:?} and is {is:?}"));
         }
-        let segments = self.due.len() as u32;
-        let words = self.stacks.iter().zip(stacks(memory, segments)).enumerate();
-        let mut wrong = words.filter(|&(at, (was, is))| *is != if is_part_count(segments, at) { 0 } else { *was });
+        let words = self.stacks.iter().zip(stacks(memory, self.g)).enumerate();
+        let mut wrong = words.filter(|&(at, (was, is))| *is != if is_part_count(self.g, at) { 0 } else { *was });
         match wrong.next() {
             Some((at, (was, is))) => Err(format!("a start: word {at} of the stacks was {was} and is {is}")),
             None => Ok(()),

@@ -1,7 +1,7 @@
 //! Kinds of lists: how often each call comes, how large the records are, how many mutators there are, how fast the collector goes.
 
 use crate::calls::*;
-use crate::layout::HIGHEST;
+use crate::layout::{Geometry, HIGHEST};
 use crate::rng::Rng;
 
 /// What a list is made to meet.
@@ -19,11 +19,13 @@ pub struct Profile {
     pub patterns: u32,
     /// Whether long rows of records that live beside each other are made.
     pub rows: bool,
+    /// Of 1024 rows in a bitmap of three levels, how many fill a segment.
+    pub whole: u32,
 }
 
 const WEIGHED: [Kind; 17] = [Make, Load, Store, Put, Get, Copy, Clear, Same, Shape, Check, Leave, Enter, Attach, Spawn, Detach, Start, Step];
 
-pub const PROFILES: [Profile; 11] = [
+pub const PROFILES: [Profile; 12] = [
     Profile {
         name: "small records",
         weights: [120, 20, 40, 8, 8, 12, 12, 4, 4, 3, 1, 2, 1, 1, 1, 0, 0],
@@ -32,6 +34,7 @@ pub const PROFILES: [Profile; 11] = [
         bad: 8,
         patterns: 40,
         rows: false,
+        whole: 0,
     },
     Profile {
         name: "mixed sizes",
@@ -41,6 +44,7 @@ pub const PROFILES: [Profile; 11] = [
         bad: 16,
         patterns: 60,
         rows: false,
+        whole: 0,
     },
     Profile {
         name: "big records",
@@ -50,6 +54,7 @@ pub const PROFILES: [Profile; 11] = [
         bad: 16,
         patterns: 60,
         rows: false,
+        whole: 0,
     },
     Profile {
         name: "chains",
@@ -59,6 +64,7 @@ pub const PROFILES: [Profile; 11] = [
         bad: 8,
         patterns: 400,
         rows: false,
+        whole: 0,
     },
     Profile {
         name: "barrier",
@@ -68,6 +74,7 @@ pub const PROFILES: [Profile; 11] = [
         bad: 8,
         patterns: 120,
         rows: false,
+        whole: 0,
     },
     Profile {
         name: "inside and outside",
@@ -77,6 +84,7 @@ pub const PROFILES: [Profile; 11] = [
         bad: 16,
         patterns: 40,
         rows: false,
+        whole: 0,
     },
     Profile {
         name: "coming and going",
@@ -86,6 +94,7 @@ pub const PROFILES: [Profile; 11] = [
         bad: 24,
         patterns: 40,
         rows: false,
+        whole: 0,
     },
     Profile {
         name: "no room",
@@ -95,6 +104,7 @@ pub const PROFILES: [Profile; 11] = [
         bad: 12,
         patterns: 240,
         rows: false,
+        whole: 0,
     },
     Profile {
         name: "bounds",
@@ -104,6 +114,7 @@ pub const PROFILES: [Profile; 11] = [
         bad: 300,
         patterns: 10,
         rows: false,
+        whole: 0,
     },
     Profile {
         name: "values",
@@ -113,22 +124,34 @@ pub const PROFILES: [Profile; 11] = [
         bad: 24,
         patterns: 20,
         rows: false,
+        whole: 0,
     },
     Profile {
         name: "dense",
         weights: [60, 4, 10, 0, 0, 4, 4, 2, 0, 3, 1, 2, 0, 0, 1, 0, 0],
-        classes: (3, 9),
+        classes: (3, 10),
         mutators: 2,
         bad: 4,
         patterns: 300,
         rows: true,
+        whole: 40,
+    },
+    Profile {
+        name: "three levels",
+        weights: [60, 4, 10, 0, 0, 4, 4, 2, 0, 12, 1, 2, 0, 0, 1, 0, 0],
+        classes: (3, 3),
+        mutators: 1,
+        bad: 4,
+        patterns: 700,
+        rows: true,
+        whole: 800,
     },
 ];
 
 /// One list's parameters, drawn for it.
 pub struct Plan {
     pub profile: &'static Profile,
-    pub segments: u32,
+    pub g: Geometry,
     pub calls: u64,
     /// The classes that most makes take.
     pub palette: Vec<u32>,
@@ -140,7 +163,7 @@ pub struct Plan {
     /// Of 1024 calls in a handshake, how many are checks.
     pub checks: u32,
     pub bad: u32,
-    /// Of 16,384 calls, how many have a wrong count or length.
+    /// Of 16,384 calls, how many have a wrong count, size or length.
     pub wrong_size: u32,
     /// Whether a make that finds no room makes the collector hurry and mutators let go.
     pub relieves: bool,
@@ -150,18 +173,21 @@ pub struct Plan {
 }
 
 impl Plan {
-    /// Draws a profile, the dense one, whose small blocks take many calls, more often, and the rest.
-    pub fn draw(rng: &mut Rng, segments: u32, calls: u64, longer: bool) -> Plan {
-        let dense = PROFILES.len() as u32 - 1;
-        let profile = &PROFILES[rng.below(dense + 4).min(dense) as usize];
+    /// Draws a profile, the last two, whose small blocks take many calls, more often, the last above all in few segments, and the rest.
+    pub fn draw(rng: &mut Rng, g: Geometry, calls: u64, longer: bool) -> Plan {
+        let profile = match rng.below(if g.segments <= 2 { 20 } else { 16 }) {
+            number @ 0..10 => &PROFILES[number as usize],
+            10..14 => &PROFILES[10],
+            _ => &PROFILES[11],
+        };
         let calls = if profile.rows { 3 * calls } else { calls };
         let crowded = rng.chance(250);
-        let most = profile.mutators.min(if crowded { 2 * segments + 1 } else { segments });
+        let most = profile.mutators.min(if crowded { 2 * g.segments + 1 } else { g.segments });
         Plan {
             profile,
-            segments,
+            g,
             calls,
-            palette: palette(rng, profile, segments),
+            palette: palette(rng, profile, g),
             mutators: if rng.chance(400) { most } else { rng.between(1, most) },
             // Rows are long to trace: many steps, or no cycle ends.
             pace: rng.pick(if profile.rows { &[40, 150, 400, 700, 700, 900, 900] } else { &[8, 40, 40, 150, 150, 400, 700] }),
@@ -181,17 +207,22 @@ impl Plan {
 }
 
 /// With few segments few classes have room beside each other; with many, larger blocks fill segments in reasonable time.
-fn palette(rng: &mut Rng, profile: &Profile, segments: u32) -> Vec<u32> {
-    let (low, high) = profile.classes;
-    let low = match segments {
-        0..=8 => low,
-        9..=40 => low.max(6).min(high),
-        _ => low.max(8).max(high.saturating_sub(5)).min(HIGHEST),
+fn palette(rng: &mut Rng, profile: &Profile, g: Geometry) -> Vec<u32> {
+    let larger = u32::from(g.kib == 32);
+    let (low, high) = match profile.classes {
+        (low, high) if profile.rows => (low, high + larger),
+        classes => classes,
     };
-    if profile.rows && segments <= 8 && rng.chance(600) {
-        return vec![rng.between(3, 5)];
+    let low = match g.segments {
+        0..=8 => low,
+        9..=40 => low.max(6 + larger).min(high),
+        _ => low.max(8 + larger).max(high.saturating_sub(5)).min(HIGHEST),
+    };
+    if profile.rows && g.segments <= 8 && rng.chance(600) {
+        let small = [(); 2].map(|()| rng.between(low, high.min(5)));
+        return vec![small[0].min(small[1])];
     }
-    let many = if profile.rows { 1 } else { rng.between(1, segments.min(4)) };
+    let many = if profile.rows { 1 } else { rng.between(1, g.segments.min(4)) };
     (0..many).map(|_| rng.between(low.min(high.max(low)), high.max(low))).collect()
 }
 

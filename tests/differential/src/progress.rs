@@ -1,6 +1,5 @@
 //! A progress line on the standard error stream, every two seconds.
 
-use crate::coverage::Coverage;
 use std::io::Write;
 use std::time::{Duration, Instant};
 
@@ -16,12 +15,13 @@ impl Progress {
         Progress { quiet, began: now, said: now }
     }
 
-    pub fn say(&mut self, what: &str, coverage: &Coverage) {
+    /// So many calls were played, in so many lists or cases.
+    pub fn say(&mut self, what: &str, calls: u64, begun: u64) {
         if self.quiet || self.said.elapsed() < Duration::from_secs(2) {
             return;
         }
         self.said = Instant::now();
-        eprintln!("{:>5} s  {what}: {:.1} million calls, {} begun anew", self.began.elapsed().as_secs(), coverage.calls as f64 / 1e6, coverage.lists);
+        eprintln!("{:>5} s  {what}: {:.1} million calls, {begun} begun anew", self.began.elapsed().as_secs(), calls as f64 / 1e6);
         let _ = std::io::stderr().flush();
     }
 }

@@ -1,6 +1,7 @@
 //! The last calls of a list, for the report of a difference.
 
 use crate::calls::{answer_words, Call, Kind};
+use crate::layout::Geometry;
 
 const KEPT: usize = 24;
 
@@ -11,7 +12,7 @@ pub struct Recent {
 
 impl Recent {
     pub fn new() -> Recent {
-        Recent { calls: [(Call::new(Kind::Phase, 0, [0; 4]), 0); KEPT], pushed: 0 }
+        Recent { calls: [(Call::new(Kind::Phase, Geometry { segments: 0, kib: 0 }, [0; 4]), 0); KEPT], pushed: 0 }
     }
 
     pub fn push(&mut self, call: &Call, answer: u64) {

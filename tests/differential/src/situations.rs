@@ -19,12 +19,28 @@ pub struct Facts {
     /// What a store replaces and what it stores are records.
     old: bool,
     new: bool,
+    /// The place from which a make searches for its block.
+    place: u32,
 }
 
 /// Whether a mutator with so many acknowledgements owes one in the phase.
 pub fn owes(phase: u32, acknowledged: u32) -> bool {
     phase == SYNC1 && acknowledged < 1 || phase == SYNC2 && acknowledged < 2
 }
+
+/// The place of the segment from which a make takes its block; 0 where that is free, or there is none.
+fn place(memory: &[u32], call: &Call) -> u32 {
+    let [mutator, _, pointers, values] = call.args;
+    let fields = pointers.saturating_add(values);
+    if call.kind != Make || mutator > 31 || fields > MOST_FIELDS {
+        return 0;
+    }
+    let taken = layout::taken(memory, call.named, mutator, layout::class_of(fields));
+    taken.map_or(0, |segment| layout::segment(memory, call.named, segment)[2])
+}
+
+/// The blocks that a word of level 1 stands for.
+const LEVEL_1: u32 = 32 * 32;
 
 fn holds(memory: &[u32], call: &Call) -> bool {
     let mutator = call.args[0];
@@ -55,9 +71,10 @@ impl Facts {
             owing: known && owes(phase, acknowledged),
             outside_owing,
             holds: known && matches!(call.kind, Make | Detach) && holds(memory, call),
-            free: memory[layout::regions(call.segments)[4]],
+            free: memory[layout::regions(call.named)[4]],
             old: stores && heap.pointer(m, root, field) != 0,
             new: stores && heap.record(m, from).is_some(),
+            place: place(memory, call),
         }
     }
 
@@ -135,7 +152,7 @@ impl Facts {
             (MARK, _) => MakeMark,
             _ => MakeSweep,
         });
-        let free = memory[layout::regions(call.segments)[4]];
+        let free = memory[layout::regions(call.named)[4]];
         coverage.met(match self.holds {
             true => MakeFromHeld,
             false if free < self.free => MakeFromFree,
@@ -145,6 +162,17 @@ impl Facts {
         self.met_if(class == 13, MakeClass13, coverage);
         self.met_if(class == 14, MakeClass14, coverage);
         self.met_if(layout::held(memory, call.args[0], class) == 0, MakeFills, coverage);
+        self.found(memory, call, class, coverage);
+    }
+
+    /// Counts which block a make found, and how far the search went: past the place's word of level 1 it climbs by two levels.
+    fn found(&self, memory: &[u32], call: &Call, class: u32, coverage: &mut Coverage) {
+        let (g, root) = (call.named, layout::root(memory, call.args[0], call.args[1]));
+        let block = ((root.wrapping_sub(1) % g.segment_words() as u32) * 4) >> class;
+        let climbs = block / LEVEL_1 != self.place / LEVEL_1;
+        self.met_if(climbs, SearchClimbsTwoLevels, coverage);
+        self.met_if(climbs && block >= 2048, SearchClimbsPast2048, coverage);
+        self.met_if(class == layout::LOWEST && block == g.most_blocks() - 1, LastBlockMade, coverage);
     }
 
     fn stepped(&self, answer: u64, coverage: &mut Coverage) {

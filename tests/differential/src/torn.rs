@@ -7,14 +7,15 @@ use crate::calls::*;
 use crate::counts::Around;
 use crate::coverage::Coverage;
 use crate::damage::{self, TornCount};
-use crate::layout;
+use crate::layout::{self, Geometry};
 use crate::lent::Lent;
 use crate::recent::Recent;
 use crate::rng::Rng;
+use crate::sizes::{other_name, wrong_length};
 use crate::tally::Tally;
 
 pub struct Torn<'a> {
-    n: u32,
+    g: Geometry,
     lent: &'a mut Lent,
     coverage: &'a mut Coverage,
     tally: &'a mut Tally,
@@ -40,11 +41,11 @@ pub struct Torn<'a> {
 }
 
 impl<'a> Torn<'a> {
-    pub fn new(n: u32, lent: &'a mut Lent, coverage: &'a mut Coverage, tally: &'a mut Tally, rng: Rng, longer: bool) -> Torn<'a> {
+    pub fn new(g: Geometry, lent: &'a mut Lent, coverage: &'a mut Coverage, tally: &'a mut Tally, rng: Rng, longer: bool) -> Torn<'a> {
         let scratch = vec![0; lent.scratch.len()];
         lent.scratch.words_mut().fill(0);
         Torn {
-            n,
+            g,
             lent,
             coverage,
             tally,
@@ -83,11 +84,11 @@ impl<'a> Torn<'a> {
             memory.copy_from_slice(base);
         } else if self.rng.chance(160) {
             memory.copy_from_slice(base);
-            self.aim = Some(damage::tear_aimed(&mut self.rng, memory, self.n));
+            self.aim = Some(damage::tear_aimed(&mut self.rng, memory, self.g));
             return;
         } else {
-            damage::tear(&mut self.rng, memory, base, self.n);
-            self.class_word = self.rng.chance(256).then(|| damage::tear_class(&mut self.rng, memory, self.n));
+            damage::tear(&mut self.rng, memory, base, self.g);
+            self.class_word = self.rng.chance(256).then(|| damage::tear_class(&mut self.rng, memory, self.g));
         }
         if self.counts_only || self.rng.chance(128) {
             self.tear_count();
@@ -95,7 +96,7 @@ impl<'a> Torn<'a> {
     }
 
     fn tear_count(&mut self) {
-        self.torn_count = Some(damage::tear_count(&mut self.rng, self.lent.memory.words_mut(), self.n));
+        self.torn_count = Some(damage::tear_count(&mut self.rng, self.lent.memory.words_mut(), self.g));
         self.consistent = false;
     }
 
@@ -105,23 +106,23 @@ impl<'a> Torn<'a> {
             self.tear_count();
             self.remember();
         } else if !self.counts_only && self.rng.chance(8) {
-            damage::damage(&mut self.rng, self.lent.memory.words_mut(), self.n);
+            damage::damage(&mut self.rng, self.lent.memory.words_mut(), self.g);
             (self.consistent, self.in_order) = (false, false);
             self.remember();
         }
     }
 
     fn play_calls(&mut self, calls: u32) -> Result<(), String> {
-        self.play_one(&Call::new(Examine, self.n, [0; 4]))?;
+        self.play_one(&Call::new(Examine, self.g, [0; 4]))?;
         for _ in 0..calls {
             self.tear_again();
             let call = self.choose();
             self.play_one(&call)?;
             if self.consistent && self.rng.chance(100) {
-                self.play_one(&Call::new(Examine, self.n, [0; 4]))?;
+                self.play_one(&Call::new(Examine, self.g, [0; 4]))?;
             }
         }
-        self.play_one(&Call::new(Examine, self.n, [0; 4]))?;
+        self.play_one(&Call::new(Examine, self.g, [0; 4]))?;
         match self.lent.guards_hold() {
             true => Ok(()),
             false => Err("a guard word changed".into()),
@@ -132,7 +133,7 @@ impl<'a> Torn<'a> {
     /// it goes by none of them, and what it leaves passes.
     fn play_aimed(&mut self) -> Result<(), String> {
         let Some(aim) = self.aim else { return Ok(()) };
-        self.play_one(&Call::new(Examine, self.n, [0; 4]))?;
+        self.play_one(&Call::new(Examine, self.g, [0; 4]))?;
         if self.consistent {
             return Err(format!("the examination says yes, and there is {}", damage::AIMS[aim]));
         }
@@ -140,8 +141,8 @@ impl<'a> Torn<'a> {
         if aim != damage::PART_COUNT || layout::phase(&self.memory) != IDLE || self.rng.chance(512) {
             return Ok(());
         }
-        self.play_one(&Call::new(Start, self.n, [0; 4]))?;
-        self.play_one(&Call::new(Examine, self.n, [0; 4]))?;
+        self.play_one(&Call::new(Start, self.g, [0; 4]))?;
+        self.play_one(&Call::new(Examine, self.g, [0; 4]))?;
         self.tally.aimed_starts += 1;
         match self.consistent && layout::phase(&self.memory) == SYNC1 {
             true => Ok(()),
@@ -168,10 +169,10 @@ impl<'a> Torn<'a> {
         self.coverage.count(call.kind, answer);
         self.meet(call);
         let fault = |what: &str| Err(format!("{call}: {}: {what}", answer_words(call.kind, answer)));
-        if !plausible(call, self.n, answer) {
+        if !plausible(call, self.g, answer) {
             return fault("an answer that the call may not give");
         }
-        if call.wrong_size(self.n) != (refusal(answer) == SIZE) {
+        if call.wrong_size(self.g) != (refusal(answer) == SIZE) {
             return fault("refused 1 is given exactly for a wrong count or length");
         }
         if self.in_order && !self.goes_by_counts(call, answer) {
@@ -196,8 +197,8 @@ impl<'a> Torn<'a> {
 
     /// Counts what a call met: a class word, a torn count, a length of the former layout.
     fn meet(&mut self, call: &Call) {
-        self.coverage.count_former(call);
-        if call.wrong_size(self.n) {
+        if call.wrong_size(self.g) {
+            self.coverage.count_wrong(call, self.g);
             return;
         }
         let kind = call.kind as usize;
@@ -216,15 +217,15 @@ impl<'a> Torn<'a> {
     /// The torn count and the state of its segment, where it still stands, the state is one, and the count is wrong.
     fn wrong_count(&self) -> Option<(TornCount, usize)> {
         let torn = self.torn_count?;
-        let record = layout::segment(&self.memory, self.n, torn.segment);
-        let due = layout::counts_due(&self.memory, self.n, torn.segment)?[torn.which];
+        let record = layout::segment(&self.memory, self.g, torn.segment);
+        let due = layout::counts_due(&self.memory, self.g, torn.segment)?[torn.which];
         let wrong = layout::counts_of(&record)[torn.which] == torn.word && torn.word != due;
         (wrong && (record[0] as usize) < layout::STATES).then_some((torn, record[0] as usize))
     }
 
     /// What the call does with the counts, where all else is in order. Refused 13, it may leave more than counts out of order.
     fn goes_by_counts(&mut self, call: &Call, answer: u64) -> bool {
-        let around = Around { segments: self.n, before: &self.memory, after: self.lent.memory.words() };
+        let around = Around { g: self.g, before: &self.memory, after: self.lent.memory.words() };
         if !around.goes_by_counts(call, answer) {
             return false;
         }
@@ -245,10 +246,10 @@ impl<'a> Torn<'a> {
         }
         self.tally.refused_unchanged += u64::from(no_word && refused != 0);
         let shows = call.kind == States && refused == 0;
-        let shared = |words: &[u32]| self.consistent && layout::shared_of_one_block(words);
+        let shared = |words: &[u32]| self.consistent && layout::shared_of_one_block(self.g, words);
         let state = |words: &[u32]| words[0] == 0 || words[0] <= 4 && layout::is_class(words[1]) && !shared(words);
         let output = self.lent.output.words();
-        if shows && (!layout::each_segment(output).all(state) || output != layout::all_records(&self.memory, self.n)) {
+        if shows && (!layout::each_segment(output).all(state) || output != layout::all_records(&self.memory, self.g)) {
             return false;
         }
         if !shows && self.lent.output.words() != self.output {
@@ -275,9 +276,12 @@ impl<'a> Torn<'a> {
         if self.consistent && !yes {
             return Err("the examination says no after calls on memory that passed it".into());
         }
-        let right = layout::all_counts_right(&self.memory, self.n);
+        let right = layout::all_counts_right(&self.memory, self.g);
         if yes && !right {
             return Err("the examination says yes, and a count is wrong".into());
+        }
+        if yes && !layout::all_trees(&self.memory, self.g) {
+            return Err("the examination says yes, and a bit above level 0 of a bitmap, or past the end of a level, is wrong".into());
         }
         if self.in_order && !yes && right {
             return Err("the examination says no, and all is in order".into());
@@ -301,9 +305,12 @@ impl<'a> Torn<'a> {
         }
     }
 
+    /// The next call; one that is wrong is of any kind now and then, as it changes nothing.
     fn choose(&mut self) -> Call {
+        let wrong = self.rng.chance(60);
         let kind = match self.rng.below(64) {
-            0 if self.rng.chance(if self.counts_only { 250 } else { 100 }) => Open,
+            0..16 if wrong => self.rng.pick(&ALL_KINDS),
+            0 if self.rng.chance(if self.counts_only { 450 } else { 160 }) => Open,
             1 => Examine,
             2..=11 => Step,
             12..=17 => Make,
@@ -311,10 +318,15 @@ impl<'a> Torn<'a> {
             20..=23 => Store,
             _ => self.rng.pick(&ALL_KINDS[1..20]),
         };
-        let mut call = Call::new(kind, self.n, self.numbers(kind));
+        let mut call = Call::new(kind, self.g, self.numbers(kind));
         call.args[kind.arguments()..].fill(0);
-        if self.rng.chance(60) {
+        if wrong {
+            let right = call;
             self.wrong(&mut call);
+            // A call over another heap, in a part of the memory, is none of this one.
+            if self.lent.fits(&call) {
+                return right;
+            }
         }
         call
     }
@@ -382,25 +394,23 @@ impl<'a> Torn<'a> {
     }
 
     fn wrong(&mut self, call: &mut Call) {
-        let n = self.n;
-        let length = match self.rng.below(4) {
-            0 => Length::Zero,
-            1 => Length::Of(self.rng.below(n)),
-            2 if self.longer => Length::Longer(self.rng.between(1, 16)),
-            _ => Length::Shorter(self.rng.between(1, 40)),
-        };
-        match self.rng.below(4) {
-            0 => call.segments = self.rng.pick(&[0, n + 1, 257, u32::MAX, n | 0x100]),
-            1 if call.kind == States && self.rng.chance(512) => call.extra = Length::Former,
-            1 if call.has_extra() => call.extra = length,
-            2 => call.length = Length::Former,
-            _ => call.length = length,
+        let (g, longer) = (self.g, self.longer);
+        match self.rng.below(6) {
+            0 | 1 => call.named = other_name(&mut self.rng, g),
+            2 if call.kind == States && self.rng.chance(512) => call.extra = Length::Former,
+            2 if call.has_extra() => call.extra = wrong_length(&mut self.rng, g, longer, 40),
+            3 => call.length = Length::Former,
+            4 => {
+                call.named = other_name(&mut self.rng, g);
+                call.length = wrong_length(&mut self.rng, g, longer, 40);
+            }
+            _ => call.length = wrong_length(&mut self.rng, g, longer, 40),
         }
     }
 }
 
 /// The answer is a result of the call's kind, or a refusal that the header lists for it.
-fn plausible(call: &Call, segments: u32, answer: u64) -> bool {
+fn plausible(call: &Call, g: Geometry, answer: u64) -> bool {
     let (refused, result) = (refusal(answer), result(answer));
     if refused != 0 {
         return result == 0 && call.kind.may_refuse().contains(&refused);
@@ -411,7 +421,7 @@ fn plausible(call: &Call, segments: u32, answer: u64) -> bool {
         Phase => result <= SWEEP,
         Step => match (step_kind(answer), step_number(answer), step_freed(answer)) {
             (WAITING, number, 0) => (1..=32).contains(&number),
-            (SWEPT, segment, freed) => segment < segments && freed <= 2048,
+            (SWEPT, segment, freed) => segment < g.segments && freed <= g.most_blocks(),
             (kind, number, freed) => kind <= DONE && number == 0 && freed == 0,
         },
         _ => result == 0,

@@ -36,7 +36,8 @@ block-words-requires c κs = c .before .before .before .before .pre .1 .1 .1
 word-in-requires : tie.Need-word-in-requires Inv-loop μ-loop
 word-in-requires c κs =
     let entry = c .before .before .before .before .before in
-    (omega (arith, entry .pre .1 .0, entry .pre .0 .0 .few), words-some (entry .args .g))
+    let z = entry .pre .0 .0 in
+    (omega (arith, entry .pre .1 .0, z .few), (z .whole, z .small, z .large), words-some (entry .args .g))
 
 loop-holds : tie.Need-loop-holds Inv-loop μ-loop
 loop-holds c = (omega arith, header-first _ _ _ _ (c .word-in .ensures), λ j l. absurd (omega arith))

@@ -38,7 +38,8 @@ enter-requires c κs =
     let t = subst (λ (x : Bit). Tested (entry .args .g) m (entry .args .w - 1) x) (known .k .given .1) (tested .test .ensures) in
     let small = bit-room (entry .args .g) m (entry .args .scratch .now) (entry .args .top) (entry .args .w - 1) _ (entry .pre .1) (t .0) (t .1) in
     let room = enter-room (entry .args .g) m (entry .args .scratch .now) (entry .args .top) (entry .args .w - 1) _ (entry .pre .1) (t .0) (t .1) in
-    (entry .pre .0 .sized .few, entry .pre .0 .room, small, room)
+    let z = entry .pre .0 .sized in
+    (z .few, entry .pre .0 .room, small, room, (z .whole, z .small, z .large))
 
 returns-2 : tie.Need-returns-2
 returns-2 c =

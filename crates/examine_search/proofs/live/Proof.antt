@@ -13,7 +13,9 @@ use Rattle.examine_search.proofs.live.Tie as tie
 use Rattle.examine_search.proofs.live.Statement.{statement}
 
 clear-requires : tie.Need-clear-requires
-clear-requires c κs = (c .before .before .before .pre .sized .few, c .before .before .before .pre .room)
+clear-requires c κs =
+    let lent = c .before .before .before .pre in
+    (lent .sized .few, lent .room, (lent .sized .whole, lent .sized .small, lent .sized .large))
 
 follow-roots-requires : tie.Need-follow-roots-requires
 follow-roots-requires c κs =

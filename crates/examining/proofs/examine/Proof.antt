@@ -13,7 +13,8 @@ returns : tie.Need-returns
 returns c = let a = c .before .before .before .before in memory-size (a .args .g) (a .args .mem .now) (a .args .scratch .now) (sym (c .before .wrong-size .ensures) ∙ c .if1 .taken)
 
 scratch-words-requires : tie.Need-scratch-words-requires
-scratch-words-requires c κs = sized _ _ (sym (c .before .wrong-size .ensures) ∙ c .if1 .left) .few
+scratch-words-requires c κs =
+    let z = sized _ _ (sym (c .before .wrong-size .ensures) ∙ c .if1 .left) in (z .few, (z .whole, z .small, z .large))
 
 returns-2 : tie.Need-returns-2
 returns-2 c =

@@ -13,7 +13,7 @@ add-result : tie.Need-add-result
 add-result c = search needs
 
 add-result-2 : tie.Need-add-result-2
-add-result-2 c = omega (arith, c .trace-words .ensures, trace-most (c .before .args .g) (c .before .pre))
+add-result-2 c = omega (arith, c .trace-words .ensures, trace-most (c .before .args .g) (c .before .pre .0))
 
 returns : tie.Need-returns
 returns c = words-are (c .before .args .g) _ (c .trace-words .ensures)

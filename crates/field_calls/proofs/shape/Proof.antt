@@ -55,7 +55,8 @@ returns-3 c =
 heap-words-requires : tie.Need-heap-words-requires
 heap-words-requires c κs =
     let past-wrong-size = c .before .before .before .before .before .before .before in
-    sized _ _ (sym (past-wrong-size .before .wrong-size .ensures) ∙ past-wrong-size .if1 .left) .few
+    let z = sized _ _ (sym (past-wrong-size .before .wrong-size .ensures) ∙ past-wrong-size .if1 .left) in
+    (z .few, (z .whole, z .small, z .large))
 
 returns-4 : tie.Need-returns-4
 returns-4 c =

@@ -1,25 +1,16 @@
 -- `layout::clear_marks` meets its contract.
-use Prim.Native.Nat.{_+_}
 use native.Mathlib.Omega.{arith}
 use borrow.Author.Needs.{needs}
-use Rattle.layout.specs.Geometry.{segmentBytes, len}
 use Rattle.layout.proofs.Regions.{cleared-at}
-use Rattle.layout.proofs.Places.{marksFrom}
-use Rattle.layout.proofs.clear_marks.Tie as tie
 use Rattle.layout.proofs.clear_marks.Statement.{statement}
+use Rattle.layout.proofs.clear_marks.Tie as tie
 use Rattle.layout.specs.Region as Region
 
-mul-a : tie.Need-mul-a
-mul-a c = search needs
+first-marks-requires : tie.Need-first-marks-requires
+first-marks-requires c κs = search needs
 
-add-a : tie.Need-add-a
-add-a c = search needs
-
-mul-end : tie.Need-mul-end
-mul-end c = search needs
-
-add-end : tie.Need-add-end
-add-end c = search needs
+trace-from-requires : tie.Need-trace-from-requires
+trace-from-requires c κs = search needs
 
 mul-zero : tie.Need-mul-zero
 mul-zero c = search needs
@@ -28,11 +19,9 @@ sub-zero : tie.Need-sub-zero
 sub-zero c = search needs
 
 part-zero-start : tie.Need-part-zero-start
-unfolding segmentBytes
 part-zero-start c = search needs
 
 part-zero-end : tie.Need-part-zero-end
-unfolding segmentBytes
 part-zero-end c = search needs
 
 zero-requires : tie.Need-zero-requires
@@ -42,20 +31,19 @@ same-length : tie.Need-same-length
 same-length c = search needs
 
 returns : tie.Need-returns
-unfolding segmentBytes
 returns c =
-    let entry = c .before .before .before .before .before in
-    let g = entry .args .g in
-    cleared-at g (entry .args .mem .now) Region.marks (marksFrom g) (marksFrom g + len g Region.marks) _ (c .before .before .zero .ensures) (omega arith) (entry .pre .is) (omega arith)
+    let end = c .before .before .before .before in
+    let a = end .before in
+    let entry = a .before .before in
+    cleared-at (entry .args .g) (entry .args .mem .now) Region.marks (a .first-marks .result) (end .trace-from .result) _ (c .before .before .zero .ensures) (omega arith)
+    (entry .pre .is) (omega arith)
 
 pub clear-marks-spec : {M : Type 1} → statement M
 clear-marks-spec =
     tie.close
     (tie.spec
-    mul-a
-    add-a
-    mul-end
-    add-end
+    first-marks-requires
+    trace-from-requires
     mul-zero
     sub-zero
     part-zero-start

@@ -1,33 +1,26 @@
 -- `layout::mark` meets its contract.
 use native.Mathlib.Omega.{arith}
 use borrow.Author.Needs.{needs}
-use Rattle.layout.specs.Geometry.{segmentBytes}
 use Rattle.layout.proofs.Regions.{get-at}
-use Rattle.layout.proofs.mark.Tie as tie
 use Rattle.layout.proofs.mark.Statement.{statement}
+use Rattle.layout.proofs.mark.Tie as tie
 use Rattle.layout.specs.Region as Region
 
-mul-result : tie.Need-mul-result
-mul-result c = search needs
+first-marks-requires : tie.Need-first-marks-requires
+first-marks-requires c κs = search needs
 
 add-result : tie.Need-add-result
 add-result c = search needs
 
-add-result-2 : tie.Need-add-result-2
-add-result-2 c = search needs
-
-mul-result-2 : tie.Need-mul-result-2
-mul-result-2 c = search needs
+mul-result : tie.Need-mul-result
+mul-result c = search needs
 
 shared-slice-read-result : tie.Need-shared-slice-read-result
-unfolding segmentBytes
 shared-slice-read-result c = search needs
 
 returns : tie.Need-returns
-unfolding segmentBytes
 returns c = get-at _ _ Region.marks _ _ (omega arith)
 
 pub mark-spec : {M : Type 1} → statement M
 mark-spec =
-    tie.close
-    (tie.spec mul-result add-result add-result-2 mul-result-2 shared-slice-read-result returns)
+    tie.close (tie.spec first-marks-requires add-result mul-result shared-slice-read-result returns)

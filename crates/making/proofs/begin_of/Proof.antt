@@ -1,4 +1,5 @@
 -- `making::begin_of` meets its contract. The segment is taken where `taken` is.
+use Rattle.layout.proofs.Regions.{resized}
 use Rattle.making.proofs.Placing.{of-class}
 use Rattle.making.proofs.HandingOut.{make-full, make-torn}
 use Rattle.making.proofs.Beginning.{begun-taken}
@@ -21,8 +22,9 @@ enum-known-s c = search needs
 hand-near-requires : tie.Need-hand-near-requires
 hand-near-requires c κs =
     let taken = c .before .before .before .before .before .before in
+    let entry = taken .before .before .before in
     let l = taken .take .ensures .segment _ (c .before .before .s .given .1) .0 in
-    search needs
+    ((resized (entry .args .g) _ _ (entry .pre .0 .0) (taken .take .kept .1 .0), entry .pre .0 .1, entry .pre .0 .2, l), entry .pre .1)
 
 same-length : tie.Need-same-length
 same-length c = search needs

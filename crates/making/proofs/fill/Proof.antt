@@ -14,7 +14,9 @@ use Rattle.making.proofs.fill.Statement.{statement}
 use Rattle.making.proofs.fill.Tie as tie
 
 word-of-requires : tie.Need-word-of-requires
-word-of-requires c κs = (c .before .pre .0 .0 .few, of-class (c .before .args .shape) _ (c .before .pre .1), c .before .pre .0 .3)
+word-of-requires c κs =
+    let z = c .before .pre .0 .0 in
+    (z .few, of-class (c .before .args .shape) _ (c .before .pre .1), c .before .pre .0 .3, (z .whole, z .small, z .large))
 
 write-requires : tie.Need-write-requires
 write-requires c κs =

@@ -13,7 +13,9 @@ use Rattle.making.proofs.fill_few.Statement.{statement}
 use Rattle.making.proofs.fill_few.Tie as tie
 
 word-of-requires : tie.Need-word-of-requires
-word-of-requires c κs = (c .before .pre .0 .0 .few, of-class (c .before .args .shape) _ (c .before .pre .1 .0), c .before .pre .0 .3)
+word-of-requires c κs =
+    let z = c .before .pre .0 .0 in
+    (z .few, of-class (c .before .args .shape) _ (c .before .pre .1 .0), c .before .pre .0 .3, (z .whole, z .small, z .large))
 
 write-few-requires : tie.Need-write-few-requires
 write-few-requires c κs =

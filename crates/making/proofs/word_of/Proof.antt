@@ -27,7 +27,7 @@ word-in-requires c κs =
     let few = x .pre .0 in
     let l = x .pre .2 in
     let e = c .offset-of .ensures in
-    (omega arith, omega (arith, offset-in (x .args .g) (x .args .class) (x .args .b) _ (x .pre .1) (worded .block-words .ensures)))
+    (omega arith, x .pre .3, omega (arith, offset-in (x .args .g) (x .args .class) (x .args .b) _ (x .pre .1) (worded .block-words .ensures)))
 
 returns : tie.Need-returns
 returns c =

@@ -13,7 +13,7 @@ mul-result : tie.Need-mul-result
 mul-result c = let q = stack-inside (c .before .args .g) (c .before .args .t) (c .before .pre .1) in omega arith
 
 returns : tie.Need-returns
-returns c = record { is = refl; inside = stack-inside _ _ (c .before .pre .1) }
+returns c = record { is = refl; inside = stack-inside (c .before .args .g) (c .before .args .t) (c .before .pre .1) }
 
 pub base-spec : {M : Type 1} → statement M
 base-spec = tie.close (tie.spec add-result mul-result returns)

@@ -54,7 +54,7 @@ add-set-trace-count c =
     let roomy = marked .before .before in
     let roomed = roomy .before in
     let entry = roomed .before .before .before .before .before .before .before in
-    let most = trace-most _ (entry .pre .0 .few) in
+    let most = trace-most (entry .args .g) (entry .pre .0 .few) in
     let e = roomed .trace-words .ensures in
     let l = roomy .if2 .left in
     omega arith

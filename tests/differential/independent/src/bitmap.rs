@@ -1,14 +1,12 @@
-//! The bitmap tree of a segment: 64 words of level 0, one bit a block, and above them a summary of 64 bits, 1 exactly where the word
-//! below is all ones. Bits past the end of either are 1. (Document 01's third level has no use where the second is one word.)
+//! The bitmap tree of a segment: 64 words of level 0, at 32 KiB 128, one bit a block, and above them a summary of 128 bits, 1 exactly where
+//! the word below is all ones. Bits past the end of either are 1. (Document 01's third level has no use where the second is one number.)
 
-use crate::classes;
-
-pub const LEVEL_WORDS: usize = 64;
+use crate::size::Size;
 
 /// A bitmap tree that is read.
 pub struct Tree<'a> {
-    pub level0: &'a [u32; LEVEL_WORDS],
-    pub summary: u64,
+    pub level0: &'a [u32],
+    pub summary: u128,
 }
 
 /// The lowest free block after this one, where it is in the same word of level 0.
@@ -28,24 +26,24 @@ impl Tree<'_> {
         if place >= blocks {
             return None;
         }
-        let index = place / 32 % LEVEL_WORDS as u32;
-        let word = self.level0[index as usize] | !(u32::MAX << (place % 32));
+        let index = place / 32;
+        let word = self.level0.get(index as usize)? | !(u32::MAX << (place % 32));
         if word != u32::MAX {
             return Some(index * 32 + word.trailing_ones());
         }
-        self.climb(index)
+        let above = match index {
+            0..127 => self.summary | !(u128::MAX << (index + 1)),
+            _ => return None,
+        };
+        lowest_free(self.level0, above)
     }
+}
 
-    /// The lowest free block of the words after the one with this index.
-    #[inline]
-    fn climb(&self, index: u32) -> Option<u32> {
-        let summary = self.summary | !(u64::MAX << index << 1);
-        if summary == u64::MAX {
-            return None;
-        }
-        let index = summary.trailing_ones();
-        Some(index * 32 + self.level0[index as usize % LEVEL_WORDS].trailing_ones())
-    }
+/// The lowest free block of the words whose bits are 0.
+#[inline(always)]
+pub fn lowest_free(level0: &[u32], summary: u128) -> Option<u32> {
+    let index = summary.trailing_ones();
+    Some(index * 32 + level0.get(index as usize)?.trailing_ones())
 }
 
 /// Words are taken by fours, so that a compiler may take four at once.
@@ -59,32 +57,46 @@ fn full_of(four: &[u32]) -> u64 {
 
 /// The summary of a level 0 of the class.
 #[inline]
-pub fn summarize(level0: &[u32; LEVEL_WORDS], class: u32) -> u64 {
-    let fours = level0.chunks_exact(FOUR).take(classes::level_words(class).div_ceil(FOUR));
-    let summary = fours.enumerate().fold(0, |summary, (index, four)| summary | full_of(four) << (index * FOUR));
-    summary | empty_summary(class)
+pub fn summarize(level0: &[u32], size: Size, class: u32) -> u128 {
+    let fours = level0.chunks_exact(FOUR).take(size.level_words(class).div_ceil(FOUR));
+    let summary = fours.enumerate().fold(0, |summary, (index, four)| summary | u128::from(full_of(four)) << (index * FOUR % 128));
+    summary | empty_summary(size, class)
 }
 
 /// What a sweep learns of the marks that it moves.
 pub struct Moved {
     pub marked: u32,
-    pub summary: u64,
+    pub summary: u128,
 }
 
-/// Level 0 becomes the marks, given by fours, at most 64: their count, and the summary. Counts are kept in the bytes of four words until the
-/// end.
+/// Level 0 becomes the marks, given by fours, at most 128: their count, and the summary, by halves of 64 words.
 #[inline(always)]
-pub fn move_marks(level0: &mut [u32], marks: &[u32], class: u32) -> Moved {
+pub fn move_marks(level0: &mut [u32], marks: &[u32], size: Size, class: u32) -> Moved {
+    let mut moved = Moved { marked: 0, summary: empty_summary(size, class) };
+    for (half, (to, from)) in level0.chunks_mut(HALF).zip(marks.chunks(HALF)).enumerate() {
+        let (marked, full) = move_half(to, from);
+        moved.marked += marked;
+        moved.summary |= u128::from(full) << (half * HALF % 128);
+    }
+    moved
+}
+
+/// So many words that a byte can count the ones of every fourth of them.
+const HALF: usize = 64;
+
+/// Counts are kept in the bytes of four words until the end.
+#[inline(always)]
+fn move_half(level0: &mut [u32], marks: &[u32]) -> (u32, u64) {
     let mut counts = [0; FOUR];
-    let mut summary = empty_summary(class);
+    let mut full = 0;
     for (index, (to, from)) in level0.chunks_exact_mut(FOUR).zip(marks.chunks_exact(FOUR)).enumerate() {
         to.copy_from_slice(from);
-        summary |= full_of(from) << (index * FOUR % 64);
+        full |= full_of(from) << (index * FOUR % 64);
         for (count, word) in counts.iter_mut().zip(from) {
             *count += ones_by_byte(*word);
         }
     }
-    Moved { marked: sum_of_bytes(counts), summary }
+    (sum_of_bytes(counts), full)
 }
 
 /// In each byte of the answer the count of ones of that byte.
@@ -103,78 +115,107 @@ fn sum_of_bytes(words: [u32; FOUR]) -> u32 {
 
 /// The summary of a segment of the class whose blocks' bits are all 0.
 #[inline]
-pub fn empty_summary(class: u32) -> u64 {
-    match classes::level_words(class) {
-        LEVEL_WORDS.. => 0,
-        words => u64::MAX << words,
+pub fn empty_summary(size: Size, class: u32) -> u128 {
+    match size.level_words(class) {
+        128.. => 0,
+        words => u128::MAX << words,
     }
 }
 
 #[cfg(test)]
 mod tests {
     use super::*;
+    use crate::classes::{HIGHEST, LOWEST};
 
-    fn search(class: u32, level0: [u32; 64], place: u32) -> Option<u32> {
-        let summary = summarize(&level0, class);
-        Tree { level0: &level0, summary }.next_free(classes::blocks(class), place)
+    const SIZES: [Size; 2] = [Size::KIB_16, Size::KIB_32];
+
+    fn search(size: Size, class: u32, level0: &[u32], place: u32) -> Option<u32> {
+        let summary = summarize(level0, size, class);
+        Tree { level0, summary }.next_free(size.blocks(class), place)
     }
 
-    fn scan(class: u32, level0: [u32; 64], place: u32) -> Option<u32> {
-        (place..classes::blocks(class)).find(|block| level0[*block as usize / 32] >> (block % 32) & 1 == 0)
+    fn scan(size: Size, class: u32, level0: &[u32], place: u32) -> Option<u32> {
+        (place..size.blocks(class)).find(|block| level0[*block as usize / 32] >> (block % 32) & 1 == 0)
+    }
+
+    fn classes() -> impl Iterator<Item = (Size, u32)> {
+        SIZES.into_iter().flat_map(|size| (LOWEST..=HIGHEST).map(move |class| (size, class)))
     }
 
     #[test]
     fn marks_are_moved() {
-        for class in classes::LOWEST..=classes::HIGHEST {
-            let words = classes::level_words(class).max(FOUR);
+        for (size, class) in classes() {
+            let words = size.level_words(class).max(FOUR);
             for factor in [0, 1, 0x9e37_79b9, 0xffff_fff1] {
                 let marks: Vec<u32> = (0..words as u32).map(|index| if index % 5 == 0 { u32::MAX } else { index.wrapping_mul(factor) }).collect();
-                let mut level0 = [7; 64];
-                let moved = move_marks(&mut level0, &marks, class);
+                let mut level0 = vec![7; size.bitmap_words()];
+                let moved = move_marks(&mut level0, &marks, size, class);
                 assert_eq!(level0[..words], marks);
                 assert_eq!(moved.marked, marks.iter().map(|word| word.count_ones()).sum());
-                assert_eq!(moved.summary, summarize(&level0, class));
+                assert_eq!(moved.summary, summarize(&level0, size, class));
             }
         }
-        assert_eq!(move_marks(&mut [0; 64], &[u32::MAX; 64], 3).marked, 2048);
+        for size in SIZES {
+            let all = vec![u32::MAX; size.bitmap_words()];
+            assert_eq!(move_marks(&mut all.clone(), &all, size, LOWEST).marked as usize, size.most_blocks());
+        }
     }
 
-    fn empty(class: u32) -> [u32; 64] {
-        let mut level0 = [0; 64];
-        level0[0] = classes::padding(class);
+    fn empty(size: Size, class: u32) -> Vec<u32> {
+        let mut level0 = vec![0; size.bitmap_words()];
+        level0[0] = size.padding(class);
         level0
     }
 
     #[test]
     fn block_cases() {
-        let mut class9 = empty(9);
-        class9[0] = u32::MAX >> 1;
-        assert_eq!(search(9, class9, 0), Some(31));
-        assert_eq!(search(9, class9, 32), None);
-        assert_eq!(search(10, empty(10), 16), None);
-        for (place, block) in [(0, Some(0)), (1, Some(1)), (2, None)] {
-            assert_eq!(search(13, empty(13), place), block);
+        let [small, large] = SIZES;
+        for (size, class) in [(small, 9), (large, 10)] {
+            let mut level0 = empty(size, class);
+            level0[0] = u32::MAX >> 1;
+            assert_eq!(search(size, class, &level0, 0), Some(31));
+            assert_eq!(search(size, class, &level0, 32), None);
+            assert_eq!(search(size, class + 1, &empty(size, class + 1), 16), None);
         }
-        assert_eq!(search(14, empty(14), 0), Some(0));
-        assert_eq!(search(14, empty(14), 1), None);
+        for (size, class) in [(small, 13), (large, 14)] {
+            for (place, block) in [(0, Some(0)), (1, Some(1)), (2, None)] {
+                assert_eq!(search(size, class, &empty(size, class), place), block);
+            }
+        }
+        assert_eq!(search(small, 14, &empty(small, 14), 0), Some(0));
+        assert_eq!(search(small, 14, &empty(small, 14), 1), None);
+    }
+
+    /// The last block alone is free: from every place before it the search goes past all words between.
+    #[test]
+    fn the_last_block() {
+        for (size, class) in classes() {
+            let (mut level0, last) = (empty(size, class), size.blocks(class) - 1);
+            level0[..size.level_words(class)].fill(u32::MAX);
+            level0[last as usize / 32] ^= 1 << (last % 32);
+            for place in 0..=last {
+                assert_eq!(search(size, class, &level0, place), Some(last));
+            }
+            assert_eq!(search(size, class, &level0, last + 1), None);
+        }
     }
 
     #[test]
     fn search_finds_what_a_plain_scan_finds() {
         let mut random = 1_u64;
         for round in 0..60 {
-            for class in classes::LOWEST..=classes::HIGHEST {
-                let mut level0 = empty(class);
-                for word in &mut level0[..classes::level_words(class)] {
+            for (size, class) in classes() {
+                let mut level0 = empty(size, class);
+                for word in &mut level0[..size.level_words(class)] {
                     random = random.wrapping_mul(6_364_136_223_846_793_005).wrapping_add(1);
                     let full = (random >> 60) < round % 17;
                     *word |= if full { u32::MAX } else { (random >> 20) as u32 };
                 }
-                for place in 0..=classes::blocks(class) {
-                    assert_eq!(search(class, level0, place), scan(class, level0, place));
+                for place in 0..=size.blocks(class) {
+                    assert_eq!(search(size, class, &level0, place), scan(size, class, &level0, place));
                 }
-                for block in 0..classes::blocks(class) {
-                    let expected = scan(class, level0, block + 1).filter(|next| next / 32 == block / 32);
+                for block in 0..size.blocks(class) {
+                    let expected = scan(size, class, &level0, block + 1).filter(|next| next / 32 == block / 32);
                     assert_eq!(next_in_word(level0[block as usize / 32], block), expected);
                 }
             }

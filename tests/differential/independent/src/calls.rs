@@ -6,6 +6,7 @@ use crate::answers::{refuse, Answer, Refusal, Shape, MARK, SYNC1, SYNC2};
 use crate::classes::{block_start, class_of};
 use crate::layout::{held_of, Heap, ACKNOWLEDGED};
 use crate::mutators::{check_roots, words_of};
+use crate::size::Size;
 
 /// A record that a root names: where its header is, and its counts.
 struct Record {
@@ -112,8 +113,8 @@ const SMALL: u32 = 7;
 
 /// A new record into root `to`.
 #[inline]
-pub fn make(segments: u32, mem: &mut [u32], mutator: u32, to: u32, pointers: u32, values: u32) -> Answer<()> {
-    let mut heap = Heap::over(segments, mem)?;
+pub fn make(segments: u32, kib: u32, mem: &mut [u32], mutator: u32, to: u32, pointers: u32, values: u32) -> Answer<()> {
+    let mut heap = Heap::over(segments, kib, mem)?;
     let own = heap.inside(mutator)?;
     check_roots(to)?;
     let class = class_of(u64::from(pointers) + u64::from(values))?;
@@ -121,21 +122,21 @@ pub fn make(segments: u32, mem: &mut [u32], mutator: u32, to: u32, pointers: u32
     let held = held_of(own, class);
     let descriptor = heap.word(held)? as usize;
     if descriptor == 0 || class > SMALL {
-        return make_slowly(segments, heap.mem, mutator, to, header);
+        return make_slowly(heap.segments, heap.size, heap.mem, mutator, to, header);
     }
     let at = heap.next_block(descriptor, class)?;
     heap.write_small(at, class, header)?;
     heap.set(own + to as usize, at as u32)?;
     if may_have_duty(heap.phase()?) {
-        return make_ends_with_duty(heap.segments, heap.mem, own, at, class);
+        return make_ends_with_duty(heap.segments, heap.size, heap.mem, own, at, class);
     }
     heap.advance(descriptor, held, class)
 }
 
 /// The end of a make between start and sweep.
 #[inline(never)]
-fn make_ends_with_duty(segments: usize, mem: &mut [u32], own: usize, at: usize, class: u32) -> Answer<()> {
-    let mut heap = Heap { mem, segments };
+fn make_ends_with_duty(segments: usize, size: Size, mem: &mut [u32], own: usize, at: usize, class: u32) -> Answer<()> {
+    let mut heap = Heap { mem, segments, size };
     heap.birth(own, at)?;
     let held = held_of(own, class);
     let descriptor = heap.word(held)? as usize;
@@ -144,8 +145,8 @@ fn make_ends_with_duty(segments: usize, mem: &mut [u32], own: usize, at: usize, 
 
 /// A make of a record of any class, where the mutator may hold no segment of it.
 #[inline(never)]
-fn make_slowly(segments: u32, mem: &mut [u32], mutator: u32, to: u32, header: u32) -> Answer<()> {
-    let mut heap = Heap { mem, segments: segments as usize };
+fn make_slowly(segments: usize, size: Size, mem: &mut [u32], mutator: u32, to: u32, header: u32) -> Answer<()> {
+    let mut heap = Heap { mem, segments, size };
     let own = words_of(mutator)?;
     let class = class_of(u64::from(header >> 16) + u64::from(header & 0xffff))?;
     let held = held_of(own, class);
@@ -166,8 +167,8 @@ fn make_slowly(segments: u32, mem: &mut [u32], mutator: u32, to: u32, header: u3
 
 /// A pointer of the record in a root into root `to`.
 #[inline]
-pub fn load(segments: u32, mem: &mut [u32], mutator: u32, to: u32, root: u32, field: u32) -> Answer<()> {
-    let mut heap = Heap::over(segments, mem)?;
+pub fn load(segments: u32, kib: u32, mem: &mut [u32], mutator: u32, to: u32, root: u32, field: u32) -> Answer<()> {
+    let mut heap = Heap::over(segments, kib, mem)?;
     let own = heap.inside(mutator)?;
     check_roots(to | root)?;
     let pointer = heap.record(own, root)?.pointer(field)?;
@@ -177,22 +178,22 @@ pub fn load(segments: u32, mem: &mut [u32], mutator: u32, to: u32, root: u32, fi
 
 /// Root `from` into a pointer of the record in a root.
 #[inline]
-pub fn store(segments: u32, mem: &mut [u32], mutator: u32, root: u32, field: u32, from: u32) -> Answer<()> {
-    let mut heap = Heap::over(segments, mem)?;
+pub fn store(segments: u32, kib: u32, mem: &mut [u32], mutator: u32, root: u32, field: u32, from: u32) -> Answer<()> {
+    let mut heap = Heap::over(segments, kib, mem)?;
     let own = heap.inside(mutator)?;
     check_roots(root | from)?;
     let pointer = heap.record(own, root)?.pointer(field)?;
     let new = heap.word(own + from as usize)?;
     if may_have_duty(heap.phase()?) {
-        return store_with_duty(heap.segments, heap.mem, own, pointer, new);
+        return store_with_duty(heap.segments, heap.size, heap.mem, own, pointer, new);
     }
     heap.set(pointer, new)
 }
 
 /// The same between start and sweep.
 #[inline(never)]
-fn store_with_duty(segments: usize, mem: &mut [u32], own: usize, pointer: usize, new: u32) -> Answer<()> {
-    let mut heap = Heap { mem, segments };
+fn store_with_duty(segments: usize, size: Size, mem: &mut [u32], own: usize, pointer: usize, new: u32) -> Answer<()> {
+    let mut heap = Heap { mem, segments, size };
     let old = heap.word(pointer)?;
     heap.barrier(own, new, old)?;
     heap.set(pointer, new)
@@ -200,8 +201,8 @@ fn store_with_duty(segments: usize, mem: &mut [u32], own: usize, pointer: usize,
 
 /// A value of the record in a root is set.
 #[inline]
-pub fn put(segments: u32, mem: &mut [u32], mutator: u32, root: u32, field: u32, value: u32) -> Answer<()> {
-    let mut heap = Heap::over(segments, mem)?;
+pub fn put(segments: u32, kib: u32, mem: &mut [u32], mutator: u32, root: u32, field: u32, value: u32) -> Answer<()> {
+    let mut heap = Heap::over(segments, kib, mem)?;
     let own = heap.inside(mutator)?;
     check_roots(root)?;
     let at = heap.record(own, root)?.value(field)?;
@@ -210,8 +211,8 @@ pub fn put(segments: u32, mem: &mut [u32], mutator: u32, root: u32, field: u32, 
 
 /// A value of the record in a root.
 #[inline]
-pub fn get(segments: u32, mem: &[u32], mutator: u32, root: u32, field: u32) -> Answer<u32> {
-    let heap = Heap::over(segments, mem)?;
+pub fn get(segments: u32, kib: u32, mem: &[u32], mutator: u32, root: u32, field: u32) -> Answer<u32> {
+    let heap = Heap::over(segments, kib, mem)?;
     let own = heap.inside(mutator)?;
     check_roots(root)?;
     let at = heap.record(own, root)?.value(field)?;
@@ -220,8 +221,8 @@ pub fn get(segments: u32, mem: &[u32], mutator: u32, root: u32, field: u32) -> A
 
 /// Root `from` into root `to`.
 #[inline]
-pub fn copy(segments: u32, mem: &mut [u32], mutator: u32, to: u32, from: u32) -> Answer<()> {
-    let mut heap = Heap::over(segments, mem)?;
+pub fn copy(segments: u32, kib: u32, mem: &mut [u32], mutator: u32, to: u32, from: u32) -> Answer<()> {
+    let mut heap = Heap::over(segments, kib, mem)?;
     let own = heap.inside(mutator)?;
     check_roots(to | from)?;
     let reference = heap.word(own + from as usize)?;
@@ -230,8 +231,8 @@ pub fn copy(segments: u32, mem: &mut [u32], mutator: u32, to: u32, from: u32) ->
 
 /// Nil into root `to`.
 #[inline]
-pub fn clear(segments: u32, mem: &mut [u32], mutator: u32, to: u32) -> Answer<()> {
-    let mut heap = Heap::over(segments, mem)?;
+pub fn clear(segments: u32, kib: u32, mem: &mut [u32], mutator: u32, to: u32) -> Answer<()> {
+    let mut heap = Heap::over(segments, kib, mem)?;
     let own = heap.inside(mutator)?;
     check_roots(to)?;
     heap.set(own + to as usize, 0)
@@ -239,8 +240,8 @@ pub fn clear(segments: u32, mem: &mut [u32], mutator: u32, to: u32) -> Answer<()
 
 /// Are two roots the same record, or both nil?
 #[inline]
-pub fn same(segments: u32, mem: &[u32], mutator: u32, root: u32, other: u32) -> Answer<bool> {
-    let heap = Heap::over(segments, mem)?;
+pub fn same(segments: u32, kib: u32, mem: &[u32], mutator: u32, root: u32, other: u32) -> Answer<bool> {
+    let heap = Heap::over(segments, kib, mem)?;
     let own = heap.inside(mutator)?;
     check_roots(root | other)?;
     Ok(heap.word(own + root as usize)? == heap.word(own + other as usize)?)
@@ -248,8 +249,8 @@ pub fn same(segments: u32, mem: &[u32], mutator: u32, root: u32, other: u32) -> 
 
 /// The counts of the record in a root.
 #[inline]
-pub fn shape(segments: u32, mem: &[u32], mutator: u32, root: u32) -> Answer<Shape> {
-    let heap = Heap::over(segments, mem)?;
+pub fn shape(segments: u32, kib: u32, mem: &[u32], mutator: u32, root: u32) -> Answer<Shape> {
+    let heap = Heap::over(segments, kib, mem)?;
     let own = heap.inside(mutator)?;
     check_roots(root)?;
     Ok(heap.record(own, root)?.shape)

@@ -1,4 +1,4 @@
-//! Size classes 3 to 14: which class a record has, how many blocks a segment of it has, and how many words of level 0 they take.
+//! Size classes 3 to 14: which class a record has, and where its blocks begin.
 
 use crate::answers::{refuse, Answer, Refusal};
 
@@ -57,27 +57,6 @@ pub fn block_at(class: u32, word: u32) -> u32 {
     (word * 4).wrapping_shr(class)
 }
 
-/// The blocks of a segment of the class.
-#[inline(always)]
-pub fn blocks(class: u32) -> u32 {
-    16384_u32.wrapping_shr(class)
-}
-
-/// The words that level 0 of the class has.
-#[inline(always)]
-pub fn level_words(class: u32) -> usize {
-    blocks(class).div_ceil(32) as usize
-}
-
-/// The bits past the end of level 0's last word: 1 where they are.
-#[inline(always)]
-pub fn padding(class: u32) -> u32 {
-    match blocks(class) {
-        blocks if blocks < 32 => u32::MAX << blocks,
-        _ => 0,
-    }
-}
-
 #[cfg(test)]
 mod tests {
     use super::*;
@@ -90,14 +69,5 @@ mod tests {
         }
         assert_eq!(class_of(4096), Err(Refusal::TOO_BIG));
         assert_eq!(class_of(u64::from(u32::MAX) * 2), Err(Refusal::TOO_BIG));
-    }
-
-    #[test]
-    fn blocks_by_class() {
-        let blocks_of = [2048, 1024, 512, 256, 128, 64, 32, 16, 8, 4, 2, 1];
-        for (class, expected) in (LOWEST..=HIGHEST).zip(blocks_of) {
-            assert_eq!(blocks(class), expected);
-            assert_eq!(level_words(class), (expected as usize).max(32) / 32);
-        }
     }
 }

@@ -3,14 +3,15 @@
 use core::ops::DerefMut;
 
 use crate::answers::{or_torn, refuse, Answer, Refusal, Step, IDLE, MARK, SWEEP, SYNC1, SYNC2};
-use crate::bitmap::{self, Moved, FOUR, LEVEL_WORDS};
+use crate::bitmap::{self, Moved, FOUR};
 use crate::classes;
 use crate::layout::{
-    part_top, Heap, ACKNOWLEDGED, CLASS, CONDEMNED_TOP, FREE_TOP, HANDED_OUT, KEPT, LEVEL0, MARKS, MUTATORS, MUTATOR_WORDS, NEXT, NUMBER, PHASE,
-    PLACE, SIDE, STATE,
+    part_top, Heap, ACKNOWLEDGED, CLASS, CONDEMNED_TOP, FREE_TOP, HANDED_OUT, HEAD_WORDS, KEPT, MUTATORS, MUTATOR_WORDS, NEXT, NUMBER, PHASE, PLACE,
+    SIDE, STATE,
 };
 use crate::mutators::{ABSENT, OUTSIDE};
-use crate::segments::{self, fill_up, recount, set_summary, Descriptor};
+use crate::segments::{self, fill_up, recount, Head};
+use crate::size::Size;
 
 impl<M: DerefMut<Target = [u32]>> Heap<M> {
     /// Every full and every part segment is condemned, its place kept; they are stacked so that the lowest comes off first, and the part
@@ -74,45 +75,49 @@ impl<M: DerefMut<Target = [u32]>> Heap<M> {
     /// Level 0 of the segment becomes its marks, which are the blocks kept; it is then free, full or part. Its counts say how many blocks were in
     /// use.
     fn sweep(&mut self, descriptor: usize) -> Answer<Step> {
-        let segment = self.word(descriptor + NUMBER)?;
-        let class = self.word(descriptor + CLASS)?;
-        let words: &mut Descriptor = self.array_mut(descriptor)?;
-        let (head, marks) = words.split_at_mut(MARKS);
-        let marks = or_torn(marks.get(..classes::level_words(class).max(FOUR)))?;
-        let (blocks, used) = (classes::blocks(class), head[KEPT].wrapping_add(head[HANDED_OUT]));
+        let size = self.size;
+        let words = self.run_mut(descriptor, size.descriptor_words())?;
+        let (head, rest) = or_torn(words.split_first_chunk_mut::<HEAD_WORDS>())?;
+        let (level0, marks) = or_torn(rest.split_at_mut_checked(size.marks() - HEAD_WORDS))?;
+        let level0 = or_torn(level0.get_mut(size.summary_words()..))?;
+        let (segment, class) = (head[NUMBER], head[CLASS]);
+        let marks = or_torn(marks.get(..size.level_words(class).max(FOUR)))?;
+        let (blocks, used) = (size.blocks(class), head[KEPT].wrapping_add(head[HANDED_OUT]));
         if marks.iter().fold(0, |any, word| any | word) == 0 {
             head[STATE] = segments::FREE;
             recount(head, 0);
             self.push(FREE_TOP, descriptor)?;
             return Ok(Step::Swept { segment, freed: used });
         }
-        let Moved { marked, summary } = bitmap::move_marks(&mut head[LEVEL0..], marks, class);
+        let Moved { marked, summary } = bitmap::move_marks(level0, marks, size, class);
         recount(head, marked);
-        head[LEVEL0] |= classes::padding(class);
-        set_summary(words, if marked == blocks { u64::MAX } else { summary });
+        if let Some(first) = level0.first_mut() {
+            *first |= size.padding(class);
+        }
         if marked == blocks {
-            fill_up(words, class);
+            fill_up(head, size, class);
+            self.set_summary(descriptor, u128::MAX)?;
         } else {
-            set_part(words, summary);
+            set_part(head, bitmap::lowest_free(level0, summary).unwrap_or(blocks));
+            self.set_summary(descriptor, summary)?;
             self.push(part_top(class), descriptor)?;
         }
         Ok(Step::Swept { segment, freed: used.wrapping_sub(marked) })
     }
 }
 
-/// The segment becomes part, place 0; its next block is the lowest free one.
+/// The segment becomes part, place 0, with its lowest free block.
 #[inline(always)]
-fn set_part(words: &mut Descriptor, summary: u64) {
-    let index = summary.trailing_ones();
-    words[STATE] = segments::PART;
-    words[PLACE] = 0;
-    words[NEXT] = index * 32 + words[LEVEL0 + index as usize % LEVEL_WORDS].trailing_ones();
+fn set_part(head: &mut Head, lowest: u32) {
+    head[STATE] = segments::PART;
+    head[PLACE] = 0;
+    head[NEXT] = lowest;
 }
 
 /// A cycle begins: every full and every part segment is condemned, and with neither it is a cycle over nothing; refused 11 outside idle.
 #[inline]
-pub fn start(segments: u32, mem: &mut [u32]) -> Answer<()> {
-    let mut heap = Heap::over(segments, mem)?;
+pub fn start(segments: u32, kib: u32, mem: &mut [u32]) -> Answer<()> {
+    let mut heap = Heap::over(segments, kib, mem)?;
     if heap.phase()? != IDLE {
         return refuse(Refusal::NOT_NOW);
     }
@@ -126,18 +131,18 @@ pub fn start(segments: u32, mem: &mut [u32]) -> Answer<()> {
 
 /// One small step of the collector.
 #[inline]
-pub fn step(segments: u32, mem: &mut [u32]) -> Answer<Step> {
-    let mut heap = Heap::over(segments, mem)?;
+pub fn step(segments: u32, kib: u32, mem: &mut [u32]) -> Answer<Step> {
+    let mut heap = Heap::over(segments, kib, mem)?;
     if heap.phase()? == MARK {
         return heap.mark_step();
     }
-    step_elsewhere(heap.segments, heap.mem)
+    step_elsewhere(heap.segments, heap.size, heap.mem)
 }
 
 /// The same in the other phases.
 #[inline(never)]
-fn step_elsewhere(segments: usize, mem: &mut [u32]) -> Answer<Step> {
-    let mut heap = Heap { mem, segments };
+fn step_elsewhere(segments: usize, size: Size, mem: &mut [u32]) -> Answer<Step> {
+    let mut heap = Heap { mem, segments, size };
     match heap.phase()? {
         IDLE => Ok(Step::Idle),
         SWEEP => heap.sweep_step(),

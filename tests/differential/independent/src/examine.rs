@@ -4,14 +4,14 @@
 //! or is reached from the trace stack over records not yet marked; in sweep, it is marked.
 
 use crate::answers::{refuse, Answer, Refusal, IDLE, MARK, SWEEP, SYNC1, SYNC2};
-use crate::bitmap::summarize;
+use crate::bitmap::{summarize, Tree};
 use crate::classes::{self, class_of};
 use crate::layout::{
-    held_of, part_top, scratch_length, Heap, ACKNOWLEDGED, BITMAP_WORDS, BLOCKS, CLASS, CONDEMNED_TOP, DESCRIPTOR_WORDS, FREE_TOP, HANDED_OUT, KEPT,
-    LEVEL0, MARKS, MOST_BLOCKS, MUTATORS, MUTATOR_WORDS, NEXT, NUMBER, PLACE, ROOTS, SEGMENT_WORDS, SIDE, STATE, TIE, TRACE_HEIGHT,
+    held_of, part_top, scratch_length, Heap, ACKNOWLEDGED, BLOCKS, CLASS, CONDEMNED_TOP, FREE_TOP, HANDED_OUT, KEPT, MUTATORS, MUTATOR_WORDS, NEXT,
+    NUMBER, PLACE, ROOTS, SIDE, STATE, TIE, TRACE_HEIGHT,
 };
 use crate::mutators::{in_handshake, ABSENT, OUTSIDE};
-use crate::segments::{tree, Descriptor, CONDEMNED, FREE, FULL, HELD, PART};
+use crate::segments::{Head, CONDEMNED, FREE, FULL, HELD, PART};
 use crate::trace::Bit;
 
 /// A condition that holds, or nothing.
@@ -45,9 +45,17 @@ fn contains(bitmap: &[u32], reference: u32) -> Option<bool> {
     Some(bitmap.get(offset as usize / 64)? >> (offset / 2 % 32) & 1 == 1)
 }
 
-/// Is a block of a segment in use?
-fn in_use(descriptor: &Descriptor, block: u32) -> Option<bool> {
-    Some(block < descriptor[PLACE] || tree(descriptor).ok()?.level0.get(block as usize / 32)? >> (block % 32) & 1 == 1)
+/// A segment's descriptor: its head and its bitmap tree.
+struct Segment<'a> {
+    head: &'a Head,
+    tree: Tree<'a>,
+}
+
+impl Segment<'_> {
+    /// Is a block in use?
+    fn in_use(&self, block: u32) -> Option<bool> {
+        Some(block < self.head[PLACE] || self.tree.level0.get(block as usize / 32)? >> (block % 32) & 1 == 1)
+    }
 }
 
 impl Examination<'_> {
@@ -55,16 +63,20 @@ impl Examination<'_> {
         self.heap.word(at).ok()
     }
 
-    fn segment(&self, segment: usize) -> Option<&Descriptor> {
+    fn head(&self, segment: usize) -> Option<&Head> {
         must(segment < self.heap.segments)?;
-        self.heap.described(self.heap.descriptor(segment)).ok()
+        self.heap.head(self.heap.descriptor(segment)).ok()
     }
 
-    /// The descriptor at an index that a stack or a mutator names.
-    fn named(&self, at: u32) -> Option<&Descriptor> {
+    fn segment(&self, segment: usize) -> Option<Segment<'_>> {
+        Some(Segment { head: self.head(segment)?, tree: self.heap.tree(self.heap.descriptor(segment)).ok()? })
+    }
+
+    /// The head of the descriptor at an index that a stack or a mutator names.
+    fn named(&self, at: u32) -> Option<&Head> {
         let distance = (at as usize).checked_sub(self.heap.descriptors())?;
-        must(distance % DESCRIPTOR_WORDS == 0)?;
-        self.segment(distance / DESCRIPTOR_WORDS)
+        must(distance % self.heap.size.descriptor_words() == 0)?;
+        self.head(distance / self.heap.size.descriptor_words())
     }
 
     fn bit(&self, bit: Bit) -> Option<bool> {
@@ -102,49 +114,49 @@ impl Examination<'_> {
     fn control(&self) -> Option<()> {
         must(self.phase <= SWEEP)?;
         let height = self.trace_height()?;
-        must(height <= MOST_BLOCKS * self.heap.segments)?;
+        must(height <= self.heap.size.most_blocks() * self.heap.segments)?;
         must(height == 0 || in_handshake(self.phase) || self.phase == MARK)
     }
 
-    fn descriptor(&self, segment: usize) -> Option<()> {
-        let words = self.segment(segment)?;
-        must(words[NUMBER] as usize == segment && words[STATE] <= CONDEMNED)?;
-        if words[STATE] == FREE {
-            return must(words[KEPT] == 0 && words[HANDED_OUT] == 0);
+    fn descriptor(&self, number: usize) -> Option<()> {
+        let segment = self.segment(number)?;
+        let head = segment.head;
+        must(head[NUMBER] as usize == number && head[STATE] <= CONDEMNED)?;
+        if head[STATE] == FREE {
+            return must(head[KEPT] == 0 && head[HANDED_OUT] == 0);
         }
-        let class = words[CLASS];
+        let class = head[CLASS];
         must(classes::is_class(class))?;
-        self.bitmap(words, class)?;
-        self.counts(words, class)?;
-        let blocks = classes::blocks(class);
-        if words[STATE] == CONDEMNED {
-            return must(words[PLACE] <= blocks && self.phase != IDLE);
+        self.bitmap(&segment, class)?;
+        self.counts(&segment, class)?;
+        let blocks = self.heap.size.blocks(class);
+        if head[STATE] == CONDEMNED {
+            return must(head[PLACE] <= blocks && self.phase != IDLE);
         }
-        if words[STATE] == FULL {
-            return must(words[PLACE] == blocks && words[NEXT] == blocks);
+        if head[STATE] == FULL {
+            return must(head[PLACE] == blocks && head[NEXT] == blocks);
         }
         // A segment of one block is full from its first: it is never part or held.
         must(blocks > 1)?;
-        must(words[PLACE] < blocks && tree(words).ok()?.next_free(blocks, words[PLACE]) == Some(words[NEXT]))?;
-        must(words[STATE] == PART || self.holds(words[TIE], segment, class)?)
+        must(head[PLACE] < blocks && segment.tree.next_free(blocks, head[PLACE]) == Some(head[NEXT]))?;
+        must(head[STATE] == PART || self.holds(head[TIE], number, class)?)
     }
 
-    fn bitmap(&self, words: &Descriptor, class: u32) -> Option<()> {
-        let tree = tree(words).ok()?;
-        let padding = classes::padding(class);
-        must(words[LEVEL0] & padding == padding && tree.summary == summarize(tree.level0, class))
+    fn bitmap(&self, segment: &Segment<'_>, class: u32) -> Option<()> {
+        let (size, tree) = (self.heap.size, &segment.tree);
+        let padding = size.padding(class);
+        must(tree.level0.first()? & padding == padding && tree.summary == summarize(tree.level0, size, class))
     }
 
     /// The blocks kept are those whose bit is 1; those handed out since lie before the place, and their bit is 0.
-    fn counts(&self, words: &Descriptor, class: u32) -> Option<()> {
-        let level0 = tree(words).ok()?.level0;
+    fn counts(&self, segment: &Segment<'_>, class: u32) -> Option<()> {
         let mut counts = [0; 2];
-        for block in 0..classes::blocks(class) {
-            let kept = level0[block as usize / 32] >> (block % 32) & 1;
+        for block in 0..self.heap.size.blocks(class) {
+            let kept = segment.tree.level0.get(block as usize / 32)? >> (block % 32) & 1;
             counts[0] += kept;
-            counts[1] += u32::from(kept == 0 && block < words[PLACE]);
+            counts[1] += u32::from(kept == 0 && block < segment.head[PLACE]);
         }
-        must(counts == [words[KEPT], words[HANDED_OUT]])
+        must(counts == [segment.head[KEPT], segment.head[HANDED_OUT]])
     }
 
     /// Does the mutator hold the segment?
@@ -166,18 +178,18 @@ impl Examination<'_> {
 
     /// A stack has each segment of the state, and of the class if one is given, once. The condemned ones lie in order.
     fn stack(&self, top: usize, state: u32, class: Option<u32>) -> Option<()> {
-        let belongs = |words: &Descriptor| words[STATE] == state && class.is_none_or(|class| words[CLASS] == class);
+        let belongs = |head: &Head| head[STATE] == state && class.is_none_or(|class| head[CLASS] == class);
         let mut left = 0;
         for segment in 0..self.heap.segments {
-            left += usize::from(belongs(self.segment(segment)?));
+            left += usize::from(belongs(self.head(segment)?));
         }
         let mut at = self.word(top)?;
         while at != 0 {
-            let words = self.named(at)?;
-            must(belongs(words))?;
+            let head = self.named(at)?;
+            must(belongs(head))?;
             left = left.checked_sub(1)?;
-            must(state != CONDEMNED || words[TIE] == 0 || words[TIE] > at)?;
-            at = words[TIE];
+            must(state != CONDEMNED || head[TIE] == 0 || head[TIE] > at)?;
+            at = head[TIE];
         }
         must(left == 0)
     }
@@ -206,18 +218,22 @@ impl Examination<'_> {
 
     /// Each block in use has a record of its class.
     fn headers(&self) -> Option<()> {
-        for segment in 0..self.heap.segments {
-            let words = self.segment(segment)?;
-            if words[STATE] == FREE {
+        for number in 0..self.heap.segments {
+            let segment = self.segment(number)?;
+            if segment.head[STATE] == FREE {
                 continue;
             }
-            let class = words[CLASS];
-            for block in 0..classes::blocks(class) {
-                let at = BLOCKS + SEGMENT_WORDS * segment + classes::block_start(class, block) as usize;
-                must(!in_use(words, block)? || self.has_class(at, class)?)?;
+            let class = segment.head[CLASS];
+            for block in 0..self.heap.size.blocks(class) {
+                must(!segment.in_use(block)? || self.has_class(self.block(number, class, block), class)?)?;
             }
         }
         Some(())
+    }
+
+    /// The first word of a block.
+    fn block(&self, segment: usize, class: u32, block: u32) -> usize {
+        BLOCKS + self.heap.size.words() * segment + classes::block_start(class, block) as usize
     }
 
     fn has_class(&self, at: usize, class: u32) -> Option<bool> {
@@ -230,12 +246,12 @@ impl Examination<'_> {
         if reference == 0 {
             return Some(());
         }
-        let offset = (reference as usize).checked_sub(BLOCKS)?;
-        let words = self.segment(offset / SEGMENT_WORDS)?;
-        must(words[STATE] != FREE)?;
-        let (within, class) = ((offset % SEGMENT_WORDS) as u32, words[CLASS]);
+        let (number, within) = self.heap.size.split(reference.checked_sub(BLOCKS as u32)?);
+        let segment = self.segment(number)?;
+        must(segment.head[STATE] != FREE)?;
+        let class = segment.head[CLASS];
         let block = classes::block_at(class, within);
-        must(classes::block_start(class, block) == within && in_use(words, block)?)
+        must(classes::block_start(class, block) == within && segment.in_use(block)?)
     }
 
     /// Before sweep: marks are of blocks in use; what is queued is exactly what is marked or on the trace stack, each once, never both.
@@ -259,7 +275,7 @@ impl Examination<'_> {
     /// In sweep: the marks of condemned segments, which are still to become bits, are of blocks in use.
     fn condemned_marks(&self) -> Option<()> {
         for segment in 0..self.heap.segments {
-            if self.segment(segment)?[STATE] == CONDEMNED {
+            if self.head(segment)?[STATE] == CONDEMNED {
                 self.marks_of(segment)?;
             }
         }
@@ -267,18 +283,17 @@ impl Examination<'_> {
     }
 
     /// The count of a segment's marks, each of a block in use whose queued bit is set.
-    fn marks_of(&self, segment: usize) -> Option<usize> {
-        let words = self.segment(segment)?;
-        let marks = &words[MARKS..];
+    fn marks_of(&self, number: usize) -> Option<usize> {
+        let (segment, size) = (self.segment(number)?, self.heap.size);
+        let marks = self.heap.run(self.heap.descriptor(number) + size.marks(), size.bitmap_words()).ok()?;
         let mut marked = 0;
-        for block in 0..MOST_BLOCKS {
-            if marks[block / 32] >> (block % 32) & 1 == 0 {
+        for block in 0..size.most_blocks() as u32 {
+            if marks.get(block as usize / 32)? >> (block % 32) & 1 == 0 {
                 continue;
             }
-            let class = words[CLASS];
-            must(words[STATE] != FREE && block < classes::blocks(class) as usize && in_use(words, block as u32)?)?;
-            let reference = BLOCKS + SEGMENT_WORDS * segment + classes::block_start(class, block as u32) as usize;
-            must(self.bit(self.heap.queued_bit(reference as u32))?)?;
+            let class = segment.head[CLASS];
+            must(segment.head[STATE] != FREE && block < size.blocks(class) && segment.in_use(block)?)?;
+            must(self.bit(self.heap.queued_bit(self.block(number, class, block) as u32))?)?;
             marked += 1;
         }
         Some(marked)
@@ -348,8 +363,8 @@ impl Examination<'_> {
 
     /// Will the cycle that runs keep this reached record?
     fn is_kept(&self, reference: u32) -> Option<bool> {
-        let words = self.segment((reference as usize - BLOCKS) / SEGMENT_WORDS)?;
-        if words[STATE] != CONDEMNED || in_handshake(self.phase) {
+        let (number, _) = self.heap.size.split(reference.checked_sub(BLOCKS as u32)?);
+        if self.head(number)?[STATE] != CONDEMNED || in_handshake(self.phase) {
             return Some(true);
         }
         Some(self.is_marked(reference)? || contains(self.grey, reference)?)
@@ -357,15 +372,15 @@ impl Examination<'_> {
 }
 
 /// Yes where the memory is consistent. The scratch ends all 0; refused 1 only, and then it is as it was.
-pub fn examine(segments: u32, mem: &[u32], scratch: &mut [u32]) -> Answer<bool> {
-    let heap = Heap::over(segments, mem)?;
-    if scratch.len() != scratch_length(segments) {
+pub fn examine(segments: u32, kib: u32, mem: &[u32], scratch: &mut [u32]) -> Answer<bool> {
+    let heap = Heap::over(segments, kib, mem)?;
+    if scratch.len() != scratch_length(segments, kib) {
         return refuse(Refusal::SIZE);
     }
     scratch.fill(0);
     let phase = heap.phase()?;
-    let (waiting, bitmaps) = scratch.split_at_mut(MOST_BLOCKS * heap.segments);
-    let (reached, grey) = bitmaps.split_at_mut(BITMAP_WORDS * heap.segments);
+    let (waiting, bitmaps) = scratch.split_at_mut(heap.size.most_blocks() * heap.segments);
+    let (reached, grey) = bitmaps.split_at_mut(heap.size.bitmap_words() * heap.segments);
     let consistent = Examination { heap, phase, waiting, height: 0, reached, grey }.all().is_some();
     scratch.fill(0);
     Ok(consistent)

@@ -14,11 +14,11 @@ macro_rules! changing {
         /// # Safety
         /// Where the length is right, `mem` is a lent slice as the C interface says.
         #[no_mangle]
-        pub unsafe extern "C" fn $export(segments: u32, mem: *mut u32, length: usize $(, $number: u32)*) -> $answer {
-            if !fits(segments, length) {
+        pub unsafe extern "C" fn $export(segments: u32, kib: u32, mem: *mut u32, length: usize $(, $number: u32)*) -> $answer {
+            if !fits(segments, kib, length) {
                 return Refusal::SIZE.number().into();
             }
-            $pack(crate::$call(segments, unsafe { from_raw_parts_mut(mem, length) } $(, $number)*))
+            $pack(crate::$call(segments, kib, unsafe { from_raw_parts_mut(mem, length) } $(, $number)*))
         }
     )*};
 }
@@ -29,11 +29,11 @@ macro_rules! reading {
         /// # Safety
         /// Where the length is right, `mem` is a lent slice as the C interface says.
         #[no_mangle]
-        pub unsafe extern "C" fn $export(segments: u32, mem: *const u32, length: usize $(, $number: u32)*) -> u64 {
-            if !fits(segments, length) {
+        pub unsafe extern "C" fn $export(segments: u32, kib: u32, mem: *const u32, length: usize $(, $number: u32)*) -> u64 {
+            if !fits(segments, kib, length) {
                 return Refusal::SIZE.number().into();
             }
-            pack_result($call(segments, unsafe { from_raw_parts(mem, length) } $(, $number)*))
+            pack_result($call(segments, kib, unsafe { from_raw_parts(mem, length) } $(, $number)*))
         }
     )*};
 }
@@ -64,38 +64,45 @@ reading! {
 }
 
 #[no_mangle]
-pub extern "C" fn independent_length(segments: u32) -> usize {
-    layout::length(segments)
+pub extern "C" fn independent_length(segments: u32, kib: u32) -> usize {
+    layout::length(segments, kib)
 }
 
 #[no_mangle]
-pub extern "C" fn independent_states_length(segments: u32) -> usize {
-    layout::states_length(segments)
+pub extern "C" fn independent_states_length(segments: u32, kib: u32) -> usize {
+    layout::states_length(segments, kib)
 }
 
 #[no_mangle]
-pub extern "C" fn independent_scratch_length(segments: u32) -> usize {
-    layout::scratch_length(segments)
+pub extern "C" fn independent_scratch_length(segments: u32, kib: u32) -> usize {
+    layout::scratch_length(segments, kib)
 }
 
 /// # Safety
 /// Where both lengths are right, `mem` and `output` are lent slices as the C interface says.
 #[no_mangle]
-pub unsafe extern "C" fn independent_states(segments: u32, mem: *const u32, length: usize, output: *mut u32, output_length: usize) -> u32 {
-    if !fits(segments, length) || output_length != layout::states_length(segments) {
+pub unsafe extern "C" fn independent_states(segments: u32, kib: u32, mem: *const u32, length: usize, output: *mut u32, output_length: usize) -> u32 {
+    if !fits(segments, kib, length) || output_length != layout::states_length(segments, kib) {
         return Refusal::SIZE.number();
     }
     let (mem, output) = unsafe { (from_raw_parts(mem, length), from_raw_parts_mut(output, output_length)) };
-    pack(looks::states(segments, mem, output))
+    pack(looks::states(segments, kib, mem, output))
 }
 
 /// # Safety
 /// Where both lengths are right, `mem` and `scratch` are lent slices as the C interface says.
 #[no_mangle]
-pub unsafe extern "C" fn independent_examine(segments: u32, mem: *const u32, length: usize, scratch: *mut u32, scratch_length: usize) -> u64 {
-    if !fits(segments, length) || scratch_length != layout::scratch_length(segments) {
+pub unsafe extern "C" fn independent_examine(
+    segments: u32,
+    kib: u32,
+    mem: *const u32,
+    length: usize,
+    scratch: *mut u32,
+    scratch_length: usize,
+) -> u64 {
+    if !fits(segments, kib, length) || scratch_length != layout::scratch_length(segments, kib) {
         return Refusal::SIZE.number().into();
     }
     let (mem, scratch) = unsafe { (from_raw_parts(mem, length), from_raw_parts_mut(scratch, scratch_length)) };
-    pack_result(crate::examine(segments, mem, scratch))
+    pack_result(crate::examine(segments, kib, mem, scratch))
 }

@@ -1,12 +1,14 @@
 //! Where everything lies in the lent slice, the lengths, and `Heap`: the slice once its length is known to be right.
 //!
 //! First the mutators, 32 words each, then the control words, then the segments' blocks, so that a reference is the index of its header
-//! in the slice and 0 is nil. After the blocks: the queued bits and the segments' descriptors. The trace stack grows down from the end.
+//! in the slice and 0 is nil. After the blocks: the queued bits and the segments' descriptors. The trace stack grows down from the end. How
+//! many words each segment has of all this follows from its size.
 
 use core::ops::{Deref, DerefMut};
 
 use crate::answers::{or_torn, refuse, Answer, Refusal, IDLE};
 use crate::segments;
+use crate::size::Size;
 
 pub const MOST_SEGMENTS: u32 = 256;
 
@@ -27,32 +29,46 @@ pub const CONDEMNED_TOP: usize = 1039;
 
 /// The first block of segment 0.
 pub const BLOCKS: usize = 1040;
-pub const SEGMENT_WORDS: usize = 4096;
 
-/// Most blocks of a segment: so many entries of the trace stack, and bits of a bitmap.
-pub const MOST_BLOCKS: usize = 2048;
-pub const BITMAP_WORDS: usize = 64;
-
-/// A descriptor: these words, then level 0 of the bitmap tree, then the mark bitmap. The tie is the mutator that holds the segment, or the
-/// descriptor below it on its stack. The summary has two words, the lower half first. The counts are of the blocks kept at the last sweep and
-/// of those handed out since.
-pub const DESCRIPTOR_WORDS: usize = 138;
+/// A descriptor: the words of its head, then the summary of the bitmap tree, the lower words first, then the tree's level 0, then the mark
+/// bitmap. The tie is the mutator that holds the segment, or the descriptor below it on its stack. The counts are of the blocks kept at the
+/// last sweep and of those handed out since.
+pub const HEAD_WORDS: usize = 8;
 pub const STATE: usize = 0;
 pub const CLASS: usize = 1;
 pub const PLACE: usize = 2;
 pub const NEXT: usize = 3;
 pub const TIE: usize = 4;
 pub const NUMBER: usize = 5;
-pub const SUMMARY: usize = 6;
-pub const KEPT: usize = 8;
-pub const HANDED_OUT: usize = 9;
-pub const LEVEL0: usize = 10;
-pub const MARKS: usize = 74;
+pub const KEPT: usize = 6;
+pub const HANDED_OUT: usize = 7;
+
+/// Where the parts of a descriptor behind its head begin, and its end.
+impl Size {
+    #[inline(always)]
+    pub const fn level0(self) -> usize {
+        HEAD_WORDS + self.summary_words()
+    }
+
+    #[inline(always)]
+    pub const fn marks(self) -> usize {
+        self.level0() + self.bitmap_words()
+    }
+
+    #[inline(always)]
+    pub const fn descriptor_words(self) -> usize {
+        self.marks() + self.bitmap_words()
+    }
+
+    /// The words of the lent slice for each segment.
+    #[inline(always)]
+    const fn lent_words(self) -> usize {
+        self.words() + self.bitmap_words() + self.descriptor_words() + self.most_blocks()
+    }
+}
 
 /// The words that the look at the states gives of a segment: state, class, place, mutator, and the two counts.
 pub const STATE_WORDS: usize = 6;
-
-const WORDS_PER_SEGMENT: usize = SEGMENT_WORDS + BITMAP_WORDS + DESCRIPTOR_WORDS + MOST_BLOCKS;
 
 /// The word of a mutator that names the segment which it holds of a class.
 #[inline(always)]
@@ -60,9 +76,14 @@ pub const fn held_of(own: usize, class: u32) -> usize {
     own + HELD_BY_CLASS + (class & 15) as usize
 }
 
+/// The size, where the count is one too.
 #[inline(always)]
-const fn is_count(segments: u32) -> bool {
-    segments.wrapping_sub(1) < MOST_SEGMENTS
+const fn size_of(segments: u32, kib: u32) -> Option<Size> {
+    if segments.wrapping_sub(1) < MOST_SEGMENTS {
+        Size::of(kib)
+    } else {
+        None
+    }
 }
 
 /// The control word of the part stack of a class.
@@ -71,56 +92,57 @@ pub const fn part_top(class: u32) -> usize {
     PART_BY_CLASS + (class & 15) as usize
 }
 
-/// Is this the length of the lent slice for the count?
+/// Is this the length of the lent slice for the count and the size?
 #[inline(always)]
-pub const fn fits(segments: u32, length: usize) -> bool {
-    is_count(segments) && length == WORDS_PER_SEGMENT * segments as usize + BLOCKS
+pub const fn fits(segments: u32, kib: u32, length: usize) -> bool {
+    match size_of(segments, kib) {
+        Some(size) => length == size.lent_words() * segments as usize + BLOCKS,
+        None => false,
+    }
 }
 
-/// The words of the lent slice: 6346 n + 1040, or 0 for a count not 1 to 256.
+/// The words of the lent slice: 6346 n + 1040 at 16 KiB, 12684 n + 1040 at 32, or 0 for a count not 1 to 256 or another size.
 #[inline(always)]
-pub const fn length(segments: u32) -> usize {
-    if is_count(segments) {
-        WORDS_PER_SEGMENT * segments as usize + BLOCKS
-    } else {
-        0
+pub const fn length(segments: u32, kib: u32) -> usize {
+    match size_of(segments, kib) {
+        Some(size) => size.lent_words() * segments as usize + BLOCKS,
+        None => 0,
     }
 }
 
 /// The words of the look at the segments' states: 6 n, or 0.
 #[inline(always)]
-pub const fn states_length(segments: u32) -> usize {
-    if is_count(segments) {
-        STATE_WORDS * segments as usize
-    } else {
-        0
+pub const fn states_length(segments: u32, kib: u32) -> usize {
+    match size_of(segments, kib) {
+        Some(_) => STATE_WORDS * segments as usize,
+        None => 0,
     }
 }
 
-/// The words of the examination's scratch: 2176 n, or 0. A list of records, and two bitmaps.
+/// The words of the examination's scratch: 2176 n at 16 KiB, 4352 n at 32, or 0. A list of records, and two bitmaps.
 #[inline(always)]
-pub const fn scratch_length(segments: u32) -> usize {
-    if is_count(segments) {
-        (MOST_BLOCKS + 2 * BITMAP_WORDS) * segments as usize
-    } else {
-        0
+pub const fn scratch_length(segments: u32, kib: u32) -> usize {
+    match size_of(segments, kib) {
+        Some(size) => (size.most_blocks() + 2 * size.bitmap_words()) * segments as usize,
+        None => 0,
     }
 }
 
-/// The lent slice with its segment count, its length right.
+/// The lent slice with its segment count and size, its length right.
 pub struct Heap<M> {
     pub mem: M,
     pub segments: usize,
+    pub size: Size,
 }
 
 impl<M: Deref<Target = [u32]>> Heap<M> {
-    /// Refused 1 where the count or the length is wrong.
+    /// Refused 1 where the count, the size or the length is wrong.
     #[inline(always)]
-    pub fn over(segments: u32, mem: M) -> Answer<Heap<M>> {
-        if !fits(segments, mem.len()) {
-            return refuse(Refusal::SIZE);
+    pub fn over(segments: u32, kib: u32, mem: M) -> Answer<Heap<M>> {
+        match size_of(segments, kib) {
+            Some(size) if fits(segments, kib, mem.len()) => Ok(Heap { mem, segments: segments as usize, size }),
+            _ => refuse(Refusal::SIZE),
         }
-        Ok(Heap { mem, segments: segments as usize })
     }
 
     #[inline(always)]
@@ -134,19 +156,25 @@ impl<M: Deref<Target = [u32]>> Heap<M> {
         or_torn(words.first_chunk())
     }
 
+    /// So many words.
+    #[inline(always)]
+    pub fn run(&self, at: usize, length: usize) -> Answer<&[u32]> {
+        or_torn(self.mem.get(at..at.wrapping_add(length)))
+    }
+
     #[inline(always)]
     pub fn queued_bits(&self) -> usize {
-        BLOCKS + SEGMENT_WORDS * self.segments
+        BLOCKS + self.size.words() * self.segments
     }
 
     #[inline(always)]
     pub fn descriptors(&self) -> usize {
-        BLOCKS + (SEGMENT_WORDS + BITMAP_WORDS) * self.segments
+        BLOCKS + (self.size.words() + self.size.bitmap_words()) * self.segments
     }
 
     #[inline(always)]
     pub fn descriptor(&self, segment: usize) -> usize {
-        self.descriptors() + DESCRIPTOR_WORDS * segment
+        self.descriptors() + self.size.descriptor_words() * segment
     }
 
     /// The word of the trace stack that is its top at this height, which is not 0.
@@ -174,6 +202,11 @@ impl<M: DerefMut<Target = [u32]>> Heap<M> {
         or_torn(words.first_chunk_mut())
     }
 
+    #[inline(always)]
+    pub fn run_mut(&mut self, at: usize, length: usize) -> Answer<&mut [u32]> {
+        or_torn(self.mem.get_mut(at..at.wrapping_add(length)))
+    }
+
     /// The words of a mutator, or as many others, become 0.
     #[inline(always)]
     pub fn empty(&mut self, at: usize) -> Answer<()> {
@@ -183,8 +216,8 @@ impl<M: DerefMut<Target = [u32]>> Heap<M> {
 }
 
 /// An empty heap in memory of any content; refused 1 only. Blocks, bitmaps and the trace stack are written before they are read.
-pub fn open(segments: u32, mem: &mut [u32]) -> Answer<()> {
-    let mut heap = Heap::over(segments, mem)?;
+pub fn open(segments: u32, kib: u32, mem: &mut [u32]) -> Answer<()> {
+    let mut heap = Heap::over(segments, kib, mem)?;
     for mutator in 0..MUTATORS as usize {
         heap.empty(mutator * MUTATOR_WORDS)?;
     }

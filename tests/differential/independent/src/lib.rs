@@ -1,8 +1,8 @@
 //! The record heap and its incremental collector, written from document 01 and its change requests alone.
 //!
 //! It shares no code, no layout and no specification with the verified library: what the two answer alike, those papers say. The plain
-//! functions take the segment count, the lent slice and the call's numbers; `ffi` exports the same with the C interface's signatures and
-//! the prefix `independent_`. No function panics: memory that is not its own ends a call with refusal 13 or with some answer.
+//! functions take the segment count and size, the lent slice and the call's numbers; `ffi` exports the same with the C interface's
+//! signatures and the prefix `independent_`. No function panics: memory that is not its own ends a call with refusal 13 or with some answer.
 
 mod answers;
 mod bitmap;
@@ -15,6 +15,7 @@ mod layout;
 mod looks;
 mod mutators;
 mod segments;
+mod size;
 mod trace;
 
 pub use answers::{pack, pack_result, Answer, Refusal, Result32, Shape, Step};

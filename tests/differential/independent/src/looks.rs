@@ -8,8 +8,8 @@ use crate::segments::{CONDEMNED, FREE, HELD};
 
 /// The phase.
 #[inline]
-pub fn phase(segments: u32, mem: &[u32]) -> Answer<u32> {
-    match Heap::over(segments, mem)?.phase()? {
+pub fn phase(segments: u32, kib: u32, mem: &[u32]) -> Answer<u32> {
+    match Heap::over(segments, kib, mem)?.phase()? {
         phase if phase <= SWEEP => Ok(phase),
         _ => refuse(Refusal::TORN),
     }
@@ -18,21 +18,21 @@ pub fn phase(segments: u32, mem: &[u32]) -> Answer<u32> {
 impl<M: Deref<Target = [u32]>> Heap<M> {
     /// A segment's state, class, place and mutator, 0 for what its state does not have, and its two counts.
     fn state(&self, segment: usize) -> Answer<[u32; STATE_WORDS]> {
-        let descriptor = self.described(self.descriptor(segment))?;
-        let [class, place, mutator] = match descriptor[STATE] {
+        let head = self.head(self.descriptor(segment))?;
+        let [class, place, mutator] = match head[STATE] {
             FREE => [0; 3],
-            HELD => [descriptor[CLASS], descriptor[PLACE], descriptor[TIE]],
-            state if state <= CONDEMNED => [descriptor[CLASS], descriptor[PLACE], 0],
+            HELD => [head[CLASS], head[PLACE], head[TIE]],
+            state if state <= CONDEMNED => [head[CLASS], head[PLACE], 0],
             _ => return refuse(Refusal::TORN),
         };
-        Ok([descriptor[STATE], class, place, mutator, descriptor[KEPT], descriptor[HANDED_OUT]])
+        Ok([head[STATE], class, place, mutator, head[KEPT], head[HANDED_OUT]])
     }
 }
 
 /// Six words for each segment into the output, which a refusal leaves as it was.
-pub fn states(segments: u32, mem: &[u32], output: &mut [u32]) -> Answer<()> {
-    let heap = Heap::over(segments, mem)?;
-    if output.len() != states_length(segments) {
+pub fn states(segments: u32, kib: u32, mem: &[u32], output: &mut [u32]) -> Answer<()> {
+    let heap = Heap::over(segments, kib, mem)?;
+    if output.len() != states_length(segments, kib) {
         return refuse(Refusal::SIZE);
     }
     for segment in 0..heap.segments {

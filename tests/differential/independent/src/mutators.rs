@@ -122,8 +122,8 @@ impl<M: DerefMut<Target = [u32]>> Heap<M> {
 
 /// A mutator comes in, its roots nil.
 #[inline]
-pub fn attach(segments: u32, mem: &mut [u32], mutator: u32) -> Answer<()> {
-    let mut heap = Heap::over(segments, mem)?;
+pub fn attach(segments: u32, kib: u32, mem: &mut [u32], mutator: u32) -> Answer<()> {
+    let mut heap = Heap::over(segments, kib, mem)?;
     let own = words_of(mutator)?;
     heap.unused(own)?;
     let phase = heap.outside_handshake()?;
@@ -132,8 +132,8 @@ pub fn attach(segments: u32, mem: &mut [u32], mutator: u32) -> Answer<()> {
 
 /// A mutator comes in, its first root a copy of one of the parent's.
 #[inline]
-pub fn spawn(segments: u32, mem: &mut [u32], mutator: u32, parent: u32, root: u32) -> Answer<()> {
-    let mut heap = Heap::over(segments, mem)?;
+pub fn spawn(segments: u32, kib: u32, mem: &mut [u32], mutator: u32, parent: u32, root: u32) -> Answer<()> {
+    let mut heap = Heap::over(segments, kib, mem)?;
     let own = words_of(mutator)?;
     words_of(parent)?;
     heap.unused(own)?;
@@ -146,8 +146,8 @@ pub fn spawn(segments: u32, mem: &mut [u32], mutator: u32, parent: u32, root: u3
 
 /// A mutator goes; its roots are emptied and its segments become part.
 #[inline]
-pub fn detach(segments: u32, mem: &mut [u32], mutator: u32) -> Answer<()> {
-    let mut heap = Heap::over(segments, mem)?;
+pub fn detach(segments: u32, kib: u32, mem: &mut [u32], mutator: u32) -> Answer<()> {
+    let mut heap = Heap::over(segments, kib, mem)?;
     let own = heap.inside(mutator)?;
     heap.outside_handshake()?;
     heap.release_segments(own)?;
@@ -156,16 +156,16 @@ pub fn detach(segments: u32, mem: &mut [u32], mutator: u32) -> Answer<()> {
 
 /// Gives the acknowledgement that the mutator owes, if it does.
 #[inline]
-pub fn check(segments: u32, mem: &mut [u32], mutator: u32) -> Answer<()> {
-    let mut heap = Heap::over(segments, mem)?;
+pub fn check(segments: u32, kib: u32, mem: &mut [u32], mutator: u32) -> Answer<()> {
+    let mut heap = Heap::over(segments, kib, mem)?;
     let own = heap.inside(mutator)?;
     heap.acknowledge_if_owed(own)
 }
 
 /// A check, then outside.
 #[inline]
-pub fn leave(segments: u32, mem: &mut [u32], mutator: u32) -> Answer<()> {
-    let mut heap = Heap::over(segments, mem)?;
+pub fn leave(segments: u32, kib: u32, mem: &mut [u32], mutator: u32) -> Answer<()> {
+    let mut heap = Heap::over(segments, kib, mem)?;
     let own = heap.inside(mutator)?;
     heap.acknowledge_if_owed(own)?;
     heap.set(own + SIDE, OUTSIDE)
@@ -173,8 +173,8 @@ pub fn leave(segments: u32, mem: &mut [u32], mutator: u32) -> Answer<()> {
 
 /// Inside again; an acknowledgement owed stays owed.
 #[inline]
-pub fn enter(segments: u32, mem: &mut [u32], mutator: u32) -> Answer<()> {
-    let mut heap = Heap::over(segments, mem)?;
+pub fn enter(segments: u32, kib: u32, mem: &mut [u32], mutator: u32) -> Answer<()> {
+    let mut heap = Heap::over(segments, kib, mem)?;
     let own = words_of(mutator)?;
     heap.on_side(own, OUTSIDE)?;
     heap.set(own + SIDE, INSIDE)

@@ -2,13 +2,11 @@
 
 use core::ops::{Deref, DerefMut};
 
-use crate::answers::{or_torn, Answer, Refusal};
+use crate::answers::{Answer, Refusal};
 use crate::bitmap::{self, Tree};
 use crate::classes;
-use crate::layout::{
-    part_top, Heap, BITMAP_WORDS, BLOCKS, CLASS, DESCRIPTOR_WORDS, FREE_TOP, HANDED_OUT, KEPT, LEVEL0, MARKS, NEXT, NUMBER, PLACE, SEGMENT_WORDS,
-    STATE, SUMMARY, TIE,
-};
+use crate::layout::{part_top, Heap, BLOCKS, CLASS, FREE_TOP, HANDED_OUT, HEAD_WORDS, KEPT, NEXT, NUMBER, PLACE, STATE, TIE};
+use crate::size::Size;
 
 /// States, as the look gives them.
 pub const FREE: u32 = 0;
@@ -17,27 +15,38 @@ pub const HELD: u32 = 2;
 pub const FULL: u32 = 3;
 pub const CONDEMNED: u32 = 4;
 
-pub type Descriptor = [u32; DESCRIPTOR_WORDS];
+/// The head of a descriptor.
+pub type Head = [u32; HEAD_WORDS];
 
-/// The bitmap tree of a descriptor.
-#[inline(always)]
-pub fn tree(descriptor: &Descriptor) -> Answer<Tree<'_>> {
-    let level0 = or_torn(descriptor[LEVEL0..].first_chunk())?;
-    let summary = u64::from(descriptor[SUMMARY]) | u64::from(descriptor[SUMMARY + 1]) << 32;
-    Ok(Tree { level0, summary })
+/// A summary of a bitmap's words; the bits of words that there are not are 1.
+fn joined(words: &[u32]) -> u128 {
+    words.iter().rev().fold(u128::MAX, |above, &word| above << 32 | u128::from(word))
+}
+
+fn write_summary(words: &mut [u32], summary: u128) {
+    for (index, word) in words.iter_mut().enumerate() {
+        *word = (summary >> (32 * index % 128)) as u32;
+    }
 }
 
 impl<M: Deref<Target = [u32]>> Heap<M> {
     #[inline(always)]
-    pub fn described(&self, at: usize) -> Answer<&Descriptor> {
-        self.array(at)
+    pub fn head(&self, descriptor: usize) -> Answer<&Head> {
+        self.array(descriptor)
+    }
+
+    /// The bitmap tree of a descriptor.
+    #[inline(always)]
+    pub fn tree(&self, descriptor: usize) -> Answer<Tree<'_>> {
+        let summary = joined(self.run(descriptor + HEAD_WORDS, self.size.summary_words())?);
+        Ok(Tree { level0: self.run(descriptor + self.size.level0(), self.size.bitmap_words())?, summary })
     }
 
     /// The first word of the block that the next make of a held segment takes.
     #[inline(always)]
     pub fn next_block(&self, descriptor: usize, class: u32) -> Answer<usize> {
-        let words = self.described(descriptor)?;
-        Ok(BLOCKS + words[NUMBER] as usize * SEGMENT_WORDS + classes::block_start(class, words[NEXT]) as usize)
+        let head = self.head(descriptor)?;
+        Ok(BLOCKS + head[NUMBER] as usize * self.size.words() + classes::block_start(class, head[NEXT]) as usize)
     }
 }
 
@@ -69,7 +78,7 @@ impl<M: DerefMut<Target = [u32]>> Heap<M> {
             Some(descriptor) => descriptor,
             None => {
                 let descriptor = self.pop(FREE_TOP)?.ok_or(Refusal::NO_ROOM)?;
-                empty(self.array_mut(descriptor)?, class);
+                self.empty_bitmap(descriptor, class)?;
                 descriptor
             }
         };
@@ -83,66 +92,68 @@ impl<M: DerefMut<Target = [u32]>> Heap<M> {
     /// The one search is for the block that the next make takes.
     #[inline(always)]
     pub fn advance(&mut self, descriptor: usize, held: usize, class: u32) -> Answer<()> {
-        let words: &mut Descriptor = self.array_mut(descriptor)?;
-        words[HANDED_OUT] = words[HANDED_OUT].wrapping_add(1);
-        let block = words[NEXT];
-        let word = words[LEVEL0 + block as usize / 32 % BITMAP_WORDS];
+        let block = self.head(descriptor)?[NEXT];
+        let index = block as usize / 32 % self.size.bitmap_words();
+        let word = self.word(descriptor + self.size.level0() + index)?;
+        let head: &mut Head = self.array_mut(descriptor)?;
+        head[HANDED_OUT] = head[HANDED_OUT].wrapping_add(1);
         if let Some(next) = bitmap::next_in_word(word, block) {
-            words[PLACE] = block.wrapping_add(1);
-            words[NEXT] = next;
+            head[PLACE] = block.wrapping_add(1);
+            head[NEXT] = next;
             return Ok(());
         }
-        advance_further(self.segments, &mut self.mem, descriptor, held, class)
+        advance_further(self.segments, self.size, &mut self.mem, descriptor, held, class)
+    }
+
+    /// The free segment of a descriptor becomes one of the class whose blocks' bits are all 0, place 0.
+    fn empty_bitmap(&mut self, descriptor: usize, class: u32) -> Answer<()> {
+        let size = self.size;
+        let head: &mut Head = self.array_mut(descriptor)?;
+        (head[CLASS], head[PLACE], head[NEXT]) = (class, 0, 0);
+        self.set_summary(descriptor, bitmap::empty_summary(size, class))?;
+        self.run_mut(descriptor + size.level0(), size.bitmap_words())?.fill(0);
+        self.set(descriptor + size.level0(), size.padding(class))
+    }
+
+    #[inline(always)]
+    pub fn set_summary(&mut self, descriptor: usize, summary: u128) -> Answer<()> {
+        write_summary(self.run_mut(descriptor + HEAD_WORDS, self.size.summary_words())?, summary);
+        Ok(())
     }
 }
 
 /// The place where the next free block is in another word, if there is one.
 #[inline(never)]
-fn advance_further(segments: usize, mem: &mut [u32], descriptor: usize, held: usize, class: u32) -> Answer<()> {
-    let mut heap = Heap { mem, segments };
-    let words: &mut Descriptor = heap.array_mut(descriptor)?;
-    let place = words[NEXT].wrapping_add(1);
-    match tree(words)?.next_free(classes::blocks(class), place) {
+fn advance_further(segments: usize, size: Size, mem: &mut [u32], descriptor: usize, held: usize, class: u32) -> Answer<()> {
+    let mut heap = Heap { mem, segments, size };
+    let place = heap.head(descriptor)?[NEXT].wrapping_add(1);
+    let next = heap.tree(descriptor)?.next_free(size.blocks(class), place);
+    let head: &mut Head = heap.array_mut(descriptor)?;
+    match next {
         Some(next) => {
-            words[PLACE] = place;
-            words[NEXT] = next;
+            head[PLACE] = place;
+            head[NEXT] = next;
             Ok(())
         }
         None => {
-            fill_up(words, class);
+            fill_up(head, size, class);
             heap.set(held, 0)
         }
     }
 }
 
-/// A descriptor of a free segment becomes one of the class whose blocks' bits are all 0, place 0.
-fn empty(descriptor: &mut Descriptor, class: u32) {
-    descriptor[CLASS] = class;
-    descriptor[PLACE] = 0;
-    descriptor[NEXT] = 0;
-    descriptor[LEVEL0..MARKS].fill(0);
-    descriptor[LEVEL0] = classes::padding(class);
-    set_summary(descriptor, bitmap::empty_summary(class));
-}
-
 /// The segment becomes full: its place is its number of blocks.
 #[inline(always)]
-pub fn fill_up(descriptor: &mut Descriptor, class: u32) {
-    descriptor[STATE] = FULL;
-    descriptor[PLACE] = classes::blocks(class);
-    descriptor[NEXT] = classes::blocks(class);
-    descriptor[TIE] = 0;
+pub fn fill_up(head: &mut Head, size: Size, class: u32) {
+    head[STATE] = FULL;
+    head[PLACE] = size.blocks(class);
+    head[NEXT] = size.blocks(class);
+    head[TIE] = 0;
 }
 
 /// A sweep has kept so many blocks, and none is handed out since.
 #[inline(always)]
-pub fn recount(descriptor: &mut [u32], kept: u32) {
-    descriptor[KEPT] = kept;
-    descriptor[HANDED_OUT] = 0;
-}
-
-#[inline(always)]
-pub fn set_summary(descriptor: &mut Descriptor, summary: u64) {
-    descriptor[SUMMARY] = summary as u32;
-    descriptor[SUMMARY + 1] = (summary >> 32) as u32;
+pub fn recount(head: &mut Head, kept: u32) {
+    head[KEPT] = kept;
+    head[HANDED_OUT] = 0;
 }

@@ -7,7 +7,7 @@ use core::ops::{Deref, DerefMut};
 
 use crate::answers::{or_torn, Answer};
 use crate::classes;
-use crate::layout::{Heap, BITMAP_WORDS, BLOCKS, CLASS, MARKS, SEGMENT_WORDS, TRACE_HEIGHT};
+use crate::layout::{Heap, BLOCKS, CLASS, TRACE_HEIGHT};
 
 /// A word of a bitmap and the one bit in it.
 #[derive(Clone, Copy)]
@@ -28,10 +28,11 @@ impl<M: Deref<Target = [u32]>> Heap<M> {
     #[inline(always)]
     pub fn mark_bit(&self, reference: u32) -> Answer<Bit> {
         let offset = reference.wrapping_sub(BLOCKS as u32);
-        let descriptor = self.descriptor(offset as usize / SEGMENT_WORDS);
+        let (segment, within) = self.size.split(offset);
+        let descriptor = self.descriptor(segment);
         let class = self.word(descriptor + CLASS)?;
-        let block = classes::block_at(class, offset % SEGMENT_WORDS as u32);
-        Ok(Bit { at: descriptor + MARKS + (block / 32) as usize, mask: 1 << (block % 32) })
+        let block = classes::block_at(class, within);
+        Ok(Bit { at: descriptor + self.size.marks() + (block / 32) as usize, mask: 1 << (block % 32) })
     }
 }
 
@@ -72,7 +73,8 @@ impl<M: DerefMut<Target = [u32]>> Heap<M> {
         self.mark(reference)?;
         let pointers = (self.word(reference as usize)? >> 16) as usize;
         let first = reference as usize + 1;
-        let (blocks, rest) = or_torn(self.mem.split_at_mut_checked(BLOCKS + SEGMENT_WORDS * self.segments))?;
+        let from = self.queued_bits();
+        let (blocks, rest) = or_torn(self.mem.split_at_mut_checked(from))?;
         for reference in or_torn(blocks.get(first..first.wrapping_add(pointers)))? {
             queue_in(rest, *reference, &mut height)?;
         }
@@ -82,9 +84,11 @@ impl<M: DerefMut<Target = [u32]>> Heap<M> {
 
     /// No mark, and nothing queued.
     pub fn clear_marks(&mut self) -> Answer<()> {
+        let (queued, words) = (self.queued_bits(), self.size.bitmap_words());
+        self.run_mut(queued, words * self.segments)?.fill(0);
         for segment in 0..self.segments {
-            *self.array_mut(self.queued_bits() + segment * BITMAP_WORDS)? = [0; BITMAP_WORDS];
-            *self.array_mut(self.descriptor(segment) + MARKS)? = [0; BITMAP_WORDS];
+            let marks = self.descriptor(segment) + self.size.marks();
+            self.run_mut(marks, words)?.fill(0);
         }
         Ok(())
     }

@@ -1,8 +1,8 @@
-//! Request No. 7: how many steps a cycle takes, by hand, against B + C + 4. Each segment has four blocks (class 12).
+//! Request No. 7: how many steps a cycle takes, by hand, against B + C + 4. Each segment has four blocks.
 
 mod common;
 
-use common::World;
+use common::{World, SIZES};
 use independent::{Step, CONDEMNED, MARK};
 
 /// A started cycle: the steps that are neither refused nor answered waiting, C, and B once the phase is mark.
@@ -51,123 +51,137 @@ impl Cycle {
 }
 
 /// Two segments, the first full of four records in roots 0 to 3 of mutator 0.
-fn world() -> World {
-    let mut world = World::new(2);
+fn world(kib: u32) -> World {
+    let mut world = World::new(2, kib);
     assert_eq!(world.attach(0), Ok(()));
     world.fill_segment(0);
     world
 }
 
 fn make(world: &mut World, root: u32) {
-    assert_eq!(world.make(0, root, 1, 600), Ok(()));
+    assert_eq!(world.make_quarter(0, root), Ok(()));
 }
 
 /// Three of four are reached.
 #[test]
 fn whole_case() {
-    let mut world = world();
-    assert_eq!(world.store(0, 0, 0, 1), Ok(()));
-    assert_eq!(world.clear(0, 1), Ok(()));
-    assert_eq!(world.clear(0, 2), Ok(()));
-    let mut cycle = start(&mut world);
-    cycle.to_mark(&mut world);
-    assert_eq!(cycle.finish(&mut world), [8, 4, 1]);
+    for kib in SIZES {
+        let mut world = world(kib);
+        assert_eq!(world.store(0, 0, 0, 1), Ok(()));
+        assert_eq!(world.clear(0, 1), Ok(()));
+        assert_eq!(world.clear(0, 2), Ok(()));
+        let mut cycle = start(&mut world);
+        cycle.to_mark(&mut world);
+        assert_eq!(cycle.finish(&mut world), [8, 4, 1]);
+    }
 }
 
 /// Every block is reached: as many steps as can be.
 #[test]
 fn reached_exactly() {
-    let mut world = world();
-    let mut cycle = start(&mut world);
-    cycle.to_mark(&mut world);
-    assert_eq!(cycle.finish(&mut world), [9, 4, 1]);
+    for kib in SIZES {
+        let mut world = world(kib);
+        let mut cycle = start(&mut world);
+        cycle.to_mark(&mut world);
+        assert_eq!(cycle.finish(&mut world), [9, 4, 1]);
+    }
 }
 
 /// No segment is condemned: the traced ones and four.
 #[test]
 fn over_nothing() {
-    for records in 0..4 {
-        let mut world = World::new(2);
-        assert_eq!(world.attach(0), Ok(()));
-        (0..records).for_each(|root| make(&mut world, root));
-        let mut cycle = start(&mut world);
-        cycle.to_mark(&mut world);
-        assert_eq!(cycle.finish(&mut world), [records + 4, records, 0]);
+    for kib in SIZES {
+        for records in 0..4 {
+            let mut world = World::new(2, kib);
+            assert_eq!(world.attach(0), Ok(()));
+            (0..records).for_each(|root| make(&mut world, root));
+            let mut cycle = start(&mut world);
+            cycle.to_mark(&mut world);
+            assert_eq!(cycle.finish(&mut world), [records + 4, records, 0]);
+        }
     }
 }
 
 /// A part segment is among the condemned ones.
 #[test]
 fn part_segments_count() {
-    let mut world = World::new(2);
-    assert_eq!(world.attach(0), Ok(()));
-    (0..2).for_each(|root| make(&mut world, root));
-    assert_eq!(world.spawn(1, 0, 1), Ok(()));
-    assert_eq!(world.detach(0), Ok(()));
-    assert_eq!(world.leave(1), Ok(()));
-    let mut cycle = start(&mut world);
-    for _ in 0..2 {
-        assert_eq!(cycle.step(&mut world), Step::Moved);
+    for kib in SIZES {
+        let mut world = World::new(2, kib);
+        assert_eq!(world.attach(0), Ok(()));
+        (0..2).for_each(|root| make(&mut world, root));
+        assert_eq!(world.spawn(1, 0, 1), Ok(()));
+        assert_eq!(world.detach(0), Ok(()));
+        assert_eq!(world.leave(1), Ok(()));
+        let mut cycle = start(&mut world);
+        for _ in 0..2 {
+            assert_eq!(cycle.step(&mut world), Step::Moved);
+        }
+        assert_eq!(cycle.finish(&mut world), [6, 2, 1]);
     }
-    assert_eq!(cycle.finish(&mut world), [6, 2, 1]);
 }
 
 /// Records made in a handshake before the mutator's second acknowledgement are traced: more steps than by the blocks in
 /// use at the start. Those made after it, in the second handshake and in mark, are born marked.
 #[test]
 fn made_meanwhile() {
-    let mut world = World::new(2);
-    assert_eq!(world.attach(0), Ok(()));
-    assert_eq!(in_use(&world), 0);
-    let mut cycle = start(&mut world);
-    make(&mut world, 0);
-    assert_eq!(world.check(0), Ok(()));
-    assert_eq!(cycle.step(&mut world), Step::Moved);
-    make(&mut world, 1);
-    assert_eq!(world.check(0), Ok(()));
-    make(&mut world, 2);
-    assert_eq!(cycle.step(&mut world), Step::Moved);
-    make(&mut world, 3);
-    assert_eq!(in_use(&world), 4);
-    assert_eq!(cycle.finish(&mut world), [6, 3, 0]);
+    for kib in SIZES {
+        let mut world = World::new(2, kib);
+        assert_eq!(world.attach(0), Ok(()));
+        assert_eq!(in_use(&world), 0);
+        let mut cycle = start(&mut world);
+        make(&mut world, 0);
+        assert_eq!(world.check(0), Ok(()));
+        assert_eq!(cycle.step(&mut world), Step::Moved);
+        make(&mut world, 1);
+        assert_eq!(world.check(0), Ok(()));
+        make(&mut world, 2);
+        assert_eq!(cycle.step(&mut world), Step::Moved);
+        make(&mut world, 3);
+        assert_eq!(in_use(&world), 4);
+        assert_eq!(cycle.finish(&mut world), [6, 3, 0]);
+    }
 }
 
 /// Pointers put back and forth in mark enter no record twice: four blocks are traced, each once.
 #[test]
 fn each_traced_once() {
-    let mut world = world();
-    for root in 0..4 {
-        assert_eq!(world.store(0, root, 0, (root + 1) % 4), Ok(()));
-    }
-    let mut cycle = start(&mut world);
-    cycle.to_mark(&mut world);
-    let mut traced = 0;
-    while world.phase() == MARK {
-        traced += u32::from(cycle.step(&mut world) == Step::Traced);
-        for root in 0..8 {
-            assert_eq!(world.store(0, root % 4, 0, (root + traced) % 4), Ok(()));
+    for kib in SIZES {
+        let mut world = world(kib);
+        for root in 0..4 {
+            assert_eq!(world.store(0, root, 0, (root + 1) % 4), Ok(()));
         }
+        let mut cycle = start(&mut world);
+        cycle.to_mark(&mut world);
+        let mut traced = 0;
+        while world.phase() == MARK {
+            traced += u32::from(cycle.step(&mut world) == Step::Traced);
+            for root in 0..8 {
+                assert_eq!(world.store(0, root % 4, 0, (root + traced) % 4), Ok(()));
+            }
+        }
+        assert_eq!(traced, 4);
+        assert_eq!(cycle.finish(&mut world), [9, 4, 1]);
     }
-    assert_eq!(traced, 4);
-    assert_eq!(cycle.finish(&mut world), [9, 4, 1]);
 }
 
 /// Waiting is answered for the mutators inside that owe, and not for those outside; where none is left, it moves on.
 #[test]
 fn waits_for_those_inside() {
-    let mut world = World::new(1);
-    for mutator in 0..4 {
-        assert_eq!(world.attach(mutator), Ok(()));
-    }
-    assert_eq!(world.leave(3), Ok(()));
-    let mut cycle = start(&mut world);
-    for inside in [3, 2] {
-        for mutator in 0..inside {
-            assert_eq!(cycle.step(&mut world), Step::Waiting(inside - mutator));
-            let answer = if mutator == 2 { world.leave(2) } else { world.check(mutator) };
-            assert_eq!(answer, Ok(()));
+    for kib in SIZES {
+        let mut world = World::new(1, kib);
+        for mutator in 0..4 {
+            assert_eq!(world.attach(mutator), Ok(()));
         }
-        assert_eq!(cycle.step(&mut world), Step::Moved);
+        assert_eq!(world.leave(3), Ok(()));
+        let mut cycle = start(&mut world);
+        for inside in [3, 2] {
+            for mutator in 0..inside {
+                assert_eq!(cycle.step(&mut world), Step::Waiting(inside - mutator));
+                let answer = if mutator == 2 { world.leave(2) } else { world.check(mutator) };
+                assert_eq!(answer, Ok(()));
+            }
+            assert_eq!(cycle.step(&mut world), Step::Moved);
+        }
+        assert_eq!(cycle.finish(&mut world), [4, 0, 0]);
     }
-    assert_eq!(cycle.finish(&mut world), [4, 0, 0]);
 }

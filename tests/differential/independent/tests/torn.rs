@@ -10,38 +10,39 @@ impl Random {
 }
 
 /// Plays a call with small numbers; the refusal, or 0.
-fn play(random: &mut Random, segments: u32, mem: &mut [u32]) -> u32 {
+fn play(random: &mut Random, (segments, kib): (u32, u32), mem: &mut [u32]) -> u32 {
     use independent::*;
     let (call, m, a, b, c) = (random.next() % 20, random.next() % 5, random.next() % 16, random.next() % 16, random.next() % 3);
-    let mut output = vec![0; states_length(segments)];
-    let mut scratch = vec![0; scratch_length(segments)];
+    let mut output = vec![0; states_length(segments, kib)];
+    let mut scratch = vec![0; scratch_length(segments, kib)];
     match call {
-        0 => pack(attach(segments, mem, m)),
-        1 => pack(spawn(segments, mem, m, c, a)),
-        2 => pack(detach(segments, mem, m)),
+        0 => pack(attach(segments, kib, mem, m)),
+        1 => pack(spawn(segments, kib, mem, m, c, a)),
+        2 => pack(detach(segments, kib, mem, m)),
         3..=5 => {
             let most = [300, 300, 4200][random.next() as usize % 3];
-            pack(make(segments, mem, m, a, b, random.next() % most))
+            pack(make(segments, kib, mem, m, a, b, random.next() % most))
         }
-        6 => pack(load(segments, mem, m, a, b, c)),
-        7 => pack(store(segments, mem, m, a, c, b)),
-        8 => pack(put(segments, mem, m, a, c, 5)),
-        9 => pack_result(get(segments, mem, m, a, c)) as u32,
-        10 => pack(copy(segments, mem, m, a, b)),
-        11 => pack(clear(segments, mem, m, a)),
-        12 => pack(check(segments, mem, m)),
-        13 => pack(leave(segments, mem, m)),
-        14 => pack(enter(segments, mem, m)),
-        15 => pack(start(segments, mem)),
-        16 => pack(states(segments, mem, &mut output)),
-        17 => pack_result(examine(segments, mem, &mut scratch)) as u32,
-        _ => pack_result(step(segments, mem)) as u32,
+        6 => pack(load(segments, kib, mem, m, a, b, c)),
+        7 => pack(store(segments, kib, mem, m, a, c, b)),
+        8 => pack(put(segments, kib, mem, m, a, c, 5)),
+        9 => pack_result(get(segments, kib, mem, m, a, c)) as u32,
+        10 => pack(copy(segments, kib, mem, m, a, b)),
+        11 => pack(clear(segments, kib, mem, m, a)),
+        12 => pack(check(segments, kib, mem, m)),
+        13 => pack(leave(segments, kib, mem, m)),
+        14 => pack(enter(segments, kib, mem, m)),
+        15 => pack(start(segments, kib, mem)),
+        16 => pack(states(segments, kib, mem, &mut output)),
+        17 => pack_result(examine(segments, kib, mem, &mut scratch)) as u32,
+        _ => pack_result(step(segments, kib, mem)) as u32,
     }
 }
 
-fn play_many(random: &mut Random, segments: u32, mem: &mut [u32], calls: u32) {
+/// Plays calls over so many segments of a size.
+fn play_many(random: &mut Random, of: (u32, u32), mem: &mut [u32], calls: u32) {
     for _ in 0..calls {
-        let refusal = play(random, segments, mem);
+        let refusal = play(random, of, mem);
         assert!(refusal <= 13 && refusal != 1 && refusal != 12, "refused {refusal}");
     }
 }
@@ -49,47 +50,51 @@ fn play_many(random: &mut Random, segments: u32, mem: &mut [u32], calls: u32) {
 #[test]
 fn random_words() {
     let mut random = Random(3);
-    for round in 0..60 {
-        let segments = 1 + round % 3;
+    for round in 0..120 {
+        let (segments, kib) = (1 + round % 3, [16, 32][round as usize / 3 % 2]);
         let largest = [2, 16, 2000, 30_000, u32::MAX][round as usize % 5];
-        let mut mem: Vec<u32> = (0..independent::length(segments)).map(|_| random.next() % largest).collect();
+        let mut mem: Vec<u32> = (0..independent::length(segments, kib)).map(|_| random.next() % largest).collect();
         for mutator in 0..5 {
             mem[mutator * 32 + 16] = 1;
         }
         mem[1024] = round % 6;
-        play_many(&mut random, segments, &mut mem, 300);
+        play_many(&mut random, (segments, kib), &mut mem, 300);
     }
+}
+
+/// A heap of two segments with mutator 0 inside.
+fn opened(kib: u32) -> Vec<u32> {
+    let mut mem = vec![0; independent::length(2, kib)];
+    assert_eq!(independent::open(2, kib, &mut mem), Ok(()));
+    assert_eq!(independent::attach(2, kib, &mut mem, 0), Ok(()));
+    mem
 }
 
 /// The class of each segment is a number that is none, or that of another class.
 #[test]
 fn other_classes() {
     let mut random = Random(5);
-    for round in 0..60 {
-        let mut mem = vec![0; independent::length(2)];
-        assert_eq!(independent::open(2, &mut mem), Ok(()));
-        assert_eq!(independent::attach(2, &mut mem, 0), Ok(()));
-        play_many(&mut random, 2, &mut mem, 100);
-        for segment in 0..2 {
-            mem[1040 + 4160 * 2 + 138 * segment + 1] = [0, 2, 13, 14, 15, 16, 31, 32, 33, u32::MAX][round % 10];
+    for (round, (kib, descriptors)) in (0..60).flat_map(|round| [(16, [9360, 9498]), (32, [17_680, 17_948])].map(|at| (round, at))) {
+        let mut mem = opened(kib);
+        play_many(&mut random, (2, kib), &mut mem, 100);
+        for descriptor in descriptors {
+            mem[descriptor + 1] = [0, 2, 13, 14, 15, 16, 31, 32, 33, u32::MAX][round % 10];
         }
-        play_many(&mut random, 2, &mut mem, 100);
+        play_many(&mut random, (2, kib), &mut mem, 100);
     }
 }
 
 #[test]
 fn flipped_bits() {
     let mut random = Random(8);
-    for _ in 0..120 {
-        let mut mem = vec![0; independent::length(2)];
-        assert_eq!(independent::open(2, &mut mem), Ok(()));
-        assert_eq!(independent::attach(2, &mut mem, 0), Ok(()));
-        play_many(&mut random, 2, &mut mem, 60);
+    for kib in (0..120).flat_map(|_| [16, 32]) {
+        let mut mem = opened(kib);
+        play_many(&mut random, (2, kib), &mut mem, 60);
         for _ in 0..6 {
             let end = [1040, mem.len() as u32][random.next() as usize % 2];
             let at = random.next() % end;
             mem[at as usize] ^= 1 << (random.next() % 32);
-            play_many(&mut random, 2, &mut mem, 40);
+            play_many(&mut random, (2, kib), &mut mem, 40);
         }
     }
 }
