@@ -1,14 +1,14 @@
 -- What the two sizes have to do with each other: twice the blocks, and no length in common.
-use mathlib.Core.Path.{_≡_, refl, _∙_, ap}
+use mathlib.Core.Path.{_≡_, refl}
 use mathlib.Core.Logic.{_⊎_, inl, inr}
 use mathlib.Core.Bool.{Bool, true, false}
 use Prim.Native.Nat.{ℕ, zero, suc, _-_, _*_, _≤_}
 use native.Mathlib.Omega.{arith}
-use Rattle.classes.specs.Shape.{segmentSize, blocksOf}
+use Rattle.classes.specs.Shape.{segmentSize}
 use Rattle.classes.proofs.Filling.{divides, blocks}
 use Rattle.layout.specs.declared.Geometry.{Geometry}
 use Rattle.layout.specs.Geometry.{smallKib, largeKib, maxSegments, Sized, total, wrongSize}
-use Rattle.layout.specs.TwoSizes.{TwiceTheBlocks, Lengths, LengthsAre, OpensAtEither, AnotherRefused}
+use Rattle.layout.specs.TwoSizes.{TwiceTheBlocks, LengthsAre, OpensAtEither, AnotherRefused}
 use Rattle.layout.proofs.Sizes.{large-bytes, small-bytes, either-of}
 use Rattle.layout.proofs.Regions.{sized, right-size}
 

@@ -149,7 +149,7 @@ pub fn no_kib(kib: u32) -> bool
     kib != LARGE_KIB
 }
 
-// Whether the count of segments, their size or the length is wrong.
+// Whether the count of segments, their size or the length is wrong. The words of a segment come from the test of the size, so it is tested once.
 pub fn wrong_size(g: Geometry, x: usize) -> bool
     ensures { λ r. ⌜ r ≡ wrongSize g x ⌝ }
 {
