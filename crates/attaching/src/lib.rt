@@ -1,5 +1,7 @@
 // The mutators' calls of coming and going: attach, spawn and detach. None of the three has a `requires`; each keeps the model's promise of it. Over memory
 // that fails the examination an entry may name a segment that is none, or a part stack have no room: then the answer is 13.
+#![tactic(auto)]
+
 ghost use Rattle.std.specs.Prelude.{◌≡◌, ◌<◌, length};
 ghost use Rattle.classes.specs.Class.{IsClass};
 ghost use Rattle.layout.specs.Geometry.{Sized, mutator_count};

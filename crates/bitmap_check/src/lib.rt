@@ -1,4 +1,6 @@
 // The check of a bitmap tree: whether the words at the head of a slice are a consistent tree of n bits, decided both ways.
+#![tactic(auto)]
+
 ghost use Rattle.std.specs.Prelude.{◌+◌, ◌≤◌, ◌<◌, length, drop};
 ghost use Rattle.basics.specs.Decides.{Decides};
 ghost use Rattle.words.specs.Levels.{words_for, tree_words};

@@ -1,5 +1,7 @@
 // The search for a free block: a bit pointer climbs the bitmap tree one level where the rest of a word is full, and comes
 // back down to the block. It is safe over words of any content, and finds what a plain scan finds in a consistent tree.
+#![tactic(auto)]
+
 ghost use Rattle.std.specs.Prelude.{◌≡◌, ◌+◌, ◌-◌, ◌/◌, ◌^◌, ◌≤◌, ◌<◌, length};
 ghost use Rattle.words.specs.Levels.{words_for, tree_words};
 ghost use Rattle.bitmap_search.specs.Pointer.{pos_at, with_pos, aimed, index_of, pos_of, ptr_to};

@@ -1,5 +1,7 @@
 // Bitmap trees written: the upper levels rebuilt over level 0, a fresh tree of free blocks, and a tree whose level 0 becomes
 // given mark words. The tree stands at the head of the lent slice; what stands behind it is left as it is.
+#![tactic(auto)]
+
 ghost use Rattle.std.specs.Prelude.{◌≡◌, ◌⊎◌, true, ℕ, ◌+◌, ◌-◌, ◌*◌, ◌^◌, ◌≤◌, ◌<◌, length, drop};
 ghost use Rattle.words.specs.Bits.{bit_at, ones_among};
 ghost use Rattle.words.specs.Levels.{words_for, tree_words};

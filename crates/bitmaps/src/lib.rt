@@ -1,5 +1,7 @@
 // A segment's bitmap tree and its marks in the lent slice: a fresh tree, the next free block and whether another remains, the tree whose level 0
 // becomes the marks and how many they are, whether there is none, and how many blocks are in use.
+#![tactic(auto)]
+
 ghost use Rattle.std.specs.Prelude.{◌≡◌, true, ◌≤◌, ◌<◌, length};
 ghost use Rattle.words.specs.Bits.{bit_at, ones_among};
 ghost use Rattle.words.specs.Levels.{words_for};

@@ -1,5 +1,7 @@
 // The heap for programs in C and Rust: every call and every look as an exported function over the lent slice, which C passes as a pointer and a length. An answer is
 // packed in a number; `unpack` and its like in packing's specs say which answer a number stands for.
+#![tactic(auto)]
+
 ghost use Rattle.std.specs.Prelude.{◌≡◌};
 ghost use Rattle.theory.specs.Calls.{c-attach, c_spawn, c-detach, c-check, c_leave, c_enter, c_make, c_load, c_store, c_copy, c_clear, c_put, c_get, c_same, c_shape};
 ghost use Rattle.layout.specs.Geometry.{layout_number, total, scratch_words, sheet_bytes};

@@ -1,6 +1,8 @@
 // Reads standard input line by line, and prints for each line the form that it is, written anew and then as a word with its numbers,
 // or (bad), or (bad) long for a line of more than 80 bytes. The input comes in pieces of 64 bytes, so that lines are split. Its good
 // lines are those of document 01's whole case and a line of each form with different numbers; its bad lines are by hand.
+#![tactic(auto)]
+
 use bracket_forms::{Form, Reading, Reply};
 use bracket_lines::Found;
 use libc::{STDIN_FILENO, STDOUT_FILENO};

@@ -1,5 +1,7 @@
 // The forms of the bracket program: the reader from a line, without its line feed, to a form, and the writers of replies and
 // forms. The words and places of a form and of a reply are a fixed byte string with a name, by which it is read and written.
+#![tactic(auto)]
+
 ghost use Rattle.std.specs.Prelude.{◌≡◌, ◌≤◌, length};
 ghost use Rattle.bracket_text.specs.Text.{fill, Written};
 ghost use Rattle.bracket_text.specs.Fixed.{trimmed};

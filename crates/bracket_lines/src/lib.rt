@@ -1,5 +1,7 @@
 // Splits a stream of bytes into lines. A line may come in pieces, and its first 80 bytes are kept in a buffer that the
 // caller lends; of a longer line only that it was too long is told, once.
+#![tactic(auto)]
+
 ghost use Rattle.std.specs.Prelude.{◌≡◌};
 ghost use Rattle.bracket_lines.specs.Split.{step_of, keep, finished, Scans};
 

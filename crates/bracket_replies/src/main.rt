@@ -1,5 +1,7 @@
 // Prints a reply of each kind, and those with the least and the greatest numbers. The stored output is document 01's right
 // column where it has the reply, and by hand elsewhere.
+#![tactic(auto)]
+
 use bracket_forms::Reply;
 use libc::STDOUT_FILENO;
 

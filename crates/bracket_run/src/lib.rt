@@ -1,4 +1,6 @@
 // The bracket program's loop: standard input is read in pieces to its end, and the replies to the lines that end in a piece are written at once.
+#![tactic(auto)]
+
 ghost use Rattle.std.specs.Prelude.{◌≡◌, ◌+◌, ◌*◌, ◌≤◌, [], ◌∷◌, length, take};
 ghost use Rattle.bracket_forms.specs.Replies.{reply_text};
 ghost use Rattle.bracket_run.specs.Printed.{Prints, Wrote, Passed, most_reply, LineWithin};

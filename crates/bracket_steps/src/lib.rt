@@ -1,5 +1,7 @@
 // A line of the bracket program in, its reply out: the line's form is carried out by the call that it stands for, over a heap of one or
 // two segments in memory that the caller lends. The state beside the memory is a value: how many segments are open.
+#![tactic(auto)]
+
 ghost use Rattle.std.specs.Prelude.{◌≡◌, length};
 ghost use Rattle.model.specs.Answers.{answer_of, step_answer_of};
 ghost use Rattle.bracket_steps.specs.Said.{reply_of, task_of, segments_for, one_or_two, room_words, Answers};

@@ -1,6 +1,8 @@
 // Numbers and templates in a line of bytes. A template is the text of a form with `#` for each number: reading compares
 // a line with it, and writing copies it, with the numbers' decimals in their places. It lies in a fixed byte string, which may
 // have spaces after it.
+#![tactic(auto)]
+
 ghost use Rattle.std.specs.Prelude.{◌≡◌, ◌+◌, ◌^◌, ◌≤◌, ◌<◌, length, get_or, drop};
 ghost use Rattle.bracket_text.specs.Text.{is_hole, piece_text, numbers_taken, fill, Written};
 ghost use Rattle.bracket_text.specs.Fixed.{length_from, trimmed};

@@ -1,4 +1,6 @@
 // Document 01's whole case, played on the calls themselves over memory that holds junk at first: each answer is printed as document 01 has it.
+#![tactic(auto)]
+
 use layout::Geometry;
 use model::{Answer, Step};
 use perform::Request;

@@ -2,6 +2,8 @@
 // changed; and over slices and segment counts of other sizes. In the end, over such memory, a start with each phase, each tag and any count of a part stack,
 // and a step in sweep with a condemned segment of any place. Each answer is printed, and BAD with it where it is not of its call's kind and range, or a number
 // that the call may not give (12 is given by none). The expected output is the program's own; that no BAD stands in it is what it shows.
+#![tactic(auto)]
+
 use classes::RecordShape;
 use layout::Geometry;
 use model::{Answer, Step};

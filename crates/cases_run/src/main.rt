@@ -1,5 +1,7 @@
 // Further cases of the class finder, the class shapes, the search, the rebuild and the check, printed a line each. The expected
 // output comes from a reckoning by plain lists of bits and document 01's tables.
+#![tactic(auto)]
+
 ghost use Rattle.std.specs.Prelude.{◌≡◌, ◌+◌, ◌≤◌, ◌<◌, length};
 ghost use Rattle.words.specs.Levels.{words_for, tree_words};
 ghost use Rattle.classes.specs.Class.{first_class};

@@ -1,5 +1,7 @@
 // Size classes: the class of a record by its number of fields, and for each class the shape of a segment: its blocks, the
 // levels of its bitmap and the words in each level. Both are read from constant tables, and proved by their rule.
+#![tactic(auto)]
+
 mod table;
 
 ghost use Rattle.std.specs.Prelude.{◌≡◌, [], ◌<◌, ◌≤◌, ◌/◌, ◌%◌, get_or};

@@ -1,5 +1,7 @@
 // The words of the control by name: the phase, the number of entries on the trace stack, and the sweep's cursor. Of the heap's
 // code this alone knows which word is which.
+#![tactic(auto)]
+
 ghost use Rattle.std.specs.Prelude.{◌≡◌, ◌≤◌, length};
 ghost use Rattle.layout.specs.Geometry.{Sized};
 ghost use Rattle.layout.specs.Mem.{mem_of, control_word};

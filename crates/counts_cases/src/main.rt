@@ -1,6 +1,8 @@
 // Request No. 3's two counts, played on the calls themselves over memory that holds junk at first: the look at the segments' states after an opening,
 // after makes in three classes, fills, each sweep, makes out of a swept segment, a take by another class, a second sweep, a detach, and a start and sweeps
 // of part segments (request No. 5). Each line is a segment's six words: tag, class, place, mutator, blocks kept, blocks handed out since.
+#![tactic(auto)]
+
 use layout::Geometry;
 use model::{Answer, Step};
 use perform::Request;

@@ -1,5 +1,7 @@
 // The examination on a heap that calls made and on the same heap with single words changed: for each group of conditions the memory broken in just that way is answered no, and with
 // the word put back yes; words that bind nothing hold junk and are answered yes. Each line says what was changed.
+#![tactic(auto)]
+
 use layout::Geometry;
 use model::{Answer, Examined, Step};
 use perform::Request;

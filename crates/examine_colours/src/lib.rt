@@ -1,5 +1,7 @@
 // The examination's searches, over memory of any content: what is live passes the test, the tricolour invariant, and in sweep the marks of what is
 // reached. The lent scratch has two fields of bits and a stack: a search works behind the first field, where the live bits are kept.
+#![tactic(auto)]
+
 ghost use Rattle.std.specs.Prelude.{◌≡◌, ℕ, ◌+◌, ◌≤◌, ◌<◌, length, take, drop};
 ghost use Rattle.basics.specs.Decides.{Decides};
 ghost use Rattle.layout.specs.Geometry.{Sized, IsSize, len, scratch_words, max_segments, mutator_count};

@@ -1,5 +1,7 @@
 // The examination's parts on the cycle that need a search, over memory of any content: the tricolour invariant, and in sweep the marks of what is
 // reached. Bits of live or reached records, each of which passes the test, and cover bits lie beside each other in a lent scratch.
+#![tactic(auto)]
+
 ghost use Rattle.std.specs.Prelude.{◌≡◌, ◌⊎◌, ℕ, suc, ◌+◌, ◌*◌, ◌≤◌, ◌<◌, length};
 ghost use Rattle.basics.specs.Decides.{Decides};
 ghost use Rattle.words.specs.Bits.{bit_at};

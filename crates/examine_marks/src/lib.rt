@@ -1,5 +1,7 @@
 // The examination's part on the bits among the marks, over memory of any content: each is of the head of a block in use; in handshake 1 each is of an
 // entry of the trace stack, which is in order: then there are as many as entries.
+#![tactic(auto)]
+
 ghost use Rattle.std.specs.Prelude.{◌≡◌, ℕ, ◌+◌, ◌*◌, ◌<◌, length};
 ghost use Rattle.basics.specs.Decides.{Decides};
 ghost use Rattle.layout.specs.Geometry.{Sized, len, segment_of, most_blocks};

@@ -1,5 +1,7 @@
 // The part of the examination's second half that needs no scratch, decided both ways over memory of any content: segment records, mutators' entries,
 // acknowledgements and the phase's number.
+#![tactic(auto)]
+
 ghost use Rattle.std.specs.Prelude.{◌≡◌, ℕ, ◌+◌, ◌*◌, ◌≤◌, ◌<◌, length};
 ghost use Rattle.basics.specs.Decides.{Decides};
 ghost use Rattle.classes.specs.Class.{IsClass, first_class, class_count};

@@ -1,5 +1,7 @@
 // The test of a record: whether a word of the heap is the head of a block in use that holds a record of its segment's class. Memory may have any
 // content; the answer decides `RecordOk`, and with it comes the record's bit.
+#![tactic(auto)]
+
 ghost use Rattle.std.specs.Prelude.{◌≡◌, ◌<◌, length, eqb};
 ghost use Rattle.basics.specs.Decides.{Decides};
 ghost use Rattle.classes.specs.Class.{IsClass};

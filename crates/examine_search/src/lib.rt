@@ -1,5 +1,7 @@
 // The search of the heap for the examination: one search over the lent memory, with visited bits and a stack in a lent scratch. Every word may have
 // any content: a record is tested before its pointers are followed, and each is visited once.
+#![tactic(auto)]
+
 ghost use Rattle.std.specs.Prelude.{◌≡◌, true, ℕ, suc, ◌+◌, ◌-◌, ◌*◌, ◌≤◌, ◌<◌, length, get_or, replicate};
 ghost use Rattle.words.specs.Bits.{bit_at};
 ghost use Rattle.layout.specs.Geometry.{Sized, IsSize, len, max_segments, mutator_count};

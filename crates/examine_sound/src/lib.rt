@@ -1,5 +1,7 @@
 // The examination's second half, decided both ways over memory of any content: `Sound`, from the parts of segments and mutators, the trace stack, what
 // is live, and what the phase asks. The scratch may hold anything, and ends all zero.
+#![tactic(auto)]
+
 ghost use Rattle.std.specs.Prelude.{◌≡◌, ℕ, ◌≤◌, length, replicate};
 ghost use Rattle.basics.specs.Decides.{Decides};
 ghost use Rattle.layout.specs.Geometry.{Sized, scratch_words};

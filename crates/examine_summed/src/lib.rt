@@ -1,6 +1,8 @@
 // The examination's first half, decided both ways over memory of any content: the bitmaps' trees, the segments' counts, and the stacks of free and of
 // part segments.
 // It needs no scratch: the entries of a stack are told apart by a table of one word for each segment.
+#![tactic(auto)]
+
 ghost use Rattle.std.specs.Prelude.{◌≡◌, ℕ, ◌≤◌, ◌<◌, length, get_or};
 ghost use Rattle.basics.specs.Decides.{Decides};
 ghost use Rattle.basics.specs.Pick.{one_if};

@@ -1,5 +1,7 @@
 // The examination's part on the trace stack, over memory of any content: each entry is a record that passes the test, with its bit, none is there
 // twice, and there are no more than bits. Entries are told apart by bits in a lent scratch.
+#![tactic(auto)]
+
 ghost use Rattle.std.specs.Prelude.{◌≡◌, ℕ, ◌*◌, ◌≤◌, ◌<◌, length};
 ghost use Rattle.basics.specs.Decides.{Decides};
 ghost use Rattle.words.specs.Bits.{bit_at};

@@ -1,5 +1,7 @@
 // The examination: whether the memory is consistent, decided over memory of any content. Sizes first, refusal 1 and not a word changed; else yes or no, and
 // the scratch ends all zero.
+#![tactic(auto)]
+
 ghost use Rattle.std.specs.Prelude.{◌≡◌, ℕ, ◌≤◌, length, replicate};
 ghost use Rattle.basics.specs.Decides.{Decides};
 ghost use Rattle.layout.specs.Geometry.{Sized, IsSize, scratch_words, max_segments};

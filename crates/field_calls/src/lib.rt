@@ -1,5 +1,7 @@
 // The mutators' calls on a record's fields. No call has a `requires`; each keeps the model's promise of it. Over memory that fails the
 // examination a word may name no record: then the answer is 13.
+#![tactic(auto)]
+
 ghost use Rattle.theory.specs.Calls.{c_load, c_get, c_put, c_shape};
 ghost use Rattle.model.specs.Promise.{Promise};
 

@@ -1,5 +1,7 @@
 // The mutators' calls of a handshake: check, leave and enter. None of the three calls has a `requires`; each keeps the model's promise of it. Over memory that
 // fails the examination a root may name no record with a bit, or the trace stack have no room: then the answer is 13.
+#![tactic(auto)]
+
 ghost use Rattle.std.specs.Prelude.{◌≡◌, ◌<◌, length};
 ghost use Rattle.layout.specs.Geometry.{Sized, mutator_count};
 ghost use Rattle.layout.specs.Mem.{mem_of};

@@ -2,6 +2,8 @@
 // Nothing above this crate mentions where a region begins: words are read and written through these functions, whose contracts speak of `Mem`, and the
 // place of a part that is lent to a leaf comes from here. Only the programs of cases, which change memory word by word, use the
 // numbers of where a region begins.
+#![tactic(auto)]
+
 ghost use Rattle.std.specs.Prelude.{◌≡◌, ◌+◌, ◌*◌, ◌%◌, ◌≤◌, ◌<◌, length, replicate};
 ghost use Rattle.classes.specs.Class.{IsClass};
 ghost use Rattle.classes.specs.Shape.{shape_for};

@@ -1,5 +1,7 @@
 // Two looks: the phase, and the states of the segments. They change no word of the memory, have no `requires` and keep the model's promises of them.
 // Every record is tested before the first word is written: refused, the look at the states leaves the output unchanged.
+#![tactic(auto)]
+
 ghost use Rattle.std.specs.Prelude.{◌≡◌, ℕ, ◌≤◌, ◌<◌, length};
 ghost use Rattle.basics.specs.Decides.{Decides};
 ghost use Rattle.layout.specs.Geometry.{Sized, len, max_segments};

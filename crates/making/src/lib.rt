@@ -1,5 +1,7 @@
 // make: a segment to take a block from, the next free block of it, and the record there. The call has no `requires` and keeps the model's promise of it.
 // Over memory that fails the examination a stack, a bitmap or a count may lead astray: then the answer is 13.
+#![tactic(auto)]
+
 ghost use Rattle.std.specs.Prelude.{◌≡◌, suc, ◌%◌, ◌≤◌, ◌<◌, length};
 ghost use Rattle.classes.specs.Class.{IsClass};
 ghost use Rattle.classes.specs.Record.{field_count_of, class_of_record};

@@ -1,5 +1,7 @@
 // step in mark: the last entered record is marked and its pointers are pushed, or, with an empty trace stack, the phase moves to sweep. Over
 // memory that fails the examination a count or an entry may lead off its region, or a push be hindered: then the answer is 13.
+#![tactic(auto)]
+
 ghost use Rattle.std.specs.Prelude.{◌≡◌, ◌+◌, ◌≤◌, ◌<◌, length};
 ghost use Rattle.layout.specs.Geometry.{Sized, len};
 ghost use Rattle.layout.specs.Mem.{mem_of};

@@ -1,5 +1,7 @@
 // Mark bits in the lent slice: which bit a record has, whether a bit is set, and setting one; and how many are. Over memory of any content nothing
 // is read or written off the marks.
+#![tactic(auto)]
+
 ghost use Rattle.std.specs.Prelude.{◌≡◌, ◌*◌, ◌≤◌, ◌<◌, length};
 ghost use Rattle.basics.specs.Decides.{Decides};
 ghost use Rattle.words.specs.Bits.{bit_at, ones_among};

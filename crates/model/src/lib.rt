@@ -1,5 +1,7 @@
 // The declared types of the heap: what a root or pointer holds, a segment's state, the answers, and the phases with their rules.
 // The definitions that every call is held to stand in specs/.
+#![tactic(auto)]
+
 ghost use Rattle.std.specs.Prelude.{◌≡◌};
 ghost use Rattle.theory.specs.Phases.{duty, owes, black, in_handshake, newcomer};
 ghost use Rattle.model.specs.PhaseNumbers.{phase_of, duty_of};

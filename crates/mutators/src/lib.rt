@@ -1,4 +1,6 @@
 // Mutators' entries in the lent slice: whether a mutator may call, its roots, its state, its acknowledgements and what it holds.
+#![tactic(auto)]
+
 ghost use Rattle.std.specs.Prelude.{◌≡◌, ◌<◌, length};
 ghost use Rattle.basics.specs.Decides.{Decides};
 ghost use Rattle.classes.specs.Class.{IsClass};

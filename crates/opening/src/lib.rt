@@ -1,4 +1,6 @@
 // The opening: over memory of any content it leaves every segment free, no mutator attached, the trace stack empty and the phase IDLE.
+#![tactic(auto)]
+
 ghost use Rattle.std.specs.Prelude.{◌≡◌, ◌+◌, ◌≤◌, length};
 ghost use Rattle.layout.specs.Geometry.{Sized, len, max_segments};
 ghost use Rattle.layout.specs.Mem.{mem_of};

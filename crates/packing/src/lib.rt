@@ -1,5 +1,7 @@
 // Answers in numbers, as C takes them: the lower 32 bits are 0 or the number of a refusal, the upper 32 bits the value that a call answers. `unpack` and its like in
 // specs/ say which answer a number stands for; proofs/ has that an answer which keeps a call's promise is unpacked to itself.
+#![tactic(auto)]
+
 ghost use Rattle.std.specs.Prelude.{◌≡◌};
 ghost use Rattle.packing.specs.Packed.{geometry_of, no_size, pack, pack_value, pack_step, pack_phase, pack_examined};
 

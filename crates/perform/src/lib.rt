@@ -1,6 +1,8 @@
 // One dispatcher for the mutators' calls: a request is a call with its arguments, and what it is answered is what that call answers. It has no
 // `requires` and keeps the promise of the call that the request stands for. The opening, start, step and the looks
 // stay outside.
+#![tactic(auto)]
+
 ghost use Rattle.model.specs.Promise.{Promise};
 ghost use Rattle.perform.specs.Requests.{call_of};
 

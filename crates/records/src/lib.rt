@@ -1,5 +1,7 @@
 // Records in the lent slice: what a root's word names, a record's shape, and the words of its fields. Over memory of any content a field's
 // word lies in the heap, or the answer is 13.
+#![tactic(auto)]
+
 ghost use Rattle.std.specs.Prelude.{◌≡◌, ◌+◌, ◌<◌, ◌≤◌, eqb, length, replicate};
 ghost use Rattle.basics.specs.Pick.{pick};
 ghost use Rattle.classes.specs.Record.{field_count_of};

@@ -1,4 +1,6 @@
 // The mutators' calls on roots alone: copy, clear and same. No call has a `requires`; each keeps the model's promise of it.
+#![tactic(auto)]
+
 ghost use Rattle.theory.specs.Calls.{c_copy, c_clear, c_same};
 ghost use Rattle.model.specs.Promise.{Promise};
 

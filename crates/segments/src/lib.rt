@@ -1,4 +1,6 @@
 // Segment records in the lent slice: read whole; a segment's state written to the words of its record, its two counts, and single words.
+#![tactic(auto)]
+
 ghost use Rattle.std.specs.Prelude.{◌≡◌, ◌<◌, length};
 ghost use Rattle.layout.specs.Geometry.{Sized, blocks_in};
 ghost use Rattle.layout.specs.Mem.{mem_of};

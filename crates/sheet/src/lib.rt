@@ -1,6 +1,8 @@
 // The sheet: a look that prints the heap, a line for each segment. It changes no word of the memory, has no `requires` and keeps the model's promise.
 // Every record is tested before the first byte is written: refused, it leaves the output unchanged. No bitmap is read: the two counts of a record add
 // up to its blocks in use.
+#![tactic(auto)]
+
 ghost use Rattle.std.specs.Prelude.{◌≡◌, ◌∷◌, ◌++◌, ℕ, ◌+◌, ◌≤◌, ◌<◌, length};
 ghost use Rattle.basics.specs.Decides.{Decides};
 ghost use Rattle.decimals.specs.Placed.{placed};

@@ -1,5 +1,7 @@
 // The sheet (request No. 10) on the calls themselves, over memory that holds junk at first: opened heaps of 1, 60, 61, 121 and 256 segments; heaps of
 // 16 and of 32 KiB with segments in each state, a class 3 full of 2,048 and 4,096 blocks among them; and sheets that are refused.
+#![tactic(auto)]
+
 use layout::Geometry;
 use model::{Answer, Step};
 use perform::Request;

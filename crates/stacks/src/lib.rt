@@ -1,5 +1,7 @@
 // The stacks of free and of part segments in the lent slice. Over memory of any content nothing is read or written off its region; where a count
 // or an entry cannot be right, or a stack has no room, the answer says so.
+#![tactic(auto)]
+
 ghost use Rattle.std.specs.Prelude.{◌≡◌, ◌<◌, ◌≤◌, length};
 ghost use Rattle.classes.specs.Class.{IsClass};
 ghost use Rattle.layout.specs.Geometry.{Sized, stack_count, max_segments};

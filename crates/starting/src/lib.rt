@@ -1,5 +1,7 @@
 // The collector's start. The call has no `requires`; it keeps the model's promise of it. No word of the memory leads it astray: over memory that
 // fails the examination, too, the answer and the memory are the definition's, though that is not promised.
+#![tactic(auto)]
+
 ghost use Rattle.std.specs.Prelude.{◌≡◌, ◌<◌, length};
 ghost use Rattle.basics.specs.Pick.{pick};
 ghost use Rattle.classes.specs.Class.{class_count};

@@ -1,6 +1,8 @@
 // The collector's step: a step in a handshake stands here, the steps in mark and sweep in `marking` and `sweeping`. The call has no `requires`; it keeps the
 // model's promise of it. Over memory that fails the examination the acknowledgement of a mutator outside may be hindered, or the phase be none: then
 // the answer is 13.
+#![tactic(auto)]
+
 ghost use Rattle.std.specs.Prelude.{◌≡◌, ◌<◌, ◌≤◌, length};
 ghost use Rattle.layout.specs.Geometry.{Sized, mutator_count};
 ghost use Rattle.layout.specs.Mem.{mem_of};

@@ -1,5 +1,7 @@
 // store, with its write barrier. It has no `requires` and keeps the model's promise of it. Over memory that fails the examination a record
 // may have no bit, or the trace stack no room: then the answer is 13.
+#![tactic(auto)]
+
 ghost use Rattle.std.specs.Prelude.{◌≡◌, ◌<◌, length};
 ghost use Rattle.layout.specs.Geometry.{Sized, len, mutator_count};
 ghost use Rattle.layout.specs.Mem.{mem_of};

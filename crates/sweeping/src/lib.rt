@@ -1,5 +1,7 @@
 // step in sweep: the lowest condemned segment is swept, or, with none left, the cycle is done. Over memory that fails the examination a segment
 // may have no class, its counts may be too large, or a stack may have no room: then the answer is 13.
+#![tactic(auto)]
+
 ghost use Rattle.std.specs.Prelude.{◌≡◌, ℕ, ◌<◌, ◌-◌, length};
 ghost use Rattle.classes.specs.Class.{IsClass};
 ghost use Rattle.layout.specs.Geometry.{Sized};

@@ -1,5 +1,7 @@
 // The trace stack in the lent slice: what is pushed. Over memory of any content nothing is read or written off its region; where a record has no
 // bit, or the stack no room, the answer says so.
+#![tactic(auto)]
+
 ghost use Rattle.std.specs.Prelude.{◌≡◌, ◌*◌, ◌<◌, length};
 ghost use Rattle.layout.specs.Geometry.{Sized, most_blocks, mutator_count};
 ghost use Rattle.layout.specs.Mem.{mem_of};
