@@ -37,6 +37,7 @@ pub enum Near {
 
 // A bit of one level: its word, and which bit of the word it is.
 #[derive(Drop)]
+#[derive(Clone, Copy)]
 pub struct BitPos {
     pub word: u32,
     pub bit: u32,
@@ -44,6 +45,7 @@ pub struct BitPos {
 
 // A bit pointer: a word and a bit at each level.
 #[derive(Drop)]
+#[derive(Clone, Copy)]
 pub struct BitPtr {
     pub low: BitPos,
     pub mid: BitPos,

@@ -12,6 +12,7 @@ ghost use Rattle.bracket_forms.specs.Replies.{reply_text};
 
 // A form with its numbers, in the order of its text. A load names its mutator twice, and holds it once.
 #[derive(Drop)]
+#[derive(Clone, Copy)]
 pub enum Form {
     // (rack segments)
     Rack(u32),

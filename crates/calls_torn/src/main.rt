@@ -11,6 +11,7 @@ use perform::Request;
 
 // Numbers by a linear congruence.
 #[derive(Drop)]
+#[derive(Clone, Copy)]
 struct Dice {
     x: u32,
 }

@@ -21,6 +21,7 @@ pub const MAX_FIELDS: u32 = 4095;
 
 // The shape of a record: how many pointer fields and how many data fields it has (document 01: P links and N numbers).
 #[derive(Drop)]
+#[derive(Clone, Copy)]
 pub struct RecordShape {
     pub pointer_count: u32,
     pub value_count: u32,
@@ -35,6 +36,7 @@ pub enum SizeClass {
 
 // A segment of one class: its blocks, the levels of its bitmap, and the words in each level (0 for a level that is not there).
 #[derive(Drop)]
+#[derive(Clone, Copy)]
 pub struct SegmentShape {
     pub blocks: u32,
     pub levels: u32,

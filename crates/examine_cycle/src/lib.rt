@@ -20,6 +20,7 @@ use model::Segment;
 
 // What is asked of each record of a set: that its pointers are covered if it is marked, or that it is marked if its segment is in the collect set.
 #[derive(Drop)]
+#[derive(Clone, Copy)]
 pub enum Asked {
     Pointers,
     Marks,

@@ -19,6 +19,7 @@ use marks::Bit;
 
 // Which pointers are followed: all, or those of records whose bit is 0.
 #[derive(Drop)]
+#[derive(Clone, Copy)]
 pub enum Edges {
     All,
     Unentered,
@@ -26,6 +27,7 @@ pub enum Edges {
 
 // Where words that name records are read: the roots among the mutators' words, the pointers in the heap, the entries of the trace stack.
 #[derive(Drop)]
+#[derive(Clone, Copy)]
 pub enum Source {
     Roots,
     Pointers,

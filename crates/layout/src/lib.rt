@@ -17,6 +17,7 @@ use classes::{ClassShape, SegmentShape};
 
 // The size of the heap: its number of segments, and the size of each in KiB, 16 or 32.
 #[derive(Drop)]
+#[derive(Clone, Copy)]
 pub struct Geometry {
     pub segments: usize,
     pub kib: u32,

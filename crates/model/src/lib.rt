@@ -105,6 +105,7 @@ pub enum Duty {
 
 // The phase of the cycle, by its number.
 #[derive(Drop)]
+#[derive(Clone, Copy)]
 pub struct Phase {
     pub number: u32,
 }
