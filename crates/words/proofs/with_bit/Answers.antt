@@ -1,0 +1,7 @@
+-- `words::with_bit` meets its contract.
+use borrow.Author.Rules.{rules}
+use Rattle.words.proofs.Word.{one_shl, or_with}
+use Rattle.words.proofs.with_bit.Goals as goal
+
+pub returns : goal.returns
+returns c = rw (one_shl _ c.requires) (or_with _ _)
