@@ -2,18 +2,16 @@
 use mathlib.Core.Path.{◌≡◌}
 use Prim.Native.Nat.{ℕ, suc, ◌≤◌}
 use native.Mathlib.Omega.{arith}
-use Rattle.classes.proofs.ClassTable.{entry}
-use Rattle.classes.proofs.class_of_few.Tie as tie
-use Rattle.classes.proofs.class_of_few.Statement.{statement}
+use Rattle.classes.proofs.class_of_few.Goals as goal
 
 below : {x : ℕ} (k : ℕ) → x ≤ suc k → (x ≡ suc k → ⊥) → x ≤ k
 below k l f = omega arith
 
 -- every number up to 16 has its arm
-returns-18 : tie.Need-returns-18
-returns-18 c =
-    let r = c.match.rest in
-    let l15 = below 15 c.before.requires r.1 in
+pub returns-in_default : goal.returns-in_default
+returns-in_default c =
+    let r = c.in_default.in_default-own.rest in
+    let l15 = below 15 c.requires r.1 in
     let l14 = below 14 l15 r.0.1 in
     let l13 = below 13 l14 r.0.0.1 in
     let l12 = below 12 l13 r.0.0.0.1 in
@@ -30,26 +28,3 @@ returns-18 c =
     let l1 = below 1 l2 r.0.0.0.0.0.0.0.0.0.0.0.0.0.0.1 in
     let l0 = below 0 l1 r.0.0.0.0.0.0.0.0.0.0.0.0.0.0.0.1 in
     absurd (r.0.0.0.0.0.0.0.0.0.0.0.0.0.0.0.0.1 (omega arith))
-
-pub class-of-few-spec : {M : Type 1} → statement M
-class-of-few-spec =
-    tie.close
-    (tie.spec
-    (λ c. entry c.match.keys1 tt)
-    (λ c. entry c.match.keys2 tt)
-    (λ c. entry c.match.keys3 tt)
-    (λ c. entry c.match.keys4 tt)
-    (λ c. entry c.match.keys5 tt)
-    (λ c. entry c.match.keys6 tt)
-    (λ c. entry c.match.keys7 tt)
-    (λ c. entry c.match.keys8 tt)
-    (λ c. entry c.match.keys9 tt)
-    (λ c. entry c.match.keys10 tt)
-    (λ c. entry c.match.keys11 tt)
-    (λ c. entry c.match.keys12 tt)
-    (λ c. entry c.match.keys13 tt)
-    (λ c. entry c.match.keys14 tt)
-    (λ c. entry c.match.keys15 tt)
-    (λ c. entry c.match.keys16 tt)
-    (λ c. entry c.match.keys17 tt)
-    returns-18)
