@@ -1,9 +1,9 @@
 -- A list with other elements from a place on, as one splice and as a run of stores.
 use mathlib.Core.Path.{◌≡◌, refl, sym, ◌∙◌, ap}
-use mathlib.Core.List.{List, [], ◌∷◌, ◌++◌}
+use mathlib.Core.List.{List, [], ◌∷◌}
 use Prim.Native.Nat.{ℕ, zero, suc, ◌+◌, ◌-◌, ◌≤◌}
 use native.Mathlib.Omega.{arith}
-use lib.ListN.{length, take, drop, replicate}
+use lib.ListN.{length, replicate}
 use lib.Seq.{sets, take-nil, drop-nil}
 use Rattle.layout.specs.Mem.{Mem, region, with_region, spliced, set_run}
 use Rattle.layout.specs.Region as Region

@@ -2,7 +2,7 @@
 use Rattle.std.specs.Prelude.{ℕ, ◌+◌, ◌-◌, ◌≡◌, List, [], ◌∷◌, ◌++◌, length, get_or, take, drop, set, replicate}
 use Rattle.layout.specs.declared.Geometry.{Geometry}
 use Rattle.layout.specs.Geometry.{lens, len}
-use Rattle.layout.specs.Parts.{parts, joined, lengths}
+use Rattle.layout.specs.Parts.{parts, joined}
 use Rattle.layout.specs.Region as Region
 
 pub record Mem : Type 0 where

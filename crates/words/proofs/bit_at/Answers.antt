@@ -1,5 +1,4 @@
 -- `words::bit_at` meets its contract.
-use borrow.Author.Rules.{rules}
 use Rattle.words.specs.Bits.{bit_at}
 use Rattle.words.proofs.bit_at.Goals as goal
 

@@ -1,6 +1,5 @@
 -- `words::bit_of` meets its contract.
 use mathlib.Core.Path.{refl}
-use borrow.Author.Rules.{rules}
 use Rattle.words.specs.Bits.{bit_of}
 use Rattle.words.proofs.bit_of.Goals as goal
 

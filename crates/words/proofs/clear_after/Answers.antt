@@ -1,6 +1,5 @@
 -- `words::clear_after` meets its contract.
 use native.Mathlib.Omega.{arith}
-use borrow.Author.Rules.{rules}
 use Rattle.words.proofs.Second.{after_bit}
 use Rattle.words.proofs.clear_after.Goals as goal
 

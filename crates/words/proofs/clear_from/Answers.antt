@@ -3,7 +3,6 @@ use Prim.Native.Nat.{◌^◌, ◌<◌}
 use native.Mathlib.Nat.{lt_of_le_of_lt, pos_of_ne-zero}
 use native.Mathlib.Omega.{arith}
 use lib.Pow.{shr_le}
-use borrow.Author.Rules.{rules}
 use Rattle.words.proofs.Clear.{rest, none_clear, some_clear_lem, clear_lt}
 use Rattle.words.proofs.clear_from.Goals as goal
 

@@ -3,7 +3,6 @@ use mathlib.Core.Path.{ap, ap₂, ◌∙◌, sym}
 use Prim.Native.Nat.{ℕ, ◌+◌, ◌*◌, ◌/◌, ◌%◌}
 use native.Mathlib.Omega.{arith}
 use lib.ListN.{get_or}
-use borrow.Author.Rules.{rules}
 use Rattle.words.specs.Bits.{bit_at, ones_among}
 use Rattle.words.proofs.Ones.{among_word, among_words_le, among_bits_le}
 use Rattle.words.proofs.ones_among.Goals as goal

@@ -1,7 +1,6 @@
 -- `words::ones_from` meets its contract.
 use native.Mathlib.Omega.{arith}
 use lib.Pow.{pow-lt, pow_pos}
-use borrow.Author.Rules.{rules}
 use Rattle.words.proofs.Word.{one_shl}
 use Rattle.words.proofs.ones_from.Goals as goal
 

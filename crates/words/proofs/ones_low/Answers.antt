@@ -1,6 +1,5 @@
 -- `words::ones_low` meets its contract.
 use lib.Pow.{pow_pos}
-use borrow.Author.Rules.{rules}
 use Rattle.words.proofs.Word.{one_shl}
 use Rattle.words.proofs.Ones.{ones_low}
 use Rattle.words.proofs.ones_low.Goals as goal

@@ -1,6 +1,5 @@
 -- `words::two_clear` meets its contract.
 use native.Mathlib.Omega.{arith}
-use borrow.Author.Rules.{rules}
 use Rattle.words.proofs.Second.{none_twice, twice}
 use Rattle.words.proofs.two_clear.Goals as goal
 

@@ -1,5 +1,4 @@
 -- `words::with_bit` meets its contract.
-use borrow.Author.Rules.{rules}
 use Rattle.words.proofs.Word.{one_shl, or_with}
 use Rattle.words.proofs.with_bit.Goals as goal
 

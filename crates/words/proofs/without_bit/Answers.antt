@@ -1,6 +1,5 @@
 -- `words::without_bit` meets its contract.
 use lib.Bits.{and_le_l}
-use borrow.Author.Rules.{rules}
 use Rattle.words.proofs.Word.{one_shl, sub_without}
 use Rattle.words.proofs.without_bit.Goals as goal
 

@@ -1,0 +1,12 @@
+-- `layout::clear_stacks` meets its contract.
+use native.Mathlib.Omega.{arith}
+use Rattle.layout.proofs.Regions.{cleared_at}
+use Rattle.layout.specs.Region as Region
+use Rattle.layout.proofs.clear_stacks.Goals as goal
+
+pub returns : goal.returns
+returns c =
+    let end = c.before.before.before.before in
+    let a = end.before in
+    cleared_at c.args.g c.args.mem.now Region.stacks c.stacks_from-a.result c.bitmap_from-end.result _ c.zero.ensures (omega arith)
+    c.requires.is (omega arith)
