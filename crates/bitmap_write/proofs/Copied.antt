@@ -1,12 +1,10 @@
 -- Level 0 cleared, or copied from elsewhere, and the tree over it: its bits, that it is one, and its length.
 use mathlib.Core.Path.{◌≡◌, refl, sym, ap, ap₂, ◌∙◌}
 use mathlib.Core.List.{List, ◌∷◌, ◌++◌}
-use Prim.Native.Nat.{ℕ, zero, suc, ◌+◌, ◌*◌, ◌/◌, ◌%◌, ◌≤◌, ◌<◌}
-use native.Mathlib.Nat.{zero-add}
-use native.Mathlib.Numerals.{add-one}
+use Prim.Native.Nat.{ℕ, zero, suc, ◌*◌, ◌/◌, ◌%◌, ◌≤◌, ◌<◌}
 use native.Mathlib.Omega.{arith}
-use lib.ListN.{length, get_or, set, take, drop, replicate, length-append, length-drop, length-replicate, get_or-replicate, get_or-append}
-use lib.Seq.{take_all, get_or-take, get_or-drop, length-take-le, get_or-append-add, paste, paste-suc}
+use lib.ListN.{length, get_or, take, drop, replicate, length-append, length-drop, length-replicate, get_or-replicate, get_or-append}
+use lib.Seq.{take_all, get_or-take, length-take-le}
 use Rattle.words.specs.Bits.{bit_of, bit_at}
 use Rattle.words.specs.Levels.{words_for, tree_words, Height}
 use Rattle.words.specs.Tree.{Tree}

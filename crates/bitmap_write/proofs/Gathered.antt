@@ -8,7 +8,7 @@ use native.Mathlib.Nat.{pow-suc, zero-add, suc-mul, mul-le-mul_right, mul-le-mul
 use native.Mathlib.Numerals.{add-one}
 use native.Mathlib.Omega.{arith}
 use lib.Dec.{ltb}
-use lib.ListN.{length, get_or, set, take, drop, length-append, length-drop}
+use lib.ListN.{length, get_or, set, take, drop, length-drop}
 use lib.Seq.{take_all, get_or-drop, length-take-le, get_or-append-add, paste, paste-suc}
 use borrow.Author.Tests.{lt-ltb, le-ltb}
 use Rattle.basics.specs.Pick.{pick}
@@ -17,7 +17,7 @@ use Rattle.words.specs.Bits.{bit_at}
 use Rattle.words.specs.Levels.{words_for}
 use Rattle.words.proofs.Lists.{at_lt, bits_same}
 use Rattle.words.proofs.Word.{zero_of_not_one}
-use Rattle.bitmap_write.specs.Rebuild.{word_from, packed}
+use Rattle.bitmap_write.specs.Rebuild.{word_from}
 use Rattle.bitmap_write.specs.Completed.{copied, gathered_bit, gathered}
 use Rattle.bitmap_write.proofs.Packed.{length-packed, packed_at, word_alike, word_same, word_zeros, word_less}
 use Rattle.bitmap_write.proofs.Copied.{length-copied}
@@ -31,6 +31,16 @@ count_small n step p h = let a : n * 1 ≤ n * step = mul-le-mul_left n p in ome
 
 pub tail_all : (from : ℕ) (s : List ℕ) → take (length s - from) (drop from s) ≡ drop from s
 tail_all from s = take_all (length s - from) (drop from s) (omega (arith, length-drop from s))
+
+-- how many bits word j of n has: those that are left, or a whole word's
+abbrev pub IsCount : ℕ → ℕ → ℕ → Type 0
+IsCount n j count = (count ≤ 32) × (j * 32 + count ≤ n) × ((j * 32 + count ≡ n) ⊎ (j * 32 + 32 ≤ j * 32 + count))
+
+pub few : (n j count : ℕ) → j * 32 ≤ n → n - j * 32 < 32 → count ≡ n - j * 32 → IsCount n j count
+few n j count h l e = (omega arith, omega arith, inl (omega arith))
+
+pub whole : (n j count : ℕ) → 32 ≤ n - j * 32 → count ≡ 32 → IsCount n j count
+whole n j count l e = (omega arith, omega arith, inr (omega arith))
 
 -- a word of c bits
 word_lt : (bit : ℕ → ℕ) → ((k : ℕ) → bit k < 2) → (c k : ℕ) → word_from bit c k < 2 ^ c

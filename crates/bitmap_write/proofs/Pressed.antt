@@ -7,8 +7,7 @@ use native.Mathlib.Nat.{pow-suc, mul_assoc, add-mul, one-mul, lt_of_lt_of_le}
 use native.Mathlib.Omega.{arith}
 use lib.Bits.{bit_and, bit_or, and_le_r}
 use lib.Pow.{shl_exact, pow_mono}
-use lib.ListN.{get_or, drop}
-use lib.Seq.{get_or-drop}
+use lib.ListN.{get_or}
 use Rattle.words.specs.Bits.{bit_of, bit_at}
 use Rattle.words.proofs.Word.{bit_lt, bit_low, bit_half, bit_high}
 use Rattle.words.proofs.Lists.{bit_in}
