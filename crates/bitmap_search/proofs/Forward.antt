@@ -16,8 +16,7 @@ use Rattle.words.specs.Tree.{Level, Sums, Tree}
 use Rattle.words.proofs.Trees.{tree_level, tree_top, tree_sums, tree_rest}
 use Rattle.bitmap_search.specs.declared.BitPtr.{BitPtr}
 use Rattle.bitmap_search.specs.declared.Next.{Next}
-use Rattle.bitmap_search.specs.declared.Found.{Found}
-use Rattle.bitmap_search.specs.declared.Found.TheVariants.{Block, Nothing, Torn}
+use Rattle.bitmap_search.specs.declared.Found.TheVariants.{Block, Torn}
 use Rattle.bitmap_search.specs.Scan.{next_free}
 use Rattle.bitmap_search.specs.Pointer.{pos_at, with_pos, index_of, pos_of, ptr_to}
 use Rattle.bitmap_search.specs.Search.{in_word, climbed, lowered, lowered_from, forwarded, found_at, block_at, searched, BlockBelow}

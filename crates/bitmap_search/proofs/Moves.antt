@@ -61,6 +61,16 @@ handed_on a ws m l words p q r e f g = g ∙ rw (tail_part words ws, e, f)
 pub handed_bound : (a : ℕ) (ws : List ℕ) (m : ℕ) (q x : BitPtr) (l : ℕ) → moved.At x ≡ forwarded a ws m q l → index_of (pos_at x l) < words_for m * 32
 handed_bound a ws m q x l e = subst (λ (r : Next). Bounded l (words_for m * 32) r) (sym e) (bounded a ws m q l)
 
+-- the way down from what the levels above found: forward from the position x, past its word, by what the code handed on
+module _ (a : ℕ) (ws : List ℕ) (n : ℕ) (p : BitPtr) (l : ℕ) (x : BitPos) (at : x ≡ pos_at p l)
+    (words : ℕ) (counted : words ≡ words_for n) (here : x.word < words)
+    (b : ℕ) (bit : b ≡ clear_from (get_or ws x.word 0) x.bit) (full : 32 ≤ b) (some_above : a ≡ 0 → ⊥)
+    (q : BitPtr) (climb : q ≡ climbed p l) where
+  pub way_down : (r : Next) → r ≡ forwarded (a - 1) (take (length ws - words) (drop words ws)) words q (l + 1)
+      → lowered_from ws words l r ≡ forwarded a ws n p l
+  way_down r e =
+      rw counted (ahead_down a ws n p l x at (rw counted at here) b bit full some_above r (handed_on (a - 1) ws (words_for n) l words p q r counted climb e))
+
 -- the answer, from where the pointer to the place led
 pub answered : (a : ℕ) (ws : List ℕ) (n place : ℕ) (p : BitPtr) (x r : Next) → p ≡ ptr_to place → x ≡ forwarded a ws n p 0 → x ≡ r → block_at n r ≡ searched a ws n place
 unfolding searched
