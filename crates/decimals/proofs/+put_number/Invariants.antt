@@ -1,0 +1,5 @@
+-- The measure of `decimals::put_number`: the number, of which a tenth is written first.
+use Rattle.decimals.proofs.+put_number.Given as goal
+
+abbrev pub decreases-put_number : goal.decreases-put_number
+decreases-put_number l = l.n
