@@ -1,10 +1,10 @@
 -- The rules of the cycle by the phase's number, as the code tests it.
-use mathlib.Core.Path.{◌≡◌, refl, sym, ◌∙◌}
-use mathlib.Core.Bool.{Bool, true, false}
-use Prim.Native.Nat.{ℕ, zero, suc, ◌≤◌, ◌<◌}
+use mathlib.Core.Path.{◌≡◌, refl}
+use mathlib.Core.Bool.{false}
+use Prim.Native.Nat.{ℕ, zero, suc, ◌≤◌}
 use native.Mathlib.Omega.{arith}
 use lib.Dec.{eqb, leb, ltb}
-use borrow.Author.Tests.{le-leb, lt-ltb, le-ltb, ne_eqb}
+use borrow.Author.Tests.{le-leb, le-ltb, ne_eqb}
 use Rattle.theory.specs.Phases.{duty, owes, black, twice, in_handshake, newcomer}
 use Rattle.model.specs.declared.Duty.TheVariants.{Nothing, Both}
 use Rattle.model.specs.PhaseNumbers.{phase_of, duty_of}

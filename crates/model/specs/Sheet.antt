@@ -1,5 +1,5 @@
 -- The sheet: the heap as text, a line for each segment (document 02, No. 10: "The rack sheet"). Characters are ASCII, a byte each.
-use Rattle.std.specs.Prelude.{ℕ, zero, suc, ◌-◌, ◌*◌, ◌/◌, ◌%◌, Bool, ◌&&◌, List, [], ◌∷◌, ◌++◌, eqb, ltb, length, replicate}
+use Rattle.std.specs.Prelude.{ℕ, zero, suc, ◌-◌, ◌*◌, ◌/◌, ◌%◌, ◌&&◌, List, [], ◌∷◌, ◌++◌, eqb, ltb, length, replicate}
 use Prim.Native.Char.{code}
 use Rattle.basics.specs.Pick.{pick}
 use Rattle.decimals.specs.Ascii.{bytes}
