@@ -17,7 +17,7 @@ use Rattle.layout.specs.declared.Geometry.{Geometry}
 use Rattle.layout.specs.Mem.{Mem}
 use Rattle.model.specs.Fields.{trace_count}
 use Rattle.model.specs.Records.{entered, on_stack, marked}
-use Rattle.model.specs.Reaching.{IsEntry, is_marked}
+use Rattle.model.specs.Reaching.{IsEntry}
 
 -- ---- on the stack
 

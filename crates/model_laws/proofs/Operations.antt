@@ -12,7 +12,7 @@ use Rattle.layout.specs.Geometry.{mutator_count, mutator_words, root_count}
 use Rattle.layout.specs.Mem.{Mem, set_trace, set_stack, Sizes}
 use Rattle.theory.specs.Phases.{Phase, idle, sync1, sync2, mark, sweep, Duty, nothing, both, old, owes}
 use Rattle.model.specs.PhaseNumbers.{phase_number}
-use Rattle.model.specs.Fields.{set_cursor, phase, trace_count, set_trace_count, acks_at, acks, root, set_tag}
+use Rattle.model.specs.Fields.{set_cursor, phase, trace_count, acks_at, acks, root, set_tag}
 use Rattle.model.specs.Segments.{stacked, count}
 use Rattle.model.specs.Records.{record?, pointer_count, pointer, entered, set_entered}
 use Rattle.model.specs.Tracing.{push, barrier, push_roots, push_pointers, popped, traced, on_top}

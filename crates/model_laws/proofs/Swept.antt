@@ -13,7 +13,7 @@ use Rattle.words.proofs.Counts.{only_ones}
 use Rattle.classes.specs.Class.{IsClass}
 use Rattle.layout.specs.declared.Geometry.{Geometry}
 use Rattle.layout.specs.Geometry.{blocks_in}
-use Rattle.layout.specs.Mem.{Mem, Sizes, set_control, set_run, set_segment, set_stack}
+use Rattle.layout.specs.Mem.{Mem, Sizes, set_control, set_segment, set_stack}
 use Rattle.model.specs.declared.SegmentState.{SegmentState}
 use Rattle.model.specs.Fields.{class}
 use Rattle.model.specs.Segments.{set_segment_state, free_stack, part_stack, stacked, bitmap, in_use}
