@@ -1,20 +1,19 @@
 -- Order carried over from one memory to another by the words that stay: records, blocks in use, the trace stack, marks.
 use mathlib.Core.Path.{◌≡◌, refl, sym, ◌∙◌, ap, subst}
 use mathlib.Core.List.{List}
-use Prim.Native.Nat.{ℕ, ◌*◌, ◌/◌, ◌%◌, ◌≤◌, ◌<◌}
-use Rattle.words.specs.Bits.{bit_at, ones_among}
+use Prim.Native.Nat.{ℕ, ◌/◌, ◌%◌, ◌≤◌, ◌<◌}
+use Rattle.words.specs.Bits.{bit_at}
 use Rattle.classes.specs.Class.{block_words}
 use Rattle.classes.specs.declared.SizeClass.TheVariants.{Class}
 use Rattle.classes.specs.Record.{class_of_record}
 use Rattle.model_laws.proofs.Headers.{shape_by}
 use Rattle.layout.specs.declared.Geometry.{Geometry}
-use Rattle.layout.specs.Geometry.{segment_words, most_blocks, segment_of, mark_bit}
+use Rattle.layout.specs.Geometry.{segment_words, segment_of, mark_bit}
 use Rattle.layout.specs.Mem.{Mem, trace_word, heap_word}
 use Rattle.theory.specs.Phases.{Phase, idle, sync1, sync2, mark, sweep}
 use Rattle.model.specs.Fields.{trace_count, tag, class}
 use Rattle.model.specs.Segments.{used_bit}
 use Rattle.model.specs.Records.{block_of}
-use Rattle.model.specs.Reaching.{IsEntry}
 use Rattle.model.specs.Consistent.{RecordOk, HeadInUse, MarksOf}
 use Rattle.refine_view.specs.Refines.{EntriesOk, MarksIn}
 use Rattle.refine_view.proofs.Seeing.{entry_was}

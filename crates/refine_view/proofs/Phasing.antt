@@ -8,7 +8,6 @@ use lib.ListN.{get_or, set}
 use mathlib.Core.Bool.{◌&&◌}
 use Rattle.model_laws.proofs.Marked.{marked_by}
 use lib.Seq.{get_or-set_same, get_or-set_other}
-use Rattle.model.specs.Records.{pointer_count}
 use Rattle.layout.specs.Geometry.{segment_of}
 use Rattle.layout.specs.declared.Geometry.{Geometry}
 use Rattle.layout.specs.Mem.{Mem, set_control, Sizes}

@@ -3,7 +3,7 @@ use mathlib.Core.Path.{◌≡◌, refl, sym, ◌∙◌, ap, subst, fun_ext}
 use mathlib.Core.Logic.{inl}
 use mathlib.Core.Bool.{Bool, true, false}
 use mathlib.Core.Option.{Option, none, some, map, some-injective}
-use Prim.Native.Nat.{ℕ, ◌-◌, ◌*◌, ◌<◌}
+use Prim.Native.Nat.{ℕ, ◌*◌, ◌<◌}
 use native.Mathlib.Omega.{arith}
 use lib.Dec.{ltb}
 use borrow.Author.Tests.{lt-ltb, ltb-true}
@@ -22,7 +22,7 @@ use Rattle.theory.proofs.Agree.{Agree}
 use Rattle.theory.proofs.Invariant.{none_some}
 use Rattle.model.specs.Fields.{phase, acks, cursor}
 use Rattle.model.specs.Records.{record?, pointer_count, value_count, pointer, shape_of}
-use Rattle.model.specs.Calls.{is_attached, is_inside, observe, act}
+use Rattle.model.specs.Calls.{is_attached, is_inside, observe}
 use Rattle.model.specs.Reaching.{Live}
 use Rattle.refine_view.specs.View.{view, values_of}
 use Rattle.refine_view.specs.Refines.{Ordered, Moves, Matches, Refines, refused_out, agrees, Steady}
