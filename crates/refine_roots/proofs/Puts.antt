@@ -1,6 +1,6 @@
 -- A data field of a record set: put.
 use mathlib.Core.Path.{◌≡◌, refl, sym, ◌∙◌, ap}
-use Prim.Native.Nat.{ℕ, suc, ◌+◌, ◌-◌, ◌≤◌, ◌<◌}
+use Prim.Native.Nat.{ℕ, suc, ◌+◌, ◌≤◌, ◌<◌}
 use native.Mathlib.Omega.{arith}
 use lib.Dec.{ltb}
 use lib.ListN.{set}
@@ -11,7 +11,6 @@ use Rattle.layout.specs.declared.Geometry.{Geometry}
 use Rattle.layout.specs.Mem.{Mem, heap_word, set_heap, Sizes}
 use Rattle.theory.specs.Calls.{c_put, a-ok, value?, refusal}
 use Rattle.theory.proofs.Refusals.{by_ok, root_ok, require_ok}
-use Rattle.theory.specs.Reach.{root}
 use Rattle.theory.specs.TraceStack.{tab}
 use Rattle.theory.specs.Update.{upd}
 use Rattle.theory.proofs.Agree.{Agree}
