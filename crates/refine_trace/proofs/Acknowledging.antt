@@ -32,7 +32,7 @@ use Rattle.model_laws.proofs.Bools.{ne_not}
 use Rattle.model_laws.proofs.Words.{mutator_there}
 use Rattle.theory.proofs.Updates.{upd_by}
 use Rattle.model_laws.proofs.Entries.{state_set, acks_set, root_set, mutators_set, held_set}
-use Rattle.refine_view.proofs.Seeing.{entries_same, live_on, live_back}
+use Rattle.refine_view.proofs.Seeing.{entries_same, live_on}
 use Rattle.refine_view.proofs.Frames.{mutator_beside}
 use Rattle.refine_view.proofs.Invariants.{to_record, structure_of}
 use Rattle.refine_view.proofs.SelfSimulation.{moves_self}

@@ -6,7 +6,7 @@ use Prim.Native.Nat.{ℕ, zero, suc, ◌<◌}
 use native.Mathlib.Omega.{arith}
 use Rattle.layout.specs.declared.Geometry.{Geometry}
 use Rattle.layout.specs.Mem.{Mem}
-use Rattle.theory.specs.TraceStack.{tab, push, pushes}
+use Rattle.theory.specs.TraceStack.{tab, pushes}
 use Rattle.theory.proofs.Updates.{pushes_append}
 use Rattle.model.specs.Fields.{root}
 use Rattle.model.specs.Records.{record?, pointer}

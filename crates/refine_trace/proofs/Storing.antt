@@ -18,7 +18,7 @@ use Rattle.model.specs.Records.{record?, pointer_count, pointer, set_pointer}
 use Rattle.model.specs.Consistent.{RecordOk}
 use Rattle.refine_view.specs.View.{view, stack_of}
 use Rattle.refine_view.specs.Refines.{Ordered, Structure, Moves}
-use Rattle.refine_view.proofs.Seeing.{entries_same, live_on, live_back}
+use Rattle.refine_view.proofs.Seeing.{entries_same, live_on}
 use Rattle.refine_view.proofs.Frames.{held_self, mutator_beside}
 use Rattle.refine_view.proofs.Invariants.{to_record, to_inv, structure_of}
 use Rattle.model_laws.proofs.Apart.{class_of}

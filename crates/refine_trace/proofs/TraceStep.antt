@@ -25,7 +25,7 @@ use Rattle.model.specs.Collector.{traces}
 use Rattle.model.specs.Consistent.{RecordOk}
 use Rattle.refine_view.specs.View.{view, stack_of}
 use Rattle.refine_view.specs.Refines.{Ordered, Structure, Moves, MarksIn}
-use Rattle.refine_view.proofs.Seeing.{entries_same, live_on, live_back}
+use Rattle.refine_view.proofs.Seeing.{entries_same, live_on}
 use Rattle.refine_view.proofs.Invariants.{to_record, to_inv, structure_of}
 use Rattle.refine_view.proofs.SelfSimulation.{moves_self}
 use Rattle.model_laws.proofs.Apart.{class_of}
