@@ -1,25 +1,22 @@
 -- A memory that differs from a consistent one in mutators' entries, segments' records, stacks and bitmaps only, and whose segments that were
 -- not free stay as they were: what is live stays in order, and the machine sees the same records.
 use mathlib.Core.Path.{◌≡◌, refl, sym, ◌∙◌, ap}
-use mathlib.Core.Logic.{inr}
 use mathlib.Core.Bool.{true, not, ◌&&◌}
 use mathlib.Core.List.{List}
 use Prim.Native.Nat.{ℕ, ◌%◌}
 use native.Mathlib.Omega.{arith}
 use lib.Dec.{eqb}
 use borrow.Author.Tests.{eqb-true}
-use Rattle.words.specs.Bits.{bit_at}
 use Rattle.layout.specs.declared.Geometry.{Geometry}
 use Rattle.layout.specs.Geometry.{segment_words, segment_of}
 use Rattle.layout.specs.Mem.{Mem, Sizes}
-use Rattle.theory.specs.Reach.{root}
 use Rattle.model.specs.Fields.{phase, tag, class, place}
 use Rattle.model.specs.Segments.{bitmap, used_bit}
 use Rattle.classes.specs.Class.{block_words}
 use Rattle.model.specs.Records.{block_of}
 use Rattle.model.specs.Reaching.{IsRoot, Live, is_marked}
 use Rattle.model.specs.Consistent.{RecordOk, MarksOf, bit_word}
-use Rattle.refine_view.specs.View.{view, is_head}
+use Rattle.refine_view.specs.View.{view}
 use Rattle.refine_view.specs.Refines.{Ordered, EntriesOk, MarksIn, Steady}
 use Rattle.model_laws.proofs.Bools.{ne_not, test_same}
 use Rattle.refine_view.proofs.Seeing.{entry_was, edge_was, live_was}
