@@ -1,7 +1,7 @@
 -- What a make out of a held segment begins with: a mutator, its held segment and the first free block there.
 use mathlib.Core.Path.{◌≡◌, refl, subst}
 use mathlib.Core.Bool.{true}
-use Prim.Native.Nat.{ℕ, suc, ◌+◌, ◌-◌, ◌≤◌, ◌<◌}
+use Prim.Native.Nat.{ℕ, suc, ◌+◌, ◌≤◌, ◌<◌}
 use native.Mathlib.Omega.{arith}
 use Rattle.words.specs.Bits.{bit_at}
 use Rattle.words.proofs.FirstZero.{NoZero}

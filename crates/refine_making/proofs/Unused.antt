@@ -1,8 +1,8 @@
 -- The block that is handed out was not in use: not in the machine, not marked while tracing, not condemned.
 use mathlib.Core.Path.{◌≡◌, ◌∙◌, ap, subst}
 use mathlib.Core.Bool.{false, not, ◌&&◌}
-use mathlib.Core.Logic.{◌⊎◌, inr, ⊎_elim}
-use Prim.Native.Nat.{ℕ, ◌-◌, ◌*◌, ◌<◌}
+use mathlib.Core.Logic.{inr, ⊎_elim}
+use Prim.Native.Nat.{ℕ, ◌*◌, ◌<◌}
 use native.Mathlib.Omega.{arith}
 use lib.Dec.{eqb}
 use borrow.Author.Tests.{ne_eqb, le-ltb}
