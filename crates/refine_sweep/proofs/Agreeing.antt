@@ -14,7 +14,7 @@ use Rattle.theory.specs.Update.{if_dec}
 use Rattle.theory.proofs.Updates.{upd_cases}
 use Rattle.theory.proofs.Agree.{Agree}
 use Rattle.theory.proofs.Invariant.{Tracing}
-use Rattle.model.specs.Fields.{phase, trace_count, absent, inside, tag, class}
+use Rattle.model.specs.Fields.{phase, trace_count, absent, inside, tag}
 use Rattle.classes.specs.Class.{block_words}
 use Rattle.model.specs.Records.{record?}
 use Rattle.model.specs.Reaching.{Live, is_marked}

@@ -1,6 +1,5 @@
 -- The three ends of a sweep, by the number of marks: a segment with none is free, one with all is full, else it is part.
 use mathlib.Core.Path.{◌≡◌, refl, sym, ◌∙◌, ap, subst}
-use mathlib.Core.List.{List}
 use Prim.Native.Nat.{ℕ, ◌-◌, ◌≤◌, ◌<◌}
 use native.Mathlib.Omega.{arith}
 use lib.Dec.{ltb}
@@ -14,7 +13,7 @@ use Rattle.layout.specs.Geometry.{blocks_in}
 use Rattle.layout.specs.declared.Geometry.{Geometry}
 use Rattle.layout.specs.Mem.{Mem, Sizes}
 use Rattle.model.specs.declared.SegmentState.{SegmentState}
-use Rattle.model.specs.Fields.{tag, class, place, owner}
+use Rattle.model.specs.Fields.{tag, class}
 use Rattle.model.specs.Segments.{above, bitmap, used_bit, handed_bit, marks_of}
 use Rattle.model.specs.Collector.{marked_blocks}
 use Rattle.model.specs.Records.{header_of, entered}
