@@ -8,10 +8,9 @@ use native.Mathlib.Omega.{arith}
 use lib.Dec.{eqb}
 use lib.ListN.{length-replicate}
 use borrow.Author.Tests.{eq-eqb, ne_eqb, eqb-true}
-use Rattle.words.specs.Bits.{bit_at}
 use Rattle.classes.specs.Class.{first_class}
 use Rattle.layout.specs.declared.Geometry.{Geometry}
-use Rattle.layout.specs.Geometry.{len, mutator_words, segment_record_words, most_blocks, segment_of}
+use Rattle.layout.specs.Geometry.{len, mutator_words, segment_record_words, segment_of}
 use Rattle.layout.specs.Mem.{Mem, control_word, mutator_word, segment_record_word, Sizes}
 use Rattle.theory.specs.Phases.{idle}
 use Rattle.theory.specs.Unbounded.{empty}
@@ -27,8 +26,7 @@ use Rattle.model.specs.Consistent.{Consistent, SegmentOk, MutatorOk, TraceOk, In
 use Rattle.refine_view.specs.View.{view}
 use Rattle.refine_view.proofs.Seeing.{live_back}
 use Rattle.refine_view.proofs.Invariants.{consistent_ordered, to_inv}
-use Rattle.words.proofs.Counts.{no_ones}
-use Rattle.words.proofs.Zeros.{zeros_at, zeros_bit}
+use Rattle.words.proofs.Zeros.{zeros_at}
 use Rattle.refine_start.proofs.OpenStacks.{length-open, free_open, part_open}
 use Rattle.layout.specs.Region as Region
 use Rattle.model.specs.Tag as Tag
