@@ -12,7 +12,7 @@ use Rattle.layout.specs.Geometry.{mutator_count}
 use Rattle.layout.specs.Mem.{Mem, trace_word}
 use Rattle.theory.specs.Phases.{Phase, idle, sync1, sync2, mark, sweep}
 use Rattle.model.specs.PhaseNumbers.{phase_number}
-use Rattle.model.specs.Fields.{phase, trace_count, set_trace_count, outside, state, set_tag, set_cursor}
+use Rattle.model.specs.Fields.{phase, trace_count, outside, state, set_tag, set_cursor}
 use Rattle.model.specs.Records.{pointer_count}
 use Rattle.model.specs.Tracing.{popped}
 use Rattle.model.specs.Mutators.{acknowledged}
