@@ -1,11 +1,9 @@
 -- What a place's own word tells of a segment's next free block, where the place is taken below the most blocks of a segment.
-use mathlib.Core.Path.{◌≡◌, sym, ◌∙◌, subst}
-use mathlib.Core.List.{List}
-use Prim.Native.Nat.{ℕ, ◌+◌, ◌*◌, ◌/◌, ◌%◌, ◌≤◌, ◌<◌}
+use mathlib.Core.Path.{◌≡◌, ◌∙◌, subst}
+use Prim.Native.Nat.{ℕ, ◌/◌, ◌%◌, ◌<◌}
 use native.Mathlib.Nat.{mod-lt, mod-eq_of_lt}
 use native.Mathlib.Omega.{arith}
 use Rattle.words.specs.Bits.{bit_at}
-use Rattle.words.specs.Tree.{Level}
 use Rattle.classes.specs.Class.{IsClass, first_class}
 use Rattle.bitmap_search.specs.declared.Near.{Near}
 use Rattle.bitmap_search.specs.Twice.{next_two, OwnPromise}

@@ -13,7 +13,6 @@ use Rattle.layout.specs.Geometry.{stack_count, len}
 use Rattle.layout.specs.Mem.{Mem, stack_word, set_stack, with_region}
 use Rattle.layout.proofs.Sizes.{within}
 use Rattle.model.specs.Segments.{count, top, pop, emptied}
-use Rattle.stacks.specs.declared.Topmost.{Topmost}
 use Rattle.stacks.specs.declared.Topmost.TheVariants.{Segment, Empty, Torn}
 use Rattle.stacks.specs.Stacking.{StackAt, Tops, PushesSegment}
 use Rattle.layout.specs.Region as Region

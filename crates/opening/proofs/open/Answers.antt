@@ -1,0 +1,81 @@
+-- `opening::open` meets its contract.
+use mathlib.Core.Path.{sym, ◌∙◌}
+use native.Mathlib.Omega.{arith}
+use Rattle.layout.proofs.Regions.{sized, resized}
+use Rattle.opening.proofs.Stacks.{opened_by, open_1, open_ok}
+use Rattle.opening.proofs.open.Goals as goal
+
+pub returns-then-wrong_size : goal.returns-then-wrong_size
+returns-then-wrong_size c = open_1 _ _ (sym c.wrong_size.ensures ∙ c.if-wrong_size.true)
+
+pub clear_control-requires : goal.clear_control-requires
+clear_control-requires c = sized _ _ (sym c.wrong_size.ensures ∙ c.if-wrong_size.false)
+
+pub clear_mutators-requires : goal.clear_mutators-requires
+clear_mutators-requires c =
+    let control_cleared = c.before.before.before in
+    let of_size = sized _ _ (sym c.wrong_size.ensures ∙ c.if-wrong_size.false) in
+    resized _ _ _ of_size c.clear_control.auto.mem
+
+pub clear_segments-requires : goal.clear_segments-requires
+clear_segments-requires c =
+    let mutators_cleared = c.before.before.before in
+    let control_cleared = mutators_cleared.before.before.before.before in
+    let of_size = sized _ _ (sym c.wrong_size.ensures ∙ c.if-wrong_size.false) in
+    let control_size = resized _ _ _ of_size c.clear_control.auto.mem in
+    resized _ _ _ control_size c.clear_mutators.auto.mem
+
+pub clear_stacks-requires : goal.clear_stacks-requires
+clear_stacks-requires c =
+    let segments_cleared = c.before.before.before in
+    let mutators_cleared = segments_cleared.before.before.before.before in
+    let control_cleared = mutators_cleared.before.before.before.before in
+    let of_size = sized _ _ (sym c.wrong_size.ensures ∙ c.if-wrong_size.false) in
+    let control_size = resized _ _ _ of_size c.clear_control.auto.mem in
+    let mutators_size = resized _ _ _ control_size c.clear_mutators.auto.mem in
+    resized _ _ _ mutators_size c.clear_segments.auto.mem
+
+pub overflow_cast-g : goal.overflow_cast-g
+overflow_cast-g c =
+    let stacks_cleared = c.before.before.before.before in
+    let segments_cleared = stacks_cleared.before.before.before.before in
+    let mutators_cleared = segments_cleared.before.before.before.before in
+    let of_size = sized _ _ (sym c.wrong_size.ensures ∙ c.if-wrong_size.false) in
+    omega (arith, of_size.few)
+
+pub set_stack-requires : goal.set_stack-requires
+set_stack-requires c =
+    let stacks_cleared = c.before.before.before.before in
+    let segments_cleared = stacks_cleared.before.before.before.before in
+    let mutators_cleared = segments_cleared.before.before.before.before in
+    let control_cleared = mutators_cleared.before.before.before.before in
+    let of_size = sized _ _ (sym c.wrong_size.ensures ∙ c.if-wrong_size.false) in
+    let control_size = resized _ _ _ of_size c.clear_control.auto.mem in
+    let mutators_size = resized _ _ _ control_size c.clear_mutators.auto.mem in
+    let segments_size = resized _ _ _ mutators_size c.clear_segments.auto.mem in
+    (resized _ _ _ segments_size c.clear_stacks.auto.mem, omega arith)
+
+pub stack_down-requires : goal.stack_down-requires
+stack_down-requires c =
+    let stack_set = c.before.before.before in
+    let stacks_cleared = stack_set.before.before.before.before.before in
+    let segments_cleared = stacks_cleared.before.before.before.before in
+    let mutators_cleared = segments_cleared.before.before.before.before in
+    let control_cleared = mutators_cleared.before.before.before.before in
+    let of_size = sized _ _ (sym c.wrong_size.ensures ∙ c.if-wrong_size.false) in
+    let control_size = resized _ _ _ of_size c.clear_control.auto.mem in
+    let mutators_size = resized _ _ _ control_size c.clear_mutators.auto.mem in
+    let segments_size = resized _ _ _ mutators_size c.clear_segments.auto.mem in
+    let stacks_size = resized _ _ _ segments_size c.clear_stacks.auto.mem in
+    (resized _ _ _ stacks_size c.set_stack.auto.mem, omega (arith, of_size.few), of_size.few)
+
+pub returns : goal.returns
+returns c =
+    let stack_set = c.before.before.before.before.before.before in
+    let stacks_cleared = stack_set.before.before.before.before.before in
+    let segments_cleared = stacks_cleared.before.before.before.before in
+    let mutators_cleared = segments_cleared.before.before.before.before in
+    let control_cleared = mutators_cleared.before.before.before.before in
+    open_ok _ _ (sym c.wrong_size.ensures ∙ c.if-wrong_size.false)
+    (opened_by _ _ c.clear_control.ensures c.clear_mutators.ensures c.clear_segments.ensures
+    c.clear_stacks.ensures c.set_stack.ensures c.stack_down.ensures)

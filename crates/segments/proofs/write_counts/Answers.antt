@@ -1,0 +1,6 @@
+-- `segments::write_counts` meets its contract.
+use Rattle.segments.proofs.write_counts.Goals as goal
+
+pub returns : goal.returns
+returns c =
+    rw (← c.set_segment.ensures) c.set_handed.ensures
