@@ -1,7 +1,6 @@
 -- The cases hold, by computing the definitions.
 use mathlib.Core.Path.{refl}
 use Rattle.decimals.specs.Decimal.{digits_of, decimal}
-use Rattle.layout.specs.Geometry.{segment_bytes}
 use Rattle.model.specs.Sheet.{aligned, letter_of, bar, free_line, used_line, empty_after, lines_to, sheet_of}
 use Rattle.model.specs.Opening.{opened}
 use Rattle.model_cases.specs.Replies.{replies, Holds}

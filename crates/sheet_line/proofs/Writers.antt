@@ -1,11 +1,11 @@
 -- Writers one after the other: what each leaves in the output, together; and a loop that writes one byte again and again.
-use Prim.Native.Nat.{ℕ, suc, ◌+◌, ◌≤◌, ◌<◌}
+use Prim.Native.Nat.{ℕ, ◌+◌, ◌≤◌, ◌<◌}
 use mathlib.Core.Path.{◌≡◌, refl, sym, ◌∙◌, ap}
 use mathlib.Core.List.{List, [], ◌∷◌, ◌++◌, append_assoc}
 use native.Mathlib.Omega.{arith}
 use lib.ListN.{length, set, replicate, length-append, length-set, length-replicate, replicate-append-replicate}
 use Rattle.decimals.specs.Placed.{placed}
-use Rattle.decimals.proofs.Placed.{placed_nil, placed_one, placed_append, length-placed}
+use Rattle.decimals.proofs.Placed.{placed_nil, placed_one, placed_append}
 
 -- y behind x, which has w bytes
 pub behind : (l : List ℕ) (at w : ℕ) (x y : List ℕ) (m : List ℕ) (k : ℕ) (n : List ℕ) → length x ≡ w → at + w ≤ length l

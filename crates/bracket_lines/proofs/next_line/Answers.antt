@@ -1,0 +1,51 @@
+-- `bracket_lines::next_line` meets its contract. The loop's invariant: the bytes so far have told nothing, and led to the
+-- present count and buffer.
+use Prim.Native.Nat.{ℕ}
+use mathlib.Core.Path.{◌≡◌, refl}
+use native.Mathlib.Omega.{arith}
+use Rattle.bracket_lines.specs.declared.Found.{Found}
+use Rattle.bracket_lines.specs.declared.Found.TheVariants.{More, Line, Overlong}
+use Rattle.bracket_lines.proofs.Scanning.{scanning_none, scanning_more, scanning_told, scanning_all}
+use Rattle.bracket_lines.proofs.next_line.Goals as goal
+
+never : {x : Found} {n : ℕ} → x ≡ Line n → x ≡ More → ⊥
+never e f = let z : ◌≡◌ {A = ℕ} 0 1 = cc in omega arith
+
+never_long : {x : Found} → x ≡ Overlong → x ≡ More → ⊥
+never_long e f = let z : ◌≡◌ {A = ℕ} 0 1 = cc in omega arith
+
+pub loop-at-init : goal.loop-at-init
+loop-at-init c = scanning_none _ _ _ _
+
+pub loop-at-preserved : goal.loop-at-preserved
+loop-at-preserved c =
+    let loop_head = c.before.before.before.before.before.before in
+    let a = c.args in
+    let k = c.loop-at in
+    let s = c.take_byte-s in
+    scanning_more a.chunk.now a.from a.count a.line.now k.at k.n k.line k.invariant (omega arith) s.result
+    s.new.line s.ensures.0 s.ensures.1 c.in-More.is
+
+pub returns-in-Line : goal.returns-in-Line
+returns-in-Line c =
+    let loop_head = c.before.before.before.before.before.before in
+    let a = c.args in
+    let k = c.loop-at in
+    let s = c.take_byte-s in
+    scanning_told a.chunk.now a.from a.count a.line.now k.at k.n k.line k.invariant (omega arith) s.result
+    s.new.line s.ensures.0 s.ensures.1 s.result.found refl (never c.in-Line.is)
+
+pub returns-in-Overlong : goal.returns-in-Overlong
+returns-in-Overlong c =
+    let loop_head = c.before.before.before.before.before.before in
+    let a = c.args in
+    let k = c.loop-at in
+    let s = c.take_byte-s in
+    scanning_told a.chunk.now a.from a.count a.line.now k.at k.n k.line k.invariant (omega arith) s.result
+    s.new.line s.ensures.0 s.ensures.1 s.result.found refl (never_long c.in-Overlong.is)
+
+pub returns : goal.returns
+returns c =
+    let a = c.args in
+    let k = c.loop-at in
+    scanning_all a.chunk.now a.from a.count a.line.now k.at k.n k.line k.invariant (omega arith)
