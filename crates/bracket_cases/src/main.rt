@@ -123,6 +123,7 @@ enum Input {
     Ended,
 }
 
+// One read, which takes what has come. A read that fails counts as the input's end.
 fn read_some(stdin: &mut Stdin, count: usize, line: &mut [u8; 80]) -> Input {
     let mut piece = [0u8; 64];
     let Ok(n) = stdin.read(&mut piece) else {

@@ -128,6 +128,7 @@ enum Input {
     Failed,
 }
 
+// One read, which takes what has come. A read that fails counts as the input's end.
 fn read_some(
     rt: &impl Print,
     input: &mut impl Read,
