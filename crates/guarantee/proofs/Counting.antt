@@ -3,7 +3,7 @@ use mathlib.Core.Path.{◌≡◌, refl, sym, ◌∙◌, ap, subst}
 use mathlib.Core.Logic.{◌⊎◌, inl, inr}
 use mathlib.Core.Bool.{Bool, true, false}
 use mathlib.Core.Option.{Option, none, some}
-use Prim.Native.Nat.{ℕ, zero, suc, ◌+◌, ◌-◌, ◌≤◌, ◌<◌}
+use Prim.Native.Nat.{ℕ, zero, suc, ◌+◌, ◌-◌, ◌<◌}
 use native.Mathlib.Omega.{arith}
 use lib.Dec.{eqb}
 use borrow.Author.Tests.{eqb-true}
@@ -26,7 +26,7 @@ use Rattle.model.specs.Segments.{free_stack, part_stack, count, top}
 use Rattle.model.specs.Records.{record?, pointer}
 use Rattle.model.specs.Tracing.{barrier}
 use Rattle.model.specs.Mutators.{acknowledged, attached, released, detached}
-use Rattle.model.specs.Making.{held, part, unused, no_room, source_of, handed_out, in_block, in_segment, from_source, made}
+use Rattle.model.specs.Making.{held, part, unused, no_room, source_of, in_block, in_segment, from_source, made}
 use Rattle.model.specs.Calls.{is_attached, observe, of_class, act, exec}
 use Rattle.model.specs.Consistent.{Consistent}
 use Rattle.model_laws.proofs.Words.{Counted, CountsStay, counted_then, untouched_same}

@@ -22,7 +22,7 @@ use Rattle.layout.proofs.Sizes.{large_bytes, small_bytes}
 use Rattle.theory.specs.Phases.{in_handshake}
 use Rattle.theory.specs.Calls.{c-detach, a-ok, refusal, refuse, unless}
 use Rattle.theory.proofs.Refusals.{by_ok}
-use Rattle.model.specs.Fields.{phase, holding, tag, class, place, owner}
+use Rattle.model.specs.Fields.{phase, holding, class, place, owner}
 use Rattle.model.specs.Mutators.{released, detached}
 use Rattle.model.specs.Calls.{observe, act, exec}
 use Rattle.model.specs.Consistent.{Consistent}

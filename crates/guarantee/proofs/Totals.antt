@@ -1,6 +1,6 @@
 -- The blocks in use, all that makes handed out and all that sweeps freed: call by call, and along every list.
 use mathlib.Core.Path.{◌≡◌, refl, sym, ◌∙◌, ap, subst}
-use mathlib.Core.Logic.{◌⊎◌, inl, inr}
+use mathlib.Core.Logic.{inl, inr}
 use mathlib.Core.Bool.{Bool}
 use mathlib.Core.Option.{Option, none, some}
 use mathlib.Core.List.{List, [], ◌∷◌}
@@ -49,7 +49,7 @@ use Rattle.idle_twin.specs.SameHeap.{SameHeap}
 use Rattle.idle_twin.proofs.Same.{same_self, leaves_control}
 use Rattle.idle_twin.proofs.Cycle.{leaves_unswept}
 use Rattle.guarantee.specs.Elements.{Acts, wrong, looks, calls, starts, start_refused, steps}
-use Rattle.guarantee.specs.Totals.{sum_over, blocks_in_use, ok_count, made_by, freed_by, made_at, freed_at, makes_in, freed_in, Balance, Totals, Stored, EveryStored}
+use Rattle.guarantee.specs.Totals.{sum_over, blocks_in_use, ok_count, made_by, freed_by, made_at, freed_at, Balance, Totals, EveryStored}
 use Rattle.guarantee.proofs.Elements.{every_element}
 use Rattle.guarantee.proofs.Beginning.{opened_point}
 use Rattle.guarantee.proofs.Counting.{AllStay, OneMore, ok_of, MakesOne, CountsBy, counts_exec}
