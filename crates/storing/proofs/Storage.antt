@@ -11,7 +11,7 @@ use Rattle.layout.specs.Geometry.{control_words, mark_words, wrong_size, root_co
 use Rattle.layout.specs.Mem.{Mem, mem_of, control_word, heap_word, set_heap}
 use Rattle.layout.proofs.Regions.{sized, length-region}
 use Rattle.theory.specs.Phases.{duty}
-use Rattle.theory.specs.Reach.{root, next}
+use Rattle.theory.specs.Reach.{next}
 use Rattle.theory.specs.Calls.{c_store, a-ok, if_root, pointer?}
 use Rattle.model.specs.declared.Answer.{Answer}
 use Rattle.model.specs.declared.Answer.TheVariants.{Ok, Refused}
