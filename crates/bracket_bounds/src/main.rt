@@ -3,6 +3,6 @@
 // reckoned by hand from document 01's table and cycle and requests Nos. 1, 2 and 5, or read against them.
 #![tactic(auto)]
 
-fn main() {
-    bracket_run::run();
+fn main(rt: HostRuntime) {
+    bracket_run::run(&rt);
 }

@@ -5,15 +5,15 @@
 
 use bracket_forms::{Form, Reading, Reply};
 use bracket_lines::Found;
-use libc::{STDIN_FILENO, STDOUT_FILENO};
+use std::io::{Read, Stdin};
 
 fn print(text: &[u8]) {
-    io::write_all(STDOUT_FILENO, text);
+    io::write_all(1, text);
 }
 
 fn print_number(n: u32) {
     print(b" ");
-    io::print_decimal(STDOUT_FILENO, n as u64);
+    io::print_decimal(1, n as u64);
 }
 
 fn print_bad() {
@@ -123,13 +123,15 @@ enum Input {
     Ended,
 }
 
-fn read_some(count: usize, line: &mut [u8; 80]) -> Input {
+// One read, which takes what has come. A read that fails counts as the input's end.
+fn read_some(stdin: &mut Stdin, count: usize, line: &mut [u8; 80]) -> Input {
     let mut piece = [0u8; 64];
-    let got = libc::read(STDIN_FILENO, &mut piece);
-    if got <= 0 {
+    let Ok(n) = stdin.read(&mut piece) else {
+        return Input::Ended;
+    };
+    if n == 0 {
         return Input::Ended;
     }
-    let n = io::count(got, &piece);
     Input::Open(read_piece(&piece[..n], count, line))
 }
 
@@ -138,14 +140,14 @@ fn end_input(count: usize, line: &[u8; 80]) {
     hear(bracket_lines::finish(count), line);
 }
 
-// A proved loop has to end, and nothing says that an input does: the loop counts its turns down, from a number that no run
-// uses up.
-fn main() {
+// A proved loop has to end, and nothing says that an input does: the loop counts its turns, up to a number that no run
+// reaches.
+fn main(rt: HostRuntime) {
+    let mut stdin = rt.stdin();
     let mut line = [0u8; 80];
     let mut count = 0;
-    let mut turns = u64::MAX;
-    while turns > 0 {
-        match read_some(count, &mut line) {
+    for _ in 0..u64::MAX {
+        match read_some(&mut stdin, count, &mut line) {
             Input::Open(n) => {
                 count = n;
             }
@@ -154,6 +156,5 @@ fn main() {
                 return;
             }
         }
-        turns -= 1;
     }
 }

@@ -2,6 +2,6 @@
 // comes from a program written from document 01 alone.
 #![tactic(auto)]
 
-fn main() {
-    bracket_run::run();
+fn main(rt: HostRuntime) {
+    bracket_run::run(&rt);
 }

@@ -3,6 +3,6 @@
 // and by a program written from document 01 alone.
 #![tactic(auto)]
 
-fn main() {
-    bracket_run::run();
+fn main(rt: HostRuntime) {
+    bracket_run::run(&rt);
 }

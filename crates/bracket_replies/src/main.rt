@@ -3,13 +3,12 @@
 #![tactic(auto)]
 
 use bracket_forms::Reply;
-use libc::STDOUT_FILENO;
 
 fn show(reply: Reply) {
     let mut text = [0u8; 32];
     let n = bracket_forms::write_reply(reply, &mut text);
-    io::write_all(STDOUT_FILENO, &text[..n]);
-    io::write_all(STDOUT_FILENO, b"\n");
+    io::write_all(1, &text[..n]);
+    io::write_all(1, b"\n");
 }
 
 fn show_results() {

@@ -1,13 +1,13 @@
 -- A reply behind the bytes that a buffer has, and where a line that is told lies.
 use mathlib.Core.Path.{◌≡◌, refl, sym, ◌∙◌, ap}
 use mathlib.Core.Bool.{Bool, true, false, cond}
-use mathlib.Core.List.{List, [], ◌∷◌, ◌++◌, append_assoc, append-nil}
+use mathlib.Core.List.{List, [], ◌∷◌, ◌++◌, append_assoc}
 use Prim.Native.Nat.{ℕ, ◌+◌, ◌-◌, ◌≤◌, ◌<◌}
 use native.Mathlib.Numerals.{add-one}
 use native.Mathlib.Omega.{arith}
 use lib.Dec.{leb, eqb}
-use lib.ListN.{length, take, drop, set, length-append, length-drop, drop_of_length-le}
-use lib.Seq.{length-take-le, take-length, take-append_seam, take-suc-set}
+use lib.ListN.{length, take, drop, set, length-append, length-drop}
+use lib.Seq.{length-take-le, take-append_seam, take-suc-set}
 use borrow.Author.Tests.{leb-true}
 use borrow.Rule.Slice.PartMut.{mid_of, put_mid, same_len_mid}
 use Rattle.bracket_text.specs.Text.{Written}
@@ -35,12 +35,9 @@ module _ (text : List ℕ) {before : List ℕ} {n : ℕ} {buf : List ℕ} (w : W
       length-take-le (used + n - used) (drop used out) (omega (arith, length-drop used out)) ∙ e
 
   -- copied whole
-  module _ (ys : List ℕ) (c : ys ≡ take (length (take n buf)) (take n buf) ++ drop (length (take n buf)) (mid_of used (used + n - used) out)) where
+  module _ (ys : List ℕ) (c : ys ≡ take n buf) where
     copied : ys ≡ text
-    copied =
-        let k : length (mid_of used (used + n - used) out) ≤ length text = omega (arith, lent, w.says) in
-        c ∙ ap (λ (x : List ℕ). take (length x) x ++ drop (length x) (mid_of used (used + n - used) out)) front
-        ∙ rw (take-length text, drop_of_length-le (mid_of used (used + n - used) out) {i = length text} k) (append-nil text)
+    copied = c ∙ front
 
     pub inside : used + n < length (put_mid used (used + n - used) out ys)
     inside =

@@ -10,7 +10,7 @@ ghost use Rattle.bracket_lines.specs.Split.{heard};
 use bracket_forms::Reply;
 use bracket_lines::Found;
 use bracket_steps::{Session, WORDS};
-use libc::{STDIN_FILENO, STDOUT_FILENO};
+use std::io::{self, Read};
 
 // The bytes of a piece of the input, and of the replies to as many lines.
 const PIECE: usize = 4096;
@@ -40,7 +40,7 @@ fn put_line(reply: Reply, out: &mut [u8], used: usize) -> usize
     let mut text = [0u8; 32];
     let n = bracket_forms::write_reply(reply, &mut text);
     let end = used + n;
-    bytes::copy(&text[..n], &mut out[used..end]);
+    out[used..end].copy_from_slice(&text[..n]);
     out[end] = b'\n';
     end + 1
 }
@@ -128,7 +128,10 @@ enum Input {
     Failed,
 }
 
+// One read, which takes what has come. A read that fails counts as the input's end.
 fn read_some(
+    rt: &impl Print,
+    input: &mut impl Read,
     session: Session,
     count: usize,
     line: &mut [u8; 80],
@@ -138,14 +141,15 @@ fn read_some(
     requires { length out.old ≡ 135168 }
 {
     let mut piece = [0u8; PIECE];
-    let got = libc::read(STDIN_FILENO, &mut piece);
-    if got <= 0 {
+    let Ok(n) = input.read(&mut piece) else {
+        return Input::Ended;
+    };
+    if n == 0 {
         return Input::Ended;
     }
-    let n = io::count(got, &piece);
     let after = answer_piece(&piece[..n], session, count, line, mem, out);
     let used = after.used;
-    if io::write_all(STDOUT_FILENO, &out[..used]) {
+    if rt.write_all(&out[..used]).is_ok() {
         return Input::Open(after);
     }
     Input::Failed
@@ -153,6 +157,7 @@ fn read_some(
 
 // The last line may lack its line feed.
 fn end_input(
+    rt: &impl Print,
     session: Session,
     count: usize,
     line: &[u8; 80],
@@ -163,31 +168,32 @@ fn end_input(
 {
     let heard = hear(bracket_lines::finish(count), line, session, mem, out, 0);
     let used = heard.used;
-    io::write_all(STDOUT_FILENO, &out[..used]);
+    let _ = rt.write_all(&out[..used]);
 }
 
-// A proved loop has to end, and nothing says that an input does: the loop counts its turns down, from a number that no run uses up.
-pub fn run() {
+// A proved loop has to end, and nothing says that an input does: the loop counts its turns, up to a number that no run reaches.
+pub fn run(rt: &(impl io::Input + Print)) {
+    let mut input = rt.reader();
     let mut mem = [0u32; WORDS];
     let mut line = [0u8; 80];
     let mut out = [0u8; REPLIES];
     let mut session = bracket_steps::unopened();
     let mut count = 0;
-    let mut turns = u64::MAX;
-    while turns > 0 {
-        match read_some(session, count, &mut line, &mut mem, &mut out) {
+    for _ in 0..u64::MAX {
+        match read_some(
+            rt, &mut input, session, count, &mut line, &mut mem, &mut out,
+        ) {
             Input::Open(after) => {
                 session = after.session;
                 count = after.count;
             }
             Input::Ended => {
-                end_input(session, count, &line, &mut mem, &mut out);
+                end_input(rt, session, count, &line, &mut mem, &mut out);
                 return;
             }
             Input::Failed => {
                 return;
             }
         }
-        turns -= 1;
     }
 }

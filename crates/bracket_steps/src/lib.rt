@@ -17,6 +17,7 @@ pub const WORDS: usize = layout::WORDS_OF_TWO;
 
 // How many segments are open, and 0 before an opening.
 #[derive(Drop)]
+#[derive(Clone, Copy)]
 pub struct Session {
     pub segments: usize,
 }
@@ -30,6 +31,7 @@ pub struct Said {
 
 // What a form asks for: an opening of so many segments, a mutator's call, start or step.
 #[derive(Drop)]
+#[derive(Clone, Copy)]
 enum Task {
     Open(u32),
     Call(Request),

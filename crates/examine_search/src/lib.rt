@@ -36,6 +36,7 @@ pub enum Source {
 
 // Where a search stands: the number of entries on its stack, or a word that names no record was met.
 #[derive(Drop)]
+#[derive(Clone, Copy)]
 pub enum Met {
     Top(usize),
     Bad,

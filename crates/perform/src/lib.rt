@@ -11,6 +11,7 @@ use model::Answer;
 
 // A mutator's call with its arguments (document 01, "Scripts").
 #[derive(Drop)]
+#[derive(Clone, Copy)]
 pub enum Request {
     Attach {
         mutator: u32,
