@@ -24,7 +24,7 @@ use Rattle.layout.specs.declared.Geometry.{Geometry}
 use Rattle.layout.specs.Geometry.{mutator_count, blocks_in, mark_bit}
 use Rattle.layout.specs.Mem.{Mem, control_word, Sizes}
 use Rattle.theory.specs.Phases.{black}
-use Rattle.theory.specs.Calls.{a-ok}
+use Rattle.theory.specs.Calls.{a_ok}
 use Rattle.model.specs.declared.Answer.{Answer}
 use Rattle.model.specs.declared.Answer.TheVariants.{Ok, Refused}
 use Rattle.model.specs.declared.SegmentState.TheVariants.{Full}
@@ -203,7 +203,7 @@ module _ (g : Geometry) (m : Mem) (k d c : ℕ) (shape : RecordShape) where
       exact = λ x.
           let y = q.segment s e in
           let o = h.exact (subst (λ v. SegmentReady g v k c s) (sym y.2) (ready g m z x k c few i s y.1)) in
-          let w : from_source g m k d c shape (source_of g m k c) ≡ (a-ok, handed_out g m₁ k d c s o.0 shape) =
+          let w : from_source g m k d c shape (source_of g m k c) ≡ (a_ok, handed_out g m₁ k d c s o.0 shape) =
           by_segment (source_of g m k c) s y.1 ∙ ap (λ v. in_segment g m v k d c s shape) (sym y.2) ∙ ap (λ v. in_block g m m₁ v k d c s shape) o.2 in
           (ap answer_of o.1 ∙ sym (ap (λ v. v.0) w), o.3 ∙ sym (ap (λ v. v.1) w));
     }

@@ -64,11 +64,11 @@ unpacked_step (step.Refused n) k = refused_back step.Refused (λ v. if_packed (p
 -- ---- what step promises of its numbers over memory of any content
 
 abbrev Bounds : Geometry → theory.Answer → Type 0
-Bounds g theory.a-ok = Unit
-Bounds g theory.a-moved = Unit
-Bounds g theory.a-traced = Unit
-Bounds g theory.a-done = Unit
-Bounds g theory.a-idle = Unit
+Bounds g theory.a_ok = Unit
+Bounds g theory.a_moved = Unit
+Bounds g theory.a_traced = Unit
+Bounds g theory.a_done = Unit
+Bounds g theory.a_idle = Unit
 Bounds g (theory.a_num v) = Unit
 Bounds g (theory.a_flag b) = Unit
 Bounds g (theory.a_shape s) = Unit

@@ -1,7 +1,7 @@
 -- `attaching::detach` meets its contract.
 use mathlib.Core.Path.{sym, ◌∙◌}
 use Rattle.layout.proofs.Regions.{sized, resized}
-use Rattle.theory.specs.Calls.{c-detach}
+use Rattle.theory.specs.Calls.{c_detach}
 use Rattle.model_laws.proofs.Promised.{size_1, refused}
 use Rattle.mutators.specs.Inside.{inside_then}
 use Rattle.attaching.proofs.Going.{known, detach_11, detaches, detach_13}
@@ -15,7 +15,7 @@ inside_refusal-refused-requires c = sized _ _ (sym c.wrong_size.ensures ∙ c.if
 
 pub returns-then-refused-ne0 : goal.returns-then-refused-ne0
 unfolding inside_then
-returns-then-refused-ne0 c = refused (c-detach _) _ _ (sym c.wrong_size.ensures ∙ c.if-wrong_size.false) c.inside_refusal-refused.ensures c.if-refused-ne0.true
+returns-then-refused-ne0 c = refused (c_detach _) _ _ (sym c.wrong_size.ensures ∙ c.if-wrong_size.false) c.inside_refusal-refused.ensures c.if-refused-ne0.true
 
 pub phase-now-requires : goal.phase-now-requires
 phase-now-requires c =

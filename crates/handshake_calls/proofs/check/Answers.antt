@@ -1,7 +1,7 @@
 -- `handshake_calls::check` meets its contract.
 use mathlib.Core.Path.{refl, sym, ◌∙◌}
 use Rattle.layout.proofs.Regions.{sized}
-use Rattle.theory.specs.Calls.{c-check}
+use Rattle.theory.specs.Calls.{c_check}
 use Rattle.model_laws.proofs.Promised.{size_1, refused}
 use Rattle.mutators.specs.Inside.{inside_then}
 use Rattle.mutators.proofs.Inside.{then_known}
@@ -16,7 +16,7 @@ inside_refusal-refused-requires c = sized _ _ (sym c.wrong_size.ensures ∙ c.if
 
 pub returns-then-refused-ne0 : goal.returns-then-refused-ne0
 unfolding inside_then
-returns-then-refused-ne0 c = refused (c-check _) _ _ (sym c.wrong_size.ensures ∙ c.if-wrong_size.false) c.inside_refusal-refused.ensures c.if-refused-ne0.true
+returns-then-refused-ne0 c = refused (c_check _) _ _ (sym c.wrong_size.ensures ∙ c.if-wrong_size.false) c.inside_refusal-refused.ensures c.if-refused-ne0.true
 
 pub acknowledge-requires : goal.acknowledge-requires
 acknowledge-requires c =
@@ -38,4 +38,4 @@ returns c =
     let inside_refusal_told = past_refused.before in
     hindered _ _ _ _ c.inside_refusal-refused.ensures c.if-refused-ne0.false
     (sym c.wrong_size.ensures ∙ c.if-wrong_size.false) _ _ c.acknowledge.ensures
-    c.if-acknowledge.false (c-check _) _
+    c.if-acknowledge.false (c_check _) _
