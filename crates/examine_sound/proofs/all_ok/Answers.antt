@@ -7,7 +7,7 @@ use borrow.Author.Rules.{rules}
 use Rattle.examine_sound.proofs.all_ok.Goals as goal
 
 pub returns-then-not-parts : goal.returns-then-not-parts
-returns-then-not-parts c = let a = c.before.before.before.before in parts_fail c.args.g (mem_of c.args.g c.args.mem.now) _ c.parts-parts.ensures c.if-not-parts.true
+returns-then-not-parts c = parts_fail c.args.g (mem_of c.args.g c.args.mem.now) _ c.parts-parts.ensures c.if-not-parts.true
 
 pub returns-then-not-trace : goal.returns-then-not-trace
 returns-then-not-trace c =

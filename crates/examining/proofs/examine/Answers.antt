@@ -6,7 +6,7 @@ use borrow.Author.Rules.{rules}
 use Rattle.examining.proofs.examine.Goals as goal
 
 pub returns-then-wrong_size : goal.returns-then-wrong_size
-returns-then-wrong_size c = let a = c.before.before.before.before in memory_size c.args.g c.args.mem.now c.args.scratch.now (sym c.wrong_size.ensures ∙ c.if-wrong_size.true)
+returns-then-wrong_size c = memory_size c.args.g c.args.mem.now c.args.scratch.now (sym c.wrong_size.ensures ∙ c.if-wrong_size.true)
 
 pub scratch_words-words-requires : goal.scratch_words-words-requires
 scratch_words-words-requires c =
