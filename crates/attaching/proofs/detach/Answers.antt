@@ -32,14 +32,10 @@ release-requires c =
     (sized _ _ (sym c.wrong_size.ensures ∙ c.if-wrong_size.false), known _ _ _ _ c.inside_refusal-refused.ensures c.if-refused-ne0.false)
 
 pub write_entry-requires : goal.write_entry-requires
-write_entry-requires c =
-    let released = c.before.before.before.before in
-    let past_refused = released.before.before.before.before.before.before in
-    let inside_refusal_told = past_refused.before in
-    let past_wrong_size = inside_refusal_told.before.before in (
-      resized _ _ _ (sized _ _ (sym c.wrong_size.ensures ∙ c.if-wrong_size.false)) c.release.auto.mem,
-      known _ _ _ _ c.inside_refusal-refused.ensures c.if-refused-ne0.false,
-    )
+write_entry-requires c = (
+  resized _ _ _ (sized _ _ (sym c.wrong_size.ensures ∙ c.if-wrong_size.false)) c.release.auto.mem,
+  known _ _ _ _ c.inside_refusal-refused.ensures c.if-refused-ne0.false,
+)
 
 pub returns-then-release : goal.returns-then-release
 returns-then-release c =

@@ -21,13 +21,10 @@ pub loop-i-smaller : goal.loop-i-smaller
 loop-i-smaller c = omega arith
 
 pub loop-i-preserved : goal.loop-i-preserved
-loop-i-preserved c =
-    let release_one_told = c.before.before.before in
-    let in_Body = release_one_told.before.before in
-    let loop_head = in_Body.before in (
-      c.release_one.auto.mem ∙ c.loop-i.invariant.0,
-      one_more _ _ _ _ _ c.loop-i.invariant.1 c.loop-i-test.true _ _ c.release_one.ensures c.if-release_one.true,
-    )
+loop-i-preserved c = (
+  c.release_one.auto.mem ∙ c.loop-i.invariant.0,
+  one_more _ _ _ _ _ c.loop-i.invariant.1 c.loop-i-test.true _ _ c.release_one.ensures c.if-release_one.true,
+)
 
 pub shape_of-mem-else-release_one : goal.shape_of-mem-else-release_one
 shape_of-mem-else-release_one c =

@@ -14,7 +14,7 @@ pub overflow_cast-k : goal.overflow_cast-k
 overflow_cast-k c = omega (arith, trace_most c.args.g c.requires.0.few, c.requires.2)
 
 pub bit_at-requires : goal.bit_at-requires
-bit_at-requires c = let a = c.before.before.before.before in omega (arith, mark_word c.args.g c.args.k c.requires.2, c.requires.1)
+bit_at-requires c = omega (arith, mark_word c.args.g c.args.k c.requires.2, c.requires.1)
 
 pub returns : goal.returns
 returns c = bit_either _ _ _ (refuted c.is_set.ensures c.if-is_set.false) c.bit_at.ensures

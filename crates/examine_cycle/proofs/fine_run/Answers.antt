@@ -15,13 +15,13 @@ pub loop-f-init : goal.loop-f-init
 loop-f-init c = (omega arith, λ x q. absurd (omega (arith, q.within)))
 
 pub overflow_add-from : goal.overflow_add-from
-overflow_add-from c = let a = c.before.before.before.before in omega (arith, c.requires.2, c.loop-f-test.true, length_most c.args.source c.args.g c.requires.0.few)
+overflow_add-from c = omega (arith, c.requires.2, c.loop-f-test.true, length_most c.args.source c.args.g c.requires.0.few)
 
 pub word-w-requires : goal.word-w-requires
-word-w-requires c = let a = c.before.before.before.before in (c.requires.0, omega (arith, c.requires.2, c.loop-f-test.true))
+word-w-requires c = (c.requires.0, omega (arith, c.requires.2, c.loop-f-test.true))
 
 pub fine-ok-requires : goal.fine-ok-requires
-fine-ok-requires c = let a = c.before.before.before.before.before in (c.requires.0, c.requires.1)
+fine-ok-requires c = (c.requires.0, c.requires.1)
 
 pub returns-then-not-ok : goal.returns-then-not-ok
 returns-then-not-ok c =

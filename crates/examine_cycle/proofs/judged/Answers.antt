@@ -12,13 +12,13 @@ pub loop-s-init : goal.loop-s-init
 loop-s-init c = (omega arith, λ j l. absurd (omega arith))
 
 pub any_judged-ok-requires : goal.any_judged-ok-requires
-any_judged-ok-requires c = let a = c.before.before.before.before.before in (c.requires.0, c.requires.1, c.requires.2, c.loop-s-test.true)
+any_judged-ok-requires c = (c.requires.0, c.requires.1, c.requires.2, c.loop-s-test.true)
 
 pub returns-then-not-ok : goal.returns-then-not-ok
 returns-then-not-ok c = fails (λ q. refuted c.any_judged-ok.ensures c.if-not-ok.true (q c.loop-s.s c.loop-s-test.true))
 
 pub overflow_add-s : goal.overflow_add-s
-overflow_add-s c = let a = c.before.before.before.before.before.before.before in omega (arith, c.loop-s-test.true, c.requires.0.few)
+overflow_add-s c = omega (arith, c.loop-s-test.true, c.requires.0.few)
 
 pub loop-s-smaller : goal.loop-s-smaller
 loop-s-smaller c = omega (arith, c.loop-s-test.true)

@@ -13,7 +13,7 @@ pub loop-k-init : goal.loop-k-init
 loop-k-init c = (omega arith, λ j l. absurd (omega arith))
 
 pub mutator_fine-ok-requires : goal.mutator_fine-ok-requires
-mutator_fine-ok-requires c = let a = c.before.before.before.before in (c.requires.0, c.requires.1, c.loop-k-test.true)
+mutator_fine-ok-requires c = (c.requires.0, c.requires.1, c.loop-k-test.true)
 
 pub returns-then-not-ok : goal.returns-then-not-ok
 returns-then-not-ok c = fails (λ q. refuted c.mutator_fine-ok.ensures c.if-not-ok.true (q c.loop-k.k c.loop-k-test.true))

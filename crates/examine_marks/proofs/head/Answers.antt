@@ -8,13 +8,13 @@ use borrow.Author.Rules.{rules}
 use Rattle.examine_marks.proofs.head.Goals as goal
 
 pub tag-tag-requires : goal.tag-tag-requires
-tag-tag-requires c = let a = c.before in (c.requires.0, subst (λ z. z < c.args.g.segments) (sym c.requires.2) (segment_below c.args.g c.args.at c.requires.1))
+tag-tag-requires c = (c.requires.0, subst (λ z. z < c.args.g.segments) (sym c.requires.2) (segment_below c.args.g c.args.at c.requires.1))
 
 pub returns-then-tag-eq-TAG_FREE : goal.returns-then-tag-eq-TAG_FREE
-returns-then-tag-eq-TAG_FREE c = let a = c.before.before.before in free_head c.args.g (mem_of c.args.g c.args.mem.now) c.args.at c.args.s c.requires.2 _ c.tag-tag.ensures c.if-tag-eq-TAG_FREE.true
+returns-then-tag-eq-TAG_FREE c = free_head c.args.g (mem_of c.args.g c.args.mem.now) c.args.at c.args.s c.requires.2 _ c.tag-tag.ensures c.if-tag-eq-TAG_FREE.true
 
 pub class-class-requires : goal.class-class-requires
-class-class-requires c = let a = c.before.before.before in (c.requires.0, subst (λ z. z < c.args.g.segments) (sym c.requires.2) (segment_below c.args.g c.args.at c.requires.1))
+class-class-requires c = (c.requires.0, subst (λ z. z < c.args.g.segments) (sym c.requires.2) (segment_below c.args.g c.args.at c.requires.1))
 
 pub head_in-requires : goal.head_in-requires
 head_in-requires c =

@@ -5,4 +5,4 @@ use borrow.Author.Rules.{rules}
 use Rattle.examine_marks.proofs.only_entries.Goals as goal
 
 pub returns : goal.returns
-returns c = let a = c.before.before.before in entries_by c.args.g (mem_of c.args.g c.args.mem.now) c.requires.1 _ _ c.count-ones.ensures c.trace_count-n.ensures
+returns c = entries_by c.args.g (mem_of c.args.g c.args.mem.now) c.requires.1 _ _ c.count-ones.ensures c.trace_count-n.ensures

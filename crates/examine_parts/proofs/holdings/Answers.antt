@@ -26,12 +26,11 @@ pub loop-class-smaller : goal.loop-class-smaller
 loop-class-smaller c = omega (arith, c.loop-class-test.true)
 
 pub loop-class-preserved : goal.loop-class-preserved
-loop-class-preserved c =
-    let loop_head = c.before.before.before in (
-      omega (arith, c.loop-class.invariant.0),
-      omega (arith, c.loop-class-test.true),
-      below_more _ _ c.loop-class.invariant.2 (λ _. c.holds-ok.ensures.sound c.if-not-ok.false),
-    )
+loop-class-preserved c = (
+  omega (arith, c.loop-class.invariant.0),
+  omega (arith, c.loop-class-test.true),
+  below_more _ _ c.loop-class.invariant.2 (λ _. c.holds-ok.ensures.sound c.if-not-ok.false),
+)
 
 pub returns : goal.returns
 returns c = holds (λ d h. c.loop-class.invariant.2 d (omega (arith, c.loop-class-test.false)))

@@ -4,15 +4,12 @@ use Rattle.examine_record.proofs.is_of_class.Goals as goal
 
 pub returns-then-words-fields : goal.returns-then-words-fields
 returns-then-words-fields c =
-    let shape_told = c.before.before.before.before in
     too_large _ _ c.shape-shape.ensures.shape _ _ c.requires.2 c.block_words-words.ensures c.if-words-fields.true
 
 pub returns-then-class-eq-FIRST_CLASS : goal.returns-then-class-eq-FIRST_CLASS
 returns-then-class-eq-FIRST_CLASS c =
-    let shape_told = c.before.before.before.before.before in
     in_first _ _ c.shape-shape.ensures.shape _ _ c.requires.2 c.block_words-words.ensures c.if-words-fields.false c.if-class-eq-FIRST_CLASS.true
 
 pub returns : goal.returns
 returns c =
-    let shape_told = c.before.before.before.before.before in
     by_half _ _ c.shape-shape.ensures.shape _ _ c.requires.2 c.block_words-words.ensures c.if-words-fields.false c.if-class-eq-FIRST_CLASS.false

@@ -6,7 +6,7 @@ use native.Mathlib.Omega.{arith}
 use Rattle.examine_record.proofs.is_used.Goals as goal
 
 pub returns-then-b-place : goal.returns-then-b-place
-returns-then-b-place c = let a = c.before.before.before in used_before c.args.g (mem_of c.args.g c.args.mem.now) c.args.s c.args.b _ c.place.ensures c.if-b-place.true
+returns-then-b-place c = used_before c.args.g (mem_of c.args.g c.args.mem.now) c.args.s c.args.b _ c.place.ensures c.if-b-place.true
 
 pub offset_bounds-mem-a : goal.offset_bounds-mem-a
 offset_bounds-mem-a c =
@@ -32,9 +32,6 @@ bit_at-requires c =
 
 pub returns : goal.returns
 returns c =
-    let bitmap_from_told = c.before.before.before in
-    let past_b_below_place = bitmap_from_told.before in
-    let place_told = past_b_below_place.before in
     let a = c.args in
     used_by a.g (mem_of a.g a.mem.now) a.s a.b _ c.place.ensures c.if-b-place.false _
     (rw

@@ -9,7 +9,6 @@ returns-then-heap_words-at c = off_heap _ _ _ _ c.heap_words.ensures c.if-heap_w
 
 pub tag-requires : goal.tag-requires
 tag-requires c =
-    let sized = c.before.before in
     (c.requires, segment_in _ _ _ _ c.heap_words.ensures c.if-heap_words-at.false c.segment_of-s.ensures)
 
 pub returns-then-tag-eq-TAG_FREE : goal.returns-then-tag-eq-TAG_FREE
@@ -17,20 +16,10 @@ returns-then-tag-eq-TAG_FREE c = not_free _ _ _ _ c.segment_of-s.ensures _ c.tag
 
 pub class-class-requires : goal.class-class-requires
 class-class-requires c =
-    let located = c.before.before in
-    let past_heap_words_upto_at = located.before in
-    let sized = past_heap_words_upto_at.before in
     (c.requires, segment_in _ _ _ _ c.heap_words.ensures c.if-heap_words-at.false c.segment_of-s.ensures)
 
 pub test_block-requires : goal.test_block-requires
 test_block-requires c =
-    let asked = c.before in
-    let read = asked.before in
-    let used = read.before in
-    let tagged = used.before in
-    let located = tagged.before in
-    let past_heap_words_upto_at = located.before in
-    let sized = past_heap_words_upto_at.before in
     let here = c.segment_of-s.ensures in
     let inside = in_heap _ (mem_of c.args.g c.args.mem.now) _ _ c.heap_words.ensures c.if-heap_words-at.false in
     let passed = sym c.is_class.ensures ∙ c.if-is_class.true in
@@ -38,6 +27,4 @@ test_block-requires c =
 
 pub returns : goal.returns
 returns c =
-    let asked = c.before in
-    let read = asked.before in
     no_class _ _ _ _ c.segment_of-s.ensures _ c.class-class.ensures (sym c.is_class.ensures ∙ c.if-is_class.false)

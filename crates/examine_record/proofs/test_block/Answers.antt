@@ -30,26 +30,18 @@ is_used-requires c =
     )
 
 pub is_of_class-requires : goal.is_of_class-requires
-is_of_class-requires c = let a = c.before.before.before.before.before.before in (c.requires.0, c.requires.1, c.requires.3.class)
+is_of_class-requires c = (c.requires.0, c.requires.1, c.requires.3.class)
 
 pub returns-then-is_of_class : goal.returns-then-is_of_class
 returns-then-is_of_class c =
-    let when_is_used = c.before.before.before in
-    let at_a_block = when_is_used.before.before in
-    let block_words-told = at_a_block.before in
-    let offset_of_told = block_words-told.before in
     passes _ _ _ _ _ c.requires.2 c.requires.3 _ _ c.offset_of-offset.ensures c.block_words-words.ensures
     c.requires.1 c.if-offset-words-ne0.false (c.is_used.ensures.sound c.if-is_used.true)
     (c.is_of_class.ensures.sound c.if-is_of_class.true) _ c.mark_bit.ensures
 
 pub returns-else-is_of_class : goal.returns-else-is_of_class
 returns-else-is_of_class c =
-    let block_words-told = c.before.before.before.before.before in
-    let offset_of_told = block_words-told.before in
     not_sized _ _ _ _ _ c.requires.2 c.requires.3 _ _ c.offset_of-offset.ensures c.block_words-words.ensures (refuted c.is_of_class.ensures c.if-is_of_class.false)
 
 pub returns-else-is_used : goal.returns-else-is_used
 returns-else-is_used c =
-    let block_words-told = c.before.before.before in
-    let offset_of_told = block_words-told.before in
     not_used _ _ _ _ _ c.requires.2 c.requires.3 _ _ c.offset_of-offset.ensures c.block_words-words.ensures (refuted c.is_used.ensures c.if-is_used.false)

@@ -9,7 +9,7 @@ pub entry_count-count-requires : goal.entry_count-count-requires
 entry_count-count-requires c = c.requires.0.sized
 
 pub follow_run-requires : goal.follow_run-requires
-follow_run-requires c = let a = c.before.before.before.before in (c.requires.0, c.requires.1, omega (arith, c.entry_count-count.ensures.room))
+follow_run-requires c = (c.requires.0, c.requires.1, omega (arith, c.entry_count-count.ensures.room))
 
 pub returns : goal.returns
 returns c =

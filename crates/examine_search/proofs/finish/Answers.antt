@@ -8,7 +8,7 @@ use Rattle.examine_search.proofs.Steps.{Under, left_under, under_start, under_re
 use Rattle.examine_search.proofs.finish.Goals as goal
 
 pub loop-g-init : goal.loop-g-init
-loop-g-init c = let a = c.before.before in (c.requires.0.room, under_start c.args.g (mem_of c.args.g c.args.mem.now) c.args.edges c.args.scratch.now c.args.start c.requires.1)
+loop-g-init c = (c.requires.0.room, under_start c.args.g (mem_of c.args.g c.args.mem.now) c.args.edges c.args.scratch.now c.args.start c.requires.1)
 
 pub waiting-requires : goal.waiting-requires
 waiting-requires c = tt

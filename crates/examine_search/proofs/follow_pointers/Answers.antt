@@ -13,7 +13,7 @@ returns-then-w-eq0 c =
     pointed_none a.g (mem_of a.g a.mem.now) (state_of a.g a.scratch.now a.top) a.w c.if-w-eq0.true c.requires.1
 
 pub pointers-count-requires : goal.pointers-count-requires
-pointers-count-requires c = let a = c.before.before.before in (c.requires.0.sized, c.requires.2 (c.args.w - 1) (omega (arith, c.if-w-eq0.false)))
+pointers-count-requires c = (c.requires.0.sized, c.requires.2 (c.args.w - 1) (omega (arith, c.if-w-eq0.false)))
 
 pub follow_run-requires : goal.follow_run-requires
 follow_run-requires c =

@@ -20,10 +20,10 @@ loop-f-init c =
     )
 
 pub overflow_add-from : goal.overflow_add-from
-overflow_add-from c = let a = c.before.before.before.before in omega (arith, c.requires.2, c.loop-f-test.true, length_most c.args.source c.args.g c.requires.0.sized.few)
+overflow_add-from c = omega (arith, c.requires.2, c.loop-f-test.true, length_most c.args.source c.args.g c.requires.0.sized.few)
 
 pub word-w-requires : goal.word-w-requires
-word-w-requires c = let a = c.before.before.before.before in (c.requires.0.sized, omega (arith, c.requires.2, c.loop-f-test.true))
+word-w-requires c = (c.requires.0.sized, omega (arith, c.requires.2, c.loop-f-test.true))
 
 pub follow-met-requires : goal.follow-met-requires
 follow-met-requires c =

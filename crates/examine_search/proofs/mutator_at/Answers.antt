@@ -12,7 +12,7 @@ pub returns-then-state-eq-ABSENT : goal.returns-then-state-eq-ABSENT
 returns-then-state-eq-ABSENT c = run_still c.requires.1 (λ x q. absurd (q.0 (sym c.state.ensures ∙ c.if-state-eq-ABSENT.true)))
 
 pub follow_run-requires : goal.follow_run-requires
-follow_run-requires c = let a = c.before.before.before.before.before in (c.requires.0, c.requires.1, omega (arith, c.requires.2))
+follow_run-requires c = (c.requires.0, c.requires.1, omega (arith, c.requires.2))
 
 pub returns : goal.returns
 returns c =

@@ -47,7 +47,7 @@ bounds-scratch-i c =
     )
 
 pub overflow_cast-at : goal.overflow_cast-at
-overflow_cast-at c = let a = c.before.before.before.before in omega (arith, c.slice_known-2-1.given (length c.args.scratch.now - c.trace_words.result + (c.args.top - 1)))
+overflow_cast-at c = omega (arith, c.slice_known-2-1.given (length c.args.scratch.now - c.trace_words.result + (c.args.top - 1)))
 
 pub pointers-count-requires : goal.pointers-count-requires
 pointers-count-requires c =

@@ -7,13 +7,13 @@ use borrow.Author.Rules.{rules}
 use Rattle.examine_search.proofs.word.Goals as goal
 
 pub mutator-requires : goal.mutator-requires
-mutator-requires c = let a = c.before.before.before in (c.requires.0, subst (λ (x : Source). c.args.i < length_of x c.args.g) c.in-Roots.is c.requires.1)
+mutator-requires c = (c.requires.0, subst (λ (x : Source). c.args.i < length_of x c.args.g) c.in-Roots.is c.requires.1)
 
 pub word-requires : goal.word-requires
-word-requires c = let a = c.before.before.before in (c.requires.0, subst (λ (x : Source). c.args.i < length_of x c.args.g) c.in-Pointers.is c.requires.1)
+word-requires c = (c.requires.0, subst (λ (x : Source). c.args.i < length_of x c.args.g) c.in-Pointers.is c.requires.1)
 
 pub trace-requires : goal.trace-requires
-trace-requires c = let a = c.before.before.before in (c.requires.0, subst (λ (x : Source). c.args.i < length_of x c.args.g) c.in-Entries.is c.requires.1)
+trace-requires c = (c.requires.0, subst (λ (x : Source). c.args.i < length_of x c.args.g) c.in-Entries.is c.requires.1)
 
 pub returns-in-Roots : goal.returns-in-Roots
 returns-in-Roots c = rw c.in-Roots.is c.mutator.ensures

@@ -34,14 +34,11 @@ loop-i-smaller c =
     omega (arith, c.loop-i-test.true)
 
 pub loop-i-preserved : goal.loop-i-preserved
-loop-i-preserved c =
-    let entered = c.before.before.before in
-    let in_Body = entered.before.before in
-    let loop_head = in_Body.before in (
-      omega (arith, c.loop-i-test.true),
-      c.enter-ok.auto.scratch ∙ c.loop-i.invariant.1,
-      seen_more _ _ _ _ c.loop-i.invariant.2 _ _ c.enter-ok.ensures c.if-not-ok.false,
-    )
+loop-i-preserved c = (
+  omega (arith, c.loop-i-test.true),
+  c.enter-ok.auto.scratch ∙ c.loop-i.invariant.1,
+  seen_more _ _ _ _ c.loop-i.invariant.2 _ _ c.enter-ok.ensures c.if-not-ok.false,
+)
 
 pub shape_of-scratch : goal.shape_of-scratch
 shape_of-scratch c = c.loop-i.invariant.1

@@ -17,7 +17,7 @@ pub overflow_cast-bit : goal.overflow_cast-bit
 overflow_cast-bit c = omega (arith, trace_most c.args.g c.requires.0.few, c.requires.1)
 
 pub bit_at-requires : goal.bit_at-requires
-bit_at-requires c = let a = c.before.before.before.before.before in omega (arith, mark_word c.args.g c.args.k c.requires.1, c.requires.2)
+bit_at-requires c = omega (arith, mark_word c.args.g c.args.k c.requires.1, c.requires.2)
 
 pub returns-then-bit_at-eq1 : goal.returns-then-bit_at-eq1
 returns-then-bit_at-eq1 c = bit_again _ _ _ (sym c.bit_at.ensures ∙ c.if-bit_at-eq1.true)

@@ -4,19 +4,12 @@ use Rattle.handshake_calls.proofs.acknowledge.Goals as goal
 
 pub returns-then-number-eq-SYNC2 : goal.returns-then-number-eq-SYNC2
 returns-then-number-eq-SYNC2 c =
-    let acks_set = c.before.before.before.before.before.before in
-    let when_number_is_sync2 = acks_set.before.before in
-    let when_owes = when_number_is_sync2.before in
-    let acks_told = when_owes.before.before in
     second_given _ _ _ _ _ _ c.phase-phase.ensures c.acks.ensures c.owes.ensures
     c.if-owes.true c.if-number-eq-SYNC2.true _ c.set_acks.ensures _ _
     c.push_roots.ensures
 
 pub returns-else-number-eq-SYNC2 : goal.returns-else-number-eq-SYNC2
 returns-else-number-eq-SYNC2 c =
-    let past_number_is_sync2 = c.before.before.before.before in
-    let when_owes = past_number_is_sync2.before in
-    let acks_told = when_owes.before.before in
     first_given _ _ _ _ _ _ c.phase-phase.ensures c.acks.ensures c.owes.ensures
     c.if-owes.true c.if-number-eq-SYNC2.false _ c.set_acks-then-owes.ensures
 

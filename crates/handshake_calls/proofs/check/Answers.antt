@@ -24,18 +24,12 @@ acknowledge-requires c =
 
 pub returns-then-acknowledge : goal.returns-then-acknowledge
 returns-then-acknowledge c =
-    let acknowledged = c.before.before.before in
-    let past_refused = acknowledged.before.before in
-    let inside_refusal_told = past_refused.before in
     checked _ _ _ _ c.inside_refusal-refused.ensures c.if-refused-ne0.false
     (sym c.wrong_size.ensures ∙ c.if-wrong_size.false) _ _ c.acknowledge.ensures
     c.if-acknowledge.true _ refl
 
 pub returns : goal.returns
 returns c =
-    let acknowledged = c.before.before.before in
-    let past_refused = acknowledged.before.before in
-    let inside_refusal_told = past_refused.before in
     hindered _ _ _ _ c.inside_refusal-refused.ensures c.if-refused-ne0.false
     (sym c.wrong_size.ensures ∙ c.if-wrong_size.false) _ _ c.acknowledge.ensures
     c.if-acknowledge.false (c_check _) _

@@ -16,26 +16,19 @@ state-state-requires c = (sized _ _ (sym c.wrong_size.ensures ∙ c.if-wrong_siz
 
 pub returns-then-state-eq-ABSENT : goal.returns-then-state-eq-ABSENT
 returns-then-state-eq-ABSENT c =
-    let mutator_in_range = c.before.before.before in
     enter_4 _ _ _ (sym c.wrong_size.ensures ∙ c.if-wrong_size.false) c.if-mutator-ge-MUTATORS.false _ c.state-state.ensures c.if-state-eq-ABSENT.true
 
 pub returns-then-state-eq-INSIDE : goal.returns-then-state-eq-INSIDE
 returns-then-state-eq-INSIDE c =
-    let mutator_in_range = c.before.before.before.before in
     enter_5 _ _ _ (sym c.wrong_size.ensures ∙ c.if-wrong_size.false) c.if-mutator-ge-MUTATORS.false
     _ c.state-state.ensures c.if-state-eq-ABSENT.false c.if-state-eq-INSIDE.true
 
 pub set_state-requires : goal.set_state-requires
 set_state-requires c =
-    let mutator_in_range = c.before.before.before.before.before in
     (sized _ _ (sym c.wrong_size.ensures ∙ c.if-wrong_size.false), c.if-mutator-ge-MUTATORS.false)
 
 pub returns : goal.returns
 returns c =
-    let past_state_is_inside = c.before.before.before.before in
-    let past_state_is_absent = past_state_is_inside.before in
-    let state_told = past_state_is_absent.before in
-    let mutator_in_range = state_told.before.before in
     enter_ok _ _ _ (sym c.wrong_size.ensures ∙ c.if-wrong_size.false) c.if-mutator-ge-MUTATORS.false
     _ c.state-state.ensures c.if-state-eq-ABSENT.false c.if-state-eq-INSIDE.false _
     c.set_state.ensures

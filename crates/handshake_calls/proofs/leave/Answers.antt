@@ -25,30 +25,19 @@ acknowledge-given-requires c =
     (sized _ _ (sym c.wrong_size.ensures ∙ c.if-wrong_size.false), omega arith)
 
 pub set_state-requires : goal.set_state-requires
-set_state-requires c =
-    let acknowledged = c.before.before.before.before in
-    let past_refused = acknowledged.before.before in
-    let inside_refusal_told = past_refused.before in
-    let past_wrong_size = inside_refusal_told.before.before in (
-      resized _ _ _ (sized _ _ (sym c.wrong_size.ensures ∙ c.if-wrong_size.false)) c.acknowledge-given.auto.mem,
-      then_known _ _ _ 0 c.inside_refusal-refused.ensures c.if-refused-ne0.false,
-    )
+set_state-requires c = (
+  resized _ _ _ (sized _ _ (sym c.wrong_size.ensures ∙ c.if-wrong_size.false)) c.acknowledge-given.auto.mem,
+  then_known _ _ _ 0 c.inside_refusal-refused.ensures c.if-refused-ne0.false,
+)
 
 pub returns-then-given : goal.returns-then-given
 returns-then-given c =
-    let when_given = c.before.before.before.before in
-    let acknowledged = when_given.before.before.before in
-    let past_refused = acknowledged.before.before in
-    let inside_refusal_told = past_refused.before in
     left _ _ _ _ c.inside_refusal-refused.ensures c.if-refused-ne0.false
     (sym c.wrong_size.ensures ∙ c.if-wrong_size.false) _ _ c.acknowledge-given.ensures
     c.if-given.true _ c.set_state.ensures
 
 pub returns : goal.returns
 returns c =
-    let acknowledged = c.before.before.before in
-    let past_refused = acknowledged.before.before in
-    let inside_refusal_told = past_refused.before in
     hindered _ _ _ _ c.inside_refusal-refused.ensures c.if-refused-ne0.false
     (sym c.wrong_size.ensures ∙ c.if-wrong_size.false) _ _ c.acknowledge-given.ensures
     c.if-given.false (c_leave _) _

@@ -23,15 +23,11 @@ pub loop-i-smaller : goal.loop-i-smaller
 loop-i-smaller c = omega arith
 
 pub loop-i-preserved : goal.loop-i-preserved
-loop-i-preserved c =
-    let pushed = c.before.before.before in
-    let pointer_told = pushed.before.before in
-    let in_Body = pointer_told.before.before in
-    let loop_head = in_Body.before in (
-      c.push.auto.mem ∙ c.loop-i.invariant.0,
-      one_more _ _ _ _ _ _ c.loop-i.invariant.1 c.loop-i-test.true _ c.pointer-w.ensures _ _
-          c.push.ensures c.if-push.true,
-    )
+loop-i-preserved c = (
+  c.push.auto.mem ∙ c.loop-i.invariant.0,
+  one_more _ _ _ _ _ _ c.loop-i.invariant.1 c.loop-i-test.true _ c.pointer-w.ensures _ _
+      c.push.ensures c.if-push.true,
+)
 
 pub shape_of-mem-else-push : goal.shape_of-mem-else-push
 shape_of-mem-else-push c =

@@ -26,7 +26,5 @@ set_root-requires c =
 pub returns : goal.returns
 unfolding inside_then act
 returns c =
-    let past_refused = c.before.before.before.before in
-    let root_refusal_told = past_refused.before in
     done (c_clear _ _) _ _ (sym c.wrong_size.ensures ∙ c.if-wrong_size.false)
     (sym c.if-refused-ne0.false ∙ c.root_refusal-refused.ensures) refl refl refl c.set_root.ensures

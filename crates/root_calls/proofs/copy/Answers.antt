@@ -21,24 +21,17 @@ returns-then-refused-ne0 c = refused (c_copy _ _ _) _ _ (sym c.wrong_size.ensure
 
 pub root-held-requires : goal.root-held-requires
 root-held-requires c =
-    let past_wrong_size = c.before.before.before.before in
     let p = in_range _ _ _ c.args.to _ _ c.roots_refusal-refused.ensures c.if-refused-ne0.false in
     (sized _ _ (sym c.wrong_size.ensures ∙ c.if-wrong_size.false), p.0, p.2)
 
 pub set_root-requires : goal.set_root-requires
 set_root-requires c =
-    let past_refused = c.before.before.before in
-    let roots_refusal_told = past_refused.before in
-    let past_wrong_size = roots_refusal_told.before.before in
     let p = in_range _ _ _ _ c.args.from _ c.roots_refusal-refused.ensures c.if-refused-ne0.false in
     (sized _ _ (sym c.wrong_size.ensures ∙ c.if-wrong_size.false), p.0, p.1)
 
 pub returns : goal.returns
 unfolding inside_then act
 returns c =
-    let root_told = c.before.before.before.before in
-    let past_refused = root_told.before.before in
-    let roots_refusal_told = past_refused.before in
     done (c_copy _ _ _) _ _ (sym c.wrong_size.ensures ∙ c.if-wrong_size.false)
     (sym c.if-refused-ne0.false ∙ c.roots_refusal-refused.ensures) refl refl refl
     (c.set_root.ensures ∙ ap (set_root _ _ _) c.root-held.ensures)

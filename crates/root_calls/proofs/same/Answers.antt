@@ -21,20 +21,17 @@ returns-then-refused-ne0 c = refused (c_same _ _ _) _ _ (sym c.wrong_size.ensure
 
 pub root-first-requires : goal.root-first-requires
 root-first-requires c =
-    let wrong_size-told = c.before.before.before in
     let p = in_range _ _ _ _ c.args.other _ c.roots_refusal-refused.ensures c.if-refused-ne0.false in
     (sized _ _ (sym c.wrong_size.ensures ∙ c.if-wrong_size.false), p.0, p.1)
 
 pub root-second-requires : goal.root-second-requires
 root-second-requires c =
-    let past_wrong_size = c.before.before.before in
     let p = in_range _ _ _ c.args.root _ _ c.roots_refusal-refused.ensures c.if-refused-ne0.false in
     (sized _ _ (sym c.wrong_size.ensures ∙ c.if-wrong_size.false), p.0, p.2)
 
 pub returns : goal.returns
 unfolding inside_then act
 returns c =
-    let roots_refusal_told = c.before.before.before in
     done (c_same _ _ _) _ _ (sym c.wrong_size.ensures ∙ c.if-wrong_size.false)
     (sym c.if-refused-ne0.false ∙ c.roots_refusal-refused.ensures) (_, refl) refl
     (ap a_flag (same_words c.root-first.ensures c.root-second.ensures))

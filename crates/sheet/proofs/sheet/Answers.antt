@@ -31,16 +31,11 @@ returns-then-not-ok c =
     c.if-not-ok.true
 
 pub put_lines-requires : goal.put_lines-requires
-put_lines-requires c =
-    let past_records = c.before in
-    let records_told = past_records.before in
-    let past_output_not_sheet_bytes = records_told.before in
-    let sheet_bytes-told = past_output_not_sheet_bytes.before in
-    let past_wrong_size = sheet_bytes-told.before in (
-      sized _ _ (sym c.wrong_size.ensures ∙ c.if-wrong_size.false),
-      c.lines_ok-ok.ensures.sound c.if-not-ok.false,
-      c.if-output-sheet_bytes.false ∙ c.sheet_bytes.ensures,
-    )
+put_lines-requires c = (
+  sized _ _ (sym c.wrong_size.ensures ∙ c.if-wrong_size.false),
+  c.lines_ok-ok.ensures.sound c.if-not-ok.false,
+  c.if-output-sheet_bytes.false ∙ c.sheet_bytes.ensures,
+)
 
 pub returns : goal.returns
 returns c =

@@ -20,13 +20,11 @@ pub loop-s-smaller : goal.loop-s-smaller
 loop-s-smaller c = omega arith
 
 pub loop-s-preserved : goal.loop-s-preserved
-loop-s-preserved c =
-    let in_Body = c.before.before.before.before in
-    let loop_head = in_Body.before in (
-      c.condemn_one.auto.mem ∙ c.loop-s.invariant.0,
-      one_turn _ _ _ _ c.loop-s.invariant.1 c.loop-s-test.true _
-          (condemned_next _ _ _ _ c.loop-s.invariant.1.is c.condemn_one.ensures),
-    )
+loop-s-preserved c = (
+  c.condemn_one.auto.mem ∙ c.loop-s.invariant.0,
+  one_turn _ _ _ _ c.loop-s.invariant.1 c.loop-s-test.true _
+      (condemned_next _ _ _ _ c.loop-s.invariant.1.is c.condemn_one.ensures),
+)
 
 pub shape_of-mem : goal.shape_of-mem
 shape_of-mem c = c.loop-s.invariant.0

@@ -16,11 +16,10 @@ pub part_stack-requires : goal.part_stack-requires
 part_stack-requires c = (omega arith, omega (arith, c.loop-n-test.true))
 
 pub empty-requires : goal.empty-requires
-empty-requires c =
-    let loop_head = c.before.before.before in (
-      resized _ _ _ c.requires c.loop-n.invariant.0,
-      omega (arith, c.part_stack.ensures, c.loop-n-test.true),
-    )
+empty-requires c = (
+  resized _ _ _ c.requires c.loop-n.invariant.0,
+  omega (arith, c.part_stack.ensures, c.loop-n-test.true),
+)
 
 pub overflow_add-n-in-loop-n : goal.overflow_add-n-in-loop-n
 overflow_add-n-in-loop-n c = omega arith
@@ -29,13 +28,11 @@ pub loop-n-smaller : goal.loop-n-smaller
 loop-n-smaller c = omega arith
 
 pub loop-n-preserved : goal.loop-n-preserved
-loop-n-preserved c =
-    let in_Body = c.before.before.before.before.before in
-    let loop_head = in_Body.before in (
-      c.empty.auto.mem ∙ c.loop-n.invariant.0,
-      one_turn _ _ _ _ c.loop-n.invariant.1 (omega (arith, c.loop-n-test.true)) _
-          (emptied_next _ _ _ _ _ _ c.loop-n.invariant.1.is c.part_stack.ensures c.empty.ensures),
-    )
+loop-n-preserved c = (
+  c.empty.auto.mem ∙ c.loop-n.invariant.0,
+  one_turn _ _ _ _ c.loop-n.invariant.1 (omega (arith, c.loop-n-test.true)) _
+      (emptied_next _ _ _ _ _ _ c.loop-n.invariant.1.is c.part_stack.ensures c.empty.ensures),
+)
 
 pub shape_of-mem : goal.shape_of-mem
 shape_of-mem c = c.loop-n.invariant.0

@@ -19,13 +19,11 @@ pub loop-k-smaller : goal.loop-k-smaller
 loop-k-smaller c = omega arith
 
 pub loop-k-preserved : goal.loop-k-preserved
-loop-k-preserved c =
-    let in_Body = c.before.before.before.before in
-    let loop_head = in_Body.before in (
-      c.set_acks.auto.mem ∙ c.loop-k.invariant.0,
-      one_turn _ _ _ _ c.loop-k.invariant.1 (omega (arith, c.loop-k-test.true)) _
-          (reset_next _ _ _ _ c.loop-k.invariant.1.is c.set_acks.ensures),
-    )
+loop-k-preserved c = (
+  c.set_acks.auto.mem ∙ c.loop-k.invariant.0,
+  one_turn _ _ _ _ c.loop-k.invariant.1 (omega (arith, c.loop-k-test.true)) _
+      (reset_next _ _ _ _ c.loop-k.invariant.1.is c.set_acks.ensures),
+)
 
 pub shape_of-mem : goal.shape_of-mem
 shape_of-mem c = c.loop-k.invariant.0

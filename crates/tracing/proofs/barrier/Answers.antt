@@ -4,8 +4,6 @@ use Rattle.tracing.proofs.barrier.Goals as goal
 
 pub returns-then-push : goal.returns-then-push
 returns-then-push c =
-    let when_push = c.before.before.before.before in
-    let pushed = when_push.before.before.before in
     barrier_both _ _ _ _ _ c.in-Both.is _ _ _ _ c.push.ensures c.if-push.true c.push-then-push.ensures
 
 pub returns-in-Nothing : goal.returns-in-Nothing
@@ -13,7 +11,6 @@ returns-in-Nothing c = barrier_nothing _ _ _ _ _ c.in-Nothing.is
 
 pub returns-else-push : goal.returns-else-push
 returns-else-push c =
-    let pushed = c.before.before.before in
     barrier_stops _ _ _ _ _ c.in-Both.is _ _ c.push.ensures c.if-push.false
 
 pub returns-in-Old : goal.returns-in-Old

@@ -9,8 +9,6 @@ returns-then-w-eq0 c = push_nil _ _ _ c.if-w-eq0.true
 
 pub push_bit-requires : goal.push_bit-requires
 push_bit-requires c =
-    let known = c.before.before in
-    let found = known.before.before in
     (c.requires, (bit_within _ _ _ (sym c.in-At.is ∙ c.record_bit.ensures)).1)
 
 pub returns-in-Torn : goal.returns-in-Torn
@@ -19,6 +17,4 @@ returns-in-Torn c =
 
 pub returns-in-At : goal.returns-in-At
 returns-in-At c =
-    let known = c.before.before.before.before.before in
-    let found = known.before.before in
     push_by _ _ _ _ _ _ c.if-w-eq0.false (sym c.in-At.is ∙ c.record_bit.ensures) c.push_bit.ensures

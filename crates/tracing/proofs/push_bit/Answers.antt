@@ -10,29 +10,19 @@ returns-then-is_set c = push_old _ _ _ _ (c.is_set.ensures.sound c.if-is_set.tru
 
 pub returns-then-trace_words-count : goal.returns-then-trace_words-count
 returns-then-trace_words-count c =
-    let roomed = c.before in
-    let counted = roomed.before in
     push_full _ _ _ _ (refuted c.is_set.ensures c.if-is_set.false) _ c.trace_count-count.ensures _
     c.trace_words.ensures c.if-trace_words-count.true
 
 pub set-requires : goal.set-requires
 set-requires c =
-    let roomed = c.before.before in
     (c.requires.0, omega (arith, c.requires.1))
 
 pub overflow_add-count : goal.overflow_add-count
 overflow_add-count c =
-    let marked = c.before.before.before.before.before.before.before in
-    let roomy = marked.before.before in
-    let roomed = roomy.before in
     let most = trace_most c.args.g c.requires.0.few in
     omega arith
 
 pub returns : goal.returns
 returns c =
-    let recounted = c.before.before in
-    let entered = recounted.before.before.before.before in
-    let marked = entered.before.before.before.before in
-    let counted = marked.before.before.before.before in
     push_done _ _ _ _ (refuted c.is_set.ensures c.if-is_set.false) _ c.trace_count-count.ensures _ _ _
     c.set.ensures c.set_trace.ensures c.set_trace_count.ensures

@@ -14,7 +14,6 @@ root-w-requires c =
 
 pub push-requires : goal.push-requires
 push-requires c =
-    let loop_head = c.before.before.before.before in
     resized _ _ _ c.requires.0 c.loop-i.invariant.0
 
 pub overflow_add-i : goal.overflow_add-i
@@ -24,26 +23,18 @@ pub loop-i-smaller : goal.loop-i-smaller
 loop-i-smaller c = omega arith
 
 pub loop-i-preserved : goal.loop-i-preserved
-loop-i-preserved c =
-    let pushed = c.before.before.before in
-    let root_told = pushed.before.before in
-    let in_Body = root_told.before.before in
-    let loop_head = in_Body.before in (
-      c.push.auto.mem ∙ c.loop-i.invariant.0,
-      one_more _ _ _ _ _ c.loop-i.invariant.1 (omega (arith, c.loop-i-test.true)) _ c.root-w.ensures _ _
-          c.push.ensures c.if-push.true,
-    )
+loop-i-preserved c = (
+  c.push.auto.mem ∙ c.loop-i.invariant.0,
+  one_more _ _ _ _ _ c.loop-i.invariant.1 (omega (arith, c.loop-i-test.true)) _ c.root-w.ensures _ _
+      c.push.ensures c.if-push.true,
+)
 
 pub shape_of-mem-else-push : goal.shape_of-mem-else-push
 shape_of-mem-else-push c =
-    let pushed = c.before.before.before in
     c.push.auto.mem ∙ c.loop-i.invariant.0
 
 pub returns-else-push : goal.returns-else-push
 returns-else-push c =
-    let pushed = c.before.before.before in
-    let root_told = pushed.before.before in
-    let in_Body = root_told.before.before in
     one_fails _ _ _ _ _ c.loop-i.invariant.1 (omega (arith, c.loop-i-test.true)) _ c.root-w.ensures _ _ c.push.ensures c.if-push.false
 
 pub shape_of-mem : goal.shape_of-mem
