@@ -1,12 +1,12 @@
 -- The scratch in two parts: the part behind, lent and given back, and the words kept in front.
 use mathlib.Core.Path.{◌≡◌, refl, sym, ap, ap₂, ◌∙◌, subst}
 use mathlib.Core.List.{List, [], ◌∷◌, ◌++◌, append-nil}
-use Prim.Native.Nat.{ℕ, suc, ◌+◌, ◌-◌, ◌*◌, ◌/◌, ◌≤◌, ◌<◌}
+use Prim.Native.Nat.{ℕ, ◌+◌, ◌-◌, ◌*◌, ◌/◌, ◌≤◌, ◌<◌}
 use native.Mathlib.Numerals.{add-one}
 use native.Mathlib.Omega.{arith}
 use lib.ListN.{length, get_or, take, drop, set, length-drop, length-set, drop_of_length-le}
 use lib.Seq.{take_all, take-suc, take-suc-set, drop-set-lt, get_or-drop, get_or-take, length-take-le, take_at, drop_at}
-use borrow.Rule.Slice.PartMut.{mid_of, post_of, put_mid}
+use borrow.Rule.Slice.PartMut.{mid_of, put_mid}
 use Rattle.words.specs.Bits.{bit_at}
 use Rattle.words.proofs.Lists.{bits_same}
 use Rattle.layout.specs.declared.Geometry.{Geometry}

@@ -1,6 +1,6 @@
 -- What is judged by bits is what the examination is to decide, where the bits are those of the searches.
 use mathlib.Core.Path.{◌≡◌, refl, sym, ap, ◌∙◌, subst}
-use mathlib.Core.Logic.{◌⊎◌, inl, inr, ⊎_elim}
+use mathlib.Core.Logic.{inl, inr, ⊎_elim}
 use mathlib.Core.Bool.{Bool, true, false}
 use mathlib.Core.List.{List}
 use Prim.Native.Nat.{ℕ, ◌*◌, ◌≤◌, ◌<◌}
@@ -15,7 +15,7 @@ use Rattle.layout.proofs.Sizes.{segment_below}
 use Rattle.theory.specs.Reach.{root, next}
 use Rattle.theory.proofs.Graph.{reach_map}
 use Rattle.model.specs.Fields.{class}
-use Rattle.model.specs.Records.{entered, block_of, header_of}
+use Rattle.model.specs.Records.{block_of, header_of}
 use Rattle.model.specs.Reaching.{IsRoot, PointsTo, Live, Reached, Covered}
 use Rattle.model.specs.Consistent.{RecordOk}
 use Rattle.model_laws.proofs.Apart.{class_of}
@@ -31,7 +31,6 @@ use Rattle.examine_cycle.proofs.Judging.{known_record}
 use Rattle.examine_colours.specs.Coloured.{Room, Coloured, SweptOk}
 use Rattle.examine_colours.proofs.Fields.{bit_front, front_room, resize}
 use Rattle.layout.specs.Region as Region
-use Rattle.model.specs.Tag as Tag
 
 module _ (g : Geometry) (m : Mem) (Set : ℕ → Type 0) where
   -- a search decides that every record of its set passes the test

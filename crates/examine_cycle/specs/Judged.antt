@@ -1,9 +1,9 @@
 -- What is judged by the bits of two searches, of live or reached records and of covered ones.
-use Rattle.std.specs.Prelude.{◌≡◌, ◌⊎◌, List, ℕ, suc, ◌+◌, ◌*◌, ◌≤◌, ◌<◌, length}
+use Rattle.std.specs.Prelude.{◌≡◌, ◌⊎◌, List, ℕ, ◌+◌, ◌*◌, ◌≤◌, ◌<◌, length}
 use Rattle.words.specs.Bits.{bit_at}
 use Rattle.classes.specs.Class.{IsClass}
 use Rattle.layout.specs.declared.Geometry.{Geometry}
-use Rattle.layout.specs.Geometry.{len, most_blocks, blocks_in, mark_bit, mutator_count, mutator_words, root_count}
+use Rattle.layout.specs.Geometry.{len, most_blocks, blocks_in, mark_bit, mutator_words, root_count}
 use Rattle.layout.specs.Mem.{Mem}
 use Rattle.model.specs.Fields.{absent, state, acks, tag, class}
 use Rattle.model.specs.Records.{entered, header_of, pointer_count}

@@ -1,8 +1,8 @@
 -- A word is the head of a block in use; a bit is fine; as many bits as entries are the entries'.
 use mathlib.Core.Path.{◌≡◌, refl, sym, ap, ◌∙◌, subst}
 use mathlib.Core.Bool.{Bool, true, false, true≢false}
-use mathlib.Core.Logic.{◌⊎◌, inl, inr, ⊎_elim}
-use Prim.Native.Nat.{ℕ, zero, suc, ◌+◌, ◌-◌, ◌*◌, ◌/◌, ◌%◌, ◌≤◌, ◌<◌}
+use mathlib.Core.Logic.{◌⊎◌, inl, inr}
+use Prim.Native.Nat.{ℕ, zero, suc, ◌*◌, ◌/◌, ◌%◌, ◌≤◌, ◌<◌}
 use native.Mathlib.Omega.{arith}
 use lib.Dec.{eqb}
 use borrow.Author.Tests.{eq-eqb, ne_eqb, eqb-true}
@@ -17,7 +17,7 @@ use Rattle.words.proofs.Counts.{lt_of, among_change, places_all, no_ones}
 use Rattle.classes.specs.Class.{IsClass, first_class, block_words}
 use Rattle.layout.specs.declared.Geometry.{Geometry}
 use Rattle.layout.specs.Geometry.{len, segment_words, most_blocks, segment_of, mark_bit}
-use Rattle.layout.specs.Mem.{Mem, trace_word}
+use Rattle.layout.specs.Mem.{Mem}
 use Rattle.layout.proofs.Sizes.{marks_words, segment_below}
 use Rattle.model.specs.Fields.{tag, class, trace_count}
 use Rattle.model.specs.Segments.{used_bit}

@@ -1,12 +1,11 @@
 -- What the search finds by the bits alone: covered is by an entry, by what an entry names, and on through records whose bit is 0; and the pointers of
 -- a record with a bit are covered where those of a marked one are.
-use mathlib.Core.Path.{◌≡◌, refl, sym, ◌∙◌, ap}
+use mathlib.Core.Path.{◌≡◌, refl, ap}
 use mathlib.Core.Logic.{◌⊎◌, inl, inr}
-use mathlib.Core.Bool.{Bool, true, false, true≢false}
+use mathlib.Core.Bool.{Bool, true, false}
 use Prim.Native.Nat.{ℕ}
-use native.Mathlib.Omega.{arith}
 use lib.Dec.{eqb}
-use borrow.Author.Tests.{eq-eqb, ne_eqb, eqb-true, eqb-false}
+use borrow.Author.Tests.{eq-eqb, eqb-true, eqb-false}
 use Rattle.layout.specs.Geometry.{mark_bit}
 use Rattle.words.proofs.Word.{zero_of_not_one}
 use Rattle.words.proofs.Lists.{at_lt}

@@ -1,18 +1,16 @@
 -- How long the sheet of consistent memory is, and where each line of it begins.
 use Prim.Native.Nat.{ℕ, ◌≤◌, ◌<◌}
-use mathlib.Core.Path.{◌≡◌, refl, sym, ◌∙◌, ap}
-use mathlib.Core.Bool.{false}
-use mathlib.Core.List.{List}
+use mathlib.Core.Path.{◌≡◌, sym, ◌∙◌, ap}
 use native.Mathlib.Omega.{arith}
 use lib.ListN.{length}
 use Rattle.layout.specs.declared.Geometry.{Geometry}
-use Rattle.layout.specs.Geometry.{max_segments, wrong_size}
+use Rattle.layout.specs.Geometry.{max_segments}
 use Rattle.layout.specs.Mem.{Mem, mem_of}
 use Rattle.layout.proofs.Regions.{sized}
 use Rattle.model.specs.Consistent.{Consistent}
 use Rattle.model.specs.Sheet.{line_of, lines_to, sheet_of}
-use Rattle.sheet.specs.Counted.{Counted, counted_line}
-use Rattle.sheet.specs.Long.{SheetLong, EverySheet}
+use Rattle.sheet.specs.Counted.{counted_line}
+use Rattle.sheet.specs.Long.{EverySheet}
 use Rattle.sheet.proofs.Lines.{all_long, line_at, lines_same}
 use Rattle.sheet.proofs.Records.{consistent_counted, counted_long, counted_is}
 

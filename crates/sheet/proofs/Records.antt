@@ -4,7 +4,6 @@ use Prim.Native.Nat.{ℕ, ◌+◌, ◌-◌, ◌≤◌, ◌<◌}
 use mathlib.Core.Path.{◌≡◌, refl, sym, ◌∙◌, ap}
 use mathlib.Core.Logic.{◌⊎◌, inl, inr}
 use mathlib.Core.Bool.{Bool, true, false}
-use mathlib.Core.List.{List}
 use native.Mathlib.Omega.{arith}
 use lib.Dec.{leb}
 use lib.ListN.{length}
@@ -13,7 +12,6 @@ use Rattle.basics.specs.Decides.{Decides}
 use Rattle.basics.specs.Pick.{pick}
 use Rattle.basics.proofs.Deciding.{fails, refuted}
 use Rattle.basics.proofs.Order.{same_or_not}
-use Rattle.classes.specs.Class.{IsClass}
 use Rattle.layout.specs.declared.Geometry.{Geometry}
 use Rattle.layout.specs.Geometry.{blocks_in, max_segments}
 use Rattle.layout.specs.Mem.{Mem}

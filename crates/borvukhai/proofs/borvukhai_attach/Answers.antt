@@ -1,5 +1,4 @@
 -- `borvukhai::borvukhai_attach` meets its contract.
-use borrow.Author.Rules.{rules}
 use Rattle.theory.specs.Calls.{c_attach}
 use Rattle.packing.proofs.Unpacked.{exports}
 use Rattle.borvukhai.proofs.borvukhai_attach.Goals as goal

@@ -1,5 +1,4 @@
 -- `borvukhai::borvukhai_check` meets its contract.
-use borrow.Author.Rules.{rules}
 use Rattle.theory.specs.Calls.{c_check}
 use Rattle.packing.proofs.Unpacked.{exports}
 use Rattle.borvukhai.proofs.borvukhai_check.Goals as goal

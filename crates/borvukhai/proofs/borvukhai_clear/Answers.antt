@@ -1,5 +1,4 @@
 -- `borvukhai::borvukhai_clear` meets its contract.
-use borrow.Author.Rules.{rules}
 use Rattle.theory.specs.Calls.{c_clear}
 use Rattle.packing.proofs.Unpacked.{exports}
 use Rattle.borvukhai.proofs.borvukhai_clear.Goals as goal

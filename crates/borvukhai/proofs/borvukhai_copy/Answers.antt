@@ -1,5 +1,4 @@
 -- `borvukhai::borvukhai_copy` meets its contract.
-use borrow.Author.Rules.{rules}
 use Rattle.theory.specs.Calls.{c_copy}
 use Rattle.packing.proofs.Unpacked.{exports}
 use Rattle.borvukhai.proofs.borvukhai_copy.Goals as goal

@@ -1,5 +1,4 @@
 -- `borvukhai::borvukhai_detach` meets its contract.
-use borrow.Author.Rules.{rules}
 use Rattle.theory.specs.Calls.{c_detach}
 use Rattle.packing.proofs.Unpacked.{exports}
 use Rattle.borvukhai.proofs.borvukhai_detach.Goals as goal

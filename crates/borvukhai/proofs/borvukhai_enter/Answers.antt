@@ -1,5 +1,4 @@
 -- `borvukhai::borvukhai_enter` meets its contract.
-use borrow.Author.Rules.{rules}
 use Rattle.theory.specs.Calls.{c_enter}
 use Rattle.packing.proofs.Unpacked.{exports}
 use Rattle.borvukhai.proofs.borvukhai_enter.Goals as goal

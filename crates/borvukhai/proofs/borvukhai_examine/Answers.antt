@@ -1,6 +1,5 @@
 -- `borvukhai::borvukhai_examine` meets its contract.
 use Rattle.packing.proofs.UnpackedLooks.{exports_examine}
-use borrow.Author.Rules.{rules}
 use Rattle.borvukhai.proofs.borvukhai_examine.Goals as goal
 
 pub returns : goal.returns

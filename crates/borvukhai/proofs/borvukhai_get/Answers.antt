@@ -1,5 +1,4 @@
 -- `borvukhai::borvukhai_get` meets its contract.
-use borrow.Author.Rules.{rules}
 use Rattle.theory.specs.Calls.{c_get}
 use Rattle.packing.proofs.Unpacked.{exports_number}
 use Rattle.borvukhai.proofs.borvukhai_get.Goals as goal

@@ -1,5 +1,4 @@
 -- `borvukhai::borvukhai_leave` meets its contract.
-use borrow.Author.Rules.{rules}
 use Rattle.theory.specs.Calls.{c_leave}
 use Rattle.packing.proofs.Unpacked.{exports}
 use Rattle.borvukhai.proofs.borvukhai_leave.Goals as goal

@@ -1,5 +1,4 @@
 -- `borvukhai::borvukhai_load` meets its contract.
-use borrow.Author.Rules.{rules}
 use Rattle.theory.specs.Calls.{c_load}
 use Rattle.packing.proofs.Unpacked.{exports}
 use Rattle.borvukhai.proofs.borvukhai_load.Goals as goal

@@ -1,5 +1,4 @@
 -- `borvukhai::borvukhai_make` meets its contract.
-use borrow.Author.Rules.{rules}
 use Rattle.theory.specs.Calls.{c_make}
 use Rattle.packing.proofs.Unpacked.{exports}
 use Rattle.borvukhai.proofs.borvukhai_make.Goals as goal

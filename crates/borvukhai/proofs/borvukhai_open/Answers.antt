@@ -1,5 +1,4 @@
 -- `borvukhai::borvukhai_open` meets its contract.
-use borrow.Author.Rules.{rules}
 use Rattle.packing.proofs.Unpacked.{exports_open}
 use Rattle.borvukhai.proofs.borvukhai_open.Goals as goal
 

@@ -1,5 +1,4 @@
 -- `borvukhai::borvukhai_put` meets its contract.
-use borrow.Author.Rules.{rules}
 use Rattle.theory.specs.Calls.{c_put}
 use Rattle.packing.proofs.Unpacked.{exports}
 use Rattle.borvukhai.proofs.borvukhai_put.Goals as goal

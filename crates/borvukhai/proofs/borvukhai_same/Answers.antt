@@ -1,5 +1,4 @@
 -- `borvukhai::borvukhai_same` meets its contract.
-use borrow.Author.Rules.{rules}
 use Rattle.theory.specs.Calls.{c_same}
 use Rattle.packing.proofs.Unpacked.{exports_same}
 use Rattle.borvukhai.proofs.borvukhai_same.Goals as goal

@@ -1,5 +1,4 @@
 -- `borvukhai::borvukhai_shape` meets its contract.
-use borrow.Author.Rules.{rules}
 use Rattle.theory.specs.Calls.{c_shape}
 use Rattle.packing.proofs.Unpacked.{exports_shape}
 use Rattle.borvukhai.proofs.borvukhai_shape.Goals as goal

@@ -2,7 +2,6 @@
 use mathlib.Core.Path.{sym, ◌∙◌}
 use Rattle.layout.specs.Geometry.{sheet_bytes}
 use Rattle.packing.proofs.Lengths.{some, few, length-is, no_length}
-use borrow.Author.Rules.{rules}
 use Rattle.borvukhai.proofs.borvukhai_sheet_length.Goals as goal
 
 pub returns-then-no_size : goal.returns-then-no_size

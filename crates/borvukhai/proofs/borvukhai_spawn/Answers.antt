@@ -1,5 +1,4 @@
 -- `borvukhai::borvukhai_spawn` meets its contract.
-use borrow.Author.Rules.{rules}
 use Rattle.theory.specs.Calls.{c_spawn}
 use Rattle.packing.proofs.Unpacked.{exports}
 use Rattle.borvukhai.proofs.borvukhai_spawn.Goals as goal

@@ -1,5 +1,4 @@
 -- `borvukhai::borvukhai_start` meets its contract.
-use borrow.Author.Rules.{rules}
 use Rattle.packing.proofs.Unpacked.{exports_start}
 use Rattle.borvukhai.proofs.borvukhai_start.Goals as goal
 

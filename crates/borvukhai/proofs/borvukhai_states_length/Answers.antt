@@ -2,7 +2,6 @@
 use mathlib.Core.Path.{sym, ◌∙◌}
 use Rattle.packing.specs.Packed.{states_words}
 use Rattle.packing.proofs.Lengths.{few, length-is, no_length}
-use borrow.Author.Rules.{rules}
 use Rattle.borvukhai.proofs.borvukhai_states_length.Goals as goal
 
 pub returns-then-no_size : goal.returns-then-no_size

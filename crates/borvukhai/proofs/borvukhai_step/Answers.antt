@@ -1,5 +1,4 @@
 -- `borvukhai::borvukhai_step` meets its contract.
-use borrow.Author.Rules.{rules}
 use Rattle.packing.proofs.UnpackedStep.{exports_step}
 use Rattle.borvukhai.proofs.borvukhai_step.Goals as goal
 

@@ -1,5 +1,4 @@
 -- `borvukhai::borvukhai_store` meets its contract.
-use borrow.Author.Rules.{rules}
 use Rattle.theory.specs.Calls.{c_store}
 use Rattle.packing.proofs.Unpacked.{exports}
 use Rattle.borvukhai.proofs.borvukhai_store.Goals as goal

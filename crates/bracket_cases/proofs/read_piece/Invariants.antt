@@ -1,7 +1,5 @@
 -- `bracket_cases::read_piece` is safe and ends: each turn takes at least a byte of the piece.
-use borrow.Author.Rules.{rules}
 use Prim.Native.Nat.{◌-◌}
-use native.Mathlib.Omega.{arith}
 use lib.ListN.{length}
 use Rattle.bracket_cases.proofs.read_piece.Given as goal
 

@@ -1,5 +1,4 @@
 -- `bracket_run::answer` meets its contract.
-use borrow.Author.Rules.{rules}
 use Rattle.bracket_run.proofs.Replying.{wrote_line}
 use Rattle.bracket_run.proofs.answer.Goals as goal
 

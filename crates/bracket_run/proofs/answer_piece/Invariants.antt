@@ -1,12 +1,8 @@
 -- `bracket_run::answer_piece` meets its contract. The loop's invariant: each byte passed has room for a reply.
-use borrow.Author.Rules.{rules}
 use Prim.Native.Nat.{◌-◌, ◌*◌, ◌≤◌}
-use mathlib.Core.Path.{◌≡◌, refl}
-use mathlib.Core.List.{[]}
-use native.Mathlib.Omega.{arith}
+use mathlib.Core.Path.{◌≡◌}
 use lib.ListN.{length, take}
 use Rattle.bracket_run.specs.Printed.{Passed, most_reply}
-use Rattle.bracket_run.proofs.Replying.{begins, passes, passed_all}
 use Rattle.bracket_run.proofs.answer_piece.Given as goal
 
 abbrev pub invariant-loop-at : goal.invariant-loop-at

@@ -1,5 +1,4 @@
 -- `bracket_run::hear` meets its contract.
-use borrow.Author.Rules.{rules}
 use mathlib.Core.Path.{sym}
 use lib.Seq.{length-take-le}
 use Rattle.bracket_run.proofs.Replying.{wrote_none, wrote_as, wrote_long}

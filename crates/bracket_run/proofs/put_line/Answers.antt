@@ -1,5 +1,4 @@
 -- `bracket_run::put_line` meets its contract.
-use borrow.Author.Rules.{rules}
 use native.Mathlib.Omega.{arith}
 use Rattle.bracket_run.proofs.Printing.{reply_short, inside, printed}
 use Rattle.bracket_run.proofs.put_line.Goals as goal

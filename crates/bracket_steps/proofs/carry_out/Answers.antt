@@ -1,5 +1,4 @@
 -- `bracket_steps::carry_out` meets its contract.
-use borrow.Author.Rules.{rules}
 use mathlib.Core.Path.{◌≡◌, sym, ◌∙◌}
 use native.Mathlib.Omega.{arith}
 use Rattle.layout.specs.Geometry.{total}

@@ -1,5 +1,4 @@
 -- `bracket_steps::reply_of` meets its contract: each arm computes.
-use borrow.Author.Rules.{rules}
 use Rattle.bracket_steps.proofs.reply_of.Goals as goal
 
 pub returns-in-Number : goal.returns-in-Number

@@ -1,5 +1,4 @@
 -- `bracket_steps::run` meets its contract.
-use borrow.Author.Rules.{rules}
 use Rattle.bracket_steps.proofs.Running.{ran_open, ran_call, ran_start, ran_step}
 use Rattle.bracket_steps.proofs.run.Goals as goal
 

@@ -1,5 +1,4 @@
 -- `bracket_steps::step_reply` meets its contract: each arm computes.
-use borrow.Author.Rules.{rules}
 use Rattle.bracket_steps.proofs.step_reply.Goals as goal
 
 pub returns-in-Waiting : goal.returns-in-Waiting

@@ -1,5 +1,4 @@
 -- `bracket_steps::task_of` meets its contract: each arm computes.
-use borrow.Author.Rules.{rules}
 use Rattle.bracket_steps.proofs.task_of.Goals as goal
 
 pub returns-in-Rack : goal.returns-in-Rack

@@ -1,8 +1,7 @@
 -- `cases_run::fill` meets its contract.
-use mathlib.Core.Path.{◌≡◌, refl, ◌∙◌}
-use Prim.Native.Nat.{◌-◌, ◌≤◌}
+use mathlib.Core.Path.{refl, ◌∙◌}
 use native.Mathlib.Omega.{arith}
-use lib.ListN.{length, length-set}
+use lib.ListN.{length-set}
 use Rattle.cases_run.proofs.fill.Goals as goal
 
 pub loop-i-init : goal.loop-i-init

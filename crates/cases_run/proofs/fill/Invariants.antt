@@ -1,8 +1,7 @@
 -- `cases_run::fill` meets its contract.
-use mathlib.Core.Path.{◌≡◌, refl, ◌∙◌}
+use mathlib.Core.Path.{◌≡◌}
 use Prim.Native.Nat.{◌-◌, ◌≤◌}
-use native.Mathlib.Omega.{arith}
-use lib.ListN.{length, length-set}
+use lib.ListN.{length}
 use Rattle.cases_run.proofs.fill.Given as goal
 
 abbrev pub invariant-loop-i : goal.invariant-loop-i

@@ -3,7 +3,6 @@ use mathlib.Core.Path.{sym, ap, ◌∙◌}
 use Prim.Native.Nat.{◌-◌}
 use native.Mathlib.Nat.{le_trans}
 use native.Mathlib.Omega.{arith}
-use borrow.Author.Rules.{rules}
 use Rattle.words.proofs.Trees.{words_in}
 use Rattle.classes.specs.declared.SegmentShape.{SegmentShape}
 use Rattle.classes.specs.Shape.{segment_size, blocks_of}

@@ -1,8 +1,6 @@
 -- `examine_colours::copy_to_front` meets its contract.
-use Prim.Native.Nat.{ℕ, ◌-◌, ◌+◌}
-use mathlib.Core.Path.{◌≡◌, ◌∙◌}
 use native.Mathlib.Omega.{arith}
-use Rattle.examine_colours.proofs.Fields.{Copied, copied_none, copied_more, copied_all}
+use Rattle.examine_colours.proofs.Fields.{copied_none, copied_more, copied_all}
 use Rattle.examine_colours.proofs.copy_to_front.Goals as goal
 
 pub loop-i-init : goal.loop-i-init

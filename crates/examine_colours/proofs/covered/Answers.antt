@@ -1,9 +1,6 @@
 -- `examine_colours::covered` meets its contract.
-use mathlib.Core.Path.{◌≡◌}
-use borrow.Author.Tests.{not-true, not-false}
 use Rattle.layout.specs.Mem.{mem_of}
 use Rattle.examine_colours.proofs.Meaning.{second_room, second_known, second_fails, second_roots, second_all}
-use borrow.Author.Rules.{rules}
 use Rattle.examine_colours.proofs.covered.Goals as goal
 
 pub returns-then-not-ok : goal.returns-then-not-ok

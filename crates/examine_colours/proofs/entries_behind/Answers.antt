@@ -1,11 +1,10 @@
 -- `examine_colours::entries_behind` meets its contract.
-use mathlib.Core.Path.{◌≡◌, sym, subst}
+use mathlib.Core.Path.{sym, subst}
 use mathlib.Core.List.{List}
 use Prim.Native.Nat.{ℕ}
 use Rattle.layout.specs.Mem.{mem_of}
 use Rattle.examine_search.specs.Found.{Finds, ByEntries}
 use Rattle.examine_colours.proofs.Fields.{within, front, back}
-use borrow.Author.Rules.{rules}
 use Rattle.examine_colours.proofs.entries_behind.Goals as goal
 
 pub returns : goal.returns

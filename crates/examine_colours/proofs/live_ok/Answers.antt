@@ -2,7 +2,6 @@
 use Rattle.layout.specs.Mem.{mem_of}
 use Rattle.model.specs.Reaching.{Live}
 use Rattle.examine_colours.proofs.Meaning.{finds_decides}
-use borrow.Author.Rules.{rules}
 use Rattle.examine_colours.proofs.live_ok.Goals as goal
 
 pub returns : goal.returns

@@ -1,5 +1,5 @@
 -- `examine_colours::marks_in` meets its contract.
-use mathlib.Core.Path.{◌≡◌, sym, subst}
+use mathlib.Core.Path.{sym, subst}
 use mathlib.Core.List.{List}
 use Prim.Native.Nat.{ℕ, ◌≤◌}
 use lib.ListN.{length}
@@ -10,7 +10,6 @@ use Rattle.examine_cycle.specs.declared.Asked.TheVariants.{Marks}
 use Rattle.examine_cycle.specs.Judged.{Known, Judged}
 use Rattle.examine_colours.proofs.Fields.{part_is, behind_room}
 use Rattle.layout.specs.Region as Region
-use borrow.Author.Rules.{rules}
 use Rattle.examine_colours.proofs.marks_in.Goals as goal
 
 pub judged-requires : goal.judged-requires

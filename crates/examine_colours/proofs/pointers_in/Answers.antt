@@ -1,5 +1,5 @@
 -- `examine_colours::pointers_in` meets its contract.
-use mathlib.Core.Path.{◌≡◌, sym, subst}
+use mathlib.Core.Path.{sym, subst}
 use lib.Seq.{length-take-le}
 use mathlib.Core.List.{List}
 use Prim.Native.Nat.{ℕ}
@@ -9,7 +9,6 @@ use Rattle.layout.specs.Mem.{mem_of}
 use Rattle.examine_cycle.specs.declared.Asked.TheVariants.{Pointers}
 use Rattle.examine_cycle.specs.Judged.{Judged}
 use Rattle.examine_colours.proofs.Fields.{within, part_is}
-use borrow.Author.Rules.{rules}
 use Rattle.examine_colours.proofs.pointers_in.Goals as goal
 
 pub slice_bounds-judged-end : goal.slice_bounds-judged-end

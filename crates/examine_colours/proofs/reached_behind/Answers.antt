@@ -1,12 +1,11 @@
 -- `examine_colours::reached_behind` meets its contract.
-use mathlib.Core.Path.{◌≡◌, sym, subst}
+use mathlib.Core.Path.{sym, subst}
 use mathlib.Core.List.{List}
 use Prim.Native.Nat.{ℕ}
 use Rattle.layout.specs.Mem.{mem_of}
 use Rattle.model.specs.Reaching.{Reached}
 use Rattle.examine_search.specs.Found.{Finds}
 use Rattle.examine_colours.proofs.Fields.{within, back}
-use borrow.Author.Rules.{rules}
 use Rattle.examine_colours.proofs.reached_behind.Goals as goal
 
 pub returns : goal.returns

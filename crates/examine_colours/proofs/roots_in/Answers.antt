@@ -1,5 +1,5 @@
 -- `examine_colours::roots_in` meets its contract.
-use mathlib.Core.Path.{◌≡◌, subst}
+use mathlib.Core.Path.{subst}
 use mathlib.Core.List.{List}
 use Prim.Native.Nat.{ℕ, ◌<◌}
 use Rattle.basics.specs.Decides.{Decides}
@@ -7,7 +7,6 @@ use Rattle.layout.specs.Geometry.{mutator_count}
 use Rattle.layout.specs.Mem.{mem_of}
 use Rattle.examine_cycle.specs.Judged.{RootsFine}
 use Rattle.examine_colours.proofs.Fields.{part_is}
-use borrow.Author.Rules.{rules}
 use Rattle.examine_colours.proofs.roots_in.Goals as goal
 
 pub returns : goal.returns

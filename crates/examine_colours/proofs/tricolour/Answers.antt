@@ -1,14 +1,12 @@
 -- `examine_colours::tricolour` meets its contract.
-use mathlib.Core.Path.{◌≡◌, ◌∙◌}
+use mathlib.Core.Path.{◌∙◌}
 use lib.ListN.{drop}
-use borrow.Author.Tests.{not-true, not-false}
 use Rattle.basics.proofs.Deciding.{fails, refuted}
 use Rattle.layout.specs.Mem.{mem_of}
 use Rattle.model.specs.Reaching.{Live}
 use Rattle.examine_colours.specs.Coloured.{Room}
 use Rattle.examine_colours.proofs.Fields.{twice, resize}
 use Rattle.examine_colours.proofs.Meaning.{finds_decides, bits_front}
-use borrow.Author.Rules.{rules}
 use Rattle.examine_colours.proofs.tricolour.Goals as goal
 
 pub returns-then-not-ok : goal.returns-then-not-ok

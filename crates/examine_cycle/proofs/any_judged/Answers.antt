@@ -3,7 +3,6 @@ use mathlib.Core.Path.{◌∙◌, sym}
 use Rattle.layout.specs.Mem.{mem_of}
 use Rattle.classes.proofs.Every.{class_passed}
 use Rattle.examine_cycle.proofs.Judging.{any_by, any_none}
-use borrow.Author.Rules.{rules}
 use Rattle.examine_cycle.proofs.any_judged.Goals as goal
 
 pub segment_judged-requires : goal.segment_judged-requires

@@ -6,7 +6,6 @@ use Rattle.words.specs.Bits.{bit_at}
 use Rattle.layout.specs.Mem.{mem_of}
 use Rattle.layout.proofs.Sizes.{heap_most}
 use Rattle.examine_cycle.proofs.Judging.{bit_within, bit_room, block_by}
-use borrow.Author.Rules.{rules}
 use Rattle.examine_cycle.proofs.block_judged.Goals as goal
 
 pub overflow_cast-k : goal.overflow_cast-k

@@ -7,7 +7,6 @@ use Rattle.layout.specs.Mem.{mem_of}
 use Rattle.examine_record.specs.Tests.{Tested}
 use Rattle.examine_record.proofs.Testing.{tested_small}
 use Rattle.examine_cycle.proofs.Judging.{fine_torn, fine_by}
-use borrow.Author.Rules.{rules}
 use Rattle.examine_cycle.proofs.fine.Goals as goal
 
 pub returns-then-w-eq0 : goal.returns-then-w-eq0

@@ -4,7 +4,6 @@ use native.Mathlib.Omega.{arith}
 use Rattle.basics.proofs.Deciding.{holds, refuted}
 use Rattle.layout.proofs.Sizes.{trace_most, mark_word}
 use Rattle.examine_cycle.proofs.Judging.{bit_either}
-use borrow.Author.Rules.{rules}
 use Rattle.examine_cycle.proofs.fine_bit.Goals as goal
 
 pub returns-then-is_set : goal.returns-then-is_set

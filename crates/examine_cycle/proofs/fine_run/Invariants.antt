@@ -1,14 +1,8 @@
 -- `examine_cycle::fine_run` meets its contract.
-use Prim.Native.Nat.{ℕ, ◌-◌, ◌≤◌}
-use mathlib.Core.Path.{subst}
-use native.Mathlib.Omega.{arith}
-use borrow.Author.Tests.{not-true, not-false}
-use Rattle.basics.proofs.Deciding.{holds, fails, refuted}
+use Prim.Native.Nat.{◌-◌, ◌≤◌}
 use Rattle.layout.specs.Mem.{mem_of}
 use Rattle.examine_search.specs.Graph.{words_of}
-use Rattle.examine_search.proofs.Rooting.{length_most}
 use Rattle.examine_cycle.specs.Judged.{FineRun}
-use Rattle.examine_cycle.proofs.Judging.{run_more, run_one}
 use Rattle.examine_cycle.proofs.fine_run.Given as goal
 
 abbrev pub invariant-loop-f : goal.invariant-loop-f

@@ -1,9 +1,5 @@
 -- `examine_cycle::judged` meets its contract.
 use Prim.Native.Nat.{ℕ, ◌-◌, ◌≤◌, ◌<◌}
-use native.Mathlib.Omega.{arith}
-use borrow.Author.Count.{below_more}
-use borrow.Author.Tests.{not-true, not-false}
-use Rattle.basics.proofs.Deciding.{holds, fails, refuted}
 use Rattle.layout.specs.Mem.{mem_of}
 use Rattle.examine_cycle.specs.Judged.{SegmentJudged}
 use Rattle.examine_cycle.proofs.judged.Given as goal

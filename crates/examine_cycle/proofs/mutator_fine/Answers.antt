@@ -2,7 +2,6 @@
 use mathlib.Core.Path.{◌∙◌, sym}
 use native.Mathlib.Omega.{arith}
 use Rattle.basics.proofs.Deciding.{holds, via}
-use borrow.Author.Rules.{rules}
 use Rattle.examine_cycle.proofs.mutator_fine.Goals as goal
 
 pub returns-then-state-eq-ABSENT : goal.returns-then-state-eq-ABSENT

@@ -7,7 +7,6 @@ use Rattle.layout.specs.Mem.{mem_of}
 use Rattle.examine_cycle.specs.Judged.{FineRun}
 use Rattle.examine_cycle.proofs.Judging.{pointers_inside}
 use Rattle.layout.specs.Region as Region
-use borrow.Author.Rules.{rules}
 use Rattle.examine_cycle.proofs.pointers_fine.Goals as goal
 
 pub fine_run-requires : goal.fine_run-requires

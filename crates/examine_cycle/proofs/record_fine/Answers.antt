@@ -3,7 +3,6 @@ use mathlib.Core.Path.{◌∙◌, sym}
 use Rattle.basics.proofs.Deciding.{holds, via, refuted}
 use Rattle.layout.specs.Mem.{mem_of}
 use Rattle.examine_cycle.proofs.Judging.{ask}
-use borrow.Author.Rules.{rules}
 use Rattle.examine_cycle.proofs.record_fine.Goals as goal
 
 pub returns-then-is_set : goal.returns-then-is_set

@@ -1,9 +1,8 @@
 -- `examine_cycle::segment_judged` meets its contract. The loop's invariant: the blocks before `b` are judged, and `at` is the word of block `b`.
-use Prim.Native.Nat.{ℕ, ◌-◌, ◌≤◌, ◌<◌}
-use mathlib.Core.Path.{◌≡◌, sym, subst}
+use Prim.Native.Nat.{◌<◌}
+use mathlib.Core.Path.{sym, subst}
 use native.Mathlib.Omega.{arith}
 use borrow.Author.Count.{below_more}
-use borrow.Author.Tests.{not-true, not-false}
 use Rattle.basics.proofs.Deciding.{holds, fails, refuted}
 use Rattle.layout.specs.Geometry.{blocks_in}
 use Rattle.layout.specs.Mem.{mem_of}

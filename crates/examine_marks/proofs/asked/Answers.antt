@@ -1,8 +1,6 @@
 -- `examine_marks::asked` meets its contract.
 use Rattle.layout.specs.Mem.{mem_of}
-use borrow.Author.Tests.{not-true, not-false}
 use Rattle.examine_marks.proofs.Judging.{asked_all, asked_tag}
-use borrow.Author.Rules.{rules}
 use Rattle.examine_marks.proofs.asked.Goals as goal
 
 pub returns-then-not-condemned_only : goal.returns-then-not-condemned_only

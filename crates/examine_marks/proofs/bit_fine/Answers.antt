@@ -1,13 +1,10 @@
 -- `examine_marks::bit_fine` meets its contract.
 use mathlib.Core.Path.{refl}
-use Prim.Native.Nat.{◌*◌}
 use Rattle.layout.specs.Mem.{mem_of}
 use Rattle.layout.proofs.Sizes.{heap_most}
-use borrow.Author.Tests.{not-true, not-false}
 use Rattle.basics.proofs.Deciding.{holds, refuted}
 use Rattle.examine_marks.proofs.Judging.{at_inside, at_segment, not_asked, fine_by}
 use native.Mathlib.Omega.{arith}
-use borrow.Author.Rules.{rules}
 use Rattle.examine_marks.proofs.bit_fine.Goals as goal
 
 pub returns-then-not-set : goal.returns-then-not-set

@@ -4,7 +4,6 @@ use Prim.Native.Nat.{◌<◌}
 use Rattle.layout.specs.Mem.{mem_of}
 use Rattle.layout.proofs.Sizes.{segment_below}
 use Rattle.examine_marks.proofs.Judging.{free_head, classed_in}
-use borrow.Author.Rules.{rules}
 use Rattle.examine_marks.proofs.head.Goals as goal
 
 pub tag-tag-requires : goal.tag-tag-requires

@@ -4,7 +4,6 @@ use Rattle.classes.proofs.Filling.{two_words}
 use Rattle.examine_record.proofs.Testing.{head_block, head_segment}
 use Rattle.examine_marks.proofs.Judging.{no_head, head_by}
 use native.Mathlib.Omega.{arith}
-use borrow.Author.Rules.{rules}
 use Rattle.examine_marks.proofs.head_in.Goals as goal
 
 pub block_words-words-requires : goal.block_words-words-requires

@@ -1,10 +1,8 @@
 -- `examine_marks::marks` meets its contract. The loop's invariant: the bits of the words passed are fine.
 use mathlib.Core.Path.{◌≡◌, subst}
-use Prim.Native.Nat.{ℕ, ◌+◌, ◌*◌, ◌-◌, ◌/◌, ◌%◌, ◌≤◌, ◌<◌}
+use Prim.Native.Nat.{◌+◌, ◌*◌, ◌/◌, ◌%◌}
 use native.Mathlib.Omega.{arith}
 use borrow.Author.Count.{below_more, below_none}
-use borrow.Author.Rules.{rules}
-use borrow.Author.Tests.{not-true, not-false}
 use Rattle.basics.proofs.Deciding.{holds, fails, refuted}
 use Rattle.layout.specs.Mem.{mem_of}
 use Rattle.layout.proofs.Sizes.{marks_are, trace_most}

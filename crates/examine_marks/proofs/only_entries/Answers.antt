@@ -1,7 +1,6 @@
 -- `examine_marks::only_entries` meets its contract.
 use Rattle.layout.specs.Mem.{mem_of}
 use Rattle.examine_marks.proofs.Judging.{entries_by}
-use borrow.Author.Rules.{rules}
 use Rattle.examine_marks.proofs.only_entries.Goals as goal
 
 pub returns : goal.returns

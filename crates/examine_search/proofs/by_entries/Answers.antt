@@ -5,7 +5,6 @@ use Rattle.examine_search.specs.declared.Edges.TheVariants.{Unentered}
 use Rattle.examine_search.specs.Graph.{ByEntry}
 use Rattle.examine_search.proofs.Steps.{start_waits, finish_named}
 use Rattle.examine_search.proofs.Finding.{finds_unentered}
-use borrow.Author.Rules.{rules}
 use Rattle.examine_search.proofs.by_entries.Goals as goal
 
 pub clear-requires : goal.clear-requires

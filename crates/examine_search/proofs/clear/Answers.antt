@@ -1,10 +1,8 @@
 -- `examine_search::clear` meets its contract.
-use mathlib.Core.Path.{◌∙◌, ◌≡◌, refl}
-use Prim.Native.Nat.{ℕ, ◌-◌, ◌≤◌, ◌<◌}
-use lib.ListN.{length, get_or, length-set}
+use mathlib.Core.Path.{◌∙◌, refl}
+use lib.ListN.{length-set}
 use Rattle.examine_search.proofs.Steps.{base_is, cleared_more, cleared_bits}
 use native.Mathlib.Omega.{arith}
-use borrow.Author.Rules.{rules}
 use Rattle.examine_search.proofs.clear.Goals as goal
 
 pub overflow_sub-n : goal.overflow_sub-n

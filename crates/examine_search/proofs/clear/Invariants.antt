@@ -1,10 +1,7 @@
 -- `examine_search::clear` meets its contract.
-use mathlib.Core.Path.{◌∙◌, ◌≡◌, refl}
+use mathlib.Core.Path.{◌≡◌}
 use Prim.Native.Nat.{ℕ, ◌-◌, ◌≤◌, ◌<◌}
-use lib.ListN.{length, get_or, length-set}
-use Rattle.examine_search.proofs.Steps.{base_is, cleared_more, cleared_bits}
-use native.Mathlib.Omega.{arith}
-use borrow.Author.Rules.{rules}
+use lib.ListN.{length, get_or}
 use Rattle.examine_search.proofs.clear.Given as goal
 
 abbrev pub invariant-loop-i : goal.invariant-loop-i

@@ -1,8 +1,7 @@
 -- `examine_search::clear_all` meets its contract.
 use mathlib.Core.Path.{refl}
-use Rattle.layout.proofs.Filled.{Filled, filled_more, filled_all}
-use Prim.Native.Nat.{◌-◌}
-use lib.ListN.{length, length-set}
+use Rattle.layout.proofs.Filled.{filled_more, filled_all}
+use lib.ListN.{length-set}
 use borrow.Author.Fill.{fill_none}
 use native.Mathlib.Omega.{arith}
 use Rattle.examine_search.proofs.clear_all.Goals as goal

@@ -1,10 +1,7 @@
 -- `examine_search::clear_all` meets its contract.
-use mathlib.Core.Path.{refl}
-use Rattle.layout.proofs.Filled.{Filled, filled_more, filled_all}
+use Rattle.layout.proofs.Filled.{Filled}
 use Prim.Native.Nat.{◌-◌}
-use lib.ListN.{length, length-set}
-use borrow.Author.Fill.{fill_none}
-use native.Mathlib.Omega.{arith}
+use lib.ListN.{length}
 use Rattle.examine_search.proofs.clear_all.Given as goal
 
 abbrev pub invariant-loop-i : goal.invariant-loop-i

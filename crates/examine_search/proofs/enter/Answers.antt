@@ -7,7 +7,6 @@ use Rattle.words.proofs.Lists.{length-set_bit}
 use Rattle.layout.proofs.Sizes.{trace_most}
 use Rattle.examine_search.proofs.Steps.{bit_word, base_is}
 use native.Mathlib.Omega.{arith}
-use borrow.Author.Rules.{rules}
 use Rattle.examine_search.proofs.enter.Goals as goal
 
 pub overflow_cast-bit : goal.overflow_cast-bit

@@ -2,7 +2,6 @@
 use Rattle.examine_search.specs.Scratch.{state_of}
 use Rattle.examine_search.proofs.Rooting.{entries_all}
 use native.Mathlib.Omega.{arith}
-use borrow.Author.Rules.{rules}
 use Rattle.examine_search.proofs.entries_at.Goals as goal
 
 pub entry_count-count-requires : goal.entry_count-count-requires

@@ -1,7 +1,6 @@
 -- `examine_search::entry_count` meets its contract.
 use Rattle.layout.specs.Mem.{mem_of}
 use Rattle.examine_search.proofs.Rooting.{count_most, count_all}
-use borrow.Author.Rules.{rules}
 use Rattle.examine_search.proofs.entry_count.Goals as goal
 
 pub returns-then-most-count : goal.returns-then-most-count

@@ -1,10 +1,9 @@
 -- `examine_search::finish` meets its contract.
-use mathlib.Core.Path.{◌∙◌, ◌≡◌, subst, sym}
+use mathlib.Core.Path.{◌∙◌, subst, sym}
 use mathlib.Core.Bool.{Bool}
-use lib.ListN.{length}
 use Rattle.layout.specs.Mem.{mem_of}
-use Rattle.examine_search.specs.Scratch.{search_words, Finished}
-use Rattle.examine_search.proofs.Steps.{Under, left_under, under_start, under_ready, under_more, under_end}
+use Rattle.examine_search.specs.Scratch.{Finished}
+use Rattle.examine_search.proofs.Steps.{under_start, under_ready, under_more, under_end}
 use Rattle.examine_search.proofs.finish.Goals as goal
 
 pub loop-g-init : goal.loop-g-init

@@ -1,10 +1,9 @@
 -- `examine_search::finish` meets its contract.
-use mathlib.Core.Path.{◌∙◌, ◌≡◌, subst, sym}
-use mathlib.Core.Bool.{Bool}
+use mathlib.Core.Path.{◌≡◌}
 use lib.ListN.{length}
 use Rattle.layout.specs.Mem.{mem_of}
-use Rattle.examine_search.specs.Scratch.{search_words, Finished}
-use Rattle.examine_search.proofs.Steps.{Under, left_under, under_start, under_ready, under_more, under_end}
+use Rattle.examine_search.specs.Scratch.{search_words}
+use Rattle.examine_search.proofs.Steps.{Under, left_under}
 use Rattle.examine_search.proofs.finish.Given as goal
 
 abbrev pub invariant-loop-g : goal.invariant-loop-g

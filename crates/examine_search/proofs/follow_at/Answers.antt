@@ -7,7 +7,6 @@ use Rattle.graph_search.proofs.Walking.{run_still}
 use Rattle.examine_record.specs.Tests.{Tested}
 use Rattle.examine_search.proofs.Steps.{enter_room, bit_room, enter_run}
 use native.Mathlib.Omega.{arith}
-use borrow.Author.Rules.{rules}
 use Rattle.examine_search.proofs.follow_at.Goals as goal
 
 pub returns-then-w-eq0 : goal.returns-then-w-eq0

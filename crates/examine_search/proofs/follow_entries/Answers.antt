@@ -3,7 +3,6 @@ use mathlib.Core.Path.{refl, subst}
 use Rattle.layout.specs.Mem.{mem_of}
 use Rattle.examine_search.specs.declared.Met.{Met}
 use Rattle.examine_search.specs.Scratch.{SearchReady}
-use borrow.Author.Rules.{rules}
 use Rattle.examine_search.proofs.follow_entries.Goals as goal
 
 pub entries_at-requires : goal.entries_at-requires

@@ -4,7 +4,6 @@ use Rattle.layout.specs.Mem.{mem_of}
 use Rattle.examine_search.specs.Scratch.{state_of}
 use Rattle.examine_search.proofs.Rooting.{pointers_room, pointed_none, pointed_run}
 use native.Mathlib.Omega.{arith}
-use borrow.Author.Rules.{rules}
 use Rattle.examine_search.proofs.follow_pointers.Goals as goal
 
 pub returns-then-w-eq0 : goal.returns-then-w-eq0

@@ -1,11 +1,9 @@
 -- `examine_search::follow_roots` meets its contract.
-use mathlib.Core.Path.{◌∙◌, ◌≡◌, subst, sym}
-use Prim.Native.Nat.{ℕ, ◌-◌, ◌≤◌}
-use lib.ListN.{length}
-use Rattle.layout.specs.Geometry.{mutator_count}
+use mathlib.Core.Path.{◌∙◌, subst, sym}
+use Prim.Native.Nat.{ℕ}
 use Rattle.layout.specs.Mem.{mem_of}
 use Rattle.examine_search.specs.Graph.{RootBelow}
-use Rattle.examine_search.specs.Scratch.{search_words, state_of, Came}
+use Rattle.examine_search.specs.Scratch.{state_of, Came}
 use Rattle.examine_search.proofs.Steps.{came_ready, start_valid}
 use Rattle.examine_search.proofs.Rooting.{roots_none, roots_more, roots_all}
 use native.Mathlib.Omega.{arith}

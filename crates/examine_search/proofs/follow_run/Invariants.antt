@@ -1,13 +1,10 @@
 -- `examine_search::follow_run` meets its contract.
-use mathlib.Core.Path.{◌∙◌, ◌≡◌, subst, sym}
-use Prim.Native.Nat.{ℕ, ◌-◌, ◌≤◌}
+use mathlib.Core.Path.{◌≡◌}
+use Prim.Native.Nat.{◌-◌, ◌≤◌}
 use lib.ListN.{length}
 use Rattle.layout.specs.Mem.{mem_of}
 use Rattle.examine_search.specs.Graph.{words_of, InRun}
 use Rattle.examine_search.specs.Scratch.{search_words, state_of, Came}
-use Rattle.examine_search.proofs.Steps.{came_ready, came_more, came_none}
-use Rattle.examine_search.proofs.Rooting.{length_most}
-use native.Mathlib.Omega.{arith}
 use Rattle.examine_search.proofs.follow_run.Given as goal
 
 abbrev pub invariant-loop-f : goal.invariant-loop-f

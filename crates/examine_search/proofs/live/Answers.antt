@@ -8,7 +8,6 @@ use Rattle.examine_search.proofs.Steps.{came_ready, start_waits, finish_named}
 use Rattle.examine_search.proofs.Rooting.{roots_entries}
 use Rattle.examine_search.proofs.Finding.{finds_all}
 use mathlib.Core.Logic.{◌⊎◌}
-use borrow.Author.Rules.{rules}
 use Rattle.examine_search.proofs.live.Goals as goal
 
 pub clear-requires : goal.clear-requires

@@ -5,7 +5,6 @@ use Rattle.graph_search.proofs.Walking.{run_still}
 use Rattle.examine_search.specs.Scratch.{state_of}
 use Rattle.examine_search.proofs.Steps.{came_same}
 use native.Mathlib.Omega.{arith}
-use borrow.Author.Rules.{rules}
 use Rattle.examine_search.proofs.mutator_at.Goals as goal
 
 pub returns-then-state-eq-ABSENT : goal.returns-then-state-eq-ABSENT

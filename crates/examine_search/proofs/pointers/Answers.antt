@@ -1,7 +1,6 @@
 -- `examine_search::pointers` meets its contract.
 use mathlib.Core.Path.{◌∙◌, ap, refl, sym}
 use Rattle.classes.specs.Record.{pointer_count_of}
-use borrow.Author.Rules.{rules}
 use Rattle.examine_search.proofs.pointers.Goals as goal
 
 pub shape-shape-requires : goal.shape-shape-requires

@@ -5,7 +5,6 @@ use Rattle.model.specs.Reaching.{IsRoot}
 use Rattle.examine_search.specs.declared.Edges.TheVariants.{All}
 use Rattle.examine_search.proofs.Steps.{start_waits, finish_named}
 use Rattle.examine_search.proofs.Finding.{finds_all}
-use borrow.Author.Rules.{rules}
 use Rattle.examine_search.proofs.reached.Goals as goal
 
 pub clear-requires : goal.clear-requires

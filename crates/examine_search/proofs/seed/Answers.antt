@@ -5,7 +5,6 @@ use Rattle.layout.specs.Mem.{mem_of}
 use Rattle.examine_search.specs.declared.Met.{Met}
 use Rattle.examine_search.specs.Scratch.{Then}
 use Rattle.examine_search.proofs.Rooting.{seed_ok, seed_then}
-use borrow.Author.Rules.{rules}
 use Rattle.examine_search.proofs.seed.Goals as goal
 
 pub follow_pointers-requires : goal.follow_pointers-requires

@@ -1,11 +1,10 @@
 -- `examine_search::seed_entries` meets its contract.
-use mathlib.Core.Path.{◌∙◌, ◌≡◌, subst, sym}
-use Prim.Native.Nat.{ℕ, ◌-◌, ◌≤◌}
-use lib.ListN.{length}
+use mathlib.Core.Path.{◌∙◌, subst, sym}
+use Prim.Native.Nat.{ℕ}
 use Rattle.layout.specs.Mem.{mem_of}
 use Rattle.layout.proofs.Sizes.{trace_most}
 use Rattle.examine_search.specs.Graph.{SeedBelow}
-use Rattle.examine_search.specs.Scratch.{search_words, state_of, Came}
+use Rattle.examine_search.specs.Scratch.{state_of, Came}
 use Rattle.examine_search.proofs.Steps.{came_ready, start_valid}
 use Rattle.examine_search.proofs.Rooting.{seeds_none, seeds_more, seeds_all}
 use native.Mathlib.Omega.{arith}

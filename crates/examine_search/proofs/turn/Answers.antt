@@ -5,7 +5,6 @@ use borrow.Author.Tests.{ltb-true}
 use Rattle.layout.specs.Mem.{mem_of}
 use Rattle.examine_search.specs.declared.Met.{Met}
 use Rattle.examine_search.specs.Scratch.{SearchReady, is_waiting}
-use borrow.Author.Rules.{rules}
 use Rattle.examine_search.proofs.turn.Goals as goal
 
 pub turn_at-requires : goal.turn_at-requires

@@ -5,7 +5,6 @@ use Rattle.layout.specs.Mem.{mem_of}
 use Rattle.layout.proofs.Sizes.{heap_most}
 use Rattle.examine_search.proofs.Steps.{base_is, turn_room, turn_record, turn_edges, turn_valid, turn_came}
 use native.Mathlib.Omega.{arith}
-use borrow.Author.Rules.{rules}
 use Rattle.examine_search.proofs.turn_at.Goals as goal
 
 pub overflow_sub-i : goal.overflow_sub-i

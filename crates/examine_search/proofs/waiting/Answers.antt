@@ -1,6 +1,5 @@
 -- `examine_search::waiting` meets its contract.
 use mathlib.Core.Path.{refl}
-use borrow.Author.Rules.{rules}
 use Rattle.examine_search.proofs.waiting.Goals as goal
 
 pub returns-in-Top : goal.returns-in-Top

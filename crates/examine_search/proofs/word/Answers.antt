@@ -3,7 +3,6 @@ use mathlib.Core.Path.{subst}
 use Prim.Native.Nat.{◌<◌}
 use Rattle.examine_search.specs.declared.Source.{Source}
 use Rattle.examine_search.specs.Graph.{length_of}
-use borrow.Author.Rules.{rules}
 use Rattle.examine_search.proofs.word.Goals as goal
 
 pub mutator-requires : goal.mutator-requires

@@ -1,9 +1,7 @@
 -- `examine_sound::all_ok` meets its contract.
-use mathlib.Core.Path.{◌≡◌, ◌∙◌}
-use borrow.Author.Tests.{not-true, not-false}
+use mathlib.Core.Path.{◌∙◌}
 use Rattle.layout.specs.Mem.{mem_of}
 use Rattle.examine_sound.proofs.Phases.{classes_of, parts_fail, trace_fails, all_of}
-use borrow.Author.Rules.{rules}
 use Rattle.examine_sound.proofs.all_ok.Goals as goal
 
 pub returns-then-not-parts : goal.returns-then-not-parts

@@ -1,7 +1,5 @@
 -- `examine_sound::mark_ok` meets its contract.
-use borrow.Author.Tests.{not-true, not-false}
 use Rattle.basics.proofs.Deciding.{fails, refuted, via}
-use borrow.Author.Rules.{rules}
 use Rattle.examine_sound.proofs.mark_ok.Goals as goal
 
 pub returns-then-not-used : goal.returns-then-not-used

@@ -1,7 +1,6 @@
 -- `examine_sound::rest_ok` meets its contract.
 use Rattle.layout.specs.Mem.{mem_of}
 use Rattle.examine_sound.proofs.Phases.{in_idle, in_sync, in_mark, in_sweep}
-use borrow.Author.Rules.{rules}
 use Rattle.examine_sound.proofs.rest_ok.Goals as goal
 
 pub returns-then-number-eq-IDLE : goal.returns-then-number-eq-IDLE

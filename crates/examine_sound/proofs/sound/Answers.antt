@@ -1,8 +1,7 @@
 -- `examine_sound::sound` meets its contract.
-use mathlib.Core.Path.{◌≡◌, ◌∙◌, ap}
+use mathlib.Core.Path.{◌∙◌, ap}
 use Prim.Native.Nat.{ℕ}
 use lib.ListN.{replicate}
-use borrow.Author.Rules.{rules}
 use Rattle.examine_sound.proofs.sound.Goals as goal
 
 pub returns : goal.returns

@@ -1,8 +1,6 @@
 -- `examine_sound::sweep_ok` meets its contract.
-use mathlib.Core.Path.{◌≡◌, ◌∙◌, sym}
-use borrow.Author.Tests.{not-true, not-false}
+use mathlib.Core.Path.{◌∙◌, sym}
 use Rattle.basics.proofs.Deciding.{fails, refuted, via}
-use borrow.Author.Rules.{rules}
 use Rattle.examine_sound.proofs.sweep_ok.Goals as goal
 
 pub returns-then-count-ne0 : goal.returns-then-count-ne0

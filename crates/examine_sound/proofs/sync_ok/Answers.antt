@@ -1,7 +1,5 @@
 -- `examine_sound::sync_ok` meets its contract.
-use borrow.Author.Tests.{not-true, not-false}
 use Rattle.basics.proofs.Deciding.{fails, refuted, via}
-use borrow.Author.Rules.{rules}
 use Rattle.examine_sound.proofs.sync_ok.Goals as goal
 
 pub returns-then-not-only : goal.returns-then-not-only

@@ -1,12 +1,7 @@
 -- `examine_trace::enter_all` meets its contract.
-use Prim.Native.Nat.{◌-◌, ◌≤◌}
-use mathlib.Core.Path.{◌≡◌, ◌∙◌}
-use lib.ListN.{length}
+use mathlib.Core.Path.{◌∙◌}
 use native.Mathlib.Omega.{arith}
-use borrow.Author.Tests.{not-true, not-false}
-use Rattle.layout.specs.Mem.{mem_of}
 use Rattle.layout.proofs.Sizes.{trace_most}
-use Rattle.examine_trace.specs.Traced.{Seen}
 use Rattle.examine_trace.proofs.Entering.{seen_none, seen_more, one_wrong, all_new}
 use Rattle.examine_trace.proofs.enter_all.Goals as goal
 

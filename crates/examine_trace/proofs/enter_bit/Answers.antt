@@ -1,13 +1,11 @@
 -- `examine_trace::enter_bit` meets its contract.
 use mathlib.Core.Path.{◌∙◌, sym, subst}
 use native.Mathlib.Omega.{arith}
-use borrow.Author.Tests.{not-true, not-false}
 use Rattle.basics.proofs.Deciding.{refuted}
 use Rattle.layout.specs.Mem.{mem_of}
 use Rattle.layout.proofs.Sizes.{trace_most, mark_word}
 use Rattle.examine_trace.specs.Traced.{BitEnters}
 use Rattle.examine_trace.proofs.Entering.{bit_unset, bit_again, bit_new}
-use borrow.Author.Rules.{rules}
 use Rattle.examine_trace.proofs.enter_bit.Goals as goal
 
 pub returns-then-not-set : goal.returns-then-not-set

@@ -6,7 +6,6 @@ use Rattle.layout.specs.Geometry.{len}
 use Rattle.layout.specs.Mem.{mem_of}
 use Rattle.examine_trace.proofs.Entering.{count_wrong, count_few, count_right, clear_bits}
 use Rattle.layout.specs.Region as Region
-use borrow.Author.Rules.{rules}
 use Rattle.examine_trace.proofs.trace_ok.Goals as goal
 
 pub returns-then-ones-n : goal.returns-then-ones-n

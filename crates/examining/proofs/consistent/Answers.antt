@@ -1,7 +1,5 @@
 -- `examining::consistent` meets its contract.
-use borrow.Author.Tests.{not-true, not-false}
 use Rattle.basics.proofs.Deciding.{fails, refuted, via}
-use borrow.Author.Rules.{rules}
 use Rattle.examining.proofs.consistent.Goals as goal
 
 pub returns-then-not-sound : goal.returns-then-not-sound

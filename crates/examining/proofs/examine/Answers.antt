@@ -1,8 +1,7 @@
 -- `examining::examine` meets its contract.
-use mathlib.Core.Path.{◌≡◌, ◌∙◌, sym}
+use mathlib.Core.Path.{◌∙◌, sym}
 use Rattle.layout.proofs.Regions.{sized}
 use Rattle.examining.proofs.Examined.{memory_size, scratch_size, promise_yes, promise_no}
-use borrow.Author.Rules.{rules}
 use Rattle.examining.proofs.examine.Goals as goal
 
 pub returns-then-wrong_size : goal.returns-then-wrong_size

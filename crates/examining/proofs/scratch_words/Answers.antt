@@ -2,7 +2,6 @@
 use native.Mathlib.Omega.{arith}
 use Rattle.layout.proofs.Sizes.{trace_most}
 use Rattle.examining.proofs.Examined.{words_are}
-use borrow.Author.Rules.{rules}
 use Rattle.examining.proofs.scratch_words.Goals as goal
 
 pub overflow_add-result-2 : goal.overflow_add-result-2

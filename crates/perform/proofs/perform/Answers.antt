@@ -1,5 +1,4 @@
 -- `perform::perform` meets its contract.
-use borrow.Author.Rules.{rules}
 use Rattle.perform.proofs.Performed.{performed}
 use Rattle.perform.proofs.perform.Goals as goal
 

@@ -1,8 +1,4 @@
 -- `sheet::line_ok` meets its contract.
-use Prim.Native.Nat.{ℕ}
-use mathlib.Core.Path.{◌∙◌, sym}
-use borrow.Author.Rules.{rules}
-use borrow.Author.Tests.{not-true, not-false}
 use Rattle.sheet.proofs.Records.{no_record, free_counted, too_many_kept, by_counts}
 use Rattle.sheet.proofs.line_ok.Goals as goal
 

@@ -2,7 +2,6 @@
 use native.Mathlib.Omega.{arith}
 use mathlib.Core.Path.{ap}
 use lib.ListN.{length, length-set}
-use borrow.Author.Rules.{rules}
 use Rattle.sheet.proofs.Lines.{one_empty, none_between, none_last}
 use Rattle.sheet.proofs.Printing.{ends_line, ends_group}
 use Rattle.sheet.proofs.put_end.Goals as goal

@@ -1,7 +1,6 @@
 -- `sheet::put_line` meets its contract.
-use mathlib.Core.Path.{◌≡◌, sym, ◌∙◌, ap}
+use mathlib.Core.Path.{sym, ◌∙◌, ap}
 use native.Mathlib.Omega.{arith}
-use borrow.Author.Rules.{rules}
 use Rattle.decimals.specs.Placed.{placed}
 use Rattle.layout.specs.Mem.{mem_of}
 use Rattle.sheet.proofs.Records.{counted_fits, read_fits, counted_free, read_line}

@@ -1,11 +1,9 @@
 -- `sheet::put_lines` meets its contract. The loop's invariant: the lines passed stand at the front of the output.
-use Prim.Native.Nat.{◌-◌}
 use native.Mathlib.Omega.{arith}
 use borrow.Author.Rules.{rules}
 use Rattle.layout.specs.Mem.{mem_of}
-use Rattle.sheet.specs.Counted.{counted_line}
 use Rattle.sheet.proofs.Records.{all_counted_long}
-use Rattle.sheet.proofs.Printing.{Printed, printed_none, line_room, printed_more, printed_all}
+use Rattle.sheet.proofs.Printing.{printed_none, line_room, printed_more, printed_all}
 use Rattle.sheet.proofs.put_lines.Goals as goal
 
 pub loop-s-init : goal.loop-s-init

@@ -1,7 +1,5 @@
 -- `sheet::sheet` meets its contract.
 use mathlib.Core.Path.{sym, ◌∙◌}
-use borrow.Author.Rules.{rules}
-use borrow.Author.Tests.{not-true, not-false}
 use Rattle.layout.proofs.Regions.{sized}
 use Rattle.layout.specs.Geometry.{sheet_bytes}
 use Rattle.model.specs.Sheet.{sheet_of}

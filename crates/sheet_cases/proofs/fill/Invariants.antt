@@ -1,9 +1,7 @@
 -- `sheet_cases::fill` meets its contract. The loop's invariant: the memory keeps its length.
 use Prim.Native.Nat.{◌-◌}
-use mathlib.Core.Path.{◌≡◌, refl, ◌∙◌}
-use native.Mathlib.Omega.{arith}
+use mathlib.Core.Path.{◌≡◌}
 use lib.ListN.{length}
-use borrow.Author.Rules.{rules}
 use Rattle.sheet_cases.proofs.fill.Given as goal
 
 abbrev pub invariant-loop-i : goal.invariant-loop-i

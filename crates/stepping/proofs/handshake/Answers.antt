@@ -1,5 +1,4 @@
 -- `stepping::handshake` meets its contract.
-use borrow.Author.Rules.{rules}
 use Rattle.model_laws.proofs.Lengths.{sizes_of}
 use Rattle.stepping.proofs.Handshaking.{step_waits, step_moves, step_torn}
 use Rattle.stepping.proofs.handshake.Goals as goal

@@ -1,10 +1,7 @@
 -- `stepping::next_outside` meets its contract. The loop's invariant: no mutator from `from` to `j` is outside.
 use mathlib.Core.Path.{sym, ◌∙◌}
-use Prim.Native.Nat.{◌-◌}
 use native.Mathlib.Omega.{arith}
-use Rattle.layout.specs.Geometry.{mutator_count}
-use Rattle.layout.specs.Mem.{mem_of}
-use Rattle.stepping.proofs.Answering.{NoneOutside, none_yet, none_more, next_found, next_none}
+use Rattle.stepping.proofs.Answering.{none_yet, none_more, next_found, next_none}
 use Rattle.stepping.proofs.next_outside.Goals as goal
 
 pub loop-j-init : goal.loop-j-init

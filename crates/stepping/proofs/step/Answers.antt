@@ -1,7 +1,6 @@
 -- `stepping::step` meets its contract.
 use mathlib.Core.Path.{refl, sym, ◌∙◌}
 use native.Mathlib.Omega.{arith}
-use borrow.Author.Rules.{rules}
 use Rattle.layout.proofs.Regions.{sized}
 use Rattle.stepping.proofs.Promising.{step_1, step_idle, step_as, step_13}
 use Rattle.stepping.proofs.step.Goals as goal

@@ -1,10 +1,6 @@
 -- `stepping::waiting` meets its contract. The loop's invariant: `n` counts the mutators before `i`.
-use Prim.Native.Nat.{◌-◌}
 use native.Mathlib.Omega.{arith}
-use Rattle.layout.specs.Geometry.{mutator_count}
-use Rattle.layout.specs.Mem.{mem_of}
-use Rattle.model.specs.Collector.{waiting}
-use Rattle.model_laws.proofs.Turns.{Turned, no_turn, one_turn, all_turns}
+use Rattle.model_laws.proofs.Turns.{no_turn, one_turn, all_turns}
 use Rattle.stepping.proofs.Counting.{waiting_none, waiting_next, waiting_few}
 use Rattle.stepping.proofs.waiting.Goals as goal
 

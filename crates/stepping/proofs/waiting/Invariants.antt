@@ -1,11 +1,9 @@
 -- `stepping::waiting` meets its contract. The loop's invariant: `n` counts the mutators before `i`.
 use Prim.Native.Nat.{◌-◌}
-use native.Mathlib.Omega.{arith}
 use Rattle.layout.specs.Geometry.{mutator_count}
 use Rattle.layout.specs.Mem.{mem_of}
 use Rattle.model.specs.Collector.{waiting}
-use Rattle.model_laws.proofs.Turns.{Turned, no_turn, one_turn, all_turns}
-use Rattle.stepping.proofs.Counting.{waiting_none, waiting_next, waiting_few}
+use Rattle.model_laws.proofs.Turns.{Turned}
 use Rattle.stepping.proofs.waiting.Given as goal
 
 abbrev pub invariant-loop-i : goal.invariant-loop-i

@@ -1,6 +1,5 @@
 -- `stepping::waits` meets its contract.
 use mathlib.Core.Path.{sym, ◌∙◌}
-use borrow.Author.Rules.{rules}
 use Rattle.stepping.proofs.Counting.{waits_inside, not_inside}
 use Rattle.stepping.proofs.waits.Goals as goal
 
