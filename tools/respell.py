@@ -73,6 +73,8 @@ def declared(texts):
             out.add(m[1])
         for m in re.finditer(r"[({]((?:%s )+):" % W, plain):
             out.update(m[1].split())
+        for m in re.finditer(r"(?m)^ +(?:pub )?((?:%s )+):(?= )" % W, plain):
+            out.update(m[1].split())
         for m in re.finditer(r"(?m)^pub ruleset (\S+)", plain):
             out.add(m[1])
     return {n for n in out if re.match(r"[a-z]", n) and "-" in n and not re.match(r"(invariant|measure)-", n)}

@@ -12,7 +12,7 @@ use Rattle.layout.specs.declared.Geometry.{Geometry}
 use Rattle.layout.specs.Geometry.{wrong_size, mutator_count, root_count}
 use Rattle.layout.specs.Mem.{Mem, mem_of, control_word}
 use Rattle.theory.specs.Phases.{in_handshake, newcomer}
-use Rattle.theory.specs.Calls.{Call, c-attach, c_spawn, require, if_root, refusal, unless, a-ok}
+use Rattle.theory.specs.Calls.{Call, c_attach, c_spawn, require, if_root, refusal, unless, a_ok}
 use Rattle.theory.proofs.Refusals.{require_ok, root_ok}
 use Rattle.model.specs.declared.Answer.{Answer}
 use Rattle.model.specs.declared.Answer.TheVariants.{Ok, Refused}
@@ -43,7 +43,7 @@ module _ (m : Mem) (k v n : ℕ) (h : Bool) (en : n ≡ control_word m 0) (eh : 
 -- ---- a call that no number from 2 to 9 refuses and that has a mutator come
 
 module _ (c : Call) (g : Geometry) (xs : List ℕ) (k v : ℕ) (acts : act g (mem_of g xs) c ≡ unless (in_handshake (phase (mem_of g xs))) 11 (mem_of g xs) (attached (mem_of g xs) k v))
-    (result : ResultOf c a-ok) (can : among 11 (may_give c) ≡ true) where
+    (result : ResultOf c a_ok) (can : among 11 (may_give c) ≡ true) where
   pub comes : wrong_size g (length xs) ≡ false → 0 ≡ refusal (observe (mem_of g xs)) c → (r : Answer) (ys : List ℕ) → Admits (mem_of g xs) k v r (mem_of g ys) → Promise c g xs r ys
   comes e z r ys a = go a.either
     where
@@ -60,19 +60,19 @@ module _ (c : Call) (g : Geometry) (xs : List ℕ) (k v : ℕ) (acts : act g (me
 -- ---- attach: v is the state word
 
 module _ (g : Geometry) (xs : List ℕ) (k : ℕ) (e : wrong_size g (length xs) ≡ false) where
-  pub attach_2 : mutator_count ≤ k → Promise (c-attach k) g xs (Refused 2) xs
+  pub attach_2 : mutator_count ≤ k → Promise (c_attach k) g xs (Refused 2) xs
   unfolding require
-  attach_2 l = refused (c-attach k) g xs e (rw (le-ltb _ _ l)) (λ y. omega arith)
+  attach_2 l = refused (c_attach k) g xs e (rw (le-ltb _ _ l)) (λ y. omega arith)
 
   module _ (l : k < mutator_count) (v : ℕ) (s : v ≡ state (mem_of g xs) k) where
     -- "3, taken: attach or spawn onto a number in use"
-    pub attach_3 : (v ≡ absent → ⊥) → Promise (c-attach k) g xs (Refused 3) xs
+    pub attach_3 : (v ≡ absent → ⊥) → Promise (c_attach k) g xs (Refused 3) xs
     unfolding require
-    attach_3 f = refused (c-attach k) g xs e (rw (lt-ltb _ _ l, ne_eqb _ _ (λ y. f (s ∙ y)))) (λ y. omega arith)
+    attach_3 f = refused (c_attach k) g xs e (rw (lt-ltb _ _ l, ne_eqb _ _ (λ y. f (s ∙ y)))) (λ y. omega arith)
 
-    pub attaches : v ≡ absent → (r : Answer) (ys : List ℕ) → Admits (mem_of g xs) k 0 r (mem_of g ys) → Promise (c-attach k) g xs r ys
+    pub attaches : v ≡ absent → (r : Answer) (ys : List ℕ) → Admits (mem_of g xs) k 0 r (mem_of g ys) → Promise (c_attach k) g xs r ys
     unfolding act require
-    attaches z r ys = comes (c-attach k) g xs k 0 refl refl refl e (rw (lt-ltb _ _ l, eq-eqb _ _ (sym s ∙ z))) r ys
+    attaches z r ys = comes (c_attach k) g xs k 0 refl refl refl e (rw (lt-ltb _ _ l, eq-eqb _ _ (sym s ∙ z))) r ys
 
 -- ---- the refusals of a spawn
 

@@ -17,7 +17,7 @@ use Rattle.layout.specs.Geometry.{wrong_size, mutator_count, mutator_words}
 use Rattle.layout.specs.Mem.{Mem, mem_of, control_word, Sizes}
 use Rattle.layout.proofs.Regions.{sized}
 use Rattle.theory.specs.Phases.{in_handshake}
-use Rattle.theory.specs.Calls.{c-detach, unless}
+use Rattle.theory.specs.Calls.{c_detach, unless}
 use Rattle.model.specs.declared.Answer.TheVariants.{Ok, Refused}
 use Rattle.model.specs.declared.SegmentState.TheVariants.{Part}
 use Rattle.model.specs.PhaseNumbers.{phase_of}
@@ -124,22 +124,22 @@ module _ (g : Geometry) (xs : List ℕ) (k n : ℕ) (s : n ≡ inside_then (mem_
 
   -- p is the phase's number, h whether it is a handshake
   module _ (e : wrong_size g (length xs) ≡ false) (p : ℕ) (h : Bool) (ep : p ≡ control_word (mem_of g xs) 0) (eh : h ≡ in_handshake (phase_of p)) where
-    acts : (b : Bool) → h ≡ b → act g (mem_of g xs) (c-detach k) ≡ unless b 11 (mem_of g xs) (detached g (mem_of g xs) k)
+    acts : (b : Bool) → h ≡ b → act g (mem_of g xs) (c_detach k) ≡ unless b 11 (mem_of g xs) (detached g (mem_of g xs) k)
     unfolding act
     acts b q = ap (λ x. unless x 11 (mem_of g xs) (detached g (mem_of g xs) k)) (handshake (mem_of g xs) p h ep eh ∙ q)
 
     -- "11, not now: .. detach in a roll call"
-    pub detach_11 : h ≡ true → Promise (c-detach k) g xs (Refused 11) xs
+    pub detach_11 : h ≡ true → Promise (c_detach k) g xs (Refused 11) xs
     unfolding inside_then
-    detach_11 t = declined (c-detach k) g xs e (sym z ∙ s) (acts true t) refl refl (omega arith)
+    detach_11 t = declined (c_detach k) g xs e (sym z ∙ s) (acts true t) refl refl (omega arith)
 
     module _ (f : h ≡ false) (r : Bool) (m₁ : Mem) (q : Releases g (mem_of g xs) k r m₁) where
-      pub detaches : r ≡ true → (ys : List ℕ) → mem_of g ys ≡ set_entry m₁ k (entry_of 0 absent 0) → Promise (c-detach k) g xs Ok ys
+      pub detaches : r ≡ true → (ys : List ℕ) → mem_of g ys ≡ set_entry m₁ k (entry_of 0 absent 0) → Promise (c_detach k) g xs Ok ys
       unfolding inside_then detached
       detaches t ys w =
-          done (c-detach k) g xs e (sym z ∙ s) refl refl (sym (ap (λ x. x.0) (acts false f)))
+          done (c_detach k) g xs e (sym z ∙ s) refl refl (sym (ap (λ x. x.0) (acts false f)))
           (w ∙ ap (set_entry m₁ k) entry_cleared ∙ ap (λ x. set_entry x k (replicate mutator_words 0)) (q.done t) ∙ sym (ap (λ x. x.1) (acts false f)))
 
       -- "13, torn": a held segment that cannot go to part
-      pub detach_13 : r ≡ false → (ys : List ℕ) → Promise (c-detach k) g xs (Refused 13) ys
-      detach_13 y ys = torn_13 (c-detach k) g xs e (λ c. release_succeeds g (mem_of g xs) (sizes_of g xs (sized g (length xs) e)) c k known (q.fails y))
+      pub detach_13 : r ≡ false → (ys : List ℕ) → Promise (c_detach k) g xs (Refused 13) ys
+      detach_13 y ys = torn_13 (c_detach k) g xs e (λ c. release_succeeds g (mem_of g xs) (sizes_of g xs (sized g (length xs) e)) c k known (q.fails y))

@@ -6,7 +6,7 @@ ghost use Rattle.std.specs.Prelude.{◌≡◌, ◌<◌, length};
 ghost use Rattle.classes.specs.Class.{IsClass};
 ghost use Rattle.layout.specs.Geometry.{Sized, mutator_count};
 ghost use Rattle.layout.specs.Mem.{mem_of};
-ghost use Rattle.theory.specs.Calls.{c-attach, c_spawn, c-detach};
+ghost use Rattle.theory.specs.Calls.{c_attach, c_spawn, c_detach};
 ghost use Rattle.model.specs.Promise.{Promise};
 ghost use Rattle.attaching.specs.Coming.{Admits, spawn_refusal};
 ghost use Rattle.attaching.specs.Going.{ReleasesOne, Releases};
@@ -30,7 +30,7 @@ fn admit(g: Geometry, mem: &mut [u32], mutator: u32, root: u32) -> Answer
 
 // A mutator comes, with nil roots.
 pub fn attach(g: Geometry, mem: &mut [u32], mutator: u32) -> Answer
-    ensures { Promise (c-attach mutator) g mem.old result mem.new }
+    ensures { Promise (c_attach mutator) g mem.old result mem.new }
 {
     if layout::wrong_size(g, mem.len()) {
         return Answer::Refused(1);
@@ -115,7 +115,7 @@ fn release(g: Geometry, mem: &mut [u32], mutator: u32) -> bool
 
 // A mutator inside goes: the segments that it holds go to part, and its entry is cleared.
 pub fn detach(g: Geometry, mem: &mut [u32], mutator: u32) -> Answer
-    ensures { Promise (c-detach mutator) g mem.old result mem.new }
+    ensures { Promise (c_detach mutator) g mem.old result mem.new }
 {
     if layout::wrong_size(g, mem.len()) {
         return Answer::Refused(1);

@@ -3,7 +3,7 @@
 #![tactic(auto)]
 
 ghost use Rattle.std.specs.Prelude.{◌≡◌};
-ghost use Rattle.theory.specs.Calls.{c-attach, c_spawn, c-detach, c-check, c_leave, c_enter, c_make, c_load, c_store, c_copy, c_clear, c_put, c_get, c_same, c_shape};
+ghost use Rattle.theory.specs.Calls.{c_attach, c_spawn, c_detach, c_check, c_leave, c_enter, c_make, c_load, c_store, c_copy, c_clear, c_put, c_get, c_same, c_shape};
 ghost use Rattle.layout.specs.Geometry.{layout_number, total, scratch_words, sheet_bytes};
 ghost use Rattle.model.specs.Promise.{Promise, OpenPromise, StartPromise, StepPromise, PhasePromise, StatesPromise, SheetPromise, ExaminePromise};
 ghost use Rattle.packing.specs.Packed.{geometry_of, length_for, states_words, unpack, unpack_number, unpack_same, unpack_shape, unpack_step, unpack_phase, unpack_examined};
@@ -69,7 +69,7 @@ pub extern "C" fn borvukhai_open(segments: u32, kib: u32, mem: &mut [u32]) -> u3
 
 #[unsafe(no_mangle)]
 pub extern "C" fn borvukhai_attach(segments: u32, kib: u32, mem: &mut [u32], mutator: u32) -> u32
-    ensures { Promise (c-attach mutator) (geometry_of segments kib) mem.old (unpack result) mem.new }
+    ensures { Promise (c_attach mutator) (geometry_of segments kib) mem.old (unpack result) mem.new }
 {
     packing::packed(attaching::attach(packing::geometry(segments, kib), mem, mutator))
 }
@@ -90,7 +90,7 @@ pub extern "C" fn borvukhai_spawn(
 
 #[unsafe(no_mangle)]
 pub extern "C" fn borvukhai_detach(segments: u32, kib: u32, mem: &mut [u32], mutator: u32) -> u32
-    ensures { Promise (c-detach mutator) (geometry_of segments kib) mem.old (unpack result) mem.new }
+    ensures { Promise (c_detach mutator) (geometry_of segments kib) mem.old (unpack result) mem.new }
 {
     packing::packed(attaching::detach(packing::geometry(segments, kib), mem, mutator))
 }
@@ -252,7 +252,7 @@ pub extern "C" fn borvukhai_get(
 
 #[unsafe(no_mangle)]
 pub extern "C" fn borvukhai_check(segments: u32, kib: u32, mem: &mut [u32], mutator: u32) -> u32
-    ensures { Promise (c-check mutator) (geometry_of segments kib) mem.old (unpack result) mem.new }
+    ensures { Promise (c_check mutator) (geometry_of segments kib) mem.old (unpack result) mem.new }
 {
     packing::packed(handshake_calls::check(packing::geometry(segments, kib), mem, mutator))
 }

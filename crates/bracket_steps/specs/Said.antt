@@ -5,7 +5,7 @@ use Rattle.classes.specs.Record.{pointer_count_of, value_count_of}
 use Rattle.layout.specs.declared.Geometry.{Geometry}
 use Rattle.layout.specs.Geometry.{small_kib, total}
 use Rattle.layout.specs.Mem.{Mem, mem_of, flat}
-use Rattle.theory.specs.Calls.{a-ok, a-moved, a-traced, a-done, a-idle, a_num, a_flag, a_shape, a_no, a_waiting, a_swept}
+use Rattle.theory.specs.Calls.{a_ok, a_moved, a_traced, a_done, a_idle, a_num, a_flag, a_shape, a_no, a_waiting, a_swept}
 use Rattle.model.specs.Calls.{exec}
 use Rattle.model.specs.Collector.{start_of, step_of}
 use Rattle.model.specs.Opening.{opened}
@@ -69,24 +69,24 @@ task_of form.Step = Step
 
 -- what that does: the model's definition of the call
 abbrev pub done : Task → Geometry → Mem → theory.Answer × Mem
-done (Open n) g m = (a-ok, opened g m)
+done (Open n) g m = (a_ok, opened g m)
 done (Call q) g m = exec g m (call_of q)
 done Start g m = start_of g m
 done Step g m = step_of g m
 
 -- "(ok) with any result, (no NUMBER), .. or step's answer"; "(same ..) with 1 or 0, (shape ..) with P and N"
 abbrev pub reply_of : theory.Answer → Reply
-reply_of a-ok = reply.Ok
+reply_of a_ok = reply.Ok
 reply_of (a_num v) = reply.OkOne v
 reply_of (a_flag b) = reply.OkOne (one_if b)
 reply_of (a_shape s) = reply.OkTwo (pointer_count_of s) (value_count_of s)
 reply_of (a_no n) = reply.No n
 reply_of (a_waiting n) = reply.Waiting n
-reply_of a-moved = reply.Moved
-reply_of a-traced = reply.Traced
+reply_of a_moved = reply.Moved
+reply_of a_traced = reply.Traced
 reply_of (a_swept s f) = reply.Swept s f
-reply_of a-done = reply.Done
-reply_of a-idle = reply.Idle
+reply_of a_done = reply.Done
+reply_of a_idle = reply.Idle
 
 -- how many segments the heap of a task has: those that the opening asks for, or those that are open
 abbrev pub segments_for : Task → ℕ → ℕ

@@ -12,7 +12,7 @@ use Rattle.layout.specs.declared.Geometry.{Geometry}
 use Rattle.layout.specs.Geometry.{mutator_count}
 use Rattle.layout.specs.Mem.{Mem, Sizes, set_run}
 use Rattle.theory.specs.Phases.{mark, in_handshake, duty, owes}
-use Rattle.theory.specs.Calls.{Call, c-attach, c-detach, c-check, c_leave, c_enter, c_spawn, c_make, c_load, c_store, c_copy, c_clear, c_put, c_get}
+use Rattle.theory.specs.Calls.{Call, c_attach, c_detach, c_check, c_leave, c_enter, c_spawn, c_make, c_load, c_store, c_copy, c_clear, c_put, c_get}
 use Rattle.theory.specs.Calls.{c_same, c_shape, Answer, refusal, refuse, unless, on_record}
 use Rattle.theory.proofs.Refusals.{by_ok}
 use Rattle.model.specs.Fields.{phase, acks, root, class, trace_count}
@@ -81,10 +81,10 @@ module _ (g : Geometry) (m : Mem) (s : Sizes g m) (c : Consistent g m) (marking 
 
   was_act : (c : Call) → refusal (observe m) c ≡ 0 → WasUnmarked g m (act g m c).1
   unfolding act
-  was_act (c-attach k) e = was_unless g (in_handshake (phase m)) m _ (was_attached g m k 0)
+  was_act (c_attach k) e = was_unless g (in_handshake (phase m)) m _ (was_attached g m k 0)
   was_act (c_spawn k p i) e = was_unless g (in_handshake (phase m)) m _ (was_attached g m k (root m p i))
-  was_act (c-detach k) e = was_unless g (in_handshake (phase m)) m _ (was_detached g m s c k (by_ok (observe m) k _ e).0)
-  was_act (c-check k) e = was_acknowledged k
+  was_act (c_detach k) e = was_unless g (in_handshake (phase m)) m _ (was_detached g m s c k (by_ok (observe m) k _ e).0)
+  was_act (c_check k) e = was_acknowledged k
   was_act (c_leave k) e = was_then g m (acknowledged g m k) _ (was_acknowledged k) (was_mutator g (acknowledged g m k) _ _)
   was_act (c_enter k) e = was_mutator g m _ _
   was_act (c_make k d p n) e = was_make g m s (consistent_ordered g m c) marking k d p n e (class_of_record (of_counts p n)) refl

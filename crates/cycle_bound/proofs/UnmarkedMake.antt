@@ -25,7 +25,7 @@ use Rattle.theory.specs.Phases.{Phase, mark, black}
 use Rattle.theory.specs.Calls.{c_make, refusal}
 use Rattle.theory.proofs.Invariant.{Tracing}
 use Rattle.theory.proofs.Refusals.{by_ok, root_ok}
-use Rattle.model.specs.Fields.{phase, acks, holding, tag, class, place}
+use Rattle.model.specs.Fields.{phase, acks, holding, class, place}
 use Rattle.model.specs.Segments.{set_segment_state, free_stack, part_stack, count, top, pop, bitmap, used_bit}
 use Rattle.model.specs.Records.{header_of, marked}
 use Rattle.model.specs.Reaching.{is_marked}

@@ -12,7 +12,7 @@ use Rattle.layout.specs.Geometry.{mutator_count}
 use Rattle.layout.specs.Mem.{Mem, Sizes}
 use Rattle.layout.proofs.Regions.{sized}
 use Rattle.theory.specs.Phases.{Phase, idle, sync1, sync2, mark, sweep, in_handshake, owes}
-use Rattle.theory.specs.Calls.{a_waiting, a-moved}
+use Rattle.theory.specs.Calls.{a_waiting, a_moved}
 use Rattle.model.specs.Fields.{phase, trace_count, acks}
 use Rattle.model.specs.Calls.{is_inside}
 use Rattle.model.specs.Collector.{outside_answered, waiting, moved_or_waiting, traces, lowest, sweeps, step_in, step_of}
@@ -91,14 +91,14 @@ module _ (g : Geometry) (m : Mem) (z : Sizes g m) where
       go mark e h = absurd (traced (trace_count m) h)
       go sweep e h = absurd (swept (lowest m g.segments) h)
 
-  moves_on : in_handshake (phase m) ≡ true → NobodyOwes m → (step_of g m).0 ≡ a-moved
+  moves_on : in_handshake (phase m) ≡ true → NobodyOwes m → (step_of g m).0 ≡ a_moved
   unfolding step_of
   moves_on t f = go (phase m) t
     where
       nobody : waiting answered mutator_count ≡ 0
       nobody = waiting_same g m z mutator_count ∙ none_waited m mutator_count f
 
-      go : (p : Phase) → in_handshake p ≡ true → (step_in p g m).0 ≡ a-moved
+      go : (p : Phase) → in_handshake p ≡ true → (step_in p g m).0 ≡ a_moved
       go idle h = absurd (let y : ◌≡◌ {A = ℕ} 0 1 = cc in omega arith)
       go sync1 h = ap (λ n. (moved_or_waiting n answered sync2).0) nobody
       go sync2 h = ap (λ n. (moved_or_waiting n answered mark).0) nobody

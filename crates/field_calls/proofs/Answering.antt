@@ -9,7 +9,7 @@ use Rattle.classes.specs.declared.RecordShape.{RecordShape}
 use Rattle.layout.specs.declared.Geometry.{Geometry}
 use Rattle.layout.specs.Geometry.{wrong_size}
 use Rattle.layout.specs.Mem.{Mem, mem_of, heap_word, set_heap}
-use Rattle.theory.specs.Calls.{c_load, c_get, c_put, c_shape, a-ok, a_num, a_shape, if_root, pointer?, value?}
+use Rattle.theory.specs.Calls.{c_load, c_get, c_put, c_shape, a_ok, a_num, a_shape, if_root, pointer?, value?}
 use Rattle.model.specs.declared.Answer.TheVariants.{Ok, Number, Shape, Refused}
 use Rattle.model.specs.Fields.{set_root}
 use Rattle.model.specs.Records.{InHalves, pointer, value, set_value, shape_of}
@@ -66,7 +66,7 @@ module _ (g : Geometry) (xs : List ℕ) (k i at : ℕ) where
   abbrev m : Mem
   m = mem_of g xs
 
-  load_acts : (d f : ℕ) → Names g xs k i at → act g m (c_load k d i f) ≡ (a-ok, set_root m k d (pointer m at f))
+  load_acts : (d f : ℕ) → Names g xs k i at → act g m (c_load k d i f) ≡ (a_ok, set_root m k d (pointer m at f))
   unfolding act
   load_acts d f w = rw w.word refl
 
@@ -90,7 +90,7 @@ module _ (g : Geometry) (xs : List ℕ) (k i at : ℕ) where
       (ap a_num (u ∙ ap (heap_word m) t.is) ∙ sym (ap (λ a. a.0) (get_acts f w)))
       (sym (ap (λ a. a.1) (get_acts f w)))
 
-  put_acts : (f v : ℕ) → Names g xs k i at → act g m (c_put k i f v) ≡ (a-ok, set_value m at f v)
+  put_acts : (f v : ℕ) → Names g xs k i at → act g m (c_put k i f v) ≡ (a_ok, set_value m at f v)
   unfolding act
   put_acts f v w = rw w.word refl
 

@@ -11,7 +11,7 @@ use Rattle.layout.specs.Geometry.{Sized}
 use Rattle.layout.specs.Mem.{Mem, mem_of}
 use Rattle.layout.proofs.Regions.{right_size, resized}
 use Rattle.theory.specs.Phases.{idle}
-use Rattle.theory.specs.Calls.{a-ok, a_no}
+use Rattle.theory.specs.Calls.{a_ok, a_no}
 use Rattle.model.specs.declared.Answer.{Answer}
 use Rattle.model.specs.Answers.{answer_of}
 use Rattle.model.specs.Fields.{phase}
@@ -27,7 +27,7 @@ use Rattle.guarantee.proofs.Refused.{start_either}
 start_acts : (g : Geometry) (m m' : Mem) (r : Answer) → answer_of r ≡ (start_of g m).0 → m' ≡ (start_of g m).1 → Acts g m m' (start_call r)
 start_acts g m m' r e h = go (start_either g m)
   where
-    go : ((phase m ≡ idle) × (start_of g m ≡ (a-ok, started g m))) ⊎ (start_of g m ≡ (a_no 11, m)) → Acts g m m' (start_call r)
+    go : ((phase m ≡ idle) × (start_of g m ≡ (a_ok, started g m))) ⊎ (start_of g m ≡ (a_no 11, m)) → Acts g m m' (start_call r)
     go (inl x) = rw (is_ok r (e ∙ ap (λ y. y.0) x.1)) (starts x.0 (ap (λ y. y.0) x.1) (h ∙ ap (λ y. y.1) x.1))
     go (inr x) =
         let n : (start_of g m).0 ≡ a_no 11 = ap (λ y. y.0) x in

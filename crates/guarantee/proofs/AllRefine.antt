@@ -15,7 +15,7 @@ use Rattle.layout.specs.declared.Geometry.{Geometry}
 use Rattle.layout.specs.Geometry.{mutator_count, root_count, segment_of}
 use Rattle.layout.specs.Mem.{Mem, Sizes}
 use Rattle.theory.specs.Phases.{Phase, idle, sync1, sync2, mark, sweep}
-use Rattle.theory.specs.Calls.{Call, c-attach, c-detach, c-check, c_leave, c_enter, c_spawn, c_make, c_load, c_store, c_copy, c_clear, c_put, c_get, c_same, c_shape, refusal}
+use Rattle.theory.specs.Calls.{Call, c_attach, c_detach, c_check, c_leave, c_enter, c_spawn, c_make, c_load, c_store, c_copy, c_clear, c_put, c_get, c_same, c_shape, refusal}
 use Rattle.theory.proofs.Refusals.{by_ok, root_ok, require_ok}
 use Rattle.theory.proofs.Agree.{agree_inv}
 use Rattle.model.specs.Fields.{phase, holding}
@@ -122,10 +122,10 @@ make_refines g m s c k d p n e =
 -- ---- all calls
 
 calls_refines : (g : Geometry) (m : Mem) → Sizes g m → Ordered g m → (c : Call) → refusal (observe m) c ≡ 0 → CallRefines struck_out g m c
-calls_refines g m s c (c-attach k) e = attach_refines struck_out refl g m s c k e
+calls_refines g m s c (c_attach k) e = attach_refines struck_out refl g m s c k e
 calls_refines g m s c (c_spawn k p i) e = spawn_refines struck_out refl g m s c k p i e
-calls_refines g m s c (c-detach k) e = detach_refines struck_out refl g m s c k e
-calls_refines g m s c (c-check k) e = agrees (check_refines g m s c k e)
+calls_refines g m s c (c_detach k) e = detach_refines struck_out refl g m s c k e
+calls_refines g m s c (c_check k) e = agrees (check_refines g m s c k e)
 calls_refines g m s c (c_leave k) e = agrees (leave_refines g m s c k e)
 calls_refines g m s c (c_enter k) e = agrees (enter_refines g m s c k e)
 calls_refines g m s c (c_make k d p n) e = make_refines g m s c k d p n e

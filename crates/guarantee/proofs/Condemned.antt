@@ -11,7 +11,7 @@ use Rattle.layout.specs.declared.Geometry.{Geometry}
 use Rattle.layout.specs.Geometry.{mutator_count, segment_of}
 use Rattle.layout.specs.Mem.{Mem, Sizes}
 use Rattle.theory.specs.Phases.{Phase, idle, sync1, sync2, mark, sweep}
-use Rattle.theory.specs.Calls.{Call, refusal, refuse, a-done, a_swept}
+use Rattle.theory.specs.Calls.{Call, refusal, refuse, a_done, a_swept}
 use Rattle.theory.specs.MachineCalls.{step_by}
 use Rattle.theory.proofs.Invariant.{none_some}
 use Rattle.theory.proofs.Updates.{upd_other, upd_same}
@@ -99,23 +99,23 @@ module _ (g : Geometry) (m : Mem) (z : Sizes g m) (k : Consistent g m) (s : ℕ)
   swept_was f e = (all_refine.steps g m z k).picked.condemned s (swept_by g m s f e).is_lowest
 
   -- done: none is condemned
-  done_none : s < g.segments → a-done ≡ (step_of g m).0 → is_condemned m s ≡ false
+  done_none : s < g.segments → a_done ≡ (step_of g m).0 → is_condemned m s ≡ false
   unfolding step_of
   done_none i e = go (phase m) e
     where
-      moved : (n : ℕ) (m₁ : Mem) (p : Phase) → a-done ≡ (moved_or_waiting n m₁ p).0 → ⊥
+      moved : (n : ℕ) (m₁ : Mem) (p : Phase) → a_done ≡ (moved_or_waiting n m₁ p).0 → ⊥
       moved zero m₁ p h = let y : ◌≡◌ {A = ℕ} 0 1 = cc in omega arith
       moved (suc n) m₁ p h = let y : ◌≡◌ {A = ℕ} 0 1 = cc in omega arith
 
-      traced : (n : ℕ) → a-done ≡ (traces g n m).0 → ⊥
+      traced : (n : ℕ) → a_done ≡ (traces g n m).0 → ⊥
       traced zero h = let y : ◌≡◌ {A = ℕ} 0 1 = cc in omega arith
       traced (suc n) h = let y : ◌≡◌ {A = ℕ} 0 1 = cc in omega arith
 
-      at_end : (o : Option ℕ) → lowest m g.segments ≡ o → a-done ≡ (sweeps g o m).0 → is_condemned m s ≡ false
+      at_end : (o : Option ℕ) → lowest m g.segments ≡ o → a_done ≡ (sweeps g o m).0 → is_condemned m s ≡ false
       at_end none l h = ne_eqb _ _ (none_condemned m g.segments l s i)
       at_end (some x) l h = absurd (let y : ◌≡◌ {A = ℕ} 0 1 = cc in omega arith)
 
-      go : (p : Phase) → a-done ≡ (step_in p g m).0 → is_condemned m s ≡ false
+      go : (p : Phase) → a_done ≡ (step_in p g m).0 → is_condemned m s ≡ false
       go idle h = absurd (let y : ◌≡◌ {A = ℕ} 0 1 = cc in omega arith)
       go sync1 h = absurd (moved (waiting (outside_answered g m mutator_count) mutator_count) (outside_answered g m mutator_count) sync2 h)
       go sync2 h = absurd (moved (waiting (outside_answered g m mutator_count) mutator_count) (outside_answered g m mutator_count) mark h)

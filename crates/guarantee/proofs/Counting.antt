@@ -3,7 +3,7 @@ use mathlib.Core.Path.{◌≡◌, refl, sym, ◌∙◌, ap, subst}
 use mathlib.Core.Logic.{◌⊎◌, inl, inr}
 use mathlib.Core.Bool.{Bool, true, false}
 use mathlib.Core.Option.{Option, none, some}
-use Prim.Native.Nat.{ℕ, zero, suc, ◌+◌, ◌-◌, ◌≤◌, ◌<◌}
+use Prim.Native.Nat.{ℕ, zero, suc, ◌+◌, ◌-◌, ◌<◌}
 use native.Mathlib.Omega.{arith}
 use lib.Dec.{eqb}
 use borrow.Author.Tests.{eqb-true}
@@ -17,16 +17,16 @@ use Rattle.layout.specs.declared.Geometry.{Geometry}
 use Rattle.layout.specs.Geometry.{mutator_count, root_count}
 use Rattle.layout.specs.Mem.{Mem, Sizes, set_mutator, set_heap, set_run}
 use Rattle.theory.specs.Phases.{in_handshake, duty}
-use Rattle.theory.specs.Calls.{Call, c-attach, c-detach, c-check, c_leave, c_enter, c_spawn, c_make, c_load, c_store, c_copy, c_clear, c_put, c_get}
+use Rattle.theory.specs.Calls.{Call, c_attach, c_detach, c_check, c_leave, c_enter, c_spawn, c_make, c_load, c_store, c_copy, c_clear, c_put, c_get}
 use Rattle.theory.specs.Calls.{c_same, c_shape, CallKind, coming, working, asks_number, asks_flag, asks_shape, making, kind_of, Answer, refusal, refuse, unless, on_record}
-use Rattle.theory.specs.Calls.{a-ok, a-moved, a-traced, a-done, a-idle, a_num, a_flag, a_shape, a_no, a_waiting, a_swept}
+use Rattle.theory.specs.Calls.{a_ok, a_moved, a_traced, a_done, a_idle, a_num, a_flag, a_shape, a_no, a_waiting, a_swept}
 use Rattle.theory.proofs.Refusals.{by_ok, root_ok}
 use Rattle.model.specs.Fields.{phase, acks, root, holding, kept_count, handed_count}
 use Rattle.model.specs.Segments.{free_stack, part_stack, count, top}
 use Rattle.model.specs.Records.{record?, pointer}
 use Rattle.model.specs.Tracing.{barrier}
 use Rattle.model.specs.Mutators.{acknowledged, attached, released, detached}
-use Rattle.model.specs.Making.{held, part, unused, no_room, source_of, handed_out, in_block, in_segment, from_source, made}
+use Rattle.model.specs.Making.{held, part, unused, no_room, source_of, in_block, in_segment, from_source, made}
 use Rattle.model.specs.Calls.{is_attached, observe, of_class, act, exec}
 use Rattle.model.specs.Consistent.{Consistent}
 use Rattle.model_laws.proofs.Words.{Counted, CountsStay, counted_then, untouched_same}
@@ -68,11 +68,11 @@ pub record OneMore (g : Geometry) (m m' : Mem) : Type 0 where
 
 -- 1 for ok, as document 01 has the answers
 abbrev pub ok_of : Answer → ℕ
-ok_of a-ok = 1
-ok_of a-moved = 0
-ok_of a-traced = 0
-ok_of a-done = 0
-ok_of a-idle = 0
+ok_of a_ok = 1
+ok_of a_moved = 0
+ok_of a_traced = 0
+ok_of a_done = 0
+ok_of a_idle = 0
 ok_of (a_num v) = 0
 ok_of (a_flag b) = 0
 ok_of (a_shape s) = 0
@@ -162,10 +162,10 @@ stay_detached g m s c k few =
 
 counts_act : (g : Geometry) (m : Mem) → Sizes g m → Consistent g m → (c : Call) → refusal (observe m) c ≡ 0 → CountsBy (kind_of c) g m (act g m c)
 unfolding act
-counts_act g m s c (c-attach k) e = stay_unless (in_handshake (phase m)) m _ (stay_attached m k 0)
+counts_act g m s c (c_attach k) e = stay_unless (in_handshake (phase m)) m _ (stay_attached m k 0)
 counts_act g m s c (c_spawn k p i) e = stay_unless (in_handshake (phase m)) m _ (stay_attached m k (root m p i))
-counts_act g m s c (c-detach k) e = stay_unless (in_handshake (phase m)) m _ (stay_detached g m s c k (by_ok (observe m) k _ e).0)
-counts_act g m s c (c-check k) e = stay_same m _ (leaves_acknowledged g m k)
+counts_act g m s c (c_detach k) e = stay_unless (in_handshake (phase m)) m _ (stay_detached g m s c k (by_ok (observe m) k _ e).0)
+counts_act g m s c (c_check k) e = stay_same m _ (leaves_acknowledged g m k)
 counts_act g m s c (c_leave k) e = stay_then m (acknowledged g m k) _ (stay_same m _ (leaves_acknowledged g m k)) (stay_mutator (acknowledged g m k) _ _)
 counts_act g m s c (c_enter k) e = stay_mutator m _ _
 counts_act g m s c (c_make k d p n) e = from_make g m s (consistent_ordered g m c) k d p n e (class_of_record (of_counts p n)) refl

@@ -4,7 +4,7 @@ use mathlib.Core.Logic.{◌⊎◌, inl, inr}
 use mathlib.Core.Bool.{Bool, true, false, ◌&&◌, true≢false}
 use mathlib.Core.Option.{Option, none, some, map, none-ne-some, some-injective}
 use mathlib.Core.List.{List, [], ◌∷◌, ◌++◌}
-use Prim.Native.Nat.{ℕ, zero, suc, ◌+◌, ◌-◌}
+use Prim.Native.Nat.{ℕ, zero, suc, ◌-◌}
 use native.Mathlib.Omega.{arith}
 use lib.Dec.{eqb}
 use lib.ListN.{length}
@@ -16,7 +16,7 @@ use Rattle.layout.specs.Geometry.{wrong_size, mutator_count}
 use Rattle.layout.specs.Mem.{Mem, mem_of, Sizes, trace_word}
 use Rattle.layout.proofs.Regions.{sized}
 use Rattle.theory.specs.Phases.{Phase, idle, sync1, sync2, mark, sweep, in_handshake}
-use Rattle.theory.specs.Calls.{Call, a-ok, a-done}
+use Rattle.theory.specs.Calls.{Call, a_ok, a_done}
 use Rattle.model.specs.declared.Answer.{Answer}
 use Rattle.model.specs.declared.Answer.TheVariants.{Ok}
 use Rattle.model.specs.declared.Step.{Step}
@@ -331,11 +331,11 @@ module _ (g : Geometry) where
   promised : (words : List ℕ) (e : Element) (v : Event) → e.event ≡ v → Meets e → Gets g words e → Promised v g words e.after
   promised words e v i q h = subst (λ v. Promised v g words e.after) i (subst Meets (is_over g words e h) q)
 
-  sweep_done : (m : Mem) → NoneCondemned m → phase m ≡ sweep → (step_of g m).0 ≡ a-done
+  sweep_done : (m : Mem) → NoneCondemned m → phase m ≡ sweep → (step_of g m).0 ≡ a_done
   unfolding step_of
   sweep_done m n p = ap (λ p. (step_in p g m).0) p ∙ ap (λ o. (sweeps g o m).0) (nothing_lowest m n)
 
-  idle_starts : (m : Mem) → phase m ≡ idle → (start_of g m).0 ≡ a-ok
+  idle_starts : (m : Mem) → phase m ≡ idle → (start_of g m).0 ≡ a_ok
   unfolding start_of
   idle_starts m p = ap (λ p. (start_in p g m).0) p
 

@@ -17,7 +17,7 @@ use Rattle.layout.specs.declared.Geometry.{Geometry}
 use Rattle.layout.specs.Geometry.{mutator_count, root_count, blocks_in, segment_of}
 use Rattle.layout.specs.Mem.{Mem, mem_of, Sizes}
 use Rattle.layout.proofs.Regions.{sized}
-use Rattle.theory.specs.Calls.{c_make, a-ok, refusal, refuse}
+use Rattle.theory.specs.Calls.{c_make, a_ok, refusal, refuse}
 use Rattle.theory.proofs.Refusals.{by_ok, root_ok}
 use Rattle.model.specs.Fields.{holding, tag, class}
 use Rattle.model.specs.Segments.{count, top, part_stack, free_stack}
@@ -82,12 +82,12 @@ module _ (g : Geometry) (m : Mem) (s : Sizes g m) (c : Consistent g m) (k d cl p
         let x = requested g m₁ ordered k d cl r (of_counts p n) l t.known h e t.holds in
         subst (λ f. FullAtOnce g m (in_block g m m₁ f k d cl r (of_counts p n)).1 k d) (sym x.1) (handed_full x.0 x.2)
 
-  by_source : (from_source g m k d cl (of_counts p n) (source_of g m k cl)).0 ≡ a-ok → FullAtOnce g m (from_source g m k d cl (of_counts p n) (source_of g m k cl)).1 k d
+  by_source : (from_source g m k d cl (of_counts p n) (source_of g m k cl)).0 ≡ a_ok → FullAtOnce g m (from_source g m k d cl (of_counts p n) (source_of g m k cl)).1 k d
   by_source = go (eqb (holding m k cl) 0) (eqb (count g m (part_stack cl)) 0) (eqb (count g m free_stack) 0) refl refl refl
     where
       go : (x y z : Bool) → eqb (holding m k cl) 0 ≡ x → eqb (count g m (part_stack cl)) 0 ≡ y → eqb (count g m free_stack) 0 ≡ z
           → (from_source g m k d cl (of_counts p n)
-          (pick x (pick y (pick z no_room (unused (top g m free_stack))) (part (top g m (part_stack cl)))) (held (holding m k cl - 1)))).0 ≡ a-ok
+          (pick x (pick y (pick z no_room (unused (top g m free_stack))) (part (top g m (part_stack cl)))) (held (holding m k cl - 1)))).0 ≡ a_ok
           → FullAtOnce g m (from_source g m k d cl (of_counts p n)
           (pick x (pick y (pick z no_room (unused (top g m free_stack))) (part (top g m (part_stack cl)))) (held (holding m k cl - 1)))).1 k d
       go false y z q i j ok =
@@ -101,30 +101,30 @@ module _ (g : Geometry) (m : Mem) (s : Sizes g m) (c : Consistent g m) (k d cl p
           none_shared (top g m (part_stack cl)) (top_part g m cl stack (some_of _ i)).0 (omega arith) (omega arith) (part_class g m cl stack (some_of _ i))
       go true true false q i j ok =
           from_taken _ _ (free_tag g m c.summed.free_segments (some_of _ j)) (taken_free g m s order k cl l a is_class_lem (eqb-true _ _ q) (some_of _ j))
-      go true true true q i j ok = refused.result a-ok 10 refl (sym ok)
+      go true true true q i j ok = refused.result a_ok 10 refl (sym ok)
 
 -- ---- the call
 
 make_full : (g : Geometry) (m : Mem) → Sizes g m → Consistent g m → (k d p n cl : ℕ) → class_of_record (of_counts p n) ≡ Class cl → blocks_in g cl ≡ 1
-    → (exec g m (c_make k d p n)).0 ≡ a-ok → FullAtOnce g m (exec g m (c_make k d p n)).1 k d
+    → (exec g m (c_make k d p n)).0 ≡ a_ok → FullAtOnce g m (exec g m (c_make k d p n)).1 k d
 unfolding exec act made
 make_full g m s c k d p n cl w one ok = go (refusal (observe m) (c_make k d p n)) refl ok
   where
     classed : refusal (observe m) (c_make k d p n) ≡ 0 → (o : SizeClass) → o ≡ Class cl
-        → (of_class m o (λ x. from_source g m k d x (of_counts p n) (source_of g m k x))).0 ≡ a-ok
+        → (of_class m o (λ x. from_source g m k d x (of_counts p n) (source_of g m k x))).0 ≡ a_ok
         → FullAtOnce g m (of_class m o (λ x. from_source g m k d x (of_counts p n) (source_of g m k x))).1 k d
     classed z (Class x) q ok =
         let y = by_ok (observe m) k _ z in
         let r = root_ok d _ y.3 in
         let same : x ≡ cl = cc in
         by_source g m s c k d x p n y.0 y.1 r.0 (w ∙ sym q) (ap (blocks_in g) same ∙ one) ok
-    classed z TooBig q ok = refused.result a-ok 9 refl (sym ok)
+    classed z TooBig q ok = refused.result a_ok 9 refl (sym ok)
 
     go : (x : ℕ) → refusal (observe m) (c_make k d p n) ≡ x
-        → (refuse x m (of_class m (class_of_record (of_counts p n)) (λ y. from_source g m k d y (of_counts p n) (source_of g m k y)))).0 ≡ a-ok
+        → (refuse x m (of_class m (class_of_record (of_counts p n)) (λ y. from_source g m k d y (of_counts p n) (source_of g m k y)))).0 ≡ a_ok
         → FullAtOnce g m (refuse x m (of_class m (class_of_record (of_counts p n)) (λ y. from_source g m k d y (of_counts p n) (source_of g m k y)))).1 k d
     go zero z ok = classed z (class_of_record (of_counts p n)) w ok
-    go (suc x) z ok = refused.result a-ok (suc x) refl (sym ok)
+    go (suc x) z ok = refused.result a_ok (suc x) refl (sym ok)
 
 pub every_full_at_once : EveryFullAtOnce
 every_full_at_once g words after k d p n cl a w one =

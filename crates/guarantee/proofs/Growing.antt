@@ -20,7 +20,7 @@ use Rattle.layout.specs.declared.Geometry.{Geometry}
 use Rattle.layout.specs.Geometry.{mutator_count, root_count, blocks_in, bitmap_words}
 use Rattle.layout.specs.Mem.{Mem, Sizes, set_mutator, set_segment, set_stack, set_heap, set_run}
 use Rattle.theory.specs.Phases.{in_handshake, duty}
-use Rattle.theory.specs.Calls.{Call, c-attach, c-detach, c-check, c_leave, c_enter, c_spawn, c_make, c_load, c_store, c_copy, c_clear, c_put, c_get}
+use Rattle.theory.specs.Calls.{Call, c_attach, c_detach, c_check, c_leave, c_enter, c_spawn, c_make, c_load, c_store, c_copy, c_clear, c_put, c_get}
 use Rattle.theory.specs.Calls.{c_same, c_shape, Answer, refusal, refuse, unless, on_record}
 use Rattle.theory.proofs.Refusals.{by_ok, root_ok}
 use Rattle.model.specs.Fields.{phase, acks, root, holding, tag, class, place}
@@ -225,10 +225,10 @@ grows_attached g m k v = grows_still g m (attached m k v) refl refl
 
 grows_act : (g : Geometry) (m : Mem) → Sizes g m → Consistent g m → (c : Call) → refusal (observe m) c ≡ 0 → Grows g m (act g m c).1
 unfolding act
-grows_act g m s c (c-attach k) e = grows_unless g (in_handshake (phase m)) m _ (grows_attached g m k 0)
+grows_act g m s c (c_attach k) e = grows_unless g (in_handshake (phase m)) m _ (grows_attached g m k 0)
 grows_act g m s c (c_spawn k p i) e = grows_unless g (in_handshake (phase m)) m _ (grows_attached g m k (root m p i))
-grows_act g m s c (c-detach k) e = grows_unless g (in_handshake (phase m)) m _ (grows_detached g m s c k (by_ok (observe m) k _ e).0)
-grows_act g m s c (c-check k) e = grows_same g m _ (leaves_acknowledged g m k)
+grows_act g m s c (c_detach k) e = grows_unless g (in_handshake (phase m)) m _ (grows_detached g m s c k (by_ok (observe m) k _ e).0)
+grows_act g m s c (c_check k) e = grows_same g m _ (leaves_acknowledged g m k)
 grows_act g m s c (c_leave k) e = grows_then g m (acknowledged g m k) _ (grows_same g m _ (leaves_acknowledged g m k)) (grows_mutator g (acknowledged g m k) _ _)
 grows_act g m s c (c_enter k) e = grows_mutator g m _ _
 grows_act g m s c (c_make k d p n) e = grows_make g m s (consistent_ordered g m c) k d p n e (class_of_record (of_counts p n)) refl

@@ -20,9 +20,9 @@ use Rattle.layout.specs.Mem.{Mem, mem_of, set_run, Sizes}
 use Rattle.layout.proofs.Regions.{sized}
 use Rattle.layout.proofs.Sizes.{large_bytes, small_bytes}
 use Rattle.theory.specs.Phases.{in_handshake}
-use Rattle.theory.specs.Calls.{c-detach, a-ok, refusal, refuse, unless}
+use Rattle.theory.specs.Calls.{c_detach, a_ok, refusal, refuse, unless}
 use Rattle.theory.proofs.Refusals.{by_ok}
-use Rattle.model.specs.Fields.{phase, holding, tag, class, place, owner}
+use Rattle.model.specs.Fields.{phase, holding, class, place, owner}
 use Rattle.model.specs.Mutators.{released, detached}
 use Rattle.model.specs.Calls.{observe, act, exec}
 use Rattle.model.specs.Consistent.{Consistent}
@@ -191,18 +191,18 @@ module _ (g : Geometry) (m : Mem) (s : Sizes g m) (c : Consistent g m) (k : ℕ)
 
 -- ---- the call
 
-detach_is : (g : Geometry) (m : Mem) (k : ℕ) → (exec g m (c-detach k)).0 ≡ a-ok → (k < mutator_count) × ((exec g m (c-detach k)).1 ≡ detached g m k)
+detach_is : (g : Geometry) (m : Mem) (k : ℕ) → (exec g m (c_detach k)).0 ≡ a_ok → (k < mutator_count) × ((exec g m (c_detach k)).1 ≡ detached g m k)
 unfolding exec act
-detach_is g m k e = go (refusal (observe m) (c-detach k)) refl e
+detach_is g m k e = go (refusal (observe m) (c_detach k)) refl e
   where
-    on : refusal (observe m) (c-detach k) ≡ 0 → (b : Bool) → (unless b 11 m (detached g m k)).0 ≡ a-ok → (k < mutator_count) × ((unless b 11 m (detached g m k)).1 ≡ detached g m k)
-    on z true e = result a-ok 11 refl (sym e)
+    on : refusal (observe m) (c_detach k) ≡ 0 → (b : Bool) → (unless b 11 m (detached g m k)).0 ≡ a_ok → (k < mutator_count) × ((unless b 11 m (detached g m k)).1 ≡ detached g m k)
+    on z true e = result a_ok 11 refl (sym e)
     on z false e = ((by_ok (observe m) k 0 z).0, refl)
 
-    go : (x : ℕ) → refusal (observe m) (c-detach k) ≡ x → (refuse x m (unless (in_handshake (phase m)) 11 m (detached g m k))).0 ≡ a-ok
+    go : (x : ℕ) → refusal (observe m) (c_detach k) ≡ x → (refuse x m (unless (in_handshake (phase m)) 11 m (detached g m k))).0 ≡ a_ok
         → (k < mutator_count) × ((refuse x m (unless (in_handshake (phase m)) 11 m (detached g m k))).1 ≡ detached g m k)
     go zero z e = on z (in_handshake (phase m)) e
-    go (suc x) z e = result a-ok (suc x) refl (sym e)
+    go (suc x) z e = result a_ok (suc x) refl (sym e)
 
 pub every_hands_back : EveryHandsBack
 every_hands_back g words after k a =

@@ -7,8 +7,8 @@ use native.Mathlib.Omega.{arith}
 use Rattle.layout.specs.declared.Geometry.{Geometry}
 use Rattle.layout.specs.Mem.{Mem}
 use Rattle.theory.specs.Phases.{in_handshake}
-use Rattle.theory.specs.Calls.{Call, c-attach, c-detach, c-check, c_leave, c_enter, c_spawn, c_make, c_load, c_store, c_copy, c_clear, c_put, c_get}
-use Rattle.theory.specs.Calls.{c_same, c_shape, a-ok, a_no, refusal, refuse, unless}
+use Rattle.theory.specs.Calls.{Call, c_attach, c_detach, c_check, c_leave, c_enter, c_spawn, c_make, c_load, c_store, c_copy, c_clear, c_put, c_get}
+use Rattle.theory.specs.Calls.{c_same, c_shape, a_ok, a_no, refusal, refuse, unless}
 use Rattle.model.specs.Answers.{among, may_give}
 use Rattle.model.specs.Fields.{phase}
 use Rattle.model.specs.Calls.{observe, act, exec}
@@ -17,14 +17,14 @@ use Rattle.guarantee.proofs.Refused.{result, other}
 
 unless_11 : (b : Bool) (m m' : Mem) → (unless b 11 m m').0 ≡ a_no 11 → b ≡ true
 unless_11 true m m' e = refl
-unless_11 false m m' e = result a-ok 11 refl e
+unless_11 false m m' e = result a_ok 11 refl e
 
 act_11 : (g : Geometry) (m : Mem) (c : Call) → among 11 (may_give c) ≡ true → (act g m c).0 ≡ a_no 11 → in_handshake (phase m) ≡ true
 unfolding act
-act_11 g m (c-attach k) t e = unless_11 (in_handshake (phase m)) m _ e
+act_11 g m (c_attach k) t e = unless_11 (in_handshake (phase m)) m _ e
 act_11 g m (c_spawn k p i) t e = unless_11 (in_handshake (phase m)) m _ e
-act_11 g m (c-detach k) t e = unless_11 (in_handshake (phase m)) m _ e
-act_11 g m (c-check k) t e = absurd (true≢false (sym t))
+act_11 g m (c_detach k) t e = unless_11 (in_handshake (phase m)) m _ e
+act_11 g m (c_check k) t e = absurd (true≢false (sym t))
 act_11 g m (c_leave k) t e = absurd (true≢false (sym t))
 act_11 g m (c_enter k) t e = absurd (true≢false (sym t))
 act_11 g m (c_make k d p n) t e = absurd (true≢false (sym t))

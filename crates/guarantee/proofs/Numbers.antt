@@ -8,8 +8,8 @@ use native.Mathlib.Omega.{arith}
 use lib.Dec.{ltb}
 use Rattle.classes.specs.declared.RecordShape.{RecordShape}
 use Rattle.layout.specs.Geometry.{root_count}
-use Rattle.theory.specs.Calls.{Call, c-attach, c-detach, c-check, c_leave, c_enter, c_spawn, c_make, c_load, c_store, c_copy, c_clear, c_put, c_get}
-use Rattle.theory.specs.Calls.{c_same, c_shape, Observation, require, if_record, a-ok, a_no, refusal, refuse, on_record}
+use Rattle.theory.specs.Calls.{Call, c_attach, c_detach, c_check, c_leave, c_enter, c_spawn, c_make, c_load, c_store, c_copy, c_clear, c_put, c_get}
+use Rattle.theory.specs.Calls.{c_same, c_shape, Observation, require, if_record, a_ok, a_no, refusal, refuse, on_record}
 use Rattle.theory.specs.Unbounded.{Unbounded, uobserve, uact, uexec}
 use Rattle.theory.proofs.Invariant.{none_some}
 use Rattle.model.specs.declared.Answer.{Answer}
@@ -34,7 +34,7 @@ refused_as (Refused x) n e = ap Refused (some-injective x n e)
 pub of_number : (r : Answer) (n : ℕ) → refusal_of r ≡ some n → answer_of r ≡ a_no n
 of_number r n e = ap answer_of (refused_as r n e)
 
-pub is_ok : (r : Answer) → answer_of r ≡ a-ok → r ≡ Ok
+pub is_ok : (r : Answer) → answer_of r ≡ a_ok → r ≡ Ok
 is_ok Ok e = refl
 is_ok (Number v) e = cc
 is_ok (Same b) e = cc
@@ -69,13 +69,13 @@ field_stays : (b : Bool) → Stays (require b 8 0)
 field_stays b = require_stays b 8 0 (omega arith, omega arith) none_stays
 
 pub refusal_stays : (F : Observation) (c : Call) → Stays (refusal F c)
-refusal_stays F (c-attach k) = require_stays _ 2 _ (omega arith, omega arith) (require_stays _ 3 _ (omega arith, omega arith) none_stays)
+refusal_stays F (c_attach k) = require_stays _ 2 _ (omega arith, omega arith) (require_stays _ 3 _ (omega arith, omega arith) none_stays)
 refusal_stays F (c_spawn k p i) =
     require_stays _ 2 _ (omega arith, omega arith)
     (require_stays _ 2 _ (omega arith, omega arith)
     (require_stays _ 3 _ (omega arith, omega arith) (require_stays _ 4 _ (omega arith, omega arith) (require_stays _ 5 _ (omega arith, omega arith) (root_stays i 0 none_stays)))))
-refusal_stays F (c-detach k) = inside_stays F k 0 none_stays
-refusal_stays F (c-check k) = inside_stays F k 0 none_stays
+refusal_stays F (c_detach k) = inside_stays F k 0 none_stays
+refusal_stays F (c_check k) = inside_stays F k 0 none_stays
 refusal_stays F (c_leave k) = inside_stays F k 0 none_stays
 refusal_stays F (c_enter k) = require_stays _ 2 _ (omega arith, omega arith) (require_stays _ 4 _ (omega arith, omega arith) (require_stays _ 5 _ (omega arith, omega arith) none_stays))
 refusal_stays F (c_make k d p n) = inside_stays F k _ (root_stays d _ (require_stays _ 9 _ (omega arith, omega arith) none_stays))
@@ -108,10 +108,10 @@ on_record_lem none un K n h e = sym (some-injective 7 n e)
 on_record_lem (some a) un K n h e = none_some (sym (h a) ∙ e)
 
 act_number : (un : Unbounded) (c : Call) (n : ℕ) → refusal_in (uact un c).0 ≡ some n → n ≡ 7
-act_number un (c-attach k) n e = none_some e
+act_number un (c_attach k) n e = none_some e
 act_number un (c_spawn k p i) n e = none_some e
-act_number un (c-detach k) n e = none_some e
-act_number un (c-check k) n e = none_some e
+act_number un (c_detach k) n e = none_some e
+act_number un (c_check k) n e = none_some e
 act_number un (c_leave k) n e = none_some e
 act_number un (c_enter k) n e = none_some e
 act_number un (c_make k d p q) n e = none_some e

@@ -2,13 +2,13 @@
 use mathlib.Core.Path.{◌≡◌, refl, sym, ◌∙◌, ap}
 use mathlib.Core.Option.{Option, none, some}
 use mathlib.Core.List.{List}
-use Prim.Native.Nat.{ℕ, suc, ◌-◌}
+use Prim.Native.Nat.{ℕ, suc}
 use native.Mathlib.Omega.{arith}
 use Rattle.layout.specs.declared.Geometry.{Geometry}
 use Rattle.layout.specs.Geometry.{segment_of}
 use Rattle.layout.specs.Mem.{mem_of}
 use Rattle.theory.specs.Update.{upd}
-use Rattle.theory.specs.Calls.{Call, c-attach, c-detach, c-check, c_leave, c_enter, c_spawn, c_make, c_load, c_store, c_copy, c_clear, c_put, c_get, c_same, c_shape, refusal}
+use Rattle.theory.specs.Calls.{Call, c_attach, c_detach, c_check, c_leave, c_enter, c_spawn, c_make, c_load, c_store, c_copy, c_clear, c_put, c_get, c_same, c_shape, refusal}
 use Rattle.theory.specs.Machine.{State}
 use Rattle.theory.specs.MachineCalls.{observe, act}
 use Rattle.theory.specs.Unbounded.{puts}
@@ -39,10 +39,10 @@ module _ (g : Geometry) (after : List ℕ) (n : ℕ) (put : ℕ → Option ℕ) 
   pub put_same : (c : Call) → refusal (observe st) c ≡ 0 → answer_of r ≡ (act b st c).0
       → Agree (segment_of g) (act b st c).1 (view g (mem_of g after))
       → puts c (λ _ _. b) n put ≡ put_unless (refusal_of r) put (puts c (block_in g after) n put)
-  put_same (c-attach k) x e a = plain (refusal_of r)
+  put_same (c_attach k) x e a = plain (refusal_of r)
   put_same (c_spawn k p i) x e a = plain (refusal_of r)
-  put_same (c-detach k) x e a = plain (refusal_of r)
-  put_same (c-check k) x e a = plain (refusal_of r)
+  put_same (c_detach k) x e a = plain (refusal_of r)
+  put_same (c_check k) x e a = plain (refusal_of r)
   put_same (c_leave k) x e a = plain (refusal_of r)
   put_same (c_enter k) x e a = plain (refusal_of r)
   put_same (c_make k d p q) x e a = ap (λ y. upd put y (some n)) (handed k d p q x a) ∙ sym (ap (λ o. put_unless o put (puts (c_make k d p q) (block_in g after) n put)) (ap refusal_in e))

@@ -15,8 +15,8 @@ use Rattle.layout.specs.Mem.{Mem}
 use Rattle.bitmap_search.specs.declared.Found.{Found}
 use Rattle.bitmap_search.specs.declared.Found.TheVariants.{Block, Nothing, Torn}
 use Rattle.theory.specs.Phases.{Phase, idle, sync1, sync2, mark, sweep, in_handshake}
-use Rattle.theory.specs.Calls.{Call, c-attach, c-detach, c-check, c_leave, c_enter, c_spawn, c_make, c_load, c_store, c_copy, c_clear, c_put, c_get}
-use Rattle.theory.specs.Calls.{c_same, c_shape, Answer, a-ok, a_no, refusal, refuse, unless, on_record}
+use Rattle.theory.specs.Calls.{Call, c_attach, c_detach, c_check, c_leave, c_enter, c_spawn, c_make, c_load, c_store, c_copy, c_clear, c_put, c_get}
+use Rattle.theory.specs.Calls.{c_same, c_shape, Answer, a_ok, a_no, refusal, refuse, unless, on_record}
 use Rattle.theory.proofs.Invariant.{none_some}
 use Rattle.model.specs.Fields.{phase, place, root}
 use Rattle.model.specs.Segments.{free, free_stack, part_stack, pop}
@@ -33,14 +33,14 @@ result a n l e = none_some (sym l ∙ ap refusal_in e)
 
 unless_same : (b : Bool) (m m' : Mem) (n : ℕ) → (unless b 11 m m').0 ≡ a_no n → (unless b 11 m m').1 ≡ m
 unless_same true m m' n e = refl
-unless_same false m m' n e = result a-ok n refl e
+unless_same false m m' n e = result a_ok n refl e
 
 record_same : (o : Option ℕ) (m : Mem) (K : ℕ → Answer × Mem) (n : ℕ) → ((at : ℕ) → refusal_in (K at).0 ≡ none) → (on_record o m K).0 ≡ a_no n → (on_record o m K).1 ≡ m
 record_same none m K n h e = refl
 record_same (some at) m K n h e = result (K at).0 n (h at) e
 
 block_same : (g : Geometry) (m m₁ : Mem) (f : Found) (k d c s : ℕ) (shape : RecordShape) (n : ℕ) → (in_block g m m₁ f k d c s shape).0 ≡ a_no n → (in_block g m m₁ f k d c s shape).1 ≡ m
-block_same g m m₁ (Block b) k d c s shape n e = result a-ok n refl e
+block_same g m m₁ (Block b) k d c s shape n e = result a_ok n refl e
 block_same g m m₁ Nothing k d c s shape n e = refl
 block_same g m m₁ Torn k d c s shape n e = refl
 
@@ -63,17 +63,17 @@ made_same g m k d shape TooBig n e = refl
 
 act_same : (g : Geometry) (m : Mem) (c : Call) (n : ℕ) → (act g m c).0 ≡ a_no n → (act g m c).1 ≡ m
 unfolding act
-act_same g m (c-attach k) n e = unless_same (in_handshake (phase m)) m _ n e
+act_same g m (c_attach k) n e = unless_same (in_handshake (phase m)) m _ n e
 act_same g m (c_spawn k p i) n e = unless_same (in_handshake (phase m)) m _ n e
-act_same g m (c-detach k) n e = unless_same (in_handshake (phase m)) m _ n e
-act_same g m (c-check k) n e = result a-ok n refl e
-act_same g m (c_leave k) n e = result a-ok n refl e
-act_same g m (c_enter k) n e = result a-ok n refl e
+act_same g m (c_detach k) n e = unless_same (in_handshake (phase m)) m _ n e
+act_same g m (c_check k) n e = result a_ok n refl e
+act_same g m (c_leave k) n e = result a_ok n refl e
+act_same g m (c_enter k) n e = result a_ok n refl e
 act_same g m (c_make k d p q) n e = made_same g m k d (of_counts p q) (class_of_record (of_counts p q)) n e
 act_same g m (c_load k d i f) n e = record_same (record? (root m k i)) m _ n (λ at. refl) e
 act_same g m (c_store k i f j) n e = record_same (record? (root m k i)) m _ n (λ at. refl) e
-act_same g m (c_copy k d i) n e = result a-ok n refl e
-act_same g m (c_clear k d) n e = result a-ok n refl e
+act_same g m (c_copy k d i) n e = result a_ok n refl e
+act_same g m (c_clear k d) n e = result a_ok n refl e
 act_same g m (c_put k i f v) n e = record_same (record? (root m k i)) m _ n (λ at. refl) e
 act_same g m (c_get k i f) n e = record_same (record? (root m k i)) m _ n (λ at. refl) e
 act_same g m (c_same k i j) n e = refl
@@ -88,11 +88,11 @@ exec_same g m c n e = go (refusal (observe m) c) e
     go (suc x) e = refl
 
 -- a start begins a cycle in idle, and is refused 11 elsewhere
-pub start_either : (g : Geometry) (m : Mem) → ((phase m ≡ idle) × (start_of g m ≡ (a-ok, started g m))) ⊎ (start_of g m ≡ (a_no 11, m))
+pub start_either : (g : Geometry) (m : Mem) → ((phase m ≡ idle) × (start_of g m ≡ (a_ok, started g m))) ⊎ (start_of g m ≡ (a_no 11, m))
 unfolding start_of
 start_either g m = go (phase m) refl
   where
-    go : (p : Phase) → phase m ≡ p → ((phase m ≡ idle) × (start_in p g m ≡ (a-ok, started g m))) ⊎ (start_in p g m ≡ (a_no 11, m))
+    go : (p : Phase) → phase m ≡ p → ((phase m ≡ idle) × (start_in p g m ≡ (a_ok, started g m))) ⊎ (start_in p g m ≡ (a_no 11, m))
     go idle i = inl (i, refl)
     go sync1 i = inr refl
     go sync2 i = inr refl
@@ -102,8 +102,8 @@ start_either g m = go (phase m) refl
 pub start_number : (g : Geometry) (m : Mem) (n : ℕ) → (start_of g m).0 ≡ a_no n → n ≡ 11
 start_number g m n e = go (start_either g m)
   where
-    go : ((phase m ≡ idle) × (start_of g m ≡ (a-ok, started g m))) ⊎ (start_of g m ≡ (a_no 11, m)) → n ≡ 11
-    go (inl h) = result a-ok n refl (sym (ap (λ y. y.0) h.1) ∙ e)
+    go : ((phase m ≡ idle) × (start_of g m ≡ (a_ok, started g m))) ⊎ (start_of g m ≡ (a_no 11, m)) → n ≡ 11
+    go (inl h) = result a_ok n refl (sym (ap (λ y. y.0) h.1) ∙ e)
     go (inr h) = some-injective n 11 (ap refusal_in (sym e ∙ ap (λ y. y.0) h))
 
 -- ---- 10: no lower number applies, and there is no segment to take from
@@ -122,7 +122,7 @@ unfolding exec act made
 roomless_of g m k d p q e = go (refusal (observe m) (c_make k d p q)) refl (refusal_stays (observe m) (c_make k d p q)).either e
   where
     block : (m₁ : Mem) (f : Found) (c s : ℕ) → (in_block g m m₁ f k d c s (of_counts p q)).0 ≡ a_no 10 → ⊥
-    block m₁ (Block b) c s e = result a-ok 10 refl e
+    block m₁ (Block b) c s e = result a_ok 10 refl e
     block m₁ Nothing c s e = other 13 10 (λ z. omega arith) e
     block m₁ Torn c s e = other 13 10 (λ z. omega arith) e
 

@@ -1,6 +1,6 @@
 -- The blocks in use, all that makes handed out and all that sweeps freed: call by call, and along every list.
 use mathlib.Core.Path.{◌≡◌, refl, sym, ◌∙◌, ap, subst}
-use mathlib.Core.Logic.{◌⊎◌, inl, inr}
+use mathlib.Core.Logic.{inl, inr}
 use mathlib.Core.Bool.{Bool}
 use mathlib.Core.Option.{Option, none, some}
 use mathlib.Core.List.{List, [], ◌∷◌}
@@ -18,7 +18,7 @@ use Rattle.layout.specs.Mem.{Mem, mem_of, Sizes, set_control}
 use Rattle.layout.proofs.Regions.{sized, right_size}
 use Rattle.theory.specs.Phases.{Phase, idle, sync1, sync2, mark, sweep}
 use Rattle.theory.specs.Calls.{CallKind, coming, working, asks_number, asks_flag, asks_shape, making, kind_of}
-use Rattle.theory.specs.Calls.{a-ok, a-moved, a-traced, a-done, a-idle, a_num, a_flag, a_shape, a_no, a_waiting, a_swept}
+use Rattle.theory.specs.Calls.{a_ok, a_moved, a_traced, a_done, a_idle, a_num, a_flag, a_shape, a_no, a_waiting, a_swept}
 use Rattle.theory.proofs.Invariant.{none_some}
 use Rattle.model.specs.declared.Answer.{Answer}
 use Rattle.model.specs.declared.Answer.TheVariants.{Ok, Number, Same, Shape, Refused}
@@ -49,7 +49,7 @@ use Rattle.idle_twin.specs.SameHeap.{SameHeap}
 use Rattle.idle_twin.proofs.Same.{same_self, leaves_control}
 use Rattle.idle_twin.proofs.Cycle.{leaves_unswept}
 use Rattle.guarantee.specs.Elements.{Acts, wrong, looks, calls, starts, start_refused, steps}
-use Rattle.guarantee.specs.Totals.{sum_over, blocks_in_use, ok_count, made_by, freed_by, made_at, freed_at, makes_in, freed_in, Balance, Totals, Stored, EveryStored}
+use Rattle.guarantee.specs.Totals.{sum_over, blocks_in_use, ok_count, made_by, freed_by, made_at, freed_at, Balance, Totals, EveryStored}
 use Rattle.guarantee.proofs.Elements.{every_element}
 use Rattle.guarantee.proofs.Beginning.{opened_point}
 use Rattle.guarantee.proofs.Counting.{AllStay, OneMore, ok_of, MakesOne, CountsBy, counts_exec}
@@ -109,11 +109,11 @@ ok_is (Shape s) = refl
 ok_is (Refused n) = refl
 
 abbrev freed_of : theory.Answer → ℕ
-freed_of a-ok = 0
-freed_of a-moved = 0
-freed_of a-traced = 0
-freed_of a-done = 0
-freed_of a-idle = 0
+freed_of a_ok = 0
+freed_of a_moved = 0
+freed_of a_traced = 0
+freed_of a_done = 0
+freed_of a_idle = 0
 freed_of (a_num v) = 0
 freed_of (a_flag b) = 0
 freed_of (a_shape s) = 0

@@ -6,7 +6,7 @@ use Rattle.layout.specs.declared.Geometry.{Geometry}
 use Rattle.layout.specs.Geometry.{wrong_size}
 use Rattle.layout.specs.Mem.{Mem, mem_of}
 use Rattle.theory.specs.Phases.{idle}
-use Rattle.theory.specs.Calls.{Call, a-ok, a_no}
+use Rattle.theory.specs.Calls.{Call, a_ok, a_no}
 use Rattle.model.specs.declared.Answer.{Answer}
 use Rattle.model.specs.declared.Answer.TheVariants.{Ok, Refused}
 use Rattle.model.specs.declared.Step.{Step}
@@ -23,7 +23,7 @@ pub data Acts (g : Geometry) (m m' : Mem) : Event → Type 0 where
   wrong : {v : Event} → event_number v ≡ some 1 → m' ≡ m → Acts g m m' v
   looks : {l : Look} → m' ≡ m → Acts g m m' (look_call l)
   calls : {c : Call} {r : Answer} → answer_of r ≡ (exec g m c).0 → m' ≡ (exec g m c).1 → Acts g m m' (mutator_call c r)
-  starts : phase m ≡ idle → (start_of g m).0 ≡ a-ok → m' ≡ started g m → Acts g m m' (start_call Ok)
+  starts : phase m ≡ idle → (start_of g m).0 ≡ a_ok → m' ≡ started g m → Acts g m m' (start_call Ok)
   start_refused : {n : ℕ} → (start_of g m).0 ≡ a_no n → m' ≡ m → Acts g m m' (start_call (Refused n))
   steps : {r : Step} → step_answer_of r ≡ (step_of g m).0 → m' ≡ (step_of g m).1 → Acts g m m' (step_call r)
 

@@ -9,7 +9,7 @@ use Rattle.classes.specs.declared.SizeClass.TheVariants.{Class}
 use Rattle.layout.specs.declared.Geometry.{Geometry}
 use Rattle.layout.specs.Geometry.{large_kib, blocks_in, segment_of}
 use Rattle.layout.specs.Mem.{Mem, mem_of}
-use Rattle.theory.specs.Calls.{c-detach, c_make}
+use Rattle.theory.specs.Calls.{c_detach, c_make}
 use Rattle.model.specs.declared.Answer.TheVariants.{Ok}
 use Rattle.model.specs.Fields.{root, holding, tag, class, place, owner}
 use Rattle.model.specs.Lists.{call_element}
@@ -61,7 +61,7 @@ pub record HandsBack (g : Geometry) (m m' : Mem) (k : ℕ) : Type 0 where
 
 abbrev pub EveryHandsBack : Type 0
 EveryHandsBack =
-    (g : Geometry) (words after : List ℕ) (k : ℕ) → Applied g words (call_element (c-detach k) g words Ok after)
+    (g : Geometry) (words after : List ℕ) (k : ℕ) → Applied g words (call_element (c_detach k) g words Ok after)
     → HandsBack g (mem_of g words) (mem_of g after) k
 
 -- ---- a make of a class of one block

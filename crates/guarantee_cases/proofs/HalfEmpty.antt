@@ -14,7 +14,7 @@ use Rattle.layout.specs.declared.Geometry.{Geometry}
 use Rattle.layout.specs.Geometry.{blocks_in}
 use Rattle.layout.specs.Mem.{Mem, mem_of}
 use Rattle.layout.proofs.Regions.{right_size}
-use Rattle.theory.specs.Calls.{c-check, c_make, require, if_record}
+use Rattle.theory.specs.Calls.{c_check, c_make, require, if_record}
 use Rattle.theory.specs.Update.{upd}
 use Rattle.theory.specs.Unbounded.{empty, uexec, uanswers}
 use Rattle.model.specs.declared.Answer.TheVariants.{Refused}
@@ -101,7 +101,7 @@ module _ (g : Geometry) (p : CaseRun g asked replied) (w : Points g (mem_of g (p
 
   -- two checks, and what is struck out
   still : ghost_after struck_out then (take 7 (drop 9 elements)) ≡ then
-  still = λ i. record { heap = (check_heap (uexec then.heap (c-check 1)).1 1 ∙ check_heap then.heap 1) i; put = then.put }
+  still = λ i. record { heap = (check_heap (uexec then.heap (c_check 1)).1 1 ∙ check_heap then.heap 1) i; put = then.put }
 
   unreached : (b : ℕ) → b < 3 → Unreached g (mem_of g (at 8)) then 0 b
   unreached b l =

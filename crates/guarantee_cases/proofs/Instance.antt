@@ -10,7 +10,7 @@ use Rattle.basics.specs.Pick.{pick}
 use Rattle.layout.specs.declared.Geometry.{Geometry}
 use Rattle.layout.specs.Geometry.{len}
 use Rattle.layout.specs.Mem.{mem_of, Sizes}
-use Rattle.theory.specs.Calls.{c-check, a-ok, refusal, refuse}
+use Rattle.theory.specs.Calls.{c_check, a_ok, refusal, refuse}
 use Rattle.theory.specs.Unbounded.{Unbounded, uexec, uobserve}
 use Rattle.model.specs.declared.Answer.TheVariants.{Ok}
 use Rattle.model.specs.declared.Step.{Step}
@@ -108,10 +108,10 @@ module _ (g : Geometry) (at : ℕ → List ℕ) (es : List Element) (s d : ℕ) 
   }
 
 -- a check leaves the unbounded heap as it was
-pub check_heap : (un : Unbounded) (k : ℕ) → (uexec un (c-check k)).1 ≡ un
-check_heap un k = go (refusal (uobserve un) (c-check k))
+pub check_heap : (un : Unbounded) (k : ℕ) → (uexec un (c_check k)).1 ≡ un
+check_heap un k = go (refusal (uobserve un) (c_check k))
   where
-    go : (n : ℕ) → (refuse n un (a-ok, un)).1 ≡ un
+    go : (n : ℕ) → (refuse n un (a_ok, un)).1 ≡ un
     go zero = refl
     go (suc n) = refl
 
@@ -126,7 +126,7 @@ module _ (g : Geometry) (p : CaseRun g asked replied) (full : tag (mem_of g (p.a
   swept_in = swept_at g at elements 9 9 0 1 refl refl
 
   still : (w : Ghost) → ghost_after struck_out w (take 9 (drop 10 elements)) ≡ w
-  still w = λ i. record { heap = (check_heap (uexec w.heap (c-check 0)).1 0 ∙ check_heap w.heap 0) i; put = w.put }
+  still w = λ i. record { heap = (check_heap (uexec w.heap (c_check 0)).1 0 ∙ check_heap w.heap 0) i; put = w.put }
 
   -- the sweep freed one block: it was garbage
   pub garbage : Found g (mem_of g (at 9)) (ghost_after struck_out ghost_start (take 9 elements)) 0

@@ -12,7 +12,7 @@ use Rattle.layout.specs.declared.Geometry.{Geometry}
 use Rattle.layout.specs.Geometry.{large_kib, total, blocks_in}
 use Rattle.layout.specs.Mem.{Mem, mem_of}
 use Rattle.layout.proofs.Regions.{right_size}
-use Rattle.theory.specs.Calls.{c-check, c_make, require, if_record}
+use Rattle.theory.specs.Calls.{c_check, c_make, require, if_record}
 use Rattle.theory.specs.Update.{upd}
 use Rattle.theory.specs.Unbounded.{empty, uexec, uanswers}
 use Rattle.theory.proofs.Invariant.{none_some}
@@ -95,7 +95,7 @@ module _ (h : Geometry) (k : Known h large) (w : AtStart h (mem_of h (k.0.at 14)
   then = ghost_after struck_out ghost_start (take 14 calls)
 
   still : ghost_after struck_out then (take 13 (drop 15 calls)) ≡ then
-  still = λ i. record { heap = (check_heap (uexec then.heap (c-check 0)).1 0 ∙ check_heap then.heap 0) i; put = then.put }
+  still = λ i. record { heap = (check_heap (uexec then.heap (c_check 0)).1 0 ∙ check_heap then.heap 0) i; put = then.put }
 
   -- the sweep freed one block: it was garbage
   garbage : Found h (mem_of h (at 14)) then 0

@@ -12,7 +12,7 @@ use Rattle.layout.specs.Geometry.{blocks_in}
 use Rattle.layout.specs.Mem.{Mem, mem_of}
 use Rattle.layout.proofs.Regions.{right_size}
 use Rattle.theory.specs.Phases.{Phase, mark, in_handshake}
-use Rattle.theory.specs.Calls.{c-attach}
+use Rattle.theory.specs.Calls.{c_attach}
 use Rattle.theory.proofs.Invariant.{none_some}
 use Rattle.model.specs.declared.Answer.TheVariants.{Ok, Refused}
 use Rattle.model.specs.declared.Step.{Step}
@@ -159,7 +159,7 @@ module _ (g : Geometry) (p : CaseRun g asked replied) (used : BlockInUse g (mem_
     attach_before = at 7;
     attach_after = at 8;
     refused = refl;
-    handshake = c.not_now (take 1 (drop 6 elements)) (drop 8 elements) (call_element (c-attach 1) g (at 7) (Refused 11) (at 8)) (c-attach 1) (Refused 11) refl refl refl;
+    handshake = c.not_now (take 1 (drop 6 elements)) (drop 8 elements) (call_element (c_attach 1) g (at 7) (Refused 11) (at 8)) (c_attach 1) (Refused 11) refl refl refl;
   }
 
 -- ---- over one segment of sevens

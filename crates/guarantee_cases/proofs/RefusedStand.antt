@@ -3,7 +3,7 @@ use mathlib.Core.Path.{◌≡◌, refl, sym, ◌∙◌, ap, subst}
 use mathlib.Core.Logic.{◌⊎◌, inl, inr}
 use mathlib.Core.Bool.{Bool, true, false, not, true≢false}
 use mathlib.Core.List.{List, [], ◌∷◌}
-use mathlib.Core.Option.{some, some-injective}
+use mathlib.Core.Option.{some-injective}
 use Prim.Native.Nat.{ℕ, ◌*◌, ◌≤◌, ◌<◌}
 use native.Mathlib.Omega.{arith}
 use lib.Dec.{ltb}
@@ -14,7 +14,7 @@ use Rattle.layout.specs.declared.Geometry.{Geometry}
 use Rattle.layout.specs.Geometry.{max_segments, wrong_size, segment_bytes, total}
 use Rattle.layout.specs.Mem.{Mem}
 use Rattle.layout.proofs.Regions.{sized}
-use Rattle.theory.specs.Calls.{c-check, a_no}
+use Rattle.theory.specs.Calls.{c_check, a_no}
 use Rattle.theory.proofs.Invariant.{none_some}
 use Rattle.model.specs.declared.Answer.TheVariants.{Refused}
 use Rattle.model.specs.Answers.{answer_of, step_answer_of, phase_answer_of, refusal_in, among, may_give, start_may_give, step_may_give, look_may_give}
@@ -128,7 +128,7 @@ never_both_lem n k = (
 three_stand_lem : (other : Geometry) (lent : List ℕ) → wrong_size other (length lent) ≡ true → (g : Geometry) (words : List ℕ) → Chain g words (three other lent)
 three_stand_lem other lent wrong g words =
     let third = stands (record { segments = other.segments; kib = 48 }) lent (no_size other.segments (length lent)) g words [] tt _ refused_step in
-    let second = stands other lent wrong g words (drop 2 (three other lent)) third _ (refused_call (c-check 0)) in
+    let second = stands other lent wrong g words (drop 2 (three other lent)) third _ (refused_call (c_check 0)) in
     stands other lent wrong g words (drop 1 (three other lent)) second _ refused_opening
 
 pub refused_stand : RefusedStand
@@ -138,7 +138,7 @@ refused_stand = record {
       let short = ap (wrong_size (geometry 2)) l ∙ too_short in
       let fourth = stands (geometry 2) lent short g words [] tt _ refused_step in
       let third = stands (geometry 2) lent short g words (drop 3 (four lent)) fourth _ refused_start in
-      let second = stands (geometry 257) [] no_count g words (drop 2 (four lent)) third _ (refused_call (c-check 0)) in
+      let second = stands (geometry 257) [] no_count g words (drop 2 (four lent)) third _ (refused_call (c_check 0)) in
       stands (geometry 257) [] no_count g words (drop 1 (four lent)) second _ refused_opening;
   three_stand = λ g words lent n k l. three_stand_lem (large_geometry k) lent (ap (wrong_size (large_geometry k)) l ∙ (never_both_lem n k).0) g words;
   other_way = λ g words lent n k l. three_stand_lem (geometry k) lent (ap (wrong_size (geometry k)) l ∙ (never_both_lem n k).1) g words;

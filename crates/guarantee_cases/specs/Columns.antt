@@ -2,7 +2,7 @@
 use Rattle.std.proofs.Math.Option.{Option, none, some, map}
 use Rattle.std.specs.Prelude.{List, [], ◌∷◌}
 use Rattle.basics.specs.Pick.{pick}
-use Rattle.theory.specs.Calls.{Call, Answer, a-ok}
+use Rattle.theory.specs.Calls.{Call, Answer, a_ok}
 use Rattle.model.specs.Answers.{refusal_in}
 use Rattle.model.specs.Lists.{prepend, struck}
 use Rattle.guarantee.specs.Demand3.{struck_out}
@@ -25,8 +25,8 @@ call_in (heap i n) = none
 -- the answer in a reply to a call
 abbrev pub answer_in : Reply → Answer
 answer_in (answer a) = a
-answer_in (seen p s t) = a-ok
-answer_in (words ws) = a-ok
+answer_in (seen p s t) = a_ok
+answer_in (words ws) = a_ok
 
 abbrev pub line_remains : Input → Reply → Option (Call × Answer)
 line_remains e r = pick (struck struck_out (refusal_in (answer_in r))) none (map (λ c. (c, answer_in r)) (call_in e))

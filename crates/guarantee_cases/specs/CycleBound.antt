@@ -4,7 +4,7 @@ use Rattle.std.specs.Prelude.{◌≡◌, List, [], ◌∷◌, ◌++◌, ℕ, ◌
 use Rattle.std.proofs.Math.Option.{Option, none, some}
 use Rattle.layout.specs.declared.Geometry.{Geometry}
 use Rattle.layout.specs.Mem.{mem_of}
-use Rattle.theory.specs.Calls.{c-attach, c-detach, c-check, c_spawn, c_make}
+use Rattle.theory.specs.Calls.{c_attach, c_detach, c_check, c_spawn, c_make}
 use Rattle.model.specs.declared.Answer.TheVariants.{Ok}
 use Rattle.model.specs.declared.Step.{Step}
 use Rattle.model.specs.declared.Step.TheVariants.{Waiting, Moved, Traced, Swept, Done, Refused}
@@ -26,15 +26,15 @@ use Rattle.model.specs.Tag as Tag
 abbrev pub reaching : List Line
 reaching =
     opening ⇒ ok
-    ∷ call (c-attach 0) ⇒ ok
+    ∷ call (c_attach 0) ⇒ ok
     ∷ call (c_make 0 0 1 1024) ⇒ ok
     ∷ call (c_make 0 1 1 1024) ⇒ ok
     ∷ start ⇒ ok
     ∷ step ⇒ stepped (Waiting 1)
-    ∷ call (c-check 0) ⇒ ok
+    ∷ call (c_check 0) ⇒ ok
     ∷ step ⇒ stepped Moved
     ∷ step ⇒ stepped (Waiting 1)
-    ∷ call (c-check 0) ⇒ ok
+    ∷ call (c_check 0) ⇒ ok
     ∷ step ⇒ stepped Moved
     ∷ step ⇒ stepped Traced
     ∷ step ⇒ stepped Traced
@@ -47,14 +47,14 @@ reaching =
 abbrev pub over_part : List Line
 over_part =
     opening ⇒ ok
-    ∷ call (c-attach 0) ⇒ ok
+    ∷ call (c_attach 0) ⇒ ok
     ∷ call (c_make 0 0 0 1024) ⇒ ok
     ∷ call (c_spawn 1 0 0) ⇒ ok
-    ∷ call (c-detach 0) ⇒ ok
+    ∷ call (c_detach 0) ⇒ ok
     ∷ start ⇒ ok
-    ∷ call (c-check 1) ⇒ ok
+    ∷ call (c_check 1) ⇒ ok
     ∷ step ⇒ stepped Moved
-    ∷ call (c-check 1) ⇒ ok
+    ∷ call (c_check 1) ⇒ ok
     ∷ step ⇒ stepped Moved
     ∷ step ⇒ stepped Traced
     ∷ step ⇒ stepped Moved
@@ -66,14 +66,14 @@ over_part =
 abbrev pub made_meanwhile : List Line
 made_meanwhile =
     opening ⇒ ok
-    ∷ call (c-attach 0) ⇒ ok
+    ∷ call (c_attach 0) ⇒ ok
     ∷ call (c_make 0 0 0 600) ⇒ ok
     ∷ start ⇒ ok
     ∷ call (c_make 0 1 0 600) ⇒ ok
-    ∷ call (c-check 0) ⇒ ok
+    ∷ call (c_check 0) ⇒ ok
     ∷ step ⇒ stepped Moved
     ∷ call (c_make 0 2 0 600) ⇒ ok
-    ∷ call (c-check 0) ⇒ ok
+    ∷ call (c_check 0) ⇒ ok
     ∷ step ⇒ stepped Moved
     ∷ step ⇒ stepped Traced
     ∷ step ⇒ stepped Traced

@@ -3,7 +3,7 @@
 use Rattle.std.specs.Prelude.{◌≡◌, List, [], ◌∷◌, ◌++◌, ℕ}
 use Rattle.layout.specs.declared.Geometry.{Geometry}
 use Rattle.layout.specs.Mem.{mem_of}
-use Rattle.theory.specs.Calls.{c-check, c_clear, c_load, c_put, c_get, a-ok}
+use Rattle.theory.specs.Calls.{c_check, c_clear, c_load, c_put, c_get, a_ok}
 use Rattle.model.specs.declared.Answer.TheVariants.{Ok, Number}
 use Rattle.model.specs.Fields.{tag}
 use Rattle.model.specs.Segments.{used_bit}
@@ -39,13 +39,13 @@ pub record Instance : Type 0 where
   -- the sweep a load from another root, which is answered ok
   pub gone : ℕ
   pub clears : remaining_calls struck_out late ≡ c_clear mutator root ∷ c_clear mutator gone ∷ []
-  pub checks : remaining_calls struck_out cycle.during ≡ c-check mutator ∷ c-check mutator ∷ []
+  pub checks : remaining_calls struck_out cycle.during ≡ c_check mutator ∷ c_check mutator ∷ []
   pub between : List Element
   pub other : ℕ
   pub link : ℕ
   pub elsewhere : other ≡ root → ⊥
   pub reloads : remaining_calls struck_out between ≡ c_load mutator root other link ∷ []
-  pub reloaded : remaining_answers struck_out between ≡ a-ok ∷ []
+  pub reloaded : remaining_answers struck_out between ≡ a_ok ∷ []
   pub get_before : List ℕ
   pub get_after : List ℕ
   pub gets : cycle.rest ≡ between ++ (call_element (c_get mutator root field) geometry get_before (Number value) get_after ∷ [])

@@ -4,7 +4,7 @@ use Rattle.std.specs.Prelude.{◌≡◌, List, [], ◌∷◌, ◌++◌, ℕ, ◌
 use Rattle.layout.specs.declared.Geometry.{Geometry}
 use Rattle.layout.specs.Geometry.{large_kib, blocks_in}
 use Rattle.layout.specs.Mem.{mem_of}
-use Rattle.theory.specs.Calls.{c-attach, c-check, c_make, c_load, c_store, c_clear, c_put, c_get, a_num}
+use Rattle.theory.specs.Calls.{c_attach, c_check, c_make, c_load, c_store, c_clear, c_put, c_get, a_num}
 use Rattle.model.specs.declared.Answer.TheVariants.{Ok, Refused}
 use Rattle.model.specs.declared.Step.TheVariants.{Waiting, Moved, Traced, Swept, Done}
 use Rattle.model.specs.Fields.{tag, class}
@@ -24,7 +24,7 @@ use Rattle.model.specs.Tag as Tag
 abbrev pub large : List Line
 large =
     opening ⇒ ok
-    ∷ call (c-attach 0) ⇒ ok
+    ∷ call (c_attach 0) ⇒ ok
     ∷ call (c_make 0 0 1 600) ⇒ ok
     ∷ call (c_make 0 1 1 600) ⇒ ok
     ∷ call (c_make 0 2 1 600) ⇒ ok
@@ -40,9 +40,9 @@ large =
     ∷ call (c_clear 0 2) ⇒ ok
     ∷ start ⇒ ok
     ∷ step ⇒ stepped (Waiting 1)
-    ∷ call (c-check 0) ⇒ ok
+    ∷ call (c_check 0) ⇒ ok
     ∷ step ⇒ stepped Moved
-    ∷ call (c-check 0) ⇒ ok
+    ∷ call (c_check 0) ⇒ ok
     ∷ step ⇒ stepped Moved
     ∷ step ⇒ stepped Traced
     ∷ step ⇒ stepped Traced

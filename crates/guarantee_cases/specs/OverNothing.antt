@@ -4,7 +4,7 @@ use Rattle.std.specs.Prelude.{◌≡◌, true, List, [], ◌∷◌, ◌++◌, �
 use Rattle.layout.specs.declared.Geometry.{Geometry}
 use Rattle.layout.specs.Mem.{mem_of}
 use Rattle.theory.specs.Phases.{mark, sweep, in_handshake}
-use Rattle.theory.specs.Calls.{c-attach, c-check, c_clear, c_make, c_store, c_put, c_get, a-ok, a_num, a_no}
+use Rattle.theory.specs.Calls.{c_attach, c_check, c_clear, c_make, c_store, c_put, c_get, a_ok, a_num, a_no}
 use Rattle.model.specs.declared.Answer.{Answer}
 use Rattle.model.specs.declared.Answer.TheVariants.{Ok, Refused}
 use Rattle.model.specs.declared.Step.TheVariants.{Waiting, Moved, Traced, Done, Idle}
@@ -23,20 +23,20 @@ use Rattle.model_cases.specs.Replies.{Line, ◌⇒◌, opening, start, step, cal
 abbrev pub over_nothing : List Line
 over_nothing =
     opening ⇒ ok
-    ∷ call (c-attach 0) ⇒ ok
+    ∷ call (c_attach 0) ⇒ ok
     ∷ call (c_make 0 0 1 510) ⇒ ok
     ∷ call (c_put 0 0 0 77) ⇒ ok
     ∷ call (c_make 0 1 1 510) ⇒ ok
     ∷ call (c_clear 0 1) ⇒ ok
     ∷ start ⇒ ok
     ∷ call (c_make 0 1 1 510) ⇒ ok
-    ∷ call (c-attach 1) ⇒ no 11
+    ∷ call (c_attach 1) ⇒ no 11
     ∷ step ⇒ stepped (Waiting 1)
-    ∷ call (c-check 0) ⇒ ok
+    ∷ call (c_check 0) ⇒ ok
     ∷ step ⇒ stepped Moved
     ∷ call (c_make 0 2 1 510) ⇒ ok
     ∷ call (c_store 0 0 0 1) ⇒ ok
-    ∷ call (c-check 0) ⇒ ok
+    ∷ call (c_check 0) ⇒ ok
     ∷ step ⇒ stepped Moved
     ∷ call (c_make 0 3 1 510) ⇒ ok
     ∷ call (c_make 0 4 0 0) ⇒ no 10
@@ -91,13 +91,13 @@ pub record OfOverNothing : Type 0 where
   pub kept : BlockInUse geometry (mem_of geometry (words_after start_before (start_element geometry start_before Ok start_after ∷ during))) 0 1
   -- the calls that are compared, and what they are answered, after the start and by the heap before it, in idle: the make without room too
   pub compared : remaining_calls left_out during
-      ≡ c_make 0 1 1 510 ∷ c-check 0 ∷ c_make 0 2 1 510 ∷ c_store 0 0 0 1 ∷ c-check 0 ∷ c_make 0 3 1 510 ∷ c_make 0 4 0 0 ∷ c_make 0 5 1 510 ∷ c_get 0 0 0 ∷ []
-  pub in_list : remaining_answers left_out during ≡ a-ok ∷ a-ok ∷ a-ok ∷ a-ok ∷ a-ok ∷ a-ok ∷ a_no 10 ∷ a-ok ∷ a_num 77 ∷ []
-  pub in_idle : heap_answers geometry (mem_of geometry start_before) (remaining_calls left_out during) ≡ a-ok ∷ a-ok ∷ a-ok ∷ a-ok ∷ a-ok ∷ a-ok ∷ a_no 10 ∷ a-ok ∷ a_num 77 ∷ []
+      ≡ c_make 0 1 1 510 ∷ c_check 0 ∷ c_make 0 2 1 510 ∷ c_store 0 0 0 1 ∷ c_check 0 ∷ c_make 0 3 1 510 ∷ c_make 0 4 0 0 ∷ c_make 0 5 1 510 ∷ c_get 0 0 0 ∷ []
+  pub in_list : remaining_answers left_out during ≡ a_ok ∷ a_ok ∷ a_ok ∷ a_ok ∷ a_ok ∷ a_ok ∷ a_no 10 ∷ a_ok ∷ a_num 77 ∷ []
+  pub in_idle : heap_answers geometry (mem_of geometry start_before) (remaining_calls left_out during) ≡ a_ok ∷ a_ok ∷ a_ok ∷ a_ok ∷ a_ok ∷ a_ok ∷ a_no 10 ∷ a_ok ∷ a_num 77 ∷ []
   -- the attach was refused 11 in a handshake
   pub early : List Element
   pub late : List Element
   pub attach_before : List ℕ
   pub attach_after : List ℕ
-  pub refused : during ≡ early ++ (call_element (c-attach 1) geometry attach_before (Refused 11) attach_after ∷ late)
+  pub refused : during ≡ early ++ (call_element (c_attach 1) geometry attach_before (Refused 11) attach_after ∷ late)
   pub handshake : in_handshake (phase (mem_of geometry (words_after start_after early))) ≡ true

@@ -4,7 +4,7 @@
 use Rattle.std.specs.Prelude.{◌≡◌, true, List, [], ◌∷◌, ℕ, length}
 use Rattle.layout.specs.declared.Geometry.{Geometry}
 use Rattle.layout.specs.Geometry.{wrong_size, total}
-use Rattle.theory.specs.Calls.{Call, c-check}
+use Rattle.theory.specs.Calls.{Call, c_check}
 use Rattle.model.specs.declared.Answer.TheVariants.{Refused}
 use Rattle.model.specs.Looks.{saw_phase, saw_states, saw_sheet, examined_by}
 use Rattle.model.specs.Lists.{Event, mutator_call, start_call, step_call, opening_call, look_call, Element, Chain}
@@ -32,7 +32,7 @@ leaving g lent v = record { geometry = g; before = lent; event = v; after = lent
 abbrev pub four : List ℕ → List Element
 four lent =
     leaving (geometry 257) [] (opening_call (Refused 1))
-    ∷ leaving (geometry 257) [] (mutator_call (c-check 0) (Refused 1))
+    ∷ leaving (geometry 257) [] (mutator_call (c_check 0) (Refused 1))
     ∷ leaving (geometry 2) lent (start_call (Refused 1))
     ∷ leaving (geometry 2) lent (step_call (step_answer.Refused 1))
     ∷ []
@@ -41,7 +41,7 @@ four lent =
 abbrev pub three : Geometry → List ℕ → List Element
 three other lent =
     leaving other lent (opening_call (Refused 1))
-    ∷ leaving other lent (mutator_call (c-check 0) (Refused 1))
+    ∷ leaving other lent (mutator_call (c_check 0) (Refused 1))
     ∷ leaving (record { segments = other.segments; kib = 48 }) lent (step_call (step_answer.Refused 1))
     ∷ []
 

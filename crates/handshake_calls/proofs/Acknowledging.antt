@@ -10,7 +10,7 @@ use Rattle.layout.specs.Geometry.{wrong_size, root_count}
 use Rattle.layout.specs.Mem.{Mem, mem_of, control_word, set_mutator}
 use Rattle.layout.proofs.Regions.{sized}
 use Rattle.theory.specs.Phases.{owes}
-use Rattle.theory.specs.Calls.{Call, c-check, c_leave}
+use Rattle.theory.specs.Calls.{Call, c_check, c_leave}
 use Rattle.theory.proofs.Refusals.{by_ok}
 use Rattle.model.specs.declared.Answer.TheVariants.{Ok, Refused}
 use Rattle.model.specs.PhaseNumbers.{phase_of}
@@ -86,9 +86,9 @@ module _ (g : Geometry) (m : Mem) (k n a : ℕ) (o : Bool) (en : n ≡ control_w
 
 module _ (g : Geometry) (xs : List ℕ) (k n : ℕ) (s : n ≡ inside_then (mem_of g xs) k 0) (z : n ≡ 0) where
   module _ (e : wrong_size g (length xs) ≡ false) (r : Bool) (m₁ : Mem) (p : Acknowledges g (mem_of g xs) k r m₁) where
-    pub checked : r ≡ true → (ys : List ℕ) → mem_of g ys ≡ m₁ → Promise (c-check k) g xs Ok ys
+    pub checked : r ≡ true → (ys : List ℕ) → mem_of g ys ≡ m₁ → Promise (c_check k) g xs Ok ys
     unfolding inside_then act
-    checked t ys q = done (c-check k) g xs e (sym z ∙ s) refl refl refl (q ∙ p.done t)
+    checked t ys q = done (c_check k) g xs e (sym z ∙ s) refl refl refl (q ∙ p.done t)
 
     pub left : r ≡ true → (ys : List ℕ) → mem_of g ys ≡ set_mutator_state m₁ k outside → Promise (c_leave k) g xs Ok ys
     unfolding inside_then act

@@ -5,7 +5,7 @@
 ghost use Rattle.std.specs.Prelude.{◌≡◌, ◌<◌, length};
 ghost use Rattle.layout.specs.Geometry.{Sized, mutator_count};
 ghost use Rattle.layout.specs.Mem.{mem_of};
-ghost use Rattle.theory.specs.Calls.{c-check, c_leave, c_enter};
+ghost use Rattle.theory.specs.Calls.{c_check, c_leave, c_enter};
 ghost use Rattle.model.specs.Promise.{Promise};
 ghost use Rattle.handshake_calls.specs.Acknowledging.{Acknowledges};
 
@@ -31,7 +31,7 @@ pub fn acknowledge(g: Geometry, mem: &mut [u32], mutator: u32) -> bool
 
 // A mutator that owes an acknowledgement gives it.
 pub fn check(g: Geometry, mem: &mut [u32], mutator: u32) -> Answer
-    ensures { Promise (c-check mutator) g mem.old result mem.new }
+    ensures { Promise (c_check mutator) g mem.old result mem.new }
 {
     if layout::wrong_size(g, mem.len()) {
         return Answer::Refused(1);

@@ -17,8 +17,8 @@ use Rattle.layout.specs.declared.Geometry.{Geometry}
 use Rattle.layout.specs.Geometry.{mutator_count, mutator_words}
 use Rattle.layout.specs.Mem.{Mem, Sizes, set_mutator, set_heap}
 use Rattle.theory.specs.Phases.{Duty, nothing, both, old, idle, in_handshake, duty, owes}
-use Rattle.theory.specs.Calls.{Call, c-attach, c-detach, c-check, c_leave, c_enter, c_spawn, c_make, c_load, c_store, c_copy, c_clear, c_put, c_get}
-use Rattle.theory.specs.Calls.{c_same, c_shape, Answer, a-ok, a_num, a_flag, a_shape, a_no, refusal, refuse, on_record, unless, same_ref}
+use Rattle.theory.specs.Calls.{Call, c_attach, c_detach, c_check, c_leave, c_enter, c_spawn, c_make, c_load, c_store, c_copy, c_clear, c_put, c_get}
+use Rattle.theory.specs.Calls.{c_same, c_shape, Answer, a_ok, a_num, a_flag, a_shape, a_no, refusal, refuse, on_record, unless, same_ref}
 use Rattle.theory.proofs.Refusals.{require_ok, by_ok, root_ok}
 use Rattle.model.specs.Fields.{phase, inside, outside, state_at, acks, root}
 use Rattle.model.specs.Records.{record?, header_shape, pointer_count, pointer, value}
@@ -54,11 +54,11 @@ idle_acknowledged g m k i = ap (λ p. pick (owes p (acks m k)) (given g p m k) m
 
 module _ (m idle_mem : Mem) (e : SameHeap m idle_mem) where
   -- one word of the mutators' entries, or of the heap, set to the same in both
-  alike_mutator : (i v v' : ℕ) → v' ≡ v → Alike (a-ok, set_mutator m i v) (a-ok, set_mutator idle_mem i v')
+  alike_mutator : (i v v' : ℕ) → v' ≡ v → Alike (a_ok, set_mutator m i v) (a_ok, set_mutator idle_mem i v')
   unfolding set_mutator
   alike_mutator i v v' q = record { answer = refl; memory = subst (λ w. SameHeap (set_mutator m i v) (set_mutator idle_mem i w)) (sym q) (same_mutator m idle_mem e i v) }
 
-  alike_heap : (m₁ : Mem) → SameHeap m m₁ → (i v i' v' : ℕ) → i' ≡ i → v' ≡ v → Alike (a-ok, set_heap m₁ i v) (a-ok, set_heap idle_mem i' v')
+  alike_heap : (m₁ : Mem) → SameHeap m m₁ → (i v i' v' : ℕ) → i' ≡ i → v' ≡ v → Alike (a_ok, set_heap m₁ i v) (a_ok, set_heap idle_mem i' v')
   unfolding set_heap
   alike_heap m₁ a i v i' v' p q = record {
     answer = refl;
@@ -115,7 +115,7 @@ module _ (g : Geometry) (m idle_mem : Mem) (s : Sizes g m) (e : SameHeap m idle_
       go true q = inl (q, ap (λ b. unless b 11 m m₁) q)
       go false q = inr (alike_unless m idle_mem e (in_handshake (phase m)) (in_handshake (phase idle_mem)) q in_idle m₁ m₁' x)
 
-  acted_attach : (k : ℕ) → refusal (observe m) (c-attach k) ≡ 0 → Acted g m idle_mem (c-attach k)
+  acted_attach : (k : ℕ) → refusal (observe m) (c_attach k) ≡ 0 → Acted g m idle_mem (c_attach k)
   unfolding act
   acted_attach k x =
       let few = ltb-true _ _ (require_ok (ltb k mutator_count) 2 _ (omega arith) x).0 in
@@ -134,7 +134,7 @@ module _ (g : Geometry) (m idle_mem : Mem) (s : Sizes g m) (e : SameHeap m idle_
       subst (λ v. SameHeap (attached m k (root m p j)) (attached idle_mem k v)) (sym r) (same_attached m idle_mem e s.mutators k (ltb-true _ _ a.0) (root m p j)) in
       ⊎_elim (λ h. later h.0 h.1) (λ h. alike h) (in_phase (attached m k (root m p j)) (attached idle_mem k (root idle_mem p j)) h)
 
-  acted_detach : (k : ℕ) → refusal (observe m) (c-detach k) ≡ 0 → Acted g m idle_mem (c-detach k)
+  acted_detach : (k : ℕ) → refusal (observe m) (c_detach k) ≡ 0 → Acted g m idle_mem (c_detach k)
   unfolding act
   acted_detach k x =
       let few = (by_ok (observe m) k _ x).0 in
@@ -144,10 +144,10 @@ module _ (g : Geometry) (m idle_mem : Mem) (s : Sizes g m) (e : SameHeap m idle_
   same_acknowledged : (k : ℕ) → SameHeap (acknowledged g m k) (acknowledged g idle_mem k)
   same_acknowledged k = rw (idle_acknowledged g idle_mem k i) (same_then (acknowledged g m k) m idle_mem (same_back m (acknowledged g m k) (leaves_acknowledged g m k)) e)
 
-  alike_check : (k : ℕ) → Alike (a-ok, acknowledged g m k) (a-ok, acknowledged g idle_mem k)
+  alike_check : (k : ℕ) → Alike (a_ok, acknowledged g m k) (a_ok, acknowledged g idle_mem k)
   alike_check k = record { answer = refl; memory = same_acknowledged k }
 
-  alike_leave : (k n v : ℕ) → Alike (a-ok, set_mutator (acknowledged g m k) n v) (a-ok, set_mutator (acknowledged g idle_mem k) n v)
+  alike_leave : (k n v : ℕ) → Alike (a_ok, set_mutator (acknowledged g m k) n v) (a_ok, set_mutator (acknowledged g idle_mem k) n v)
   unfolding set_mutator
   alike_leave k n v = record { answer = refl; memory = same_mutator _ _ (same_acknowledged k) n v }
 
@@ -159,23 +159,23 @@ module _ (g : Geometry) (m idle_mem : Mem) (s : Sizes g m) (e : SameHeap m idle_
 
   -- store: in idle no barrier
   alike_store : (k j f at : ℕ) → root idle_mem k j ≡ root m k j
-      → Alike (a-ok, set_heap (barrier g (duty (phase m) (acks m k)) m (record? (root m k j)) (record? (pointer m at f))) (at + 1 + f) (root m k j))
-      (a-ok, set_heap (barrier g (duty (phase idle_mem) (acks idle_mem k)) idle_mem (record? (root idle_mem k j)) (record? (pointer idle_mem at f))) (at + 1 + f) (root idle_mem k j))
+      → Alike (a_ok, set_heap (barrier g (duty (phase m) (acks m k)) m (record? (root m k j)) (record? (pointer m at f))) (at + 1 + f) (root m k j))
+      (a_ok, set_heap (barrier g (duty (phase idle_mem) (acks idle_mem k)) idle_mem (record? (root idle_mem k j)) (record? (pointer idle_mem at f))) (at + 1 + f) (root idle_mem k j))
   alike_store k j f at q =
       let b = leaves_barrier g (duty (phase m) (acks m k)) m (root m k j) (pointer m at f) in
       subst
       (λ x. Alike
-      (a-ok, set_heap (barrier g (duty (phase m) (acks m k)) m (record? (root m k j)) (record? (pointer m at f))) (at + 1 + f) (root m k j))
-      (a-ok, set_heap (barrier g (duty x (acks idle_mem k)) idle_mem (record? (root idle_mem k j)) (record? (pointer idle_mem at f))) (at + 1 + f) (root idle_mem k j)))
+      (a_ok, set_heap (barrier g (duty (phase m) (acks m k)) m (record? (root m k j)) (record? (pointer m at f))) (at + 1 + f) (root m k j))
+      (a_ok, set_heap (barrier g (duty x (acks idle_mem k)) idle_mem (record? (root idle_mem k j)) (record? (pointer idle_mem at f))) (at + 1 + f) (root idle_mem k j)))
       (sym i)
       (alike_heap m idle_mem e _ b (at + 1 + f) (root m k j) (at + 1 + f) (root idle_mem k j) refl q)
 
   acted : (c : Call) → refusal (observe m) c ≡ 0 → Acted g m idle_mem c
   unfolding act
-  acted (c-attach k) x = acted_attach k x
+  acted (c_attach k) x = acted_attach k x
   acted (c_spawn k p j) x = acted_spawn k p j x
-  acted (c-detach k) x = acted_detach k x
-  acted (c-check k) x = alike (alike_check k)
+  acted (c_detach k) x = acted_detach k x
+  acted (c_check k) x = alike (alike_check k)
   acted (c_leave k) x = alike (alike_leave k (k * mutator_words + state_at) outside)
   acted (c_enter k) x = alike (alike_mutator m idle_mem e (k * mutator_words + state_at) inside inside refl)
   acted (c_make k d p n) x = alike (alike_class k d p n (class_of_record (of_counts p n)) refl)

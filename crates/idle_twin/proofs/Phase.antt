@@ -19,7 +19,7 @@ use Rattle.layout.specs.Mem.{Mem, Sizes, control_word, set_control, set_mutator,
 use Rattle.bitmap_search.specs.declared.Found.{Found}
 use Rattle.bitmap_search.specs.declared.Found.TheVariants.{Block, Nothing, Torn}
 use Rattle.theory.specs.Phases.{Phase, idle, sync1, sync2, mark, sweep, Duty, nothing, both, old, black, duty, in_handshake}
-use Rattle.theory.specs.Calls.{Call, c-attach, c-detach, c-check, c_leave, c_enter, c_spawn, c_make, c_load, c_store, c_copy, c_clear, c_put, c_get}
+use Rattle.theory.specs.Calls.{Call, c_attach, c_detach, c_check, c_leave, c_enter, c_spawn, c_make, c_load, c_store, c_copy, c_clear, c_put, c_get}
 use Rattle.theory.specs.Calls.{c_same, c_shape, Answer, refusal, refuse, on_record, unless}
 use Rattle.model.specs.PhaseNumbers.{phase_of, phase_number}
 use Rattle.model.specs.Fields.{phase, set_phase, trace_count, outside, state, acks, place, root}
@@ -100,10 +100,10 @@ still_detached g m k = ap (λ (l : List ℕ). get_or l 0 0) (stays_released g k 
 
 still_act : (g : Geometry) (m : Mem) (c : Call) → Still m (act g m c).1
 unfolding act attached set_run set_mutator set_heap
-still_act g m (c-attach k) = still_unless (in_handshake (phase m)) m _ refl
+still_act g m (c_attach k) = still_unless (in_handshake (phase m)) m _ refl
 still_act g m (c_spawn k p i) = still_unless (in_handshake (phase m)) m _ refl
-still_act g m (c-detach k) = still_unless (in_handshake (phase m)) m _ (still_detached g m k)
-still_act g m (c-check k) = acknowledged_phase g m k
+still_act g m (c_detach k) = still_unless (in_handshake (phase m)) m _ (still_detached g m k)
+still_act g m (c_check k) = acknowledged_phase g m k
 still_act g m (c_leave k) = acknowledged_phase g m k
 still_act g m (c_enter k) = refl
 still_act g m (c_make k d p n) = still_class g m k d (of_counts p n) (class_of_record (of_counts p n))

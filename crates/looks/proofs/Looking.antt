@@ -19,7 +19,6 @@ use Rattle.model.specs.Consistent.{Consistent}
 use Rattle.model.specs.Promise.{PhasePromise}
 use Rattle.model_laws.proofs.PromisedSteps.{promise_1, promise_refused, promise_done}
 use Rattle.looks.specs.Plausible.{Plausible}
-use Rattle.model.specs.Tag as Tag
 use Rattle.model.specs.declared.PhaseLook.TheVariants as look
 
 -- ---- the phase

@@ -3,19 +3,17 @@
 use mathlib.Core.Path.{◌≡◌, refl, sym, ◌∙◌, ap, subst}
 use mathlib.Core.Bool.{Bool, true, false}
 use mathlib.Core.Logic.{inl, inr, ⊎_elim}
-use mathlib.Core.Option.{Option, some, none-ne-some, some-injective}
+use mathlib.Core.Option.{some, none-ne-some, some-injective}
 use mathlib.Core.List.{List}
 use Prim.Native.Nat.{ℕ, suc, ◌+◌, ◌%◌, ◌≤◌, ◌<◌}
 use native.Mathlib.Nat.{mod-eq_of_lt}
 use native.Mathlib.Omega.{arith}
-use lib.ListN.{length}
-use Rattle.basics.specs.Pick.{pick}
-use Rattle.words.specs.Bits.{bit_at, set_bit}
+use Rattle.words.specs.Bits.{bit_at}
 use Rattle.words.proofs.Trees.{tree_level}
 use Rattle.classes.specs.Class.{IsClass}
 use Rattle.classes.specs.declared.RecordShape.{RecordShape}
 use Rattle.bitmap_search.specs.declared.Found.{Found}
-use Rattle.bitmap_search.specs.declared.Found.TheVariants.{Block, Nothing, Torn}
+use Rattle.bitmap_search.specs.declared.Found.TheVariants.{Block}
 use Rattle.bitmap_search.specs.declared.Two.{Two}
 use Rattle.bitmap_search.specs.declared.Near.{Near}
 use Rattle.bitmap_search.specs.Scan.{next_free}
@@ -23,20 +21,19 @@ use Rattle.bitmap_search.specs.Twice.{TwoBelow, TwoPromise}
 use Rattle.bitmap_search.proofs.Scan.{IsNext, next_is}
 use Rattle.bitmap_search.proofs.Twice.{Says, two_says, never_torn_lem}
 use Rattle.layout.specs.declared.Geometry.{Geometry}
-use Rattle.layout.specs.Geometry.{mutator_count, segment_record_words, blocks_in, mark_bit}
-use Rattle.layout.specs.Mem.{Mem, control_word, set_heap, set_mutator, set_run, Sizes}
+use Rattle.layout.specs.Geometry.{mutator_count, blocks_in, mark_bit}
+use Rattle.layout.specs.Mem.{Mem, control_word, Sizes}
 use Rattle.theory.specs.Phases.{black}
-use Rattle.theory.specs.Calls.{a-ok}
+use Rattle.theory.specs.Calls.{a_ok}
 use Rattle.model.specs.declared.Answer.{Answer}
 use Rattle.model.specs.declared.Answer.TheVariants.{Ok, Refused}
-use Rattle.model.specs.declared.SegmentState.TheVariants.{Held, Full}
+use Rattle.model.specs.declared.SegmentState.TheVariants.{Full}
 use Rattle.model.specs.Answers.{answer_of}
 use Rattle.model.specs.PhaseNumbers.{phase_of}
-use Rattle.model.specs.Fields.{phase, acks, set_holding, set_root, class, place, set_place, handed_at, handed_count, set_handed_count}
+use Rattle.model.specs.Fields.{phase, acks, set_holding, set_root, place, set_place, handed_at, handed_count, set_handed_count}
 use Rattle.model.specs.Segments.{set_segment_state, above, bitmap, free}
 use Rattle.model.specs.Records.{header_of, written, set_entered}
 use Rattle.model.specs.Making.{Source, held, part, unused, no_room, source_of, advanced, blackened, counted_out, handed_out, in_block, in_segment, from_source, made}
-use Rattle.model.specs.Consistent.{Consistent}
 use Rattle.model_laws.proofs.Blocks.{blocks_most}
 use Rattle.model_laws.proofs.Words.{Recorded, count_state}
 use Rattle.segments.proofs.Records.{place_alone}
@@ -206,7 +203,7 @@ module _ (g : Geometry) (m : Mem) (k d c : ℕ) (shape : RecordShape) where
       exact = λ x.
           let y = q.segment s e in
           let o = h.exact (subst (λ v. SegmentReady g v k c s) (sym y.2) (ready g m z x k c few i s y.1)) in
-          let w : from_source g m k d c shape (source_of g m k c) ≡ (a-ok, handed_out g m₁ k d c s o.0 shape) =
+          let w : from_source g m k d c shape (source_of g m k c) ≡ (a_ok, handed_out g m₁ k d c s o.0 shape) =
           by_segment (source_of g m k c) s y.1 ∙ ap (λ v. in_segment g m v k d c s shape) (sym y.2) ∙ ap (λ v. in_block g m m₁ v k d c s shape) o.2 in
           (ap answer_of o.1 ∙ sym (ap (λ v. v.0) w), o.3 ∙ sym (ap (λ v. v.1) w));
     }

@@ -4,7 +4,7 @@ use mathlib.Core.Bool.{true, false}
 use mathlib.Core.Logic.{◌⊎◌, inl, inr}
 use mathlib.Core.Option.{none, some, none-ne-some, some-injective}
 use mathlib.Core.List.{List}
-use Prim.Native.Nat.{ℕ, ◌+◌, ◌≤◌, ◌<◌}
+use Prim.Native.Nat.{ℕ, ◌+◌, ◌≤◌}
 use native.Mathlib.Omega.{arith}
 use lib.Dec.{leb}
 use lib.ListN.{length}
@@ -14,10 +14,10 @@ use Rattle.classes.specs.Record.{of_counts, class_of_record}
 use Rattle.classes.specs.declared.SizeClass.TheVariants.{Class, TooBig}
 use Rattle.classes.proofs.Smallest.{class_limit, class_most}
 use Rattle.layout.specs.declared.Geometry.{Geometry}
-use Rattle.layout.specs.Geometry.{mutator_count, root_count, wrong_size}
-use Rattle.layout.specs.Mem.{Mem, mem_of}
+use Rattle.layout.specs.Geometry.{wrong_size}
+use Rattle.layout.specs.Mem.{mem_of}
 use Rattle.theory.specs.Calls.{c_make, require, if_root, refusal}
-use Rattle.theory.proofs.Refusals.{by_ok, root_ok, inside_rest, root_rest, inside_on, root_on, require_rest}
+use Rattle.theory.proofs.Refusals.{by_ok, root_ok, inside_rest, root_rest, inside_on, root_on}
 use Rattle.model.specs.declared.Answer.{Answer}
 use Rattle.model.specs.declared.Answer.TheVariants.{Ok, Refused}
 use Rattle.model.specs.Answers.{answer_of, refusal_of, ResultOf, among, may_give}

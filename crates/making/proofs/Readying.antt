@@ -1,9 +1,9 @@
 -- In memory that passes the examination the segment that a make takes its block from is ready: held by the mutator and of the class, with a tree, a
 -- free block from its place on, and a count that is no more than its blocks.
-use mathlib.Core.Path.{◌≡◌, refl, sym, ◌∙◌, ap, subst}
+use mathlib.Core.Path.{◌≡◌, refl, sym, ◌∙◌, subst}
 use mathlib.Core.Bool.{Bool, true, false}
 use mathlib.Core.Option.{some, none-ne-some, some-injective}
-use Prim.Native.Nat.{ℕ, zero, suc, ◌+◌, ◌-◌, ◌*◌, ◌≤◌, ◌<◌}
+use Prim.Native.Nat.{ℕ, suc, ◌+◌, ◌-◌, ◌*◌, ◌≤◌, ◌<◌}
 use native.Mathlib.Nat.{pos_of_ne-zero}
 use native.Mathlib.Omega.{arith}
 use lib.Dec.{eqb}
@@ -16,7 +16,7 @@ use Rattle.layout.specs.Geometry.{mutator_count, blocks_in}
 use Rattle.layout.specs.Mem.{Mem, set_stack, set_segment, set_mutator, set_run, Sizes}
 use Rattle.model.specs.Fields.{holding, tag, class, place, handed_count}
 use Rattle.model.specs.Segments.{set_segment_state, free_stack, part_stack, count, top, pop, above, bitmap}
-use Rattle.model.specs.Making.{Source, held, part, unused, no_room, source_of, set_held, freshened}
+use Rattle.model.specs.Making.{held, part, unused, no_room, source_of, set_held}
 use Rattle.model.specs.Consistent.{Consistent}
 use Rattle.model_laws.proofs.Words.{Recorded, recorded_as, untouched_same}
 use Rattle.model_laws.proofs.Bitmaps.{bitmap_by}

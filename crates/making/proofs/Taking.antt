@@ -10,7 +10,7 @@ use Rattle.layout.specs.declared.Geometry.{Geometry}
 use Rattle.layout.specs.Geometry.{mutator_count}
 use Rattle.layout.specs.Mem.{Mem}
 use Rattle.model.specs.Fields.{holding, place}
-use Rattle.model.specs.Segments.{free_stack, part_stack, count, top, pop}
+use Rattle.model.specs.Segments.{free_stack, part_stack, count, pop}
 use Rattle.model.specs.Making.{Source, held, part, unused, no_room, source_of, set_held, freshened}
 use Rattle.model.specs.Consistent.{Consistent, is_free, is_part}
 use Rattle.stacks.specs.declared.Topmost.{Topmost}

@@ -71,8 +71,8 @@ module _ (g : Geometry) (m : Mem) (s : Sizes g m) (k : ℕ) (e : k ≡ trace_cou
         pub trace_torn : (d : ℕ) → d ≡ len g Region.heap → d ≤ w - 1 → (m' : Mem) → StepsAs in_mark g m (Refused 13) m'
         trace_torn d z l m' = steps_13 in_mark g m (λ c. let i = (last_ok g m c (k - 1) (w - 1) count_is names).inside in omega arith)
 
-        does : in_mark g m ≡ (theory.a-traced, traced g m (w - 1))
-        does = ap (λ x. traces g x m) count_is ∙ ap (λ x. (theory.a-traced, traced g m (x - 1))) (sym ew)
+        does : in_mark g m ≡ (theory.a_traced, traced g m (w - 1))
+        does = ap (λ x. traces g x m) count_is ∙ ap (λ x. (theory.a_traced, traced g m (x - 1))) (sym ew)
 
         pub trace_visits : (r : Step) (m' : Mem) → Visits g m (w - 1) r m' → StepsAs in_mark g m r m'
         trace_visits r m' x = go x.either

@@ -11,7 +11,7 @@ use borrow.Author.Tests.{eqb-true}
 use Rattle.classes.specs.declared.RecordShape.{RecordShape}
 use Rattle.basics.specs.Pick.{pick}
 use Rattle.basics.proofs.Table.{and_left, and_right}
-use Rattle.theory.specs.Calls.{Call, c-attach, c-detach, c-check, c_leave, c_enter, c_spawn, c_make, c_load, c_store, c_copy, c_clear, c_put, c_get}
+use Rattle.theory.specs.Calls.{Call, c_attach, c_detach, c_check, c_leave, c_enter, c_spawn, c_make, c_load, c_store, c_copy, c_clear, c_put, c_get}
 use Rattle.theory.specs.Calls.{c_same, c_shape, Observation, require, if_record, if_inside, if_root, refusal}
 use Rattle.model.specs.Answers.{among, last_number, own_numbers, may_give}
 
@@ -43,13 +43,13 @@ field_among : (ns : List ℕ) (b : Bool) → among 8 ns ≡ true → Among ns (r
 field_among ns b a = require_among ns b 8 0 (a, omega arith) (no_refusal ns)
 
 pub refusal_among : (F : Observation) (c : Call) → Among (may_give c) (refusal F c)
-refusal_among F (c-attach i) = require_among _ _ 2 _ (refl, omega arith) (require_among _ _ 3 _ (refl, omega arith) (no_refusal _))
+refusal_among F (c_attach i) = require_among _ _ 2 _ (refl, omega arith) (require_among _ _ 3 _ (refl, omega arith) (no_refusal _))
 refusal_among F (c_spawn i p k) =
     require_among _ _ 2 _ (refl, omega arith)
     (require_among _ _ 2 _ (refl, omega arith)
     (require_among _ _ 3 _ (refl, omega arith) (require_among _ _ 4 _ (refl, omega arith) (require_among _ _ 5 _ (refl, omega arith) (root_among _ k _ refl (no_refusal _))))))
-refusal_among F (c-detach i) = inside_among _ F i _ (refl, refl, refl) (no_refusal _)
-refusal_among F (c-check i) = inside_among _ F i _ (refl, refl, refl) (no_refusal _)
+refusal_among F (c_detach i) = inside_among _ F i _ (refl, refl, refl) (no_refusal _)
+refusal_among F (c_check i) = inside_among _ F i _ (refl, refl, refl) (no_refusal _)
 refusal_among F (c_leave i) = inside_among _ F i _ (refl, refl, refl) (no_refusal _)
 refusal_among F (c_enter i) = require_among _ _ 2 _ (refl, omega arith) (require_among _ _ 4 _ (refl, omega arith) (require_among _ _ 5 _ (refl, omega arith) (no_refusal _)))
 refusal_among F (c_make i d p n) = inside_among _ F i _ (refl, refl, refl) (root_among _ d _ refl (require_among _ _ 9 _ (refl, omega arith) (no_refusal _)))
@@ -107,10 +107,10 @@ pub among_table : (n : ℕ) (xs : List ℕ) → T (all_given xs) → among n xs 
 among_table n xs t e = (among_given n xs t e).0
 
 all_given_lem : (c : Call) → T (all_given (own_numbers c))
-all_given_lem (c-attach k) = tt
+all_given_lem (c_attach k) = tt
 all_given_lem (c_spawn k p i) = tt
-all_given_lem (c-detach k) = tt
-all_given_lem (c-check k) = tt
+all_given_lem (c_detach k) = tt
+all_given_lem (c_check k) = tt
 all_given_lem (c_leave k) = tt
 all_given_lem (c_enter k) = tt
 all_given_lem (c_make k d p n) = tt

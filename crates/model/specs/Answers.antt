@@ -7,7 +7,7 @@ use Rattle.classes.specs.declared.RecordShape.{RecordShape}
 use Rattle.layout.specs.declared.Geometry.{Geometry}
 use Rattle.layout.specs.Geometry.{mutator_count, most_blocks}
 use Rattle.theory.specs.Phases.{sweep}
-use Rattle.theory.specs.Calls.{Call, CallKind, coming, working, asks_number, asks_flag, asks_shape, making, kind_of, c-attach, c-detach, c-check, c_leave, c_enter, c_spawn, c_make, c_load, c_store, c_copy, c_clear, c_put, c_get, c_same, c_shape, a-ok, a-moved, a-traced, a-done, a-idle, a_num, a_flag, a_shape, a_no, a_waiting, a_swept}
+use Rattle.theory.specs.Calls.{Call, CallKind, coming, working, asks_number, asks_flag, asks_shape, making, kind_of, c_attach, c_detach, c_check, c_leave, c_enter, c_spawn, c_make, c_load, c_store, c_copy, c_clear, c_put, c_get, c_same, c_shape, a_ok, a_moved, a_traced, a_done, a_idle, a_num, a_flag, a_shape, a_no, a_waiting, a_swept}
 use Rattle.model.specs.PhaseNumbers.{phase_number}
 use Rattle.model.specs.Records.{InHalves}
 use Rattle.model.specs.declared.Answer.{Answer}
@@ -24,7 +24,7 @@ use Rattle.model.specs.declared.Examined.TheVariants as examination
 
 -- of a mutator's call, of an opening and of start: ok, a number, whether two roots are equal, a shape, or a refusal
 abbrev pub answer_of : Answer → theory.Answer
-answer_of Ok = a-ok
+answer_of Ok = a_ok
 answer_of (Number v) = a_num v
 answer_of (Same b) = a_flag b
 answer_of (Shape s) = a_shape s
@@ -33,11 +33,11 @@ answer_of (Refused n) = a_no n
 -- of step
 abbrev pub step_answer_of : Step → theory.Answer
 step_answer_of (step_answer.Waiting n) = a_waiting n
-step_answer_of step_answer.Moved = a-moved
-step_answer_of step_answer.Traced = a-traced
+step_answer_of step_answer.Moved = a_moved
+step_answer_of step_answer.Traced = a_traced
 step_answer_of (step_answer.Swept s f) = a_swept s f
-step_answer_of step_answer.Done = a-done
-step_answer_of step_answer.Idle = a-idle
+step_answer_of step_answer.Done = a_done
+step_answer_of step_answer.Idle = a_idle
 step_answer_of (step_answer.Refused n) = a_no n
 
 -- of the look at the phase: the phase's number
@@ -53,11 +53,11 @@ examined_answer_of (examination.Refused n) = a_no n
 
 -- the number of a refusal
 abbrev pub refusal_in : theory.Answer → Option ℕ
-refusal_in a-ok = none
-refusal_in a-moved = none
-refusal_in a-traced = none
-refusal_in a-done = none
-refusal_in a-idle = none
+refusal_in a_ok = none
+refusal_in a_moved = none
+refusal_in a_traced = none
+refusal_in a_done = none
+refusal_in a_idle = none
 refusal_in (a_num v) = none
 refusal_in (a_flag b) = none
 refusal_in (a_shape s) = none
@@ -80,7 +80,7 @@ examined_refusal_of r = refusal_in (examined_answer_of r)
 -- ---- which result a call gives, over memory of any content: "No script call answers a block or segment number"
 
 abbrev pub IsOk : theory.Answer → Type 0
-IsOk a = a ≡ a-ok
+IsOk a = a ≡ a_ok
 
 abbrev pub IsNumber : theory.Answer → Type 0
 IsNumber a = (v : ℕ) × (a ≡ a_num v)
@@ -105,11 +105,11 @@ ResultOf c = ResultBy (kind_of c)
 -- step waits for one mutator at least, and sweeps a segment of the memory, whose blocks are no more than a segment can have
 pub data StepResult (g : Geometry) : theory.Answer → Type 0 where
   is_waiting : (n : ℕ) → 1 ≤ n → n ≤ mutator_count → StepResult g (a_waiting n)
-  is_moved : StepResult g a-moved
-  is_traced : StepResult g a-traced
+  is_moved : StepResult g a_moved
+  is_traced : StepResult g a_traced
   is_swept : (s f : ℕ) → s < g.segments → f ≤ most_blocks g → StepResult g (a_swept s f)
-  is_done : StepResult g a-done
-  is_idle : StepResult g a-idle
+  is_done : StepResult g a_done
+  is_idle : StepResult g a_idle
 
 -- the look at the phase: "Phases are idle, roll 1, roll 2, mark and sweep", 0 to 4
 abbrev pub IsPhase : theory.Answer → Type 0
@@ -127,10 +127,10 @@ among n (x ∷ xs) = pick (eqb n x) true (among n xs)
 
 -- the numbers of a call's own, beside "1, size" and "13, torn", which every mutator's call may give
 abbrev pub own_numbers : Call → List ℕ
-own_numbers (c-attach k) = 2 ∷ 3 ∷ 11 ∷ []
+own_numbers (c_attach k) = 2 ∷ 3 ∷ 11 ∷ []
 own_numbers (c_spawn k p i) = 2 ∷ 3 ∷ 4 ∷ 5 ∷ 6 ∷ 11 ∷ []
-own_numbers (c-detach k) = 2 ∷ 4 ∷ 5 ∷ 11 ∷ []
-own_numbers (c-check k) = 2 ∷ 4 ∷ 5 ∷ []
+own_numbers (c_detach k) = 2 ∷ 4 ∷ 5 ∷ 11 ∷ []
+own_numbers (c_check k) = 2 ∷ 4 ∷ 5 ∷ []
 own_numbers (c_leave k) = 2 ∷ 4 ∷ 5 ∷ []
 own_numbers (c_enter k) = 2 ∷ 4 ∷ 5 ∷ []
 own_numbers (c_make k d p n) = 2 ∷ 4 ∷ 5 ∷ 6 ∷ 9 ∷ 10 ∷ []

@@ -9,7 +9,7 @@ use Rattle.layout.specs.Geometry.{mutator_count, blocks_in}
 use Rattle.layout.specs.Mem.{Mem, trace_word, with_region}
 use Rattle.bitmap_write.specs.Completed.{adopted}
 use Rattle.theory.specs.Phases.{Phase, idle, sync1, sync2, mark, sweep, owes}
-use Rattle.theory.specs.Calls.{Answer, a-ok, a-moved, a-traced, a-done, a-idle, a_no, a_waiting, a_swept}
+use Rattle.theory.specs.Calls.{Answer, a_ok, a_moved, a_traced, a_done, a_idle, a_no, a_waiting, a_swept}
 use Rattle.model.specs.Fields.{phase, set_phase, set_cursor, trace_count, inside, outside, state, acks, set_acks, tag, set_tag, class, set_kept_count, set_handed_count}
 use Rattle.model.specs.Segments.{set_segment_state, free_stack, part_stack, stacked, emptied, above, bitmap, set_bitmap, marks_of, in_use}
 use Rattle.model.specs.Tracing.{traced}
@@ -53,7 +53,7 @@ started g m =
 -- "11, not now: start outside idle". Request No. 1: "A start in idle with no full segment now opens a cycle over no segments."
 -- Request No. 5: "now needs a start with neither full nor part ones".
 abbrev pub start_in : Phase → Geometry → Mem → Answer × Mem
-start_in idle g m = (a-ok, started g m)
+start_in idle g m = (a_ok, started g m)
 start_in sync1 g m = (a_no 11, m)
 start_in sync2 g m = (a_no 11, m)
 start_in mark g m = (a_no 11, m)
@@ -76,14 +76,14 @@ waiting m (suc k) = one_if (eqb (state m k) inside && owes (phase m) (acks m k))
 
 -- "it answers waiting and how many; else the next phase, and moved"
 abbrev pub moved_or_waiting : ℕ → Mem → Phase → Answer × Mem
-moved_or_waiting zero m p = (a-moved, set_phase m p)
+moved_or_waiting zero m p = (a_moved, set_phase m p)
 moved_or_waiting (suc n) m p = (a_waiting (suc n), m)
 
 -- ---- step, in mark: "takes the last entered record .. With an empty stack: sweep, and moved."
 
 abbrev pub traces : Geometry → ℕ → Mem → Answer × Mem
-traces g zero m = (a-moved, set_phase m sweep)
-traces g (suc n) m = (a-traced, traced g m (trace_word m n - 1))
+traces g zero m = (a_moved, set_phase m sweep)
+traces g (suc n) m = (a_traced, traced g m (trace_word m n - 1))
 
 -- ---- step, in sweep: "the lowest condemned segment"
 
@@ -121,11 +121,11 @@ swept g m s = set_cursor (settled_by g m s) (suc s)
 
 -- "how many blocks in use became free": those in use before less those after. "With none left: idle, and done."
 abbrev pub sweeps : Geometry → Option ℕ → Mem → Answer × Mem
-sweeps g none m = (a-done, set_phase m idle)
+sweeps g none m = (a_done, set_phase m idle)
 sweeps g (some s) m = (a_swept s (in_use g m s - in_use g (swept g m s) s), swept g m s)
 
 abbrev pub step_in : Phase → Geometry → Mem → Answer × Mem
-step_in idle g m = (a-idle, m)
+step_in idle g m = (a_idle, m)
 step_in sync1 g m = moved_or_waiting (waiting (outside_answered g m mutator_count) mutator_count) (outside_answered g m mutator_count) sync2
 step_in sync2 g m = moved_or_waiting (waiting (outside_answered g m mutator_count) mutator_count) (outside_answered g m mutator_count) mark
 step_in mark g m = traces g (trace_count m) m

@@ -10,7 +10,7 @@ use Rattle.bitmap_search.specs.declared.Found.{Found}
 use Rattle.bitmap_search.specs.declared.Found.TheVariants.{Block, Nothing, Torn}
 use Rattle.bitmap_write.specs.Completed.{fresh}
 use Rattle.theory.specs.Phases.{black}
-use Rattle.theory.specs.Calls.{Answer, a-ok, a_no}
+use Rattle.theory.specs.Calls.{Answer, a_ok, a_no}
 use Rattle.model.specs.declared.SegmentState.TheVariants.{Held, Full}
 use Rattle.model.specs.Fields.{phase, acks, holding, set_holding, set_root, tag, class, place, owner, handed_count, set_handed_count}
 use Rattle.model.specs.Segments.{set_segment_state, free_stack, part_stack, count, top, pop, above, bitmap, set_bitmap, free}
@@ -64,7 +64,7 @@ handed_out g m k d c s b shape =
 
 -- the block at or after the place; a held segment always has one
 abbrev pub in_block : Geometry → Mem → Mem → Found → ℕ → ℕ → ℕ → ℕ → RecordShape → Answer × Mem
-in_block g m taken (Block b) k d c s shape = (a-ok, handed_out g taken k d c s b shape)
+in_block g m taken (Block b) k d c s shape = (a_ok, handed_out g taken k d c s b shape)
 in_block g m taken Nothing k d c s shape = (a_no 13, m)
 in_block g m taken Torn k d c s shape = (a_no 13, m)
 

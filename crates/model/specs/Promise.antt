@@ -5,7 +5,7 @@ use Rattle.std.proofs.Math.Option.{none, some}
 use Rattle.layout.specs.declared.Geometry.{Geometry}
 use Rattle.layout.specs.Geometry.{len, scratch_words, sheet_bytes, wrong_size}
 use Rattle.layout.specs.Mem.{Mem, mem_of, control_word}
-use Rattle.theory.specs.Calls.{Call, a-ok, a_num, a_flag, a_no}
+use Rattle.theory.specs.Calls.{Call, a_ok, a_num, a_flag, a_no}
 use Rattle.model.specs.declared.Answer.{Answer}
 use Rattle.model.specs.declared.Step.{Step}
 use Rattle.model.specs.declared.PhaseLook.{PhaseLook}
@@ -46,7 +46,7 @@ StepPromise = PromiseOf step_answer_of StepResult step_may_give step_of
 -- an opening is exact over memory of any content: "an opening .. only with 1"
 pub record OpenPromise (g : Geometry) (before : List ℕ) (r : Answer) (after : List ℕ) : Type 0 where
   pub sizes : wrong_size g (length before) ≡ true → (answer_of r ≡ a_no 1) × (after ≡ before)
-  pub exact : wrong_size g (length before) ≡ false → (answer_of r ≡ a-ok) × (mem_of g after ≡ opened g (mem_of g before))
+  pub exact : wrong_size g (length before) ≡ false → (answer_of r ≡ a_ok) × (mem_of g after ≡ opened g (mem_of g before))
 
 -- the look at the phase: its number; nothing changes
 abbrev pub PhasePromise : Geometry → List ℕ → PhaseLook → Type 0
@@ -56,9 +56,9 @@ PhasePromise g mem r = PromiseOf phase_answer_of (λ g. IsPhase) look_may_give (
 module _ (long : Geometry → ℕ) (shown : Geometry → Mem → List ℕ) where
   pub record OutputPromise (g : Geometry) (mem output : List ℕ) (r : Answer) (after : List ℕ) : Type 0 where
     pub sizes : (wrong_size g (length mem) ≡ true → answer_of r ≡ a_no 1) × ((length output ≡ long g → ⊥) → answer_of r ≡ a_no 1)
-    pub exact : wrong_size g (length mem) ≡ false → length output ≡ long g → Consistent g (mem_of g mem) → (answer_of r ≡ a-ok) × (after ≡ shown g (mem_of g mem))
+    pub exact : wrong_size g (length mem) ≡ false → length output ≡ long g → Consistent g (mem_of g mem) → (answer_of r ≡ a_ok) × (after ≡ shown g (mem_of g mem))
     pub torn : wrong_size g (length mem) ≡ false → length output ≡ long g → (n : ℕ) → refusal_of r ≡ some n → n ≡ 13
-    pub kind : refusal_of r ≡ none → answer_of r ≡ a-ok
+    pub kind : refusal_of r ≡ none → answer_of r ≡ a_ok
     pub unchanged : (n : ℕ) → refusal_of r ≡ some n → after ≡ output
 
 -- the look at the segments' states: the output, of as many words as the segment records, gets their words

@@ -3,7 +3,7 @@ use Rattle.std.specs.Prelude.{Bool, true, false, List, [], ◌∷◌, ℕ, eqb, 
 use Rattle.layout.specs.declared.Geometry.{Geometry}
 use Rattle.layout.specs.Geometry.{len, scratch_words, sheet_bytes}
 use Rattle.layout.specs.Mem.{Mem, mem_of, flat, control_word}
-use Rattle.theory.specs.Calls.{Call, a-ok, a-moved, a-traced, a-done, a-idle, a_num, a_flag, a_shape, a_no, a_waiting, a_swept}
+use Rattle.theory.specs.Calls.{Call, a_ok, a_moved, a_traced, a_done, a_idle, a_num, a_flag, a_shape, a_no, a_waiting, a_swept}
 use Rattle.model.specs.declared.Answer.{Answer}
 use Rattle.model.specs.declared.Answer.TheVariants.{Ok, Number, Same, Shape, Refused}
 use Rattle.model.specs.declared.Step.{Step}
@@ -34,27 +34,27 @@ pub data Command : Type 0 where
 
 -- an answer of a definition as the declared enum: a mutator's call and start give none of the results of step, and step none of theirs
 abbrev pub declared : theory.Answer → Answer
-declared a-ok = Ok
+declared a_ok = Ok
 declared (a_num v) = Number v
 declared (a_flag b) = Same b
 declared (a_shape s) = Shape s
 declared (a_no n) = Refused n
-declared a-moved = Ok
-declared a-traced = Ok
-declared a-done = Ok
-declared a-idle = Ok
+declared a_moved = Ok
+declared a_traced = Ok
+declared a_done = Ok
+declared a_idle = Ok
 declared (a_waiting n) = Ok
 declared (a_swept s f) = Ok
 
 abbrev pub declared_step : theory.Answer → Step
-declared_step a-moved = step_answer.Moved
-declared_step a-traced = step_answer.Traced
-declared_step a-done = step_answer.Done
-declared_step a-idle = step_answer.Idle
+declared_step a_moved = step_answer.Moved
+declared_step a_traced = step_answer.Traced
+declared_step a_done = step_answer.Done
+declared_step a_idle = step_answer.Idle
 declared_step (a_waiting n) = step_answer.Waiting n
 declared_step (a_swept s f) = step_answer.Swept s f
 declared_step (a_no n) = step_answer.Refused n
-declared_step a-ok = step_answer.Idle
+declared_step a_ok = step_answer.Idle
 declared_step (a_num v) = step_answer.Idle
 declared_step (a_flag b) = step_answer.Idle
 declared_step (a_shape s) = step_answer.Idle

@@ -3,7 +3,7 @@
 -- of the swept segment, after the freed one is taken by another class, after a second sweep, after a detach, and after sweeps of part segments (No. 5).
 use Rattle.std.specs.Prelude.{List, [], ◌∷◌}
 use Rattle.theory.specs.Phases.{idle, sync1, sweep}
-use Rattle.theory.specs.Calls.{c-attach, c-detach, c-check, c_leave, c_spawn, c_make, c_clear}
+use Rattle.theory.specs.Calls.{c_attach, c_detach, c_check, c_leave, c_spawn, c_make, c_clear}
 use Rattle.model.specs.declared.Step.TheVariants.{Moved, Traced, Swept, Done}
 use Rattle.model.specs.declared.SegmentState.TheVariants.{Free, Part, Held, Full, Condemned}
 use Rattle.model_cases.specs.Replies.{Line, ◌⇒◌, opening, start, step, look, counts, call, stepped, seen, words, ok}
@@ -12,7 +12,7 @@ abbrev pub counted : List Line
 counted =
     opening ⇒ ok
     ∷ counts ⇒ words (0 ∷ 0 ∷ 0 ∷ 0 ∷ 0 ∷ 0 ∷ 0 ∷ 0 ∷ 0 ∷ 0 ∷ 0 ∷ 0 ∷ [])
-    ∷ call (c-attach 0) ⇒ ok
+    ∷ call (c_attach 0) ⇒ ok
     -- classes 12, 13 and 11: four, two and eight blocks a segment
     ∷ call (c_make 0 0 0 600) ⇒ ok
     ∷ call (c_make 0 1 0 1024) ⇒ ok
@@ -33,9 +33,9 @@ counted =
     ∷ call (c_clear 0 7) ⇒ ok
     ∷ start ⇒ ok
     ∷ counts ⇒ words (0 ∷ 4 ∷ 4 ∷ 0 ∷ 2 ∷ 2 ∷ 0 ∷ 1 ∷ 1 ∷ 0 ∷ 1 ∷ 1 ∷ [])
-    ∷ call (c-check 0) ⇒ ok
+    ∷ call (c_check 0) ⇒ ok
     ∷ step ⇒ stepped Moved
-    ∷ call (c-check 0) ⇒ ok
+    ∷ call (c_check 0) ⇒ ok
     ∷ step ⇒ stepped Moved
     ∷ step ⇒ stepped Traced
     ∷ step ⇒ stepped Traced
@@ -66,9 +66,9 @@ counted =
     ∷ call (c_clear 0 0) ⇒ ok
     ∷ call (c_clear 0 3) ⇒ ok
     ∷ start ⇒ ok
-    ∷ call (c-check 0) ⇒ ok
+    ∷ call (c_check 0) ⇒ ok
     ∷ step ⇒ stepped Moved
-    ∷ call (c-check 0) ⇒ ok
+    ∷ call (c_check 0) ⇒ ok
     ∷ step ⇒ stepped Moved
     ∷ step ⇒ stepped Traced
     ∷ step ⇒ stepped Traced
@@ -85,7 +85,7 @@ counted =
     -- the record of class 11 gets another mutator, which goes outside; a detach moves no count
     ∷ call (c_spawn 1 0 2) ⇒ ok
     ∷ call (c_leave 1) ⇒ ok
-    ∷ call (c-detach 0) ⇒ ok
+    ∷ call (c_detach 0) ⇒ ok
     ∷ look ⇒ seen idle (Part 12 0 ∷ Full 13 ∷ Part 11 1 ∷ Part 13 1 ∷ []) []
     ∷ counts ⇒ words (2 ∷ 0 ∷ 2 ∷ 2 ∷ 0 ∷ 2 ∷ 0 ∷ 1 ∷ 1 ∷ 0 ∷ 1 ∷ 1 ∷ [])
     -- a start condemns part segments, places kept: it moves no count

@@ -3,7 +3,7 @@
 use Rattle.std.specs.Prelude.{true, List, [], ◌∷◌}
 use Rattle.classes.specs.Record.{of_counts}
 use Rattle.theory.specs.Phases.{idle, sweep}
-use Rattle.theory.specs.Calls.{c-attach, c-detach, c-check, c_make, c_load, c_store, c_clear, c_put, c_get, c_same, c_shape, a_num, a_flag, a_shape}
+use Rattle.theory.specs.Calls.{c_attach, c_detach, c_check, c_make, c_load, c_store, c_clear, c_put, c_get, c_same, c_shape, a_num, a_flag, a_shape}
 use Rattle.model.specs.declared.Step.TheVariants.{Moved, Traced, Swept, Done}
 use Rattle.model.specs.declared.SegmentState.TheVariants.{Free, Part, Held, Full}
 use Rattle.model_cases.specs.Replies.{Line, ◌⇒◌, opening, start, step, look, call, answer, stepped, seen, ok, no}
@@ -12,7 +12,7 @@ use Rattle.model_cases.specs.Replies.{Line, ◌⇒◌, opening, start, step, loo
 abbrev pub long : List Line
 long =
     opening ⇒ ok
-    ∷ call (c-attach 0) ⇒ ok
+    ∷ call (c_attach 0) ⇒ ok
     -- one block a segment: 4,095 fields, the first and the last value, the one pointer, and none past them
     ∷ call (c_make 0 0 1 4094) ⇒ ok
     ∷ look ⇒ seen idle (Full 14 ∷ Free ∷ Free ∷ []) []
@@ -41,9 +41,9 @@ long =
     ∷ call (c_clear 0 2) ⇒ ok
     ∷ call (c_clear 0 3) ⇒ ok
     ∷ start ⇒ ok
-    ∷ call (c-check 0) ⇒ ok
+    ∷ call (c_check 0) ⇒ ok
     ∷ step ⇒ stepped Moved
-    ∷ call (c-check 0) ⇒ ok
+    ∷ call (c_check 0) ⇒ ok
     ∷ step ⇒ stepped Moved
     ∷ step ⇒ stepped Traced
     ∷ step ⇒ stepped Traced
@@ -62,10 +62,10 @@ long =
 abbrev pub long_detach : List Line
 long_detach =
     opening ⇒ ok
-    ∷ call (c-attach 0) ⇒ ok
+    ∷ call (c_attach 0) ⇒ ok
     ∷ call (c_make 0 0 0 1) ⇒ ok
     ∷ call (c_make 0 1 0 1024) ⇒ ok
     ∷ call (c_make 0 2 0 2048) ⇒ ok
-    ∷ call (c-detach 0) ⇒ ok
+    ∷ call (c_detach 0) ⇒ ok
     ∷ look ⇒ seen idle (Part 3 1 ∷ Part 13 1 ∷ Full 14 ∷ []) []
     ∷ []

@@ -2,19 +2,19 @@
 -- No call gives 12 any more (request No. 1), 13 does not come up here, and 1 is not the model's.
 use Rattle.std.specs.Prelude.{true, false, List, [], ◌∷◌}
 use Rattle.classes.specs.Record.{of_counts}
-use Rattle.theory.specs.Calls.{c-attach, c-detach, c-check, c_leave, c_enter, c_spawn, c_make, c_load, c_store, c_copy, c_clear, c_put, c_get, c_same, c_shape, a_num, a_flag, a_shape}
+use Rattle.theory.specs.Calls.{c_attach, c_detach, c_check, c_leave, c_enter, c_spawn, c_make, c_load, c_store, c_copy, c_clear, c_put, c_get, c_same, c_shape, a_num, a_flag, a_shape}
 use Rattle.model_cases.specs.Replies.{Line, ◌⇒◌, opening, start, call, answer, ok, no}
 
 abbrev pub refusals : List Line
 refusals =
     opening ⇒ ok
     -- 2, 3 and 4, and a spawn's two numbers
-    ∷ call (c-attach 32) ⇒ no 2
-    ∷ call (c-check 32) ⇒ no 2
-    ∷ call (c-check 0) ⇒ no 4
+    ∷ call (c_attach 32) ⇒ no 2
+    ∷ call (c_check 32) ⇒ no 2
+    ∷ call (c_check 0) ⇒ no 4
     ∷ call (c_enter 0) ⇒ no 4
-    ∷ call (c-attach 0) ⇒ ok
-    ∷ call (c-attach 0) ⇒ no 3
+    ∷ call (c_attach 0) ⇒ ok
+    ∷ call (c_attach 0) ⇒ no 3
     ∷ call (c_spawn 0 32 0) ⇒ no 2
     ∷ call (c_spawn 0 7 16) ⇒ no 3
     ∷ call (c_spawn 1 7 16) ⇒ no 4
@@ -33,7 +33,7 @@ refusals =
     ∷ call (c_make 0 0 4294967295 4294967295) ⇒ no 9
     -- in idle, the segment free: a cycle over nothing begins. From here on the phase is roll 1: "each script call answers what it would answer over
     -- the same heap in idle, save 11"
-    ∷ call (c-attach 1) ⇒ ok
+    ∷ call (c_attach 1) ⇒ ok
     ∷ start ⇒ ok
     -- 8, at the record's ends
     ∷ call (c_make 0 0 2 510) ⇒ ok
@@ -63,11 +63,11 @@ refusals =
     ∷ call (c_make 0 3 2 510) ⇒ ok
     ∷ call (c_make 0 4 2 510) ⇒ no 10
     ∷ start ⇒ no 11
-    ∷ call (c-attach 2) ⇒ no 11
+    ∷ call (c_attach 2) ⇒ no 11
     ∷ call (c_spawn 2 0 0) ⇒ no 11
-    ∷ call (c-detach 0) ⇒ no 11
-    ∷ call (c-attach 0) ⇒ no 3
-    ∷ call (c-detach 2) ⇒ no 4
+    ∷ call (c_detach 0) ⇒ no 11
+    ∷ call (c_attach 0) ⇒ no 3
+    ∷ call (c_detach 2) ⇒ no 4
     ∷ call (c_leave 1) ⇒ ok
-    ∷ call (c-detach 1) ⇒ no 5
+    ∷ call (c_detach 1) ⇒ no 5
     ∷ []

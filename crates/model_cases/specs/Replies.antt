@@ -10,7 +10,7 @@ use Rattle.bitmap_search.specs.Scan.{next_free}
 use Rattle.bitmap_write.specs.Rebuild.{word_from, packed, full_bit, summed, rebuilt}
 use Rattle.bitmap_write.specs.Completed.{padded, completed, cleared, copied, fresh, adopted}
 use Rattle.theory.specs.Phases.{Phase}
-use Rattle.theory.specs.Calls.{Call, Answer, a-ok, a_no, require, if_record}
+use Rattle.theory.specs.Calls.{Call, Answer, a_ok, a_no, require, if_record}
 use Rattle.model.specs.declared.Step.{Step}
 use Rattle.model.specs.declared.SegmentState.{SegmentState}
 use Rattle.model.specs.Answers.{step_answer_of}
@@ -75,7 +75,7 @@ block_bits g m s bit = packed (λ b. pick (ltb b (blocks_in g (class m s))) (bit
 
 -- one input: its reply, and the memory after it
 abbrev pub does : Geometry → Mem → Input → Reply × Mem
-does g m opening = (answer a-ok, opened g m)
+does g m opening = (answer a_ok, opened g m)
 does g m start = answered (start_of g m)
 does g m step = answered (step_of g m)
 does g m look = (shown g m, m)
@@ -134,7 +134,7 @@ abbrev pub Holds : ℕ → List Line → Type 0
 Holds n ls = replies (geometry n) (sevens (geometry n)) (inputs ls) ≡ outputs ls
 
 abbrev pub ok : Reply
-ok = answer a-ok
+ok = answer a_ok
 
 -- refused with a number
 abbrev pub no : ℕ → Reply

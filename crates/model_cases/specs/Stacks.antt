@@ -1,7 +1,7 @@
 -- The order of the stacks, and segments that fill in a cycle, with looks at the phase, the segments and the trace stack between the calls.
 use Rattle.std.specs.Prelude.{true, List, [], ◌∷◌}
 use Rattle.theory.specs.Phases.{idle, sync1, mark, sweep}
-use Rattle.theory.specs.Calls.{c-attach, c-detach, c-check, c_make, c_clear, c_same, a_flag}
+use Rattle.theory.specs.Calls.{c_attach, c_detach, c_check, c_make, c_clear, c_same, a_flag}
 use Rattle.model.specs.declared.Step.TheVariants.{Moved, Swept, Done}
 use Rattle.model.specs.declared.SegmentState.TheVariants.{Free, Part, Held, Full, Condemned}
 use Rattle.model_cases.specs.Replies.{Line, ◌⇒◌, opening, start, step, look, call, answer, stepped, seen, ok, no}
@@ -10,19 +10,19 @@ use Rattle.model_cases.specs.Replies.{Line, ◌⇒◌, opening, start, step, loo
 abbrev pub stacks : List Line
 stacks =
     opening ⇒ ok
-    ∷ call (c-attach 0) ⇒ ok
+    ∷ call (c_attach 0) ⇒ ok
     ∷ call (c_make 0 0 1 511) ⇒ ok
     ∷ look ⇒ seen idle (Held 12 1 0 ∷ Free ∷ []) []
-    ∷ call (c-detach 0) ⇒ ok
+    ∷ call (c_detach 0) ⇒ ok
     ∷ look ⇒ seen idle (Part 12 1 ∷ Free ∷ []) []
-    ∷ call (c-attach 5) ⇒ ok
+    ∷ call (c_attach 5) ⇒ ok
     ∷ call (c_make 5 0 1 511) ⇒ ok
     ∷ call (c_make 5 1 1 300) ⇒ ok
     ∷ look ⇒ seen idle (Held 12 2 5 ∷ Held 11 1 5 ∷ []) []
     ∷ call (c_make 5 2 0 0) ⇒ no 10
-    ∷ call (c-detach 5) ⇒ ok
+    ∷ call (c_detach 5) ⇒ ok
     ∷ look ⇒ seen idle (Part 12 2 ∷ Part 11 1 ∷ []) []
-    ∷ call (c-attach 5) ⇒ ok
+    ∷ call (c_attach 5) ⇒ ok
     ∷ call (c_same 5 0 1) ⇒ answer (a_flag true)
     ∷ call (c_make 5 0 0 0) ⇒ no 10
     ∷ call (c_make 5 0 300 0) ⇒ ok
@@ -30,15 +30,15 @@ stacks =
     -- opened anew, with the words that are there
     ∷ opening ⇒ ok
     ∷ look ⇒ seen idle (Free ∷ Free ∷ []) []
-    ∷ call (c-check 5) ⇒ no 4
-    ∷ call (c-attach 0) ⇒ ok
+    ∷ call (c_check 5) ⇒ no 4
+    ∷ call (c_attach 0) ⇒ ok
     ∷ call (c_make 0 0 1 511) ⇒ ok
-    ∷ call (c-attach 1) ⇒ ok
+    ∷ call (c_attach 1) ⇒ ok
     ∷ call (c_make 1 0 1 511) ⇒ ok
     ∷ look ⇒ seen idle (Held 12 1 0 ∷ Held 12 1 1 ∷ []) []
-    ∷ call (c-detach 1) ⇒ ok
-    ∷ call (c-detach 0) ⇒ ok
-    ∷ call (c-attach 2) ⇒ ok
+    ∷ call (c_detach 1) ⇒ ok
+    ∷ call (c_detach 0) ⇒ ok
+    ∷ call (c_attach 2) ⇒ ok
     ∷ call (c_make 2 0 1 511) ⇒ ok
     ∷ look ⇒ seen idle (Held 12 2 2 ∷ Part 12 1 ∷ []) []
     ∷ []
@@ -48,7 +48,7 @@ stacks =
 abbrev pub fills : List Line
 fills =
     opening ⇒ ok
-    ∷ call (c-attach 0) ⇒ ok
+    ∷ call (c_attach 0) ⇒ ok
     ∷ call (c_make 0 0 1 511) ⇒ ok
     ∷ call (c_make 0 0 1 511) ⇒ ok
     ∷ call (c_make 0 0 1 511) ⇒ ok
@@ -56,9 +56,9 @@ fills =
     ∷ look ⇒ seen idle (Full 12 ∷ Free ∷ []) []
     ∷ call (c_clear 0 0) ⇒ ok
     ∷ start ⇒ ok
-    ∷ call (c-check 0) ⇒ ok
+    ∷ call (c_check 0) ⇒ ok
     ∷ step ⇒ stepped Moved
-    ∷ call (c-check 0) ⇒ ok
+    ∷ call (c_check 0) ⇒ ok
     ∷ step ⇒ stepped Moved
     ∷ call (c_make 0 0 1 511) ⇒ ok
     ∷ call (c_make 0 0 1 511) ⇒ ok
@@ -78,9 +78,9 @@ fills =
     ∷ look ⇒ seen sync1 (Full 12 ∷ Condemned 12 4 ∷ []) []
     ∷ call (c_make 0 0 1 511) ⇒ no 10
     ∷ call (c_clear 0 0) ⇒ ok
-    ∷ call (c-check 0) ⇒ ok
+    ∷ call (c_check 0) ⇒ ok
     ∷ step ⇒ stepped Moved
-    ∷ call (c-check 0) ⇒ ok
+    ∷ call (c_check 0) ⇒ ok
     ∷ step ⇒ stepped Moved
     ∷ step ⇒ stepped Moved
     ∷ step ⇒ stepped (Swept 1 4)
@@ -93,9 +93,9 @@ fills =
     ∷ call (c_clear 0 0) ⇒ ok
     ∷ start ⇒ ok
     ∷ look ⇒ seen sync1 (Condemned 12 4 ∷ Condemned 12 4 ∷ []) []
-    ∷ call (c-check 0) ⇒ ok
+    ∷ call (c_check 0) ⇒ ok
     ∷ step ⇒ stepped Moved
-    ∷ call (c-check 0) ⇒ ok
+    ∷ call (c_check 0) ⇒ ok
     ∷ step ⇒ stepped Moved
     ∷ step ⇒ stepped Moved
     ∷ step ⇒ stepped (Swept 0 4)

@@ -2,7 +2,7 @@
 -- to a segment: a reference is 1 + the index of a header, so those of segment 0 are 1, 1025, 2049 and 3073.
 use Rattle.std.specs.Prelude.{List, [], ◌∷◌}
 use Rattle.theory.specs.Phases.{idle, sync1, sync2, mark, sweep}
-use Rattle.theory.specs.Calls.{c-attach, c-detach, c-check, c_leave, c_enter, c_spawn, c_make, c_store, c_clear}
+use Rattle.theory.specs.Calls.{c_attach, c_detach, c_check, c_leave, c_enter, c_spawn, c_make, c_store, c_clear}
 use Rattle.model.specs.declared.Step.TheVariants.{Waiting, Moved, Traced, Swept, Done, Idle}
 use Rattle.model.specs.declared.SegmentState.TheVariants.{Free, Part, Held, Full, Condemned}
 use Rattle.model_cases.specs.Replies.{Line, ◌⇒◌, opening, start, step, look, call, stepped, seen, ok, no}
@@ -13,7 +13,7 @@ cycle =
     opening ⇒ ok
     ∷ look ⇒ seen idle (Free ∷ []) []
     ∷ step ⇒ stepped Idle
-    ∷ call (c-attach 0) ⇒ ok
+    ∷ call (c_attach 0) ⇒ ok
     ∷ call (c_make 0 0 1 511) ⇒ ok
     ∷ look ⇒ seen idle (Held 12 1 0 ∷ []) []
     ∷ call (c_make 0 1 1 511) ⇒ ok
@@ -26,11 +26,11 @@ cycle =
     ∷ start ⇒ ok
     ∷ look ⇒ seen sync1 (Condemned 12 4 ∷ []) []
     ∷ step ⇒ stepped (Waiting 1)
-    ∷ call (c-check 0) ⇒ ok
+    ∷ call (c_check 0) ⇒ ok
     ∷ look ⇒ seen sync1 (Condemned 12 4 ∷ []) []
     ∷ step ⇒ stepped Moved
     ∷ step ⇒ stepped (Waiting 1)
-    ∷ call (c-check 0) ⇒ ok
+    ∷ call (c_check 0) ⇒ ok
     ∷ look ⇒ seen sync2 (Condemned 12 4 ∷ []) (1 ∷ 3073 ∷ [])
     ∷ step ⇒ stepped Moved
     ∷ step ⇒ stepped Traced
@@ -52,7 +52,7 @@ cycle =
 abbrev pub barriers : List Line
 barriers =
     opening ⇒ ok
-    ∷ call (c-attach 0) ⇒ ok
+    ∷ call (c_attach 0) ⇒ ok
     ∷ call (c_make 0 0 1 511) ⇒ ok
     ∷ call (c_make 0 1 1 511) ⇒ ok
     ∷ call (c_make 0 2 1 511) ⇒ ok
@@ -64,7 +64,7 @@ barriers =
     ∷ call (c_store 0 2 0 3) ⇒ ok
     ∷ look ⇒ seen sync1 (Condemned 12 4 ∷ []) []
     -- after it: the new value, then the old
-    ∷ call (c-check 0) ⇒ ok
+    ∷ call (c_check 0) ⇒ ok
     ∷ call (c_store 0 2 0 0) ⇒ ok
     ∷ look ⇒ seen sync1 (Condemned 12 4 ∷ []) (1 ∷ 3073 ∷ [])
     ∷ call (c_store 0 2 0 15) ⇒ ok
@@ -72,7 +72,7 @@ barriers =
     ∷ step ⇒ stepped Moved
     ∷ call (c_store 0 3 0 2) ⇒ ok
     ∷ look ⇒ seen sync2 (Condemned 12 4 ∷ []) (1 ∷ 3073 ∷ 2049 ∷ [])
-    ∷ call (c-check 0) ⇒ ok
+    ∷ call (c_check 0) ⇒ ok
     ∷ step ⇒ stepped Moved
     -- in mark: the old value
     ∷ look ⇒ seen mark (Condemned 12 4 ∷ []) (1 ∷ 3073 ∷ 2049 ∷ [])
@@ -114,9 +114,9 @@ barriers =
     ∷ call (c_clear 0 2) ⇒ ok
     ∷ call (c_clear 0 3) ⇒ ok
     ∷ start ⇒ ok
-    ∷ call (c-check 0) ⇒ ok
+    ∷ call (c_check 0) ⇒ ok
     ∷ step ⇒ stepped Moved
-    ∷ call (c-check 0) ⇒ ok
+    ∷ call (c_check 0) ⇒ ok
     ∷ step ⇒ stepped Moved
     ∷ step ⇒ stepped Moved
     ∷ step ⇒ stepped (Swept 0 4)
@@ -129,7 +129,7 @@ barriers =
 abbrev pub mutators : List Line
 mutators =
     opening ⇒ ok
-    ∷ call (c-attach 0) ⇒ ok
+    ∷ call (c_attach 0) ⇒ ok
     ∷ call (c_make 0 0 3 509) ⇒ ok
     ∷ call (c_make 0 1 1 511) ⇒ ok
     ∷ call (c_make 0 2 1 511) ⇒ ok
@@ -138,13 +138,13 @@ mutators =
     ∷ call (c_store 0 0 1 2) ⇒ ok
     ∷ call (c_clear 0 2) ⇒ ok
     ∷ call (c_clear 0 3) ⇒ ok
-    ∷ call (c-attach 1) ⇒ ok
+    ∷ call (c_attach 1) ⇒ ok
     ∷ call (c_leave 1) ⇒ ok
     ∷ call (c_spawn 2 0 1) ⇒ ok
     ∷ start ⇒ ok
     -- first handshake: step answers for mutator 1
     ∷ step ⇒ stepped (Waiting 2)
-    ∷ call (c-check 0) ⇒ ok
+    ∷ call (c_check 0) ⇒ ok
     ∷ step ⇒ stepped (Waiting 1)
     ∷ call (c_leave 2) ⇒ ok
     ∷ call (c_enter 1) ⇒ ok
@@ -154,9 +154,9 @@ mutators =
     ∷ look ⇒ seen sync2 (Condemned 12 4 ∷ Held 9 1 0 ∷ []) []
     ∷ step ⇒ stepped (Waiting 2)
     ∷ look ⇒ seen sync2 (Condemned 12 4 ∷ Held 9 1 0 ∷ []) (1025 ∷ [])
-    ∷ call (c-check 1) ⇒ ok
+    ∷ call (c_check 1) ⇒ ok
     ∷ step ⇒ stepped (Waiting 1)
-    ∷ call (c-check 0) ⇒ ok
+    ∷ call (c_check 0) ⇒ ok
     ∷ look ⇒ seen sync2 (Condemned 12 4 ∷ Held 9 1 0 ∷ []) (1025 ∷ 1 ∷ 4097 ∷ [])
     -- born marked: the store enters neither it nor the one on the stack
     ∷ call (c_make 0 5 1 63) ⇒ ok
@@ -164,7 +164,7 @@ mutators =
     ∷ call (c_store 0 0 2 5) ⇒ ok
     ∷ step ⇒ stepped Moved
     -- mark: who comes now counts as having given both answers
-    ∷ call (c-attach 3) ⇒ ok
+    ∷ call (c_attach 3) ⇒ ok
     ∷ call (c_make 3 0 1 511) ⇒ no 10
     ∷ call (c_spawn 4 0 5) ⇒ ok
     ∷ look ⇒ seen mark (Condemned 12 4 ∷ Held 9 2 0 ∷ []) (1025 ∷ 1 ∷ 4097 ∷ [])
@@ -181,19 +181,19 @@ mutators =
     ∷ look ⇒ seen idle (Full 12 ∷ Held 9 2 0 ∷ []) []
     -- the next cycle: a record of segment 0 is dropped, and every answer is owed anew
     ∷ call (c_enter 2) ⇒ ok
-    ∷ call (c-detach 2) ⇒ ok
+    ∷ call (c_detach 2) ⇒ ok
     ∷ call (c_clear 0 1) ⇒ ok
     ∷ start ⇒ ok
     ∷ step ⇒ stepped (Waiting 4)
-    ∷ call (c-check 4) ⇒ ok
-    ∷ call (c-check 3) ⇒ ok
-    ∷ call (c-check 1) ⇒ ok
-    ∷ call (c-check 0) ⇒ ok
+    ∷ call (c_check 4) ⇒ ok
+    ∷ call (c_check 3) ⇒ ok
+    ∷ call (c_check 1) ⇒ ok
+    ∷ call (c_check 0) ⇒ ok
     ∷ step ⇒ stepped Moved
-    ∷ call (c-check 4) ⇒ ok
-    ∷ call (c-check 3) ⇒ ok
-    ∷ call (c-check 1) ⇒ ok
-    ∷ call (c-check 0) ⇒ ok
+    ∷ call (c_check 4) ⇒ ok
+    ∷ call (c_check 3) ⇒ ok
+    ∷ call (c_check 1) ⇒ ok
+    ∷ call (c_check 0) ⇒ ok
     ∷ look ⇒ seen sync2 (Condemned 12 4 ∷ Held 9 2 0 ∷ []) (4225 ∷ 1 ∷ 4097 ∷ [])
     ∷ step ⇒ stepped Moved
     ∷ step ⇒ stepped Traced
@@ -207,6 +207,6 @@ mutators =
     ∷ look ⇒ seen idle (Part 12 0 ∷ Held 9 2 0 ∷ []) []
     ∷ call (c_make 1 1 1 511) ⇒ ok
     ∷ look ⇒ seen idle (Full 12 ∷ Held 9 2 0 ∷ []) []
-    ∷ call (c-detach 0) ⇒ ok
+    ∷ call (c_detach 0) ⇒ ok
     ∷ look ⇒ seen idle (Full 12 ∷ Part 9 2 ∷ []) []
     ∷ []

@@ -5,7 +5,7 @@ use Rattle.std.specs.Prelude.{true, List, [], ◌∷◌, ℕ, eqb}
 use Rattle.std.proofs.Math.Option.{Option, none, some}
 use Rattle.basics.specs.Pick.{pick}
 use Rattle.theory.specs.Phases.{idle, sync1, sync2, mark, sweep}
-use Rattle.theory.specs.Calls.{c-attach, c-detach, c-check, c_leave, c_enter, c_make, c_load, c_store, c_clear, c_put, c_get, c_same, a_num, a_flag}
+use Rattle.theory.specs.Calls.{c_attach, c_detach, c_check, c_leave, c_enter, c_make, c_load, c_store, c_clear, c_put, c_get, c_same, a_num, a_flag}
 use Rattle.model.specs.declared.Step.TheVariants.{Waiting, Moved, Traced, Swept, Done, Idle}
 use Rattle.model.specs.declared.SegmentState.TheVariants.{Free, Part, Held, Full, Condemned}
 use Rattle.model.specs.Answers.{refusal_in}
@@ -40,7 +40,7 @@ nobody =
 abbrev pub inside : List Line
 inside =
     opening ⇒ ok
-    ∷ call (c-attach 0) ⇒ ok
+    ∷ call (c_attach 0) ⇒ ok
     ∷ call (c_make 0 0 1 63) ⇒ ok
     ∷ call (c_put 0 0 0 5) ⇒ ok
     ∷ call (c_store 0 0 0 0) ⇒ ok
@@ -53,25 +53,25 @@ inside =
     ∷ look ⇒ seen sync1 (Held 9 2 0 ∷ Free ∷ []) []
     -- first handshake: before its answer a store enters nothing
     ∷ step ⇒ stepped (Waiting 1)
-    ∷ call (c-attach 1) ⇒ no 11
+    ∷ call (c_attach 1) ⇒ no 11
     ∷ call (c_make 0 1 1 63) ⇒ ok
     ∷ call (c_store 0 1 0 0) ⇒ ok
     ∷ call (c_get 0 0 0) ⇒ answer (a_num 5)
     ∷ look ⇒ seen sync1 (Held 9 3 0 ∷ Free ∷ []) []
-    ∷ call (c-check 0) ⇒ ok
+    ∷ call (c_check 0) ⇒ ok
     ∷ step ⇒ stepped Moved
     -- second handshake: a store enters the new value, and the second answer the roots
     ∷ step ⇒ stepped (Waiting 1)
-    ∷ call (c-attach 1) ⇒ no 11
+    ∷ call (c_attach 1) ⇒ no 11
     ∷ call (c_make 0 2 1 63) ⇒ ok
     ∷ call (c_store 0 2 0 1) ⇒ ok
     ∷ call (c_get 0 0 0) ⇒ answer (a_num 5)
     ∷ look ⇒ seen sync2 (Held 9 4 0 ∷ Free ∷ []) (257 ∷ [])
-    ∷ call (c-check 0) ⇒ ok
+    ∷ call (c_check 0) ⇒ ok
     ∷ look ⇒ seen sync2 (Held 9 4 0 ∷ Free ∷ []) (257 ∷ 1 ∷ 385 ∷ [])
     ∷ step ⇒ stepped Moved
     -- mark: the new record is born marked
-    ∷ call (c-attach 1) ⇒ ok
+    ∷ call (c_attach 1) ⇒ ok
     ∷ call (c_make 0 3 1 63) ⇒ ok
     ∷ call (c_store 0 3 0 2) ⇒ ok
     ∷ call (c_get 0 0 0) ⇒ answer (a_num 5)
@@ -82,7 +82,7 @@ inside =
     ∷ look ⇒ seen mark (Held 9 5 0 ∷ Free ∷ []) []
     ∷ step ⇒ stepped Moved
     -- sweep: the first step is done
-    ∷ call (c-attach 2) ⇒ ok
+    ∷ call (c_attach 2) ⇒ ok
     ∷ call (c_make 0 4 1 63) ⇒ ok
     ∷ call (c_store 0 4 0 3) ⇒ ok
     ∷ call (c_get 0 0 0) ⇒ answer (a_num 5)
@@ -110,9 +110,9 @@ inside =
 abbrev pub unfilled : List Line
 unfilled =
     opening ⇒ ok
-    ∷ call (c-attach 0) ⇒ ok
+    ∷ call (c_attach 0) ⇒ ok
     ∷ call (c_make 0 0 1 511) ⇒ ok
-    ∷ call (c-attach 1) ⇒ ok
+    ∷ call (c_attach 1) ⇒ ok
     ∷ call (c_make 1 0 1 63) ⇒ ok
     ∷ look ⇒ seen idle (Held 12 1 0 ∷ Held 9 1 1 ∷ Free ∷ []) []
     ∷ start ⇒ ok
@@ -130,7 +130,7 @@ unfilled =
     ∷ call (c_enter 0) ⇒ ok
     ∷ call (c_make 0 3 1 511) ⇒ ok
     ∷ call (c_enter 1) ⇒ ok
-    ∷ call (c-detach 1) ⇒ ok
+    ∷ call (c_detach 1) ⇒ ok
     ∷ step ⇒ stepped Traced
     ∷ step ⇒ stepped Traced
     ∷ step ⇒ stepped Traced

@@ -2,7 +2,7 @@
 -- no script takes it before its sweep". Records of 600 values are of class 12, four to a segment, 1024 words apart.
 use Rattle.std.specs.Prelude.{List, [], ◌∷◌}
 use Rattle.theory.specs.Phases.{idle, sync1, sync2, mark, sweep}
-use Rattle.theory.specs.Calls.{c-attach, c-detach, c-check, c_spawn, c_make, c_store}
+use Rattle.theory.specs.Calls.{c_attach, c_detach, c_check, c_spawn, c_make, c_store}
 use Rattle.model.specs.declared.Step.TheVariants.{Moved, Traced, Swept, Done}
 use Rattle.model.specs.declared.SegmentState.TheVariants.{Free, Part, Held, Full, Condemned}
 use Rattle.model_cases.specs.Replies.{Line, ◌⇒◌, opening, start, step, look, counts, call, stepped, seen, words, ok, no}
@@ -12,21 +12,21 @@ use Rattle.model_cases.specs.Replies.{Line, ◌⇒◌, opening, start, step, loo
 abbrev pub long_after_short : List Line
 long_after_short =
     opening ⇒ ok
-    ∷ call (c-attach 0) ⇒ ok
+    ∷ call (c_attach 0) ⇒ ok
     ∷ call (c_make 0 0 1 63) ⇒ ok
     ∷ call (c_make 0 1 1 63) ⇒ ok
     ∷ call (c_make 0 2 1 63) ⇒ ok
-    ∷ call (c-detach 0) ⇒ ok
+    ∷ call (c_detach 0) ⇒ ok
     ∷ look ⇒ seen idle (Part 9 3 ∷ []) []
-    ∷ call (c-attach 1) ⇒ ok
+    ∷ call (c_attach 1) ⇒ ok
     ∷ call (c_make 1 0 0 4095) ⇒ no 10
     ∷ start ⇒ ok
     ∷ look ⇒ seen sync1 (Condemned 9 3 ∷ []) []
     -- a short one has none before the sweep either
     ∷ call (c_make 1 0 1 63) ⇒ no 10
-    ∷ call (c-check 1) ⇒ ok
+    ∷ call (c_check 1) ⇒ ok
     ∷ step ⇒ stepped Moved
-    ∷ call (c-check 1) ⇒ ok
+    ∷ call (c_check 1) ⇒ ok
     ∷ step ⇒ stepped Moved
     ∷ step ⇒ stepped Moved
     ∷ step ⇒ stepped (Swept 0 3)
@@ -41,10 +41,10 @@ long_after_short =
 abbrev pub swept_to_part : List Line
 swept_to_part =
     opening ⇒ ok
-    ∷ call (c-attach 0) ⇒ ok
+    ∷ call (c_attach 0) ⇒ ok
     ∷ call (c_make 0 0 0 600) ⇒ ok
     ∷ call (c_make 0 1 0 600) ⇒ ok
-    ∷ call (c-attach 1) ⇒ ok
+    ∷ call (c_attach 1) ⇒ ok
     ∷ call (c_make 1 0 2 600) ⇒ ok
     ∷ call (c_make 1 1 0 600) ⇒ ok
     ∷ call (c_make 1 2 0 600) ⇒ ok
@@ -55,20 +55,20 @@ swept_to_part =
     ∷ call (c_spawn 3 1 0) ⇒ ok
     ∷ call (c_make 2 1 0 300) ⇒ ok
     ∷ call (c_make 2 1 0 300) ⇒ ok
-    ∷ call (c-detach 1) ⇒ ok
-    ∷ call (c-detach 0) ⇒ ok
+    ∷ call (c_detach 1) ⇒ ok
+    ∷ call (c_detach 0) ⇒ ok
     ∷ look ⇒ seen idle (Part 12 2 ∷ Part 12 3 ∷ Held 11 2 2 ∷ []) []
     ∷ start ⇒ ok
     ∷ look ⇒ seen sync1 (Condemned 12 2 ∷ Condemned 12 3 ∷ Held 11 2 2 ∷ []) []
     ∷ counts ⇒ words (0 ∷ 2 ∷ 2 ∷ 0 ∷ 3 ∷ 3 ∷ 0 ∷ 2 ∷ 2 ∷ [])
     -- "I count a make refused for that as lack of room": in each phase
     ∷ call (c_make 2 2 0 600) ⇒ no 10
-    ∷ call (c-check 2) ⇒ ok
-    ∷ call (c-check 3) ⇒ ok
+    ∷ call (c_check 2) ⇒ ok
+    ∷ call (c_check 3) ⇒ ok
     ∷ step ⇒ stepped Moved
     ∷ call (c_make 2 2 0 600) ⇒ no 10
-    ∷ call (c-check 2) ⇒ ok
-    ∷ call (c-check 3) ⇒ ok
+    ∷ call (c_check 2) ⇒ ok
+    ∷ call (c_check 3) ⇒ ok
     ∷ look ⇒ seen sync2 (Condemned 12 2 ∷ Condemned 12 3 ∷ Held 11 2 2 ∷ []) (1 ∷ 8705 ∷ 4097 ∷ [])
     ∷ step ⇒ stepped Moved
     ∷ call (c_make 2 2 0 600) ⇒ no 10
@@ -99,26 +99,26 @@ swept_to_part =
 abbrev pub part_in_cycle : List Line
 part_in_cycle =
     opening ⇒ ok
-    ∷ call (c-attach 0) ⇒ ok
+    ∷ call (c_attach 0) ⇒ ok
     ∷ call (c_make 0 0 0 600) ⇒ ok
-    ∷ call (c-attach 1) ⇒ ok
+    ∷ call (c_attach 1) ⇒ ok
     ∷ call (c_make 1 0 0 600) ⇒ ok
-    ∷ call (c-detach 0) ⇒ ok
+    ∷ call (c_detach 0) ⇒ ok
     ∷ start ⇒ ok
     ∷ look ⇒ seen sync1 (Condemned 12 1 ∷ Held 12 1 1 ∷ []) []
-    ∷ call (c-check 1) ⇒ ok
+    ∷ call (c_check 1) ⇒ ok
     ∷ step ⇒ stepped Moved
-    ∷ call (c-check 1) ⇒ ok
+    ∷ call (c_check 1) ⇒ ok
     ∷ step ⇒ stepped Moved
-    ∷ call (c-detach 1) ⇒ ok
+    ∷ call (c_detach 1) ⇒ ok
     ∷ look ⇒ seen mark (Condemned 12 1 ∷ Part 12 1 ∷ []) (4097 ∷ [])
     -- it is taken in mark, and put back in sweep
-    ∷ call (c-attach 2) ⇒ ok
+    ∷ call (c_attach 2) ⇒ ok
     ∷ call (c_make 2 0 0 600) ⇒ ok
     ∷ look ⇒ seen mark (Condemned 12 1 ∷ Held 12 2 2 ∷ []) (4097 ∷ [])
     ∷ step ⇒ stepped Traced
     ∷ step ⇒ stepped Moved
-    ∷ call (c-detach 2) ⇒ ok
+    ∷ call (c_detach 2) ⇒ ok
     ∷ look ⇒ seen sweep (Condemned 12 1 ∷ Part 12 2 ∷ []) []
     ∷ step ⇒ stepped (Swept 0 1)
     ∷ step ⇒ stepped Done

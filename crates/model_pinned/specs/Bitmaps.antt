@@ -3,7 +3,7 @@
 -- end are 1": a word of clear bits is 4294967280.
 use Rattle.std.specs.Prelude.{List, [], ◌∷◌}
 use Rattle.theory.specs.Phases.{idle}
-use Rattle.theory.specs.Calls.{c-attach, c-detach, c-check, c_make, c_clear}
+use Rattle.theory.specs.Calls.{c_attach, c_detach, c_check, c_make, c_clear}
 use Rattle.model.specs.declared.Step.TheVariants.{Moved, Traced, Swept, Done}
 use Rattle.model.specs.declared.SegmentState.TheVariants.{Free, Part, Held, Full}
 use Rattle.model_cases.specs.Replies.{Line, ◌⇒◌, opening, start, step, look, call, bits, stepped, seen, words, ok}
@@ -11,7 +11,7 @@ use Rattle.model_cases.specs.Replies.{Line, ◌⇒◌, opening, start, step, loo
 abbrev pub bitmaps : List Line
 bitmaps =
     opening ⇒ ok
-    ∷ call (c-attach 0) ⇒ ok
+    ∷ call (c_attach 0) ⇒ ok
     -- a free segment taken, its words were anything
     ∷ call (c_make 0 0 1 511) ⇒ ok
     ∷ bits 0 ⇒ words (4294967280 ∷ [])
@@ -26,9 +26,9 @@ bitmaps =
     ∷ call (c_clear 0 2) ⇒ ok
     ∷ call (c_clear 0 3) ⇒ ok
     ∷ start ⇒ ok
-    ∷ call (c-check 0) ⇒ ok
+    ∷ call (c_check 0) ⇒ ok
     ∷ step ⇒ stepped Moved
-    ∷ call (c-check 0) ⇒ ok
+    ∷ call (c_check 0) ⇒ ok
     ∷ step ⇒ stepped Moved
     ∷ step ⇒ stepped Traced
     ∷ step ⇒ stepped Moved
@@ -41,8 +41,8 @@ bitmaps =
     ∷ call (c_make 0 5 1 511) ⇒ ok
     ∷ look ⇒ seen idle (Held 12 3 0 ∷ []) []
     ∷ bits 0 ⇒ words (4294967282 ∷ [])
-    ∷ call (c-attach 1) ⇒ ok
-    ∷ call (c-detach 0) ⇒ ok
+    ∷ call (c_attach 1) ⇒ ok
+    ∷ call (c_detach 0) ⇒ ok
     ∷ look ⇒ seen idle (Part 12 3 ∷ []) []
     ∷ call (c_make 1 0 1 511) ⇒ ok
     ∷ look ⇒ seen idle (Full 12 ∷ []) []
@@ -50,9 +50,9 @@ bitmaps =
     -- swept to free, no mark: level 0 becomes the marks all the same
     ∷ call (c_clear 1 0) ⇒ ok
     ∷ start ⇒ ok
-    ∷ call (c-check 1) ⇒ ok
+    ∷ call (c_check 1) ⇒ ok
     ∷ step ⇒ stepped Moved
-    ∷ call (c-check 1) ⇒ ok
+    ∷ call (c_check 1) ⇒ ok
     ∷ step ⇒ stepped Moved
     ∷ step ⇒ stepped Moved
     ∷ step ⇒ stepped (Swept 0 4)
@@ -65,9 +65,9 @@ bitmaps =
     ∷ call (c_make 1 2 1 511) ⇒ ok
     ∷ call (c_make 1 3 1 511) ⇒ ok
     ∷ start ⇒ ok
-    ∷ call (c-check 1) ⇒ ok
+    ∷ call (c_check 1) ⇒ ok
     ∷ step ⇒ stepped Moved
-    ∷ call (c-check 1) ⇒ ok
+    ∷ call (c_check 1) ⇒ ok
     ∷ step ⇒ stepped Moved
     ∷ step ⇒ stepped Traced
     ∷ step ⇒ stepped Traced

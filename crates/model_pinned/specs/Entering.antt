@@ -2,7 +2,7 @@
 -- stack: what is on the stack has it and is not marked; taken off, it keeps it and is marked. All records are of class 12: they are 1, 1025, 2049, 3073.
 use Rattle.std.specs.Prelude.{List, [], ◌∷◌}
 use Rattle.theory.specs.Phases.{sync1, sync2, mark, sweep}
-use Rattle.theory.specs.Calls.{c-attach, c-check, c_make, c_store}
+use Rattle.theory.specs.Calls.{c_attach, c_check, c_make, c_store}
 use Rattle.model.specs.declared.Step.TheVariants.{Moved, Traced, Swept, Done}
 use Rattle.model.specs.declared.SegmentState.TheVariants.{Condemned}
 use Rattle.model_cases.specs.Replies.{Line, ◌⇒◌, opening, start, step, look, call, marks, entered_in, stepped, seen, words, ok}
@@ -10,7 +10,7 @@ use Rattle.model_cases.specs.Replies.{Line, ◌⇒◌, opening, start, step, loo
 abbrev pub entering : List Line
 entering =
     opening ⇒ ok
-    ∷ call (c-attach 0) ⇒ ok
+    ∷ call (c_attach 0) ⇒ ok
     ∷ call (c_make 0 0 1 511) ⇒ ok
     ∷ call (c_make 0 1 1 511) ⇒ ok
     ∷ call (c_make 0 2 1 511) ⇒ ok
@@ -20,7 +20,7 @@ entering =
     ∷ call (c_store 0 0 0 1) ⇒ ok
     ∷ entered_in 0 ⇒ words (0 ∷ [])
     -- roll 1, after it: the new value, then the old
-    ∷ call (c-check 0) ⇒ ok
+    ∷ call (c_check 0) ⇒ ok
     ∷ call (c_store 0 0 0 2) ⇒ ok
     ∷ look ⇒ seen sync1 (Condemned 12 4 ∷ []) (2049 ∷ 1025 ∷ [])
     ∷ entered_in 0 ⇒ words (6 ∷ [])
@@ -32,7 +32,7 @@ entering =
     ∷ entered_in 0 ⇒ words (14 ∷ [])
     ∷ marks 0 ⇒ words (0 ∷ [])
     -- its roots, the three on the stack once
-    ∷ call (c-check 0) ⇒ ok
+    ∷ call (c_check 0) ⇒ ok
     ∷ look ⇒ seen sync2 (Condemned 12 4 ∷ []) (2049 ∷ 1025 ∷ 3073 ∷ 1 ∷ [])
     ∷ entered_in 0 ⇒ words (15 ∷ [])
     ∷ marks 0 ⇒ words (0 ∷ [])

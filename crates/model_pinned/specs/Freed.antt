@@ -2,7 +2,7 @@
 -- of which a cycle keeps two, one in each word of level 0, frees 62; the next one of none kept frees 64.
 use Rattle.std.specs.Prelude.{List, [], ◌∷◌, ℕ, zero, suc}
 use Rattle.theory.specs.Phases.{idle}
-use Rattle.theory.specs.Calls.{c-attach, c-check, c_make, c_clear}
+use Rattle.theory.specs.Calls.{c_attach, c_check, c_make, c_clear}
 use Rattle.model.specs.declared.Step.TheVariants.{Moved, Traced, Swept, Done}
 use Rattle.model.specs.declared.SegmentState.TheVariants.{Free, Part, Full}
 use Rattle.model_cases.specs.Replies.{Line, ◌⇒◌, opening, start, step, look, call, stepped, seen, ok}
@@ -20,16 +20,16 @@ dropped n ls = repeated n (call (c_make 0 0 0 40) ⇒ ok) ls
 abbrev to_mark : List Line → List Line
 to_mark ls =
     start ⇒ ok
-    ∷ call (c-check 0) ⇒ ok
+    ∷ call (c_check 0) ⇒ ok
     ∷ step ⇒ stepped Moved
-    ∷ call (c-check 0) ⇒ ok
+    ∷ call (c_check 0) ⇒ ok
     ∷ step ⇒ stepped Moved
     ∷ ls
 
 abbrev pub freed : List Line
 freed =
     opening ⇒ ok
-    ∷ call (c-attach 0) ⇒ ok
+    ∷ call (c_attach 0) ⇒ ok
     ∷ call (c_make 0 1 0 40) ⇒ ok
     ∷ dropped 44
     (call (c_make 0 2 0 40) ⇒ ok

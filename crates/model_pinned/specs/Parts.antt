@@ -2,7 +2,7 @@
 -- a detach in mark makes one: it is not condemned, and the segment that is swept to part is put on top of it. In the second one it is condemned.
 use Rattle.std.specs.Prelude.{List, [], ◌∷◌}
 use Rattle.theory.specs.Phases.{idle, sync1, sync2, mark, sweep}
-use Rattle.theory.specs.Calls.{c-attach, c-detach, c-check, c_make, c_clear}
+use Rattle.theory.specs.Calls.{c_attach, c_detach, c_check, c_make, c_clear}
 use Rattle.model.specs.declared.Step.TheVariants.{Moved, Traced, Swept, Done}
 use Rattle.model.specs.declared.SegmentState.TheVariants.{Free, Part, Held, Full, Condemned}
 use Rattle.model_cases.specs.Replies.{Line, ◌⇒◌, opening, start, step, look, call, stepped, seen, ok, no}
@@ -10,12 +10,12 @@ use Rattle.model_cases.specs.Replies.{Line, ◌⇒◌, opening, start, step, loo
 abbrev pub parts : List Line
 parts =
     opening ⇒ ok
-    ∷ call (c-attach 0) ⇒ ok
+    ∷ call (c_attach 0) ⇒ ok
     ∷ call (c_make 0 0 1 511) ⇒ ok
     ∷ call (c_make 0 1 1 511) ⇒ ok
     ∷ call (c_make 0 2 1 511) ⇒ ok
     ∷ call (c_make 0 3 1 511) ⇒ ok
-    ∷ call (c-attach 1) ⇒ ok
+    ∷ call (c_attach 1) ⇒ ok
     ∷ call (c_make 1 0 1 511) ⇒ ok
     ∷ look ⇒ seen idle (Full 12 ∷ Held 12 1 1 ∷ []) []
     -- a start condemns the full segment and not the held one
@@ -23,15 +23,15 @@ parts =
     ∷ call (c_clear 0 2) ⇒ ok
     ∷ call (c_clear 0 3) ⇒ ok
     ∷ start ⇒ ok
-    ∷ call (c-check 0) ⇒ ok
-    ∷ call (c-check 1) ⇒ ok
+    ∷ call (c_check 0) ⇒ ok
+    ∷ call (c_check 1) ⇒ ok
     ∷ step ⇒ stepped Moved
-    ∷ call (c-check 0) ⇒ ok
-    ∷ call (c-check 1) ⇒ ok
+    ∷ call (c_check 0) ⇒ ok
+    ∷ call (c_check 1) ⇒ ok
     ∷ look ⇒ seen sync2 (Condemned 12 4 ∷ Held 12 1 1 ∷ []) (1025 ∷ 4097 ∷ [])
     ∷ step ⇒ stepped Moved
     -- that becomes part in mark, before the sweep
-    ∷ call (c-detach 1) ⇒ ok
+    ∷ call (c_detach 1) ⇒ ok
     ∷ look ⇒ seen mark (Condemned 12 4 ∷ Part 12 1 ∷ []) (1025 ∷ 4097 ∷ [])
     ∷ step ⇒ stepped Traced
     ∷ step ⇒ stepped Traced
@@ -43,15 +43,15 @@ parts =
     ∷ call (c_make 0 0 1 511) ⇒ ok
     ∷ look ⇒ seen idle (Held 12 1 0 ∷ Part 12 1 ∷ []) []
     -- a start condemns the part segment and not the held one: it keeps its place, and nobody takes it before its sweep
-    ∷ call (c-attach 2) ⇒ ok
+    ∷ call (c_attach 2) ⇒ ok
     ∷ start ⇒ ok
     ∷ look ⇒ seen sync1 (Held 12 1 0 ∷ Condemned 12 1 ∷ []) []
     ∷ call (c_make 2 0 1 511) ⇒ no 10
-    ∷ call (c-check 0) ⇒ ok
-    ∷ call (c-check 2) ⇒ ok
+    ∷ call (c_check 0) ⇒ ok
+    ∷ call (c_check 2) ⇒ ok
     ∷ step ⇒ stepped Moved
-    ∷ call (c-check 0) ⇒ ok
-    ∷ call (c-check 2) ⇒ ok
+    ∷ call (c_check 0) ⇒ ok
+    ∷ call (c_check 2) ⇒ ok
     ∷ look ⇒ seen sync2 (Held 12 1 0 ∷ Condemned 12 1 ∷ []) (1 ∷ 1025 ∷ [])
     ∷ step ⇒ stepped Moved
     ∷ step ⇒ stepped Traced

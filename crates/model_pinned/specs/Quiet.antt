@@ -2,7 +2,7 @@
 -- phase. All records of the first segment are of class 12, so they are 1, 1025, 2049 and 3073; the first names the others.
 use Rattle.std.specs.Prelude.{List, [], ◌∷◌}
 use Rattle.theory.specs.Phases.{idle, sync1, sync2, mark, sweep}
-use Rattle.theory.specs.Calls.{c-attach, c-check, c_leave, c_enter, c_spawn, c_make, c_load, c_store, c_copy, c_clear}
+use Rattle.theory.specs.Calls.{c_attach, c_check, c_leave, c_enter, c_spawn, c_make, c_load, c_store, c_copy, c_clear}
 use Rattle.model.specs.declared.Step.TheVariants.{Moved, Traced, Swept, Done}
 use Rattle.model.specs.declared.SegmentState.TheVariants.{Free, Held, Full, Condemned}
 use Rattle.model_cases.specs.Replies.{Line, ◌⇒◌, opening, start, step, look, call, acknowledgements, marks, stepped, seen, words, ok}
@@ -23,7 +23,7 @@ root_calls ls =
 abbrev checks : List Line → List Line
 checks ls =
     call (c_load 0 1 0 0) ⇒ ok
-    ∷ call (c-check 0) ⇒ ok
+    ∷ call (c_check 0) ⇒ ok
     ∷ call (c_leave 0) ⇒ ok
     ∷ call (c_enter 0) ⇒ ok
     ∷ call (c_clear 0 1) ⇒ ok
@@ -33,7 +33,7 @@ abbrev pub quiet : List Line
 quiet =
     opening ⇒ ok
     -- who is attached in idle has acknowledged nothing
-    ∷ call (c-attach 0) ⇒ ok
+    ∷ call (c_attach 0) ⇒ ok
     ∷ acknowledgements 1 ⇒ words (0 ∷ [])
     ∷ call (c_make 0 0 3 509) ⇒ ok
     ∷ call (c_make 0 1 1 511) ⇒ ok
@@ -55,14 +55,14 @@ quiet =
     -- before and after the first acknowledgement
     ∷ start ⇒ ok
     ∷ root_calls
-    (call (c-check 0) ⇒ ok
+    (call (c_check 0) ⇒ ok
     ∷ root_calls
     (checks
     (look ⇒ seen sync1 (Condemned 12 4 ∷ Free ∷ []) []
     -- before and after the second
     ∷ step ⇒ stepped Moved
     ∷ root_calls
-    (call (c-check 0) ⇒ ok
+    (call (c_check 0) ⇒ ok
     ∷ root_calls
     (checks
     (look ⇒ seen sync2 (Condemned 12 4 ∷ Free ∷ []) (1 ∷ [])
@@ -85,7 +85,7 @@ quiet =
     ∷ call (c_load 0 1 4 0) ⇒ ok
     ∷ call (c_copy 0 2 1) ⇒ ok
     ∷ call (c_copy 0 2 15) ⇒ ok
-    ∷ call (c-check 0) ⇒ ok
+    ∷ call (c_check 0) ⇒ ok
     ∷ call (c_clear 0 1) ⇒ ok
     ∷ call (c_store 0 4 0 15) ⇒ ok
     ∷ look ⇒ seen sweep (Condemned 12 4 ∷ Held 9 2 0 ∷ []) []

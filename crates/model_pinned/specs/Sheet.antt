@@ -5,7 +5,7 @@ use Prim.Native.String.{String}
 use Rattle.decimals.specs.Ascii.{bytes}
 use Rattle.layout.specs.declared.Geometry.{Geometry}
 use Rattle.layout.specs.Mem.{Mem}
-use Rattle.theory.specs.Calls.{c-attach, c-detach, c-check, c_make}
+use Rattle.theory.specs.Calls.{c_attach, c_detach, c_check, c_make}
 use Rattle.model.specs.declared.Step.TheVariants.{Moved, Traced, Swept, Done}
 use Rattle.model.specs.Sheet.{used_line, sheet_of}
 use Rattle.model.specs.Opening.{opened}
@@ -35,8 +35,8 @@ condemned =
 abbrev pub states : List Line
 states =
     opening ⇒ ok
-    ∷ call (c-attach 0) ⇒ ok
-    ∷ call (c-attach 1) ⇒ ok
+    ∷ call (c_attach 0) ⇒ ok
+    ∷ call (c_attach 1) ⇒ ok
     ∷ call (c_make 0 0 1 600) ⇒ ok
     ∷ call (c_make 0 0 1 600) ⇒ ok
     ∷ call (c_make 0 0 1 600) ⇒ ok
@@ -46,13 +46,13 @@ states =
     ∷ call (c_make 1 1 0 300) ⇒ ok
     ∷ call (c_make 1 1 0 300) ⇒ ok
     ∷ start ⇒ ok
-    ∷ call (c-check 0) ⇒ ok
-    ∷ call (c-check 1) ⇒ ok
+    ∷ call (c_check 0) ⇒ ok
+    ∷ call (c_check 1) ⇒ ok
     ∷ step ⇒ stepped Moved
-    ∷ call (c-check 0) ⇒ ok
-    ∷ call (c-check 1) ⇒ ok
+    ∷ call (c_check 0) ⇒ ok
+    ∷ call (c_check 1) ⇒ ok
     ∷ step ⇒ stepped Moved
-    ∷ call (c-detach 1) ⇒ ok
+    ∷ call (c_detach 1) ⇒ ok
     ∷ call (c_make 0 1 0 200) ⇒ ok
     ∷ call (c_make 0 2 0 4095) ⇒ ok
     ∷ sheet ⇒ words (bytes "  0 12 C    4    0 ################################\n" ++ others)

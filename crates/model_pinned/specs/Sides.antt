@@ -1,13 +1,13 @@
 -- Which number goes before which: each root of each call, and calls by an outside mutator (get, leave and detach stand among the refusals).
 use Rattle.std.specs.Prelude.{List, [], ◌∷◌}
-use Rattle.theory.specs.Calls.{c-attach, c-detach, c_enter, c_spawn, c-check, c_leave, c_make, c_load, c_store, c_copy, c_clear, c_put, c_get, c_same, c_shape}
+use Rattle.theory.specs.Calls.{c_attach, c_detach, c_enter, c_spawn, c_check, c_leave, c_make, c_load, c_store, c_copy, c_clear, c_put, c_get, c_same, c_shape}
 use Rattle.model_cases.specs.Replies.{Line, ◌⇒◌, opening, call, ok, no}
 
 abbrev pub sides : List Line
 sides =
     opening ⇒ ok
     -- 2: each call but attach and check, and a spawn's new number (those and its parent stand among the refusals)
-    ∷ call (c-detach 32) ⇒ no 2
+    ∷ call (c_detach 32) ⇒ no 2
     ∷ call (c_leave 32) ⇒ no 2
     ∷ call (c_enter 32) ⇒ no 2
     ∷ call (c_make 32 16 1 4095) ⇒ no 2
@@ -22,7 +22,7 @@ sides =
     ∷ call (c_spawn 32 0 16) ⇒ no 2
     -- 4: a spawn of an absent number onto itself
     ∷ call (c_spawn 0 0 16) ⇒ no 4
-    ∷ call (c-attach 0) ⇒ ok
+    ∷ call (c_attach 0) ⇒ ok
     -- a nil root of the parent is fine
     ∷ call (c_spawn 1 0 0) ⇒ ok
     -- 7: nil in the root of load, store and put (get and shape stand among the refusals)
@@ -42,7 +42,7 @@ sides =
     ∷ call (c_shape 0 16) ⇒ no 6
     -- 5 before 6, 7 and 9: every call by an outside mutator but enter
     ∷ call (c_leave 0) ⇒ ok
-    ∷ call (c-check 0) ⇒ no 5
+    ∷ call (c_check 0) ⇒ no 5
     ∷ call (c_make 0 16 1 4095) ⇒ no 5
     ∷ call (c_load 0 16 16 0) ⇒ no 5
     ∷ call (c_store 0 16 0 16) ⇒ no 5

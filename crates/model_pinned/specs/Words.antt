@@ -1,15 +1,15 @@
 -- The words that no look shows: a record's header and the order of its fields, marks and acknowledgements through a cycle.
 use Rattle.std.specs.Prelude.{List, [], ◌∷◌}
-use Rattle.theory.specs.Calls.{c-attach, c-detach, c-check, c_leave, c_make, c_store, c_clear, c_put}
+use Rattle.theory.specs.Calls.{c_attach, c_detach, c_check, c_leave, c_make, c_store, c_clear, c_put}
 use Rattle.model.specs.declared.Step.TheVariants.{Moved, Traced, Swept, Done}
 use Rattle.model_cases.specs.Replies.{Line, ◌⇒◌, opening, start, step, call, acknowledgements, marks, heap, stepped, words, ok}
 
 abbrev pub written : List Line
 written =
     opening ⇒ ok
-    ∷ call (c-attach 31) ⇒ ok
-    ∷ call (c-attach 0) ⇒ ok
-    ∷ call (c-attach 1) ⇒ ok
+    ∷ call (c_attach 31) ⇒ ok
+    ∷ call (c_attach 0) ⇒ ok
+    ∷ call (c_attach 1) ⇒ ok
     -- "A header word P × 65,536 + N comes first, then the links, then the numbers."
     ∷ call (c_make 0 0 2 510) ⇒ ok
     ∷ heap 0 4 ⇒ words (131582 ∷ 0 ∷ 0 ∷ 0 ∷ [])
@@ -27,17 +27,17 @@ written =
     ∷ marks 0 ⇒ words (0 ∷ [])
     ∷ marks 1 ⇒ words (0 ∷ [])
     ∷ acknowledgements 2 ⇒ words (0 ∷ 0 ∷ [])
-    ∷ call (c-check 0) ⇒ ok
-    ∷ call (c-check 0) ⇒ ok
+    ∷ call (c_check 0) ⇒ ok
+    ∷ call (c_check 0) ⇒ ok
     ∷ acknowledgements 2 ⇒ words (1 ∷ 0 ∷ [])
-    ∷ call (c-check 1) ⇒ ok
-    ∷ call (c-check 31) ⇒ ok
+    ∷ call (c_check 1) ⇒ ok
+    ∷ call (c_check 31) ⇒ ok
     ∷ step ⇒ stepped Moved
     ∷ acknowledgements 2 ⇒ words (1 ∷ 1 ∷ [])
     -- between its two answers a mutator makes blocks unmarked, after the second marked
     ∷ call (c_make 0 4 1 63) ⇒ ok
     ∷ marks 1 ⇒ words (0 ∷ [])
-    ∷ call (c-check 0) ⇒ ok
+    ∷ call (c_check 0) ⇒ ok
     ∷ acknowledgements 2 ⇒ words (2 ∷ 1 ∷ [])
     ∷ call (c_make 0 5 1 63) ⇒ ok
     ∷ marks 1 ⇒ words (2 ∷ [])
@@ -46,7 +46,7 @@ written =
     ∷ step ⇒ stepped Moved
     ∷ acknowledgements 2 ⇒ words (2 ∷ 2 ∷ [])
     -- in mark: a newcomer has both answers, and its blocks are marked
-    ∷ call (c-attach 2) ⇒ ok
+    ∷ call (c_attach 2) ⇒ ok
     ∷ acknowledgements 3 ⇒ words (2 ∷ 2 ∷ 2 ∷ [])
     ∷ call (c_make 0 6 1 63) ⇒ ok
     ∷ marks 1 ⇒ words (6 ∷ [])
@@ -63,11 +63,11 @@ written =
     -- in sweep: unmarked, and a newcomer has given no answer
     ∷ call (c_make 0 7 1 63) ⇒ ok
     ∷ marks 1 ⇒ words (7 ∷ [])
-    ∷ call (c-attach 3) ⇒ ok
+    ∷ call (c_attach 3) ⇒ ok
     ∷ acknowledgements 4 ⇒ words (2 ∷ 2 ∷ 2 ∷ 0 ∷ [])
     ∷ step ⇒ stepped (Swept 0 1)
     ∷ step ⇒ stepped Done
-    ∷ call (c-detach 2) ⇒ ok
+    ∷ call (c_detach 2) ⇒ ok
     ∷ acknowledgements 4 ⇒ words (2 ∷ 2 ∷ 0 ∷ 0 ∷ [])
     -- a start with nothing full, which condemns a part segment, clears every mark and acknowledgement as well
     ∷ marks 0 ⇒ words (11 ∷ [])

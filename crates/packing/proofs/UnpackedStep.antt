@@ -17,7 +17,7 @@ use Rattle.model.specs.Answers.{step_answer_of, step_refusal_of, StepResult, is_
 use Rattle.model.specs.Promise.{StepPromise}
 use Rattle.model.proofs.Numbers.{OfTable, among_table}
 use Rattle.theory.specs.Calls as theory
-use Rattle.packing.specs.Packed.{upper, pack_step, step_by, unpack_step}
+use Rattle.packing.specs.Packed.{if_packed, upper, pack_step, step_by, unpack_step}
 use Rattle.packing.proofs.Halves.{refused_back}
 use Rattle.model.specs.declared.Step.TheVariants as step
 
@@ -59,16 +59,16 @@ unpacked_step (step.Swept s f) k =
     let w : (4 + s * 256 + f * 65536) / 65536 ≡ f = omega arith in
     by_parts (step.Swept s f) (4 + s * 256 + f * 65536) (ap (λ z. z * upper) e) (rw (x, y, w) refl)
 unpacked_step step.Done k = refl
-unpacked_step (step.Refused n) k = refused_back step.Refused _ n k.0 k.1
+unpacked_step (step.Refused n) k = refused_back step.Refused (λ v. if_packed (pack_step (step.Refused n)) (step_by (v % 256) (v / 256 % 256) (v / 65536))) n k.0 k.1
 
 -- ---- what step promises of its numbers over memory of any content
 
 abbrev Bounds : Geometry → theory.Answer → Type 0
-Bounds g theory.a-ok = Unit
-Bounds g theory.a-moved = Unit
-Bounds g theory.a-traced = Unit
-Bounds g theory.a-done = Unit
-Bounds g theory.a-idle = Unit
+Bounds g theory.a_ok = Unit
+Bounds g theory.a_moved = Unit
+Bounds g theory.a_traced = Unit
+Bounds g theory.a_done = Unit
+Bounds g theory.a_idle = Unit
 Bounds g (theory.a_num v) = Unit
 Bounds g (theory.a_flag b) = Unit
 Bounds g (theory.a_shape s) = Unit

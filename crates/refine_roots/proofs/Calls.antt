@@ -10,7 +10,7 @@ use Rattle.layout.specs.declared.Geometry.{Geometry}
 use Rattle.layout.specs.Mem.{Mem, Sizes}
 use Rattle.theory.specs.Reach.{root, next}
 use Rattle.theory.specs.MachineCalls.{shape_at}
-use Rattle.theory.specs.Calls.{c_load, c_copy, c_clear, c_get, c_same, c_shape, a-ok, a_num, a_shape, pointer?, value?, refusal}
+use Rattle.theory.specs.Calls.{c_load, c_copy, c_clear, c_get, c_same, c_shape, a_ok, a_num, a_shape, pointer?, value?, refusal}
 use Rattle.theory.proofs.Refusals.{by_ok, root_ok, require_ok}
 use Rattle.model.specs.Fields.{set_root}
 use Rattle.model.specs.Records.{record?, pointer_count, value_count, pointer, value, shape_of}
@@ -35,7 +35,7 @@ module _ (g : Geometry) (m : Mem) (s : Sizes g m) (c : Ordered g m) where
       let w = wanted_in g m k i (pointer? f) p.1 r.0 r.1 in
       let n : fields.root m k i ≡ suc w.at = named _ _ w.is in
       let x = ltb-true _ _ (require_ok (ltb f (pointer_count m w.at)) 8 0 (omega arith) w.asked).0 in
-      let h = on_record_lem g m (record? (fields.root m k i)) w.at w.is (λ at. (a-ok, set_root m k d (pointer m at f))) (λ at. (a-ok, machine.set_root (view g m) k d (record? (pointer m at f)))) refl
+      let h = on_record_lem g m (record? (fields.root m k i)) w.at w.is (λ at. (a_ok, set_root m k d (pointer m at f))) (λ at. (a_ok, machine.set_root (view g m) k d (record? (pointer m at f)))) refl
       (root_moves g m s c k d (pointer m w.at f) p.0 p.1 q.0 (λ b y. next (root (is_root m k i w.at p.0 r.0 p.1 n)) (record { field = f; within = x; names = y }))) in
       matches_by g m _ _ tt h.0 h.1
 

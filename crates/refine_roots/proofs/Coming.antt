@@ -16,7 +16,7 @@ use Rattle.layout.specs.declared.Geometry.{Geometry}
 use Rattle.layout.specs.Geometry.{mutator_count, mutator_words, root_count, segment_of}
 use Rattle.layout.specs.Mem.{Mem, mutator_word, set_run, Sizes}
 use Rattle.theory.specs.Phases.{Phase, idle, sync1, sync2, mark, sweep, newcomer, in_handshake}
-use Rattle.theory.specs.Calls.{c-attach, c_spawn, refusal}
+use Rattle.theory.specs.Calls.{c_attach, c_spawn, refusal}
 use Rattle.theory.proofs.Refusals.{require_ok, root_ok}
 use Rattle.theory.specs.Update.{upd}
 use Rattle.theory.proofs.Updates.{upd_hit, upd_other, upd_hit₁, upd_miss₁}
@@ -160,13 +160,13 @@ module _ (out : ℕ → Bool) (late : out 11 ≡ true) (g : Geometry) (m : Mem) 
   not_there : (k : ℕ) → not (is_attached m k) ≡ true → state m k ≡ absent
   not_there k e = eqb-true _ _ (not-false _ (not-true _ e))
 
-  pub attach_refines : (k : ℕ) → refusal (observe m) (c-attach k) ≡ 0 → CallRefines out g m (c-attach k)
+  pub attach_refines : (k : ℕ) → refusal (observe m) (c_attach k) ≡ 0 → CallRefines out g m (c_attach k)
   unfolding act
   attach_refines k e =
       let p = require_ok (ltb k mutator_count) 2 _ (omega arith) e in
       let q = require_ok (not (is_attached m k)) 3 _ (omega arith) p.1 in
-      unless_refines out g m (attached m k 0) (c-attach k) 11 late (in_handshake (phase m))
-      (λ x. matches_by g m (c-attach k) _ x refl (coming_moves g m s c k 0 (ltb-true _ _ p.0) (not_there k q.0) (λ b y. absurd (omega arith)) x))
+      unless_refines out g m (attached m k 0) (c_attach k) 11 late (in_handshake (phase m))
+      (λ x. matches_by g m (c_attach k) _ x refl (coming_moves g m s c k 0 (ltb-true _ _ p.0) (not_there k q.0) (λ b y. absurd (omega arith)) x))
 
   pub spawn_refines : (k p i : ℕ) → refusal (observe m) (c_spawn k p i) ≡ 0 → CallRefines out g m (c_spawn k p i)
   unfolding act

@@ -9,7 +9,7 @@ use borrow.Author.Tests.{ltb-true}
 use Rattle.layout.specs.Geometry.{segment_of}
 use Rattle.layout.specs.declared.Geometry.{Geometry}
 use Rattle.layout.specs.Mem.{Mem, heap_word, set_heap, Sizes}
-use Rattle.theory.specs.Calls.{c_put, a-ok, value?, refusal}
+use Rattle.theory.specs.Calls.{c_put, a_ok, value?, refusal}
 use Rattle.theory.proofs.Refusals.{by_ok, root_ok, require_ok}
 use Rattle.theory.specs.TraceStack.{tab}
 use Rattle.theory.specs.Update.{upd}
@@ -131,6 +131,6 @@ put_refines g m s c k i f v e =
     let w = wanted_in g m k i (value? f) p.1 r.0 r.1 in
     let n : fields.root m k i ≡ suc w.at = named _ _ w.is in
     let x = ltb-true _ _ (require_ok (ltb f (value_count m w.at)) 8 0 (omega arith) w.asked).0 in
-    let h = on_record_lem g m (record? (fields.root m k i)) w.at w.is (λ at. (a-ok, set_value m at f v)) (λ at. (a-ok, machine.set_values (view g m) at (set (values_of m at) f v))) refl
+    let h = on_record_lem g m (record? (fields.root m k i)) w.at w.is (λ at. (a_ok, set_value m at f v)) (λ at. (a_ok, machine.set_values (view g m) at (set (values_of m at) f v))) refl
     (value_moves g m s c w.at (c.records w.at (live_root m k i w.at p.0 r.0 p.1 n)) f v x) in
     matches_by g m _ _ tt h.0 h.1

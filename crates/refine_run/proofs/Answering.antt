@@ -16,8 +16,8 @@ use Rattle.layout.proofs.Sizes.{whole}
 use Rattle.bitmap_search.specs.declared.Found.{Found}
 use Rattle.bitmap_search.specs.declared.Found.TheVariants.{Block, Nothing, Torn}
 use Rattle.theory.specs.Phases.{Phase, idle, sync1, sync2, mark, sweep, in_handshake, owes}
-use Rattle.theory.specs.Calls.{Call, c-attach, c-detach, c-check, c_leave, c_enter, c_spawn, c_make, c_load, c_store, c_copy, c_clear, c_put, c_get}
-use Rattle.theory.specs.Calls.{c_same, c_shape, a-ok, a-moved, a-traced, a-done, a-idle, a_num, a_flag, a_shape, a_no, refusal, unless, on_record}
+use Rattle.theory.specs.Calls.{Call, c_attach, c_detach, c_check, c_leave, c_enter, c_spawn, c_make, c_load, c_store, c_copy, c_clear, c_put, c_get}
+use Rattle.theory.specs.Calls.{c_same, c_shape, a_ok, a_moved, a_traced, a_done, a_idle, a_num, a_flag, a_shape, a_no, refusal, unless, on_record}
 use Rattle.theory.specs.Calls.{same_ref}
 use Rattle.model.specs.Answers.{answer_of, step_answer_of, refusal_in, IsOk, ResultOf, StepResult, is_waiting, is_moved, is_traced, is_swept, is_done, is_idle, among, may_give, start_may_give}
 use Rattle.model.specs.Fields.{phase, inside, state, acks, place, root, class, trace_count}
@@ -64,7 +64,7 @@ module _ (Result : theory.Answer → Type 0) (ns : List ℕ) where
   record_answers none m rest e f = refuses 7 e (λ q. omega arith)
   record_answers (some at) m rest e f = f at
 
-  unless_answers : (t : Bool) (m m' : Mem) → among 11 ns ≡ true → Answers Result ns a-ok → Answers Result ns (unless t 11 m m').0
+  unless_answers : (t : Bool) (m m' : Mem) → among 11 ns ≡ true → Answers Result ns a_ok → Answers Result ns (unless t 11 m m').0
   unless_answers true m m' e a = refuses 11 e (λ q. omega arith)
   unless_answers false m m' e a = a
 
@@ -74,8 +74,8 @@ module _ (g : Geometry) (m : Mem) (k d p n : ℕ) where
   abbrev Fine : theory.Answer → Type 0
   Fine = Answers (ResultOf (c_make k d p n)) (may_give (c_make k d p n))
 
-  made_ok : Fine a-ok
-  made_ok = gives _ _ a-ok refl refl refl
+  made_ok : Fine a_ok
+  made_ok = gives _ _ a_ok refl refl refl
 
   block_answers : (taken : Mem) (f : Found) (c s : ℕ) → Fine (in_block g m taken f k d c s (of_counts p n)).0
   block_answers taken (Block b) c s = made_ok
@@ -115,18 +115,18 @@ shape_answers g m c k i e (some at) h =
 -- over consistent memory, for the range of a shape
 pub act_answers : (g : Geometry) (m : Mem) → Consistent g m → (c : Call) → refusal (observe m) c ≡ 0 → Answers (ResultOf c) (may_give c) (act g m c).0
 unfolding act
-act_answers g m z (c-attach k) e = unless_answers _ _ (in_handshake (phase m)) m _ refl (gives _ _ a-ok refl refl refl)
-act_answers g m z (c_spawn k p i) e = unless_answers _ _ (in_handshake (phase m)) m _ refl (gives _ _ a-ok refl refl refl)
-act_answers g m z (c-detach k) e = unless_answers _ _ (in_handshake (phase m)) m _ refl (gives _ _ a-ok refl refl refl)
-act_answers g m z (c-check k) e = gives _ _ a-ok refl refl refl
-act_answers g m z (c_leave k) e = gives _ _ a-ok refl refl refl
-act_answers g m z (c_enter k) e = gives _ _ a-ok refl refl refl
+act_answers g m z (c_attach k) e = unless_answers _ _ (in_handshake (phase m)) m _ refl (gives _ _ a_ok refl refl refl)
+act_answers g m z (c_spawn k p i) e = unless_answers _ _ (in_handshake (phase m)) m _ refl (gives _ _ a_ok refl refl refl)
+act_answers g m z (c_detach k) e = unless_answers _ _ (in_handshake (phase m)) m _ refl (gives _ _ a_ok refl refl refl)
+act_answers g m z (c_check k) e = gives _ _ a_ok refl refl refl
+act_answers g m z (c_leave k) e = gives _ _ a_ok refl refl refl
+act_answers g m z (c_enter k) e = gives _ _ a_ok refl refl refl
 act_answers g m z (c_make k d p n) e = class_answers g m k d p n (class_of_record (of_counts p n))
-act_answers g m z (c_load k d i f) e = record_answers _ _ (record? (root m k i)) m _ refl (λ at. gives _ _ a-ok refl refl refl)
-act_answers g m z (c_store k i f j) e = record_answers _ _ (record? (root m k i)) m _ refl (λ at. gives _ _ a-ok refl refl refl)
-act_answers g m z (c_copy k d i) e = gives _ _ a-ok refl refl refl
-act_answers g m z (c_clear k d) e = gives _ _ a-ok refl refl refl
-act_answers g m z (c_put k i f v) e = record_answers _ _ (record? (root m k i)) m _ refl (λ at. gives _ _ a-ok refl refl refl)
+act_answers g m z (c_load k d i f) e = record_answers _ _ (record? (root m k i)) m _ refl (λ at. gives _ _ a_ok refl refl refl)
+act_answers g m z (c_store k i f j) e = record_answers _ _ (record? (root m k i)) m _ refl (λ at. gives _ _ a_ok refl refl refl)
+act_answers g m z (c_copy k d i) e = gives _ _ a_ok refl refl refl
+act_answers g m z (c_clear k d) e = gives _ _ a_ok refl refl refl
+act_answers g m z (c_put k i f v) e = record_answers _ _ (record? (root m k i)) m _ refl (λ at. gives _ _ a_ok refl refl refl)
 act_answers g m z (c_get k i f) e = record_answers _ _ (record? (root m k i)) m _ refl (λ at. gives _ _ (a_num (value m at f)) refl refl (value m at f, refl))
 act_answers g m z (c_same k i j) e = gives _ _ (a_flag (same_ref (record? (root m k i)) (record? (root m k j)))) refl refl (same_ref (record? (root m k i)) (record? (root m k j)), refl)
 act_answers g m z (c_shape k i) e = shape_answers g m z k i e (record? (root m k i)) refl
@@ -134,7 +134,7 @@ act_answers g m z (c_shape k i) e = shape_answers g m z k i e (record? (root m k
 -- ---- start
 
 start_in_lem : (p : Phase) (g : Geometry) (m : Mem) → Answers IsOk start_may_give (start_in p g m).0
-start_in_lem idle g m = gives _ _ a-ok refl refl refl
+start_in_lem idle g m = gives _ _ a_ok refl refl refl
 start_in_lem sync1 g m = refuses _ _ 11 refl (λ q. omega arith)
 start_in_lem sync2 g m = refuses _ _ 11 refl (λ q. omega arith)
 start_in_lem mark g m = refuses _ _ 11 refl (λ q. omega arith)
@@ -208,8 +208,8 @@ step_result g m c = result_in (phase m) g m c.sound.segments
 -- which the declared enum has
 pub result_declared : (g : Geometry) (a : theory.Answer) → StepResult g a → step_answer_of (declared_step a) ≡ a
 result_declared g _ (is_waiting n l h) = refl
-result_declared g a-moved is_moved = refl
-result_declared g a-traced is_traced = refl
+result_declared g a_moved is_moved = refl
+result_declared g a_traced is_traced = refl
 result_declared g _ (is_swept s f l h) = refl
-result_declared g a-done is_done = refl
-result_declared g a-idle is_idle = refl
+result_declared g a_done is_done = refl
+result_declared g a_idle is_idle = refl

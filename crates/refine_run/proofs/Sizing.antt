@@ -17,7 +17,7 @@ use Rattle.bitmap_search.specs.declared.Found.{Found}
 use Rattle.bitmap_search.specs.declared.Found.TheVariants.{Block, Nothing, Torn}
 use Rattle.bitmap_write.specs.Completed.{fresh}
 use Rattle.theory.specs.Phases.{newcomer, duty, black, in_handshake}
-use Rattle.theory.specs.Calls.{Call, c-attach, c-detach, c-check, c_leave, c_enter, c_spawn, c_make, c_load, c_store, c_copy, c_clear, c_put, c_get}
+use Rattle.theory.specs.Calls.{Call, c_attach, c_detach, c_check, c_leave, c_enter, c_spawn, c_make, c_load, c_store, c_copy, c_clear, c_put, c_get}
 use Rattle.theory.specs.Calls.{c_same, c_shape, Answer, unless, refuse, refusal, on_record}
 use Rattle.model.specs.declared.SegmentState.TheVariants.{Part, Held, Full}
 use Rattle.model.specs.Fields.{phase, acks, inside, outside, holding, place, root, state_at, held_from, handed_at, handed_count}
@@ -126,10 +126,10 @@ module _ (g : Geometry) where
 
   sizes_act : (m : Mem) → Sizes g m → (c : Call) → Sizes g (act g m c).1
   unfolding act
-  sizes_act m z (c-attach k) = sizes_unless (in_handshake (phase m)) 11 m (attached m k 0) z (sizes_attached m z k 0)
+  sizes_act m z (c_attach k) = sizes_unless (in_handshake (phase m)) 11 m (attached m k 0) z (sizes_attached m z k 0)
   sizes_act m z (c_spawn k p i) = sizes_unless (in_handshake (phase m)) 11 m (attached m k (root m p i)) z (sizes_attached m z k (root m p i))
-  sizes_act m z (c-detach k) = sizes_unless (in_handshake (phase m)) 11 m (detached g m k) z (sizes_detached m z k)
-  sizes_act m z (c-check k) = sizes_acknowledged g m z k
+  sizes_act m z (c_detach k) = sizes_unless (in_handshake (phase m)) 11 m (detached g m k) z (sizes_detached m z k)
+  sizes_act m z (c_check k) = sizes_acknowledged g m z k
   sizes_act m z (c_leave k) = sizes_mutator g (acknowledged g m k) (sizes_acknowledged g m z k) (k * mutator_words + state_at) outside
   sizes_act m z (c_enter k) = sizes_mutator g m z (k * mutator_words + state_at) inside
   sizes_act m z (c_make k d p n) = sizes_class m z (class_of_record (of_counts p n)) (λ c. made g m k d c (of_counts p n)) (λ c. sizes_made m z k d c (of_counts p n))

@@ -8,7 +8,7 @@ use borrow.Author.Tests.{ltb-true}
 use Rattle.layout.specs.declared.Geometry.{Geometry}
 use Rattle.layout.specs.Mem.{Mem, Sizes}
 use Rattle.theory.specs.Phases.{duty}
-use Rattle.theory.specs.Calls.{Answer, a-ok, c-check, c_leave, c_store, refusal, pointer?}
+use Rattle.theory.specs.Calls.{Answer, a_ok, c_check, c_leave, c_store, refusal, pointer?}
 use Rattle.theory.specs.Machine.{check, store}
 use Rattle.theory.proofs.Refusals.{by_ok, root_ok, require_ok}
 use Rattle.model.specs.Fields.{phase, acks}
@@ -27,11 +27,11 @@ use Rattle.model.specs.Fields as fields
 use Rattle.model.specs.Tracing as tracing
 
 module _ (g : Geometry) (m : Mem) (s : Sizes g m) (c : Ordered g m) where
-  pub check_refines : (k : ℕ) → refusal (observe m) (c-check k) ≡ 0 → ActRefines g m (c-check k)
+  pub check_refines : (k : ℕ) → refusal (observe m) (c_check k) ≡ 0 → ActRefines g m (c_check k)
   unfolding act
   check_refines k e =
       let a = by_ok (observe m) k 0 e in
-      matches_by g m (c-check k) _ tt refl (acknowledged_moves g m s c k a.0 (not_eq _ _ a.1))
+      matches_by g m (c_check k) _ tt refl (acknowledged_moves g m s c k a.0 (not_eq _ _ a.1))
 
   pub leave_refines : (k : ℕ) → refusal (observe m) (c_leave k) ≡ 0 → ActRefines g m (c_leave k)
   unfolding act
@@ -42,7 +42,7 @@ module _ (g : Geometry) (m : Mem) (s : Sizes g m) (c : Ordered g m) where
       matches_by g m (c_leave k) _ tt refl (left_moves g m (acknowledged g m k) (check (view g m) k) v (sizes_acknowledged g m s k) k a.0 (not_eq _ _ h))
 
   abbrev stored : ℕ → ℕ → ℕ → ℕ → Answer × Mem
-  stored k f w at = (a-ok, set_pointer (tracing.barrier g (duty (phase m) (acks m k)) m (record? w) (record? (pointer m at f))) at f w)
+  stored k f w at = (a_ok, set_pointer (tracing.barrier g (duty (phase m) (acks m k)) m (record? w) (record? (pointer m at f))) at f w)
 
   pub store_refines : (k i f j : ℕ) → refusal (observe m) (c_store k i f j) ≡ 0 → ActRefines g m (c_store k i f j)
   unfolding act
@@ -52,6 +52,6 @@ module _ (g : Geometry) (m : Mem) (s : Sizes g m) (c : Ordered g m) where
       let d = root_ok j _ b.1 in
       let w = wanted_in g m k i (pointer? f) a.1 b.0 d.1 in
       let l = ltb-true _ _ (require_ok (ltb f (pointer_count m w.at)) 8 0 (omega arith) w.asked).0 in
-      let h = on_record_lem g m (record? (fields.root m k i)) w.at w.is (stored k f (fields.root m k j)) (λ at. (a-ok, store (view g m) k at f (record? (fields.root m k j)))) refl
+      let h = on_record_lem g m (record? (fields.root m k i)) w.at w.is (stored k f (fields.root m k j)) (λ at. (a_ok, store (view g m) k at f (record? (fields.root m k j)))) refl
       (store_moves g m s c k w.at f (fields.root m k j) (i, a.1, b.0, w.is) l (λ x z. (j, a.1, d.0, z))) in
       matches_by g m _ _ tt h.0 h.1

@@ -14,7 +14,7 @@ use Rattle.layout.specs.declared.Geometry.{Geometry}
 use Rattle.layout.specs.Geometry.{root_count, segment_words, segment_of}
 use Rattle.layout.specs.Mem.{Mem, Sizes}
 use Rattle.theory.specs.Reach.{root, next}
-use Rattle.theory.specs.Calls.{Call, Answer, a-ok, shape_if, if_record, on_record, unless}
+use Rattle.theory.specs.Calls.{Call, Answer, a_ok, shape_if, if_record, on_record, unless}
 use Rattle.theory.specs.Unbounded.{Unbounded}
 use Rattle.theory.proofs.Simulation.{Same}
 use Rattle.theory.proofs.CallKeeps.{Coupled}
@@ -78,7 +78,7 @@ pub matches_by : (g : Geometry) (m : Mem) (c : Call) (r : Answer × Mem) → cal
 matches_by g m c r p e v = record { ready = m; prepared = agree_self g m; shows = refl; block = 0; permitted = p; answer = e; moves = v }
 
 -- refused n where a test holds, and nothing changes
-pub unless_refines : (out : ℕ → Bool) (g : Geometry) (m m' : Mem) (c : Call) (n : ℕ) → out n ≡ true → (b : Bool) → (b ≡ false → Matches g m c (a-ok, m')) → Refines out g m c (unless b n m m')
+pub unless_refines : (out : ℕ → Bool) (g : Geometry) (m m' : Mem) (c : Call) (n : ℕ) → out n ≡ true → (b : Bool) → (b ≡ false → Matches g m c (a_ok, m')) → Refines out g m c (unless b n m m')
 unless_refines out g m m' c n e true h = refused_out n e refl
 unless_refines out g m m' c n e false h = agrees (h refl)
 

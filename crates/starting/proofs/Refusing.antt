@@ -8,7 +8,7 @@ use lib.ListN.{length}
 use Rattle.layout.specs.declared.Geometry.{Geometry}
 use Rattle.layout.specs.Geometry.{wrong_size}
 use Rattle.layout.specs.Mem.{Mem, mem_of, control_word}
-use Rattle.theory.specs.Calls.{a-ok, a_no}
+use Rattle.theory.specs.Calls.{a_ok, a_no}
 use Rattle.model.specs.declared.Answer.TheVariants.{Ok, Refused}
 use Rattle.model.specs.Answers.{answer_of, IsOk, start_may_give}
 use Rattle.model.specs.PhaseNumbers.{phase_of}
@@ -41,4 +41,4 @@ module _ (g : Geometry) (xs : List ℕ) where
     unfolding start_of
     start_ok z ys q =
         promise_done answer_of (λ g. IsOk) start_may_give start_of g xs Ok e refl refl ys
-        (λ _. ap (λ m. (a-ok, m)) q ∙ ap (λ w. start_in (phase_of w) g (mem_of g xs)) (sym z ∙ p))
+        (λ _. ap (λ m. (a_ok, m)) q ∙ ap (λ w. start_in (phase_of w) g (mem_of g xs)) (sym z ∙ p))

@@ -11,8 +11,8 @@ use Rattle.layout.specs.Geometry.{control_words, mark_words, wrong_size, root_co
 use Rattle.layout.specs.Mem.{Mem, mem_of, control_word, heap_word, set_heap}
 use Rattle.layout.proofs.Regions.{sized, length-region}
 use Rattle.theory.specs.Phases.{duty}
-use Rattle.theory.specs.Reach.{root, next}
-use Rattle.theory.specs.Calls.{c_store, a-ok, if_root, pointer?}
+use Rattle.theory.specs.Reach.{next}
+use Rattle.theory.specs.Calls.{c_store, a_ok, if_root, pointer?}
 use Rattle.model.specs.declared.Answer.{Answer}
 use Rattle.model.specs.declared.Answer.TheVariants.{Ok, Refused}
 use Rattle.model.specs.declared.Duty.{Duty}
@@ -81,7 +81,7 @@ module _ (g : Geometry) (xs : List ℕ) (k i f j at : ℕ) (q : Reaches (c_store
   abbrev m : Mem
   m = mem_of g xs
 
-  acts : act g m (c_store k i f j) ≡ (a-ok, stored g m k (at + 1 + f) (fields.root m k j))
+  acts : act g m (c_store k i f j) ≡ (a_ok, stored g m k (at + 1 + f) (fields.root m k j))
   unfolding act
   acts = rw w.word refl
 

@@ -20,8 +20,8 @@ use Rattle.theory.proofs.Refusals.{require_ok, by_ok, root_ok, shape_ok}
 use Rattle.theory.proofs.Simulation.{Simulates, Same, root_sim, store_sim, make_sim, attach_sim, detach_sim, side_sim, values_sim, gc_sim}
 use Rattle.theory.proofs.StoreKeeps.{store_inv}
 use Rattle.theory.proofs.Updates.{upd_cases}
-use Rattle.theory.specs.Calls.{Call, c-attach, c-detach, c-check, c_leave, c_enter, c_spawn, c_make, c_load, c_store, c_copy, c_clear, c_put}
-use Rattle.theory.specs.Calls.{c_get, c_same, c_shape, Answer, a-ok, a_num, a_flag, shape_if, pointer?, refusal, same_ref, on_record}
+use Rattle.theory.specs.Calls.{Call, c_attach, c_detach, c_check, c_leave, c_enter, c_spawn, c_make, c_load, c_store, c_copy, c_clear, c_put}
+use Rattle.theory.specs.Calls.{c_get, c_same, c_shape, Answer, a_ok, a_num, a_flag, shape_if, pointer?, refusal, same_ref, on_record}
 use Rattle.theory.specs.Phases.{Phase, idle, sync1, sync2, mark, sweep, in_handshake}
 use Rattle.theory.specs.Reach.{root, next}
 use Rattle.theory.specs.Unbounded.{Unbounded, puts, u_attach, u_set_inside, u_set_values, ushape_at, uobserve, uact}
@@ -273,7 +273,7 @@ module _ (segment_of : ℕ → ℕ) (block : ℕ) (P : ℕ → Type 0) (put : �
   few_attach i j l h = ⊎_elim (λ q. subst (λ z. z < mutator_count) (sym q.0) l) (λ q. o.few j (sym q.1 ∙ h)) (upd_cases st.attached i true j)
 
   act_attach : (i : ℕ) (v w : Option ℕ) → in_handshake st.phase ≡ false → i < mutator_count → Same put v w → ((b : ℕ) → v ≡ some b → Root st b)
-      → Alike segment_of P put (a-ok, attach st i v) (a-ok, u_attach un i w)
+      → Alike segment_of P put (a_ok, attach st i v) (a_ok, u_attach un i w)
   act_attach i v w e l c h =
       let n = not_rolling st.phase e in
       record {
@@ -289,7 +289,7 @@ module _ (segment_of : ℕ → ℕ) (block : ℕ) (P : ℕ → Type 0) (put : �
   few_detach : (i j : ℕ) → upd st.attached i false j ≡ true → j < mutator_count
   few_detach i j h = ⊎_elim (λ q. clash h q.1) (λ q. o.few j (sym q.1 ∙ h)) (upd_cases st.attached i false j)
 
-  act_detach : (i : ℕ) → Alike segment_of P put (act block st (c-detach i)) (uact un (c-detach i))
+  act_detach : (i : ℕ) → Alike segment_of P put (act block st (c_detach i)) (uact un (c_detach i))
   act_detach i = record {
     same = refl;
     ok = record {
@@ -308,7 +308,7 @@ side_ok segment_of P put st un o i v =
 module _ (segment_of : ℕ → ℕ) (block : ℕ) (P : ℕ → Type 0) (put : ℕ → Option ℕ) (st : State) (un : Unbounded) (o : Coupled segment_of P put st un) where
   -- the theorem of the mutator calls
   pub act_ok : (c : Call) → refusal (observe st) c ≡ 0 → Permitted segment_of block st c → Alike segment_of P (puts c (λ _ _. block) un.count put) (act block st c) (uact un c)
-  act_ok (c-attach i) e a = act_attach segment_of block P put st un o i none none a (ltb-true _ _ (require_ok _ 2 _ (omega arith) e).0) refl (λ b k. none_some k)
+  act_ok (c_attach i) e a = act_attach segment_of block P put st un o i none none a (ltb-true _ _ (require_ok _ 2 _ (omega arith) e).0) refl (λ b k. none_some k)
   act_ok (c_spawn i p k) e t =
       let a = require_ok (ltb i mutator_count) 2 _ (omega arith) e in
       let b = require_ok (ltb p mutator_count) 2 _ (omega arith) a.1 in
@@ -317,8 +317,8 @@ module _ (segment_of : ℕ → ℕ) (block : ℕ) (P : ℕ → Type 0) (put : �
       let f = require_ok (st.inside p) 5 _ (omega arith) d.1 in
       let g = root_ok k _ f.1 in
       act_attach segment_of block P put st un o i (st.root p k) (un.root p k) t (ltb-true _ _ a.0) (o.sim.root p k d.0 g.0) (λ x q. (p, (k, d.0, g.0, q)))
-  act_ok (c-detach i) e a = act_detach segment_of block P put st un o i
-  act_ok (c-check i) e a = (record { same = refl; ok = check_ok segment_of P put st un o i (by_ok (observe st) i _ e).1 })
+  act_ok (c_detach i) e a = act_detach segment_of block P put st un o i
+  act_ok (c_check i) e a = (record { same = refl; ok = check_ok segment_of P put st un o i (by_ok (observe st) i _ e).1 })
   act_ok (c_leave i) e a = (record { same = refl; ok = side_ok segment_of P put (check st i) un (check_ok segment_of P put st un o i (by_ok (observe st) i _ e).1) i false })
   act_ok (c_enter i) e a = (record { same = refl; ok = side_ok segment_of P put st un o i true })
   act_ok (c_make i d p n) e a = act_make segment_of block P put st un o i d p n a

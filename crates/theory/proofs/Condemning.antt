@@ -6,7 +6,7 @@ use mathlib.Core.List.{List, [], ◌∷◌}
 use Prim.Native.Nat.{ℕ, zero, suc}
 use Rattle.layout.specs.Geometry.{mutator_count}
 use Rattle.theory.specs.Phases.{Phase, idle, sync1, sync2, mark, sweep}
-use Rattle.theory.specs.Calls.{Call, c-attach, c-detach, c-check, c_leave, c_enter, c_spawn, c_make, c_load, c_store, c_copy, c_clear, c_put, c_get, c_same, c_shape, Answer, on_record}
+use Rattle.theory.specs.Calls.{Call, c_attach, c_detach, c_check, c_leave, c_enter, c_spawn, c_make, c_load, c_store, c_copy, c_clear, c_put, c_get, c_same, c_shape, Answer, on_record}
 use Rattle.theory.specs.Machine.{State, acknowledge, check}
 use Rattle.theory.specs.MachineCalls.{act, outside, answer_outside, waiting, move, trace_step, step_by}
 
@@ -30,10 +30,10 @@ record_condemned none st rest f = refl
 record_condemned (some a) st rest f = f a
 
 pub act_condemned : (b : ℕ) (st : State) (c : Call) → (act b st c).1.condemned ≡ st.condemned
-act_condemned b st (c-attach i) = refl
+act_condemned b st (c_attach i) = refl
 act_condemned b st (c_spawn i p k) = refl
-act_condemned b st (c-detach i) = refl
-act_condemned b st (c-check i) = check_condemned st i
+act_condemned b st (c_detach i) = refl
+act_condemned b st (c_check i) = check_condemned st i
 act_condemned b st (c_leave i) = check_condemned st i
 act_condemned b st (c_enter i) = refl
 act_condemned b st (c_make i d p n) = refl

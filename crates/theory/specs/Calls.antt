@@ -9,7 +9,7 @@ use Rattle.layout.specs.Geometry.{mutator_count, root_count}
 
 -- document 01, "Scripts"
 pub data Call : Type 0 where
-  c-attach c-detach c-check c_leave c_enter : ℕ → Call
+  c_attach c_detach c_check c_leave c_enter : ℕ → Call
   c_spawn : (new parent root : ℕ) → Call
   c_make : (mutator root pointers values : ℕ) → Call
   c_load : (mutator to root field : ℕ) → Call
@@ -27,10 +27,10 @@ pub data CallKind : Type 0 where
   making : (mutator root : ℕ) → CallKind
 
 abbrev pub kind_of : Call → CallKind
-kind_of (c-attach i) = coming
+kind_of (c_attach i) = coming
 kind_of (c_spawn i p k) = coming
-kind_of (c-detach i) = working
-kind_of (c-check i) = working
+kind_of (c_detach i) = working
+kind_of (c_check i) = working
 kind_of (c_leave i) = working
 kind_of (c_enter i) = working
 kind_of (c_make i d p n) = making i d
@@ -46,7 +46,7 @@ kind_of (c_shape i s) = asks_shape
 -- an answer, as document 01 has it: a result with its values, or a refusal's number; the results of step are moved, traced, done, idle, waiting "and
 -- how many", and swept, "the segment, and how many blocks in use became free"
 pub data Answer : Type 0 where
-  a-ok a-moved a-traced a-done a-idle : Answer
+  a_ok a_moved a_traced a_done a_idle : Answer
   a_num : ℕ → Answer
   a_flag : Bool → Answer
   a_shape : RecordShape → Answer
@@ -87,13 +87,13 @@ value? f shape = require (has_value shape f) 8 0
 
 -- the lowest of the numbers 2 to 9 that applies, and 0 where none does
 abbrev pub refusal : Observation → Call → ℕ
-refusal F (c-attach i) = require (ltb i mutator_count) 2 (require (not (F.attached i)) 3 0)
+refusal F (c_attach i) = require (ltb i mutator_count) 2 (require (not (F.attached i)) 3 0)
 refusal F (c_spawn i p k) =
     require (ltb i mutator_count) 2
     (require (ltb p mutator_count) 2
     (require (not (F.attached i)) 3 (require (F.attached p) 4 (require (F.inside p) 5 (if_root k 0)))))
-refusal F (c-detach i) = if_inside F i 0
-refusal F (c-check i) = if_inside F i 0
+refusal F (c_detach i) = if_inside F i 0
+refusal F (c_check i) = if_inside F i 0
 refusal F (c_leave i) = if_inside F i 0
 refusal F (c_enter i) = require (ltb i mutator_count) 2 (require (F.attached i) 4 (require (not (F.inside i)) 5 0))
 refusal F (c_make i d p n) = if_inside F i (if_root d (require (leb (p + n) max_fields) 9 0))
@@ -123,7 +123,7 @@ module _ {S : Type 0} where
   -- refused n where the test holds, else done
   abbrev pub unless : Bool → ℕ → S → S → Answer × S
   unless true n st st' = (a_no n, st)
-  unless false n st st' = (a-ok, st')
+  unless false n st st' = (a_ok, st')
 
   -- with the record in a root
   abbrev pub on_record : Option ℕ → S → (ℕ → Answer × S) → Answer × S

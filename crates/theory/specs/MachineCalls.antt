@@ -2,7 +2,7 @@
 use Rattle.std.specs.Prelude.{◌≡◌, Bool, true, false, ◌&&◌, List, [], ◌∷◌, ℕ, zero, suc, ◌+◌, ltb, length, get_or, set, replicate}
 use Rattle.std.proofs.Math.Option.{Option, none, some, map}
 use Rattle.theory.specs.Machine.{State, set_root, store, make, attach, detach, set_inside, set_values, check, set_phase, trace, sweep_segment}
-use Rattle.theory.specs.Calls.{Call, CallKind, coming, working, asks_number, asks_flag, asks_shape, making, kind_of, Answer, Observation, shape_if, on_record, same_ref, c-attach, c-detach, c-check, c_leave, c_enter, c_spawn, c_make, c_load, c_store, c_copy, c_clear, c_put, c_get, c_same, c_shape, a-ok, a_num, a_flag, a_shape}
+use Rattle.theory.specs.Calls.{Call, CallKind, coming, working, asks_number, asks_flag, asks_shape, making, kind_of, Answer, Observation, shape_if, on_record, same_ref, c_attach, c_detach, c_check, c_leave, c_enter, c_spawn, c_make, c_load, c_store, c_copy, c_clear, c_put, c_get, c_same, c_shape, a_ok, a_num, a_flag, a_shape}
 use Rattle.theory.specs.Phases.{Phase, idle, sync1, sync2, mark, sweep, in_handshake, owes}
 use Rattle.theory.specs.Reach.{root}
 use Rattle.basics.specs.Pick.{one_if}
@@ -22,18 +22,18 @@ observe st = record { attached = st.attached; inside = st.inside; shape = λ i k
 
 -- b: the block that a make is handed
 abbrev pub act : ℕ → State → Call → Answer × State
-act b st (c-attach i) = (a-ok, attach st i none)
-act b st (c_spawn i p k) = (a-ok, attach st i (st.root p k))
-act b st (c-detach i) = (a-ok, detach st i)
-act b st (c-check i) = (a-ok, check st i)
-act b st (c_leave i) = (a-ok, set_inside (check st i) i false)
-act b st (c_enter i) = (a-ok, set_inside st i true)
-act b st (c_make i d p n) = (a-ok, make st i d b p (replicate n 0))
-act b st (c_load i d s f) = on_record (st.root i s) st (λ a. (a-ok, set_root st i d (st.pointer a f)))
-act b st (c_store i s f t) = on_record (st.root i s) st (λ a. (a-ok, store st i a f (st.root i t)))
-act b st (c_copy i d s) = (a-ok, set_root st i d (st.root i s))
-act b st (c_clear i d) = (a-ok, set_root st i d none)
-act b st (c_put i s k v) = on_record (st.root i s) st (λ a. (a-ok, set_values st a (set (st.values a) k v)))
+act b st (c_attach i) = (a_ok, attach st i none)
+act b st (c_spawn i p k) = (a_ok, attach st i (st.root p k))
+act b st (c_detach i) = (a_ok, detach st i)
+act b st (c_check i) = (a_ok, check st i)
+act b st (c_leave i) = (a_ok, set_inside (check st i) i false)
+act b st (c_enter i) = (a_ok, set_inside st i true)
+act b st (c_make i d p n) = (a_ok, make st i d b p (replicate n 0))
+act b st (c_load i d s f) = on_record (st.root i s) st (λ a. (a_ok, set_root st i d (st.pointer a f)))
+act b st (c_store i s f t) = on_record (st.root i s) st (λ a. (a_ok, store st i a f (st.root i t)))
+act b st (c_copy i d s) = (a_ok, set_root st i d (st.root i s))
+act b st (c_clear i d) = (a_ok, set_root st i d none)
+act b st (c_put i s k v) = on_record (st.root i s) st (λ a. (a_ok, set_values st a (set (st.values a) k v)))
 act b st (c_get i s k) = on_record (st.root i s) st (λ a. (a_num (get_or (st.values a) k 0), st))
 act b st (c_same i s t) = (a_flag (same_ref (st.root i s) (st.root i t)), st)
 act b st (c_shape i s) = on_record (st.root i s) st (λ a. (a_shape (shape_at st a), st))

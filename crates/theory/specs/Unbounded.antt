@@ -8,7 +8,7 @@ use Rattle.classes.specs.declared.RecordShape.{RecordShape}
 use Rattle.layout.specs.Geometry.{root_count}
 use Rattle.theory.specs.Reach.{Reach}
 use Rattle.theory.specs.Update.{upd, upd2}
-use Rattle.theory.specs.Calls.{Call, CallKind, coming, working, asks_number, asks_flag, asks_shape, making, kind_of, c-attach, c-detach, c-check, c_leave, c_enter, c_spawn, c_make, c_load, c_store, c_copy, c_clear, c_put, c_get, c_same, c_shape, Answer, a-ok, a_num, a_flag, a_shape, Observation, shape_if, refusal, refuse, on_record, same_ref}
+use Rattle.theory.specs.Calls.{Call, CallKind, coming, working, asks_number, asks_flag, asks_shape, making, kind_of, c_attach, c_detach, c_check, c_leave, c_enter, c_spawn, c_make, c_load, c_store, c_copy, c_clear, c_put, c_get, c_same, c_shape, Answer, a_ok, a_num, a_flag, a_shape, Observation, shape_if, refusal, refuse, on_record, same_ref}
 
 -- the records are those below the count: how many pointer fields each has, the pointers, and the data fields' values
 pub record Unbounded : Type 0 where
@@ -110,18 +110,18 @@ uobserve un = record { attached = un.attached; inside = un.inside; shape = λ i 
 
 -- what a call does that no number from 2 to 9 refuses
 abbrev pub uact : Unbounded → Call → Answer × Unbounded
-uact un (c-attach i) = (a-ok, u_attach un i none)
-uact un (c_spawn i p k) = (a-ok, u_attach un i (un.root p k))
-uact un (c-detach i) = (a-ok, u_detach un i)
-uact un (c-check i) = (a-ok, un)
-uact un (c_leave i) = (a-ok, u_set_inside un i false)
-uact un (c_enter i) = (a-ok, u_set_inside un i true)
-uact un (c_make i d p n) = (a-ok, u_make un i d p (replicate n 0))
-uact un (c_load i d s f) = on_record (un.root i s) un (λ a. (a-ok, u_set_root un i d (un.pointer a f)))
-uact un (c_store i s f t) = on_record (un.root i s) un (λ a. (a-ok, u_store un a f (un.root i t)))
-uact un (c_copy i d s) = (a-ok, u_set_root un i d (un.root i s))
-uact un (c_clear i d) = (a-ok, u_set_root un i d none)
-uact un (c_put i s k v) = on_record (un.root i s) un (λ a. (a-ok, u_set_values un a (set (un.values a) k v)))
+uact un (c_attach i) = (a_ok, u_attach un i none)
+uact un (c_spawn i p k) = (a_ok, u_attach un i (un.root p k))
+uact un (c_detach i) = (a_ok, u_detach un i)
+uact un (c_check i) = (a_ok, un)
+uact un (c_leave i) = (a_ok, u_set_inside un i false)
+uact un (c_enter i) = (a_ok, u_set_inside un i true)
+uact un (c_make i d p n) = (a_ok, u_make un i d p (replicate n 0))
+uact un (c_load i d s f) = on_record (un.root i s) un (λ a. (a_ok, u_set_root un i d (un.pointer a f)))
+uact un (c_store i s f t) = on_record (un.root i s) un (λ a. (a_ok, u_store un a f (un.root i t)))
+uact un (c_copy i d s) = (a_ok, u_set_root un i d (un.root i s))
+uact un (c_clear i d) = (a_ok, u_set_root un i d none)
+uact un (c_put i s k v) = on_record (un.root i s) un (λ a. (a_ok, u_set_values un a (set (un.values a) k v)))
 uact un (c_get i s k) = on_record (un.root i s) un (λ a. (a_num (get_or (un.values a) k 0), un))
 uact un (c_same i s t) = (a_flag (same_ref (un.root i s) (un.root i t)), un)
 uact un (c_shape i s) = on_record (un.root i s) un (λ a. (a_shape (ushape_at un a), un))

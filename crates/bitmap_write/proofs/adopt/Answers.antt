@@ -13,19 +13,15 @@ gather-requires c =
 
 pub complete-requires : goal.complete-requires
 complete-requires c =
-    let gathered = c.before.before.before in
     omega (arith, c.requires.0, c.requires.1, c.gather.auto.s)
 
 pub ones_among-requires : goal.ones_among-requires
 ones_among-requires c =
-    let completed = c.before.before.before in
-    let gathered = completed.before.before.before.before in
     omega (arith, c.requires.0, c.requires.1, c.gather.auto.s, c.complete.auto.s, words_in c.args.above c.args.n)
 
 pub returns : goal.returns
 unfolding adopted
 returns c =
-    let done = c.before.before.before.before in
     let a = c.args in
     record {
       s_after = c.complete.ensures ∙ ap (λ (l : List _). completed a.above a.n l) c.gather.ensures;

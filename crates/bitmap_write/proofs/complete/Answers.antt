@@ -9,11 +9,10 @@ use Rattle.bitmap_write.specs.Completed.{completed}
 use Rattle.bitmap_write.proofs.complete.Goals as goal
 
 pub pad-requires : goal.pad-requires
-pad-requires c = let a = c.before.before in omega (arith, c.requires, words_in c.args.above c.args.n)
+pad-requires c = omega (arith, c.requires, words_in c.args.above c.args.n)
 
 pub returns : goal.returns
 unfolding completed
 returns c =
-    let pad_told = c.before.before.before.before.before.before in
     let a = c.args in
     c.rebuild.ensures ∙ ap (λ (l : List ℕ). rebuilt a.above a.n l) c.pad.ensures

@@ -6,7 +6,5 @@ use Rattle.bitmap_write.proofs.free_level.Goals as goal
 
 pub returns : goal.returns
 returns c =
-    let padding = c.before.before in
-    let clearing = padding.before.before.before.before in
     let a = c.args in
     c.pad.ensures ∙ ap (padded a.n) (c.clear_words.ensures ∙ ap (λ (m : ℕ). cleared m a.s.now) c.words_for.ensures)

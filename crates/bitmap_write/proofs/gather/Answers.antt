@@ -23,16 +23,16 @@ pub gather_by-requires : goal.gather_by-requires
 gather_by-requires c = let p = c.requires in (p.0, p.1, p.2, p.3, p.4, inl refl)
 
 pub gather_by-requires-in-1 : goal.gather_by-requires-in-1
-gather_by-requires-in-1 c = let met = c.before in asked _ _ _ _ 1 32 c.in-1.is c.requires c.if-n-ne0.false (inl (refl, refl))
+gather_by-requires-in-1 c = asked _ _ _ _ 1 32 c.in-1.is c.requires c.if-n-ne0.false (inl (refl, refl))
 
 pub gather_by-requires-in-2 : goal.gather_by-requires-in-2
-gather_by-requires-in-2 c = let met = c.before in asked _ _ _ _ 2 16 c.in-2.is c.requires c.if-n-ne0.false (inr (inl (refl, refl)))
+gather_by-requires-in-2 c = asked _ _ _ _ 2 16 c.in-2.is c.requires c.if-n-ne0.false (inr (inl (refl, refl)))
 
 pub gather_by-requires-in-4 : goal.gather_by-requires-in-4
-gather_by-requires-in-4 c = let met = c.before in asked _ _ _ _ 4 8 c.in-4.is c.requires c.if-n-ne0.false (inr (inr (inl (refl, refl))))
+gather_by-requires-in-4 c = asked _ _ _ _ 4 8 c.in-4.is c.requires c.if-n-ne0.false (inr (inr (inl (refl, refl))))
 
 pub gather_by-requires-in-8 : goal.gather_by-requires-in-8
-gather_by-requires-in-8 c = let met = c.before in asked _ _ _ _ 8 4 c.in-8.is c.requires c.if-n-ne0.false (inr (inr (inr (refl, refl))))
+gather_by-requires-in-8 c = asked _ _ _ _ 8 4 c.in-8.is c.requires c.if-n-ne0.false (inr (inr (inr (refl, refl))))
 
 pub gather_by-requires-in_default : goal.gather_by-requires-in_default
 gather_by-requires-in_default c = let p = c.requires in (p.0, p.1, p.2, p.3, p.4, inl refl)

@@ -1,6 +1,6 @@
 -- `borvukhai::borvukhai_attach` meets its contract.
 use borrow.Author.Rules.{rules}
-use Rattle.theory.specs.Calls.{c-attach}
+use Rattle.theory.specs.Calls.{c_attach}
 use Rattle.packing.proofs.Unpacked.{exports}
 use Rattle.borvukhai.proofs.borvukhai_attach.Statement.{statement}
 use Rattle.borvukhai.proofs.borvukhai_attach.Tie as tie
@@ -21,7 +21,7 @@ returns : tie.Need-returns
 returns c =
     let attached = c.before.before.before in
     let geometry_told = attached.before.before in
-    exports (c-attach _) _ _ _ _ _ geometry_told.geometry.ensures attached.attach.ensures _ c.packed.ensures (λ k. k)
+    exports (c_attach _) _ _ _ _ _ geometry_told.geometry.ensures attached.attach.ensures _ c.packed.ensures (λ k. k)
 
 pub borvukhai-attach-spec : {M : Type 1} → statement M
 borvukhai-attach-spec =

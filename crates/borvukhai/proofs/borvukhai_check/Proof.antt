@@ -1,7 +1,7 @@
 -- `borvukhai::borvukhai_check` meets its contract.
 use borrow.Author.Rules.{rules}
 use Rattle.borvukhai.proofs.borvukhai_check.Statement.{statement}
-use Rattle.theory.specs.Calls.{c-check}
+use Rattle.theory.specs.Calls.{c_check}
 use Rattle.packing.proofs.Unpacked.{exports}
 use Rattle.borvukhai.proofs.borvukhai_check.Tie as tie
 
@@ -21,7 +21,7 @@ returns : tie.Need-returns
 returns c =
     let checked = c.before.before.before in
     let geometry_told = checked.before.before in
-    exports (c-check _) _ _ _ _ _ geometry_told.geometry.ensures checked.check.ensures _ c.packed.ensures (λ k. k)
+    exports (c_check _) _ _ _ _ _ geometry_told.geometry.ensures checked.check.ensures _ c.packed.ensures (λ k. k)
 
 pub borvukhai-check-spec : {M : Type 1} → statement M
 borvukhai-check-spec =

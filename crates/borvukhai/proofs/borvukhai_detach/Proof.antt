@@ -1,6 +1,6 @@
 -- `borvukhai::borvukhai_detach` meets its contract.
 use borrow.Author.Rules.{rules}
-use Rattle.theory.specs.Calls.{c-detach}
+use Rattle.theory.specs.Calls.{c_detach}
 use Rattle.packing.proofs.Unpacked.{exports}
 use Rattle.borvukhai.proofs.borvukhai_detach.Statement.{statement}
 use Rattle.borvukhai.proofs.borvukhai_detach.Tie as tie
@@ -21,7 +21,7 @@ returns : tie.Need-returns
 returns c =
     let detached = c.before.before.before in
     let geometry_told = detached.before.before in
-    exports (c-detach _) _ _ _ _ _ geometry_told.geometry.ensures detached.detach.ensures _ c.packed.ensures (λ k. k)
+    exports (c_detach _) _ _ _ _ _ geometry_told.geometry.ensures detached.detach.ensures _ c.packed.ensures (λ k. k)
 
 pub borvukhai-detach-spec : {M : Type 1} → statement M
 borvukhai-detach-spec =

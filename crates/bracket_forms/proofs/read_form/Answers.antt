@@ -10,8 +10,6 @@ loop-kind-init c = (omega arith, λ j h. absurd (omega arith))
 
 pub returns-in-Known : goal.returns-in-Known
 returns-in-Known c =
-    let kind_read = c.before.before.before in
-    let loop_head = kind_read.before.before in
     text_found c.args.line.now
     c.loop-kind.kind _ (omega arith)
     (sym c.in-Known.is ∙ c.read_kind.ensures)

@@ -4,9 +4,6 @@ use Rattle.bracket_forms.proofs.read_kind.Goals as goal
 
 pub returns-then-match_text : goal.returns-then-match_text
 returns-then-match_text c =
-    let text_matched = c.before.before.before in
-    let form_parts-told = text_matched.before.before.before.before in
-    let form_at-told = form_parts-told.before in
     let m = c.match_text in
     kind_text _ _ m.new.numbers c.args.kind m.result _ _
     (kind_template _ _ _ c.form_at.ensures c.form_parts-parts.ensures) m.ensures c.if-match_text.true
@@ -14,8 +11,6 @@ returns-then-match_text c =
 
 pub returns-else-match_text : goal.returns-else-match_text
 returns-else-match_text c =
-    let form_parts-told = c.before.before.before.before.before in
-    let form_at-told = form_parts-told.before in
     let m = c.match_text in
     kind_other _ _ m.new.numbers c.args.kind m.result
     (kind_template _ _ _ c.form_at.ensures c.form_parts-parts.ensures) m.ensures c.if-match_text.false

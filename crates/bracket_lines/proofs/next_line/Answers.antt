@@ -19,7 +19,6 @@ loop-at-init c = scanning_none _ _ _ _
 
 pub loop-at-preserved : goal.loop-at-preserved
 loop-at-preserved c =
-    let loop_head = c.before.before.before.before.before.before in
     let a = c.args in
     let k = c.loop-at in
     let s = c.take_byte-s in
@@ -28,7 +27,6 @@ loop-at-preserved c =
 
 pub returns-in-Line : goal.returns-in-Line
 returns-in-Line c =
-    let loop_head = c.before.before.before.before.before.before in
     let a = c.args in
     let k = c.loop-at in
     let s = c.take_byte-s in
@@ -37,7 +35,6 @@ returns-in-Line c =
 
 pub returns-in-Overlong : goal.returns-in-Overlong
 returns-in-Overlong c =
-    let loop_head = c.before.before.before.before.before.before in
     let a = c.args in
     let k = c.loop-at in
     let s = c.take_byte-s in

@@ -7,7 +7,6 @@ use Rattle.bracket_text.proofs.digits_on.Goals as goal
 
 pub returns-then-d-gt9 : goal.returns-then-d-gt9
 returns-then-d-gt9 c =
-    let loop_head = c.before.before.before.before in
     let a = c.args in
     let k = c.loop-at in (
       k.invariant.2 ∙ digits_stop a.line.now k.at c.digit-d.result (omega arith) c.digit-d.ensures k.value
@@ -17,7 +16,6 @@ returns-then-d-gt9 c =
 
 pub returns-then-next-gt-MOST : goal.returns-then-next-gt-MOST
 returns-then-next-gt-MOST c =
-    let loop_head = c.before.before.before.before.before in
     let a = c.args in
     let k = c.loop-at in
     k.invariant.2
@@ -26,7 +24,6 @@ returns-then-next-gt-MOST c =
 
 pub loop-at-preserved : goal.loop-at-preserved
 loop-at-preserved c =
-    let loop_head = c.before.before.before.before.before in
     let a = c.args in
     let k = c.loop-at in (
       omega arith,

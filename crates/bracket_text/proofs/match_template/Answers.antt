@@ -10,7 +10,6 @@ loop-i-init c = (omega arith, omega arith, omega arith, refl)
 
 pub returns-in-Astray : goal.returns-in-Astray
 returns-in-Astray c =
-    let loop_head = c.before.before.before.before.before.before in
     let a = c.args in
     let k = c.loop-i in
     k.invariant.3
@@ -19,8 +18,6 @@ returns-in-Astray c =
 
 pub loop-i-preserved : goal.loop-i-preserved
 loop-i-preserved c =
-    let piece_at_told = c.before.before.before in
-    let loop_head = piece_at_told.before.before.before.before in
     let a = c.args in
     let k = c.loop-i in
     let m = piece_read_at a.line.now _ _ _ c.piece_at.ensures c.in-At.is in (

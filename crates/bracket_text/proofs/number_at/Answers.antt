@@ -21,7 +21,6 @@ returns-then-d-eq0 c =
 
 pub returns : goal.returns
 returns c =
-    let digit_told = c.before.before.before in
     let a = c.args in
     rw
     (number_more a.line.now a.at c.digit-d.result (omega arith) c.digit-d.ensures (omega arith) c.if-d-eq0.false)

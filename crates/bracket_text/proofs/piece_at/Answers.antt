@@ -5,8 +5,6 @@ use Rattle.bracket_text.proofs.piece_at.Goals as goal
 
 pub returns-then-count-lt5 : goal.returns-then-count-lt5
 returns-then-count-lt5 c =
-    let number_at_told = c.before.before.before.before in
-    let when_byte = number_at_told.before in
     let a = c.args in
     let h = reads_value a.line.now _ _ c.number_at.ensures c.in-Value.is in (
       piece_kept a.byte a.count a.numbers.now _ c.if-byte-eq35.true _ _ h.0
@@ -17,8 +15,6 @@ returns-then-count-lt5 c =
 
 pub returns-else-count-lt5 : goal.returns-else-count-lt5
 returns-else-count-lt5 c =
-    let number_at_told = c.before.before.before.before in
-    let when_byte = number_at_told.before in
     let a = c.args in
     let h = reads_value a.line.now _ _ c.number_at.ensures c.in-Value.is in
     piece_full a.byte a.count a.numbers.now _ c.if-byte-eq35.true _ _ h.0
@@ -26,14 +22,12 @@ returns-else-count-lt5 c =
 
 pub returns-in-Nothing : goal.returns-in-Nothing
 returns-in-Nothing c =
-    let when_byte = c.before.before.before in
     let a = c.args in
     piece_no_number a.byte a.count a.numbers.now _ c.if-byte-eq35.true
     (reads_nothing a.line.now _ _ c.number_at.ensures c.in-Nothing.is)
 
 pub returns-then-line-at : goal.returns-then-line-at
 returns-then-line-at c =
-    let past_byte = c.before.before.before in
     let a = c.args in (
       piece_literal a.byte a.count a.numbers.now a.line.now a.at c.if-byte-eq35.false
           (omega arith) c.if-line-at.true,
@@ -43,7 +37,6 @@ returns-then-line-at c =
 
 pub returns-else-line-at : goal.returns-else-line-at
 returns-else-line-at c =
-    let past_byte = c.before.before.before in
     let a = c.args in
     piece_other a.byte a.count a.numbers.now a.line.now a.at c.if-byte-eq35.false (omega arith)
     c.if-line-at.false

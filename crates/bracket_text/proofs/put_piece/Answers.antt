@@ -21,8 +21,6 @@ bounds-buf-at c =
 
 pub returns-then-byte-eq35 : goal.returns-then-byte-eq35
 returns-then-byte-eq35 c =
-    let number_or_zero_told = c.before.before.before.before in
-    let when_byte = number_or_zero_told.before in
     let a = c.args in
     put_hole a.buf.now a.numbers.now a.pen a.byte c.number_or_zero-value.result
     c.put_number.result c.put_number.new.buf

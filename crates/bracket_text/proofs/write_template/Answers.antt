@@ -9,7 +9,6 @@ loop-i-init c = writes_none _ _ _
 
 pub put_piece-pen-requires : goal.put_piece-pen-requires
 put_piece-pen-requires c =
-    let loop_head = c.before.before.before in
     let a = c.args in
     let k = c.loop-i in (
       writes_room a.template.now a.numbers.now a.buf.now k.buf k.pen k.i k.invariant
@@ -22,7 +21,6 @@ loop-i-smaller c = omega arith
 
 pub loop-i-preserved : goal.loop-i-preserved
 loop-i-preserved c =
-    let loop_head = c.before.before.before.before.before.before in
     let a = c.args in
     let k = c.loop-i in
     writes_more a.template.now a.numbers.now a.buf.now k.buf k.pen k.i k.invariant

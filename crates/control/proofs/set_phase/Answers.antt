@@ -4,5 +4,4 @@ use Rattle.control.proofs.set_phase.Goals as goal
 
 pub returns : goal.returns
 returns c =
-    let written = c.before.before in
     phase_set _ _ c.requires.1 _ c.set_control.ensures

@@ -6,7 +6,5 @@ use Rattle.layout.proofs.clear_segments.Goals as goal
 
 pub returns : goal.returns
 returns c =
-    let end = c.before.before.before.before in
-    let a = end.before in
     cleared_at c.args.g c.args.mem.now Region.segments c.segments_from-a.result c.stacks_from-end.result _ c.zero.ensures (omega arith)
     c.requires.is (omega arith)

@@ -14,12 +14,8 @@ shaped z c k = rw (class_passes c k) refl
 
 pub returns-then-g-eq-LARGE_KIB : goal.returns-then-g-eq-LARGE_KIB
 returns-then-g-eq-LARGE_KIB c =
-    let told = c.before in
-    let arm = told.before in
     rw (large_bytes c.args.g c.if-g-eq-LARGE_KIB.true) (c.found.ensures _ (c.large_shape.ensures ∙ shaped large_size c.args.class c.requires))
 
 pub returns-else-g-eq-LARGE_KIB : goal.returns-else-g-eq-LARGE_KIB
 returns-else-g-eq-LARGE_KIB c =
-    let told = c.before in
-    let arm = told.before in
     rw (small_bytes c.args.g c.if-g-eq-LARGE_KIB.false) (c.found-else-g-eq-LARGE_KIB.ensures _ (c.segment_shape.ensures ∙ shaped segment_size c.args.class c.requires))

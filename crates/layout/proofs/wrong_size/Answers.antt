@@ -59,7 +59,6 @@ overflow_add-result c =
 pub returns : goal.returns
 unfolding wrong_size
 returns c =
-    let few = c.before.before.before in
     let g = c.args.g in
     let each : EachBy g.kib c.if-g-eq-SMALL_KIB.each =
     elim c.if-g-eq-SMALL_KIB.branch [ then-g-eq-SMALL_KIB w ↦ inl (omega arith, omega arith) | else-g-eq-SMALL_KIB+then-g-eq-LARGE_KIB w ↦ inr (omega arith, omega arith) ] in

@@ -7,18 +7,13 @@ use Rattle.marks.proofs.count.Goals as goal
 
 pub overflow_cast-most : goal.overflow_cast-most
 overflow_cast-most c =
-    let roomed = c.before.before in
     omega (arith, c.trace_words-most.ensures, trace_most c.args.g c.requires.few)
 
 pub ones_among-requires : goal.ones_among-requires
 ones_among-requires c =
-    let placed = c.before in
-    let roomed = placed.before in
     part_room c.args.g c.args.mem.now c.requires _ _ _ c.trace_words-most.ensures c.marks_from-a.ensures refl
 
 pub returns : goal.returns
 returns c =
-    let placed = c.before.before in
-    let roomed = placed.before in
     part_count c.args.g c.args.mem.now c.requires _ _ _ c.trace_words-most.ensures c.marks_from-a.ensures refl _
     c.ones_among.ensures

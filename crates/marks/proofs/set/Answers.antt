@@ -13,5 +13,4 @@ set_mark-requires c =
 
 pub returns : goal.returns
 returns c =
-    let written = c.before.before in
     bit_written _ _ _ _ c.mark-w.ensures c.with_bit.ensures _ c.set_mark.ensures

@@ -18,10 +18,8 @@ returns-then-i-ge-ROOTS c = root_6 _ _ c.if-i-ge-ROOTS.true ∙ inside_rest _ _ 
 
 pub returns-then-j-ge-ROOTS : goal.returns-then-j-ge-ROOTS
 returns-then-j-ge-ROOTS c =
-    let state_told = c.before.before.before.before in
     root_6 _ _ c.if-j-ge-ROOTS.true ∙ root_rest _ _ c.if-i-ge-ROOTS.false ∙ inside_rest _ _ _ c.if-k-ge-MUTATORS.false (sym c.state-state.ensures ∙ c.if-state-ne-INSIDE.false)
 
 pub returns : goal.returns
 returns c =
-    let state_told = c.before.before.before.before in
     root_rest _ _ c.if-j-ge-ROOTS.false ∙ root_rest _ _ c.if-i-ge-ROOTS.false ∙ inside_rest _ _ _ c.if-k-ge-MUTATORS.false (sym c.state-state.ensures ∙ c.if-state-ne-INSIDE.false)

@@ -13,23 +13,17 @@ clear_control-requires c = sized _ _ (sym c.wrong_size.ensures ∙ c.if-wrong_si
 
 pub clear_mutators-requires : goal.clear_mutators-requires
 clear_mutators-requires c =
-    let control_cleared = c.before.before.before in
     let of_size = sized _ _ (sym c.wrong_size.ensures ∙ c.if-wrong_size.false) in
     resized _ _ _ of_size c.clear_control.auto.mem
 
 pub clear_segments-requires : goal.clear_segments-requires
 clear_segments-requires c =
-    let mutators_cleared = c.before.before.before in
-    let control_cleared = mutators_cleared.before.before.before.before in
     let of_size = sized _ _ (sym c.wrong_size.ensures ∙ c.if-wrong_size.false) in
     let control_size = resized _ _ _ of_size c.clear_control.auto.mem in
     resized _ _ _ control_size c.clear_mutators.auto.mem
 
 pub clear_stacks-requires : goal.clear_stacks-requires
 clear_stacks-requires c =
-    let segments_cleared = c.before.before.before in
-    let mutators_cleared = segments_cleared.before.before.before.before in
-    let control_cleared = mutators_cleared.before.before.before.before in
     let of_size = sized _ _ (sym c.wrong_size.ensures ∙ c.if-wrong_size.false) in
     let control_size = resized _ _ _ of_size c.clear_control.auto.mem in
     let mutators_size = resized _ _ _ control_size c.clear_mutators.auto.mem in
@@ -37,18 +31,11 @@ clear_stacks-requires c =
 
 pub overflow_cast-g : goal.overflow_cast-g
 overflow_cast-g c =
-    let stacks_cleared = c.before.before.before.before in
-    let segments_cleared = stacks_cleared.before.before.before.before in
-    let mutators_cleared = segments_cleared.before.before.before.before in
     let of_size = sized _ _ (sym c.wrong_size.ensures ∙ c.if-wrong_size.false) in
     omega (arith, of_size.few)
 
 pub set_stack-requires : goal.set_stack-requires
 set_stack-requires c =
-    let stacks_cleared = c.before.before.before.before in
-    let segments_cleared = stacks_cleared.before.before.before.before in
-    let mutators_cleared = segments_cleared.before.before.before.before in
-    let control_cleared = mutators_cleared.before.before.before.before in
     let of_size = sized _ _ (sym c.wrong_size.ensures ∙ c.if-wrong_size.false) in
     let control_size = resized _ _ _ of_size c.clear_control.auto.mem in
     let mutators_size = resized _ _ _ control_size c.clear_mutators.auto.mem in
@@ -57,11 +44,6 @@ set_stack-requires c =
 
 pub stack_down-requires : goal.stack_down-requires
 stack_down-requires c =
-    let stack_set = c.before.before.before in
-    let stacks_cleared = stack_set.before.before.before.before.before in
-    let segments_cleared = stacks_cleared.before.before.before.before in
-    let mutators_cleared = segments_cleared.before.before.before.before in
-    let control_cleared = mutators_cleared.before.before.before.before in
     let of_size = sized _ _ (sym c.wrong_size.ensures ∙ c.if-wrong_size.false) in
     let control_size = resized _ _ _ of_size c.clear_control.auto.mem in
     let mutators_size = resized _ _ _ control_size c.clear_mutators.auto.mem in
@@ -71,11 +53,6 @@ stack_down-requires c =
 
 pub returns : goal.returns
 returns c =
-    let stack_set = c.before.before.before.before.before.before in
-    let stacks_cleared = stack_set.before.before.before.before.before in
-    let segments_cleared = stacks_cleared.before.before.before.before in
-    let mutators_cleared = segments_cleared.before.before.before.before in
-    let control_cleared = mutators_cleared.before.before.before.before in
     open_ok _ _ (sym c.wrong_size.ensures ∙ c.if-wrong_size.false)
     (opened_by _ _ c.clear_control.ensures c.clear_mutators.ensures c.clear_segments.ensures
     c.clear_stacks.ensures c.set_stack.ensures c.stack_down.ensures)

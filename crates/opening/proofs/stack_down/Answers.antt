@@ -30,13 +30,11 @@ pub loop-i-smaller : goal.loop-i-smaller
 loop-i-smaller c = omega arith
 
 pub loop-i-preserved : goal.loop-i-preserved
-loop-i-preserved c =
-    let in_Body = c.before.before.before.before in
-    let loop_head = in_Body.before in (
-      c.set_stack.auto.mem ∙ c.loop-i.invariant.0,
-      omega arith,
-      left_less _ _ _ _ _ c.loop-i.invariant.2 c.loop-i-test.true _ c.set_stack.ensures,
-    )
+loop-i-preserved c = (
+  c.set_stack.auto.mem ∙ c.loop-i.invariant.0,
+  omega arith,
+  left_less _ _ _ _ _ c.loop-i.invariant.2 c.loop-i-test.true _ c.set_stack.ensures,
+)
 
 pub shape_of-mem : goal.shape_of-mem
 shape_of-mem c = c.loop-i.invariant.0

@@ -4,15 +4,8 @@ use Rattle.records.proofs.clear_few.Goals as goal
 
 pub returns-then-n-le8 : goal.returns-then-n-le8
 returns-then-n-le8 c =
-    let last = c.before.before in
-    let first = last.before.before.before.before in
     cleared_eight _ _ _ c.if-n-lt4.false c.if-n-le8.true _ _ c.clear_four.ensures c.clear_four-then-n-le8.ensures
 
 pub returns-else-n-le8 : goal.returns-else-n-le8
 returns-else-n-le8 c =
-    let fourth = c.before.before in
-    let third = fourth.before.before.before.before in
-    let second = third.before.before.before.before in
-    let first = second.before.before.before.before in
-    let asked = first.before.before in
     cleared_sixteen _ _ _ c.if-n-le8.false c.requires.2 _ _ _ _ c.clear_four-else-n-le8.ensures c.clear_four-else-n-le8-2.ensures c.clear_four-else-n-le8-3.ensures c.clear_four-else-n-le8-4.ensures

@@ -4,7 +4,4 @@ use Rattle.records.proofs.clear_four.Goals as goal
 
 pub returns : goal.returns
 returns c =
-    let fourth = c.before.before in
-    let third = fourth.before.before.before.before in
-    let second = third.before.before.before.before in
     cleared_4 _ _ _ c.set_word.ensures _ c.set_word-2.ensures _ _ c.set_word-3.ensures c.set_word-4.ensures

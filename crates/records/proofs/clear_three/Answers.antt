@@ -8,6 +8,4 @@ returns-then-n-eq0 c = cleared_0 _ _ _ c.if-n-eq0.true
 
 pub returns : goal.returns
 returns c =
-    let last = c.before.before in
-    let first = last.before.before.before.before in
     cleared_three _ _ _ (pos_of_ne-zero c.if-n-eq0.false) c.requires.2 _ _ c.clear_two.ensures c.set_word.ensures

@@ -6,7 +6,6 @@ use Rattle.records.proofs.clear_two.Goals as goal
 
 pub returns-then-n-ne1 : goal.returns-then-n-ne1
 returns-then-n-ne1 c =
-    let second = c.before.before in
     rw (ne_eqb _ 1 c.if-n-ne1.true) (cleared_pair _ _ _ _ c.set_word.ensures c.set_word-then-n-ne1.ensures)
 
 pub returns : goal.returns

@@ -10,12 +10,8 @@ returns-then-shape-f c = no_value _ _ c.heap_words-end.ensures _ _ _ _ c.shape-s
 
 pub returns-then-end-word : goal.returns-then-end-word
 returns-then-end-word c =
-    let shape_told = c.before.before.before.before in
-    let past_end_upto_at = shape_told.before in
     value_torn _ _ c.heap_words-end.ensures _ _ _ _ c.shape-shape.ensures.shape c.if-end-at.false c.if-shape-f.false c.if-end-word.true
 
 pub returns : goal.returns
 returns c =
-    let shape_told = c.before.before.before.before in
-    let past_end_upto_at = shape_told.before in
     value_word _ _ c.heap_words-end.ensures _ _ _ _ c.shape-shape.ensures.shape c.if-end-at.false c.if-shape-f.false c.if-end-word.false

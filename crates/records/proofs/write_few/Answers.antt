@@ -4,5 +4,4 @@ use Rattle.records.proofs.write_few.Goals as goal
 
 pub returns : goal.returns
 returns c =
-    let cleared = c.before.before in
     c.clear_few.ensures ∙ rw c.set_word.ensures refl

@@ -8,9 +8,6 @@ use Rattle.sheet_line.proofs.put_aligned.Goals as goal
 pub returns : goal.returns
 unfolding aligned
 returns c =
-    let written = c.before.before in
-    let filled = written.before.before.before.before in
-    let counted = filled.before.before in
     let same = c.digit_count-digits.ensures in
     let number = c.put_number.ensures in
     let spaces = c.fill-from.ensures in

@@ -8,7 +8,6 @@ use Rattle.sheet_line.proofs.put_bar.Goals as goal
 pub returns : goal.returns
 unfolding bar
 returns c =
-    let dotted = c.before.before in
     let dots = c.fill.ensures in
     let hashes = c.fill-next.ensures in
     (omega arith, behind _ _ _ _ _ _ _ _ (length-replicate _ _) (omega arith) hashes.1 hashes.0 dots.1)

@@ -6,6 +6,5 @@ use Rattle.sheet_line.proofs.put_column.Goals as goal
 
 pub returns : goal.returns
 returns c =
-    let written = c.before.before in
     let number = c.put_aligned-next.ensures in
     (omega arith, behind_one _ _ _ _ _ _ _ (aligned_long _ _ c.requires.1) (omega arith) c.put_aligned-next.auto.out number.1 number.0)

@@ -12,14 +12,10 @@ put_column-next-requires c = let a = c.args in (c.requires.0, four_fit a.used c.
 
 pub put_column-last-requires : goal.put_column-last-requires
 put_column-last-requires c =
-    let first = c.before.before.before in
     (c.requires.1, four_fit c.args.unused c.requires.1, omega (arith, c.put_column-next.ensures.0))
 
 pub returns : goal.returns
 returns c =
-    let barred = c.before.before in
-    let second = barred.before.before.before.before in
-    let first = second.before.before.before.before in
     let a = c.args in
     let x = c.put_column-next.ensures in
     let y = c.put_column-last.ensures in

@@ -15,9 +15,6 @@ put_column-state-requires c =
 pub returns : goal.returns
 unfolding free_line bar
 returns c =
-    let ended = c.before.before in
-    let state = ended.before.before.before.before in
-    let column = state.before.before.before.before in
     let a = c.args in
     let x = c.put_column-state.ensures in
     let y = c.put_free_state-figures.ensures in

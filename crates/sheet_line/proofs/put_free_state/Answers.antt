@@ -10,13 +10,11 @@ use Rattle.sheet_line.proofs.put_free_state.Goals as goal
 
 pub shape_of-out : goal.shape_of-out
 shape_of-out c =
-    let second = c.before.before in
     length-set {A = ℕ} c.put_two-last.new.out c.put_two-last.result 32 ∙ c.put_two-last.auto.out ∙ c.put_two-next.auto.out
 
 pub returns : goal.returns
 unfolding letter_of
 returns c =
-    let second = c.before.before in
     let a = c.args in
     let x = c.put_two-next.ensures in
     let y = c.put_two-last.ensures in

@@ -14,9 +14,6 @@ put_column-next-requires c =
 
 pub returns : goal.returns
 returns c =
-    let ended = c.before.before in
-    let told = ended.before in
-    let column = told.before.before.before.before in
     let a = c.args in
     let x = c.put_column-next.ensures in
     let y = c.put_two.ensures in

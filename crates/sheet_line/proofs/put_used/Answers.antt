@@ -16,9 +16,6 @@ put_column-state-requires c =
 
 pub put_figures-requires : goal.put_figures-requires
 put_figures-requires c =
-    let bars = c.before in
-    let state = bars.before.before.before in
-    let column = state.before.before.before.before in
     let a = c.args in
     let within = c.requires.0.within in
     (omega arith, omega arith, omega (arith, bar_most a.used a.blocks within, c.hashes-bars.ensures), omega arith)
@@ -26,10 +23,6 @@ put_figures-requires c =
 pub returns : goal.returns
 unfolding used_line
 returns c =
-    let ended = c.before.before in
-    let bars = ended.before.before in
-    let state = bars.before.before.before in
-    let column = state.before.before.before.before in
     let a = c.args in
     let f = c.requires.0 in
     let x = c.put_column-state.ensures in

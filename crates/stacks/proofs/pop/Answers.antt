@@ -7,5 +7,4 @@ returns-then-count-eq0 c = pop_none _ _ _ _ _ c.base-at.ensures c.stack-count.en
 
 pub returns : goal.returns
 returns c =
-    let stack_told = c.before.before.before.before.before in
     pop_some _ _ _ _ _ c.base-at.ensures c.stack-count.ensures _ c.set_stack.ensures

@@ -7,6 +7,4 @@ returns-then-g-count c = push_full _ _ _ _ _ c.base-at.ensures c.stack-count.ens
 
 pub returns : goal.returns
 returns c =
-    let stack_set = c.before.before.before.before.before.before in
-    let stack_told = stack_set.before.before.before.before in
     push_done _ _ _ _ _ c.base-at.ensures c.stack-count.ensures _ _ _ c.set_stack.ensures c.set_stack-2.ensures

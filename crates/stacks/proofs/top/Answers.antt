@@ -10,15 +10,9 @@ returns-then-g-count c = top_over _ _ _ _ _ c.base-at.ensures c.stack-count.ensu
 
 pub returns-then-s-g : goal.returns-then-s-g
 returns-then-s-g c =
-    let past_segments_below_count = c.before.before.before in
-    let past_count_is_0 = past_segments_below_count.before.before in
-    let stack_told = past_count_is_0.before in
     top_there _ _ _ _ _ c.base-at.ensures c.stack-count.ensures c.if-count-eq0.false
     c.if-g-count.false _ c.stack-s.ensures c.if-s-g.true
 
 pub returns : goal.returns
 returns c =
-    let past_segments_below_count = c.before.before.before in
-    let past_count_is_0 = past_segments_below_count.before.before in
-    let stack_told = past_count_is_0.before in
     top_off _ _ _ _ _ c.base-at.ensures c.stack-count.ensures c.if-count-eq0.false c.if-g-count.false _ c.stack-s.ensures c.if-s-g.false

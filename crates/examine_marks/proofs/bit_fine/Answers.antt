@@ -1,0 +1,38 @@
+-- `examine_marks::bit_fine` meets its contract.
+use mathlib.Core.Path.{refl}
+use Prim.Native.Nat.{◌*◌}
+use Rattle.layout.specs.Mem.{mem_of}
+use Rattle.layout.proofs.Sizes.{heap_most}
+use borrow.Author.Tests.{not-true, not-false}
+use Rattle.basics.proofs.Deciding.{holds, refuted}
+use Rattle.examine_marks.proofs.Judging.{at_inside, at_segment, not_asked, fine_by}
+use native.Mathlib.Omega.{arith}
+use borrow.Author.Rules.{rules}
+use Rattle.examine_marks.proofs.bit_fine.Goals as goal
+
+pub returns-then-not-set : goal.returns-then-not-set
+returns-then-not-set c = holds (λ a b. absurd (refuted c.is_set-set.ensures c.if-not-set.true b))
+
+pub overflow_mul-at : goal.overflow_mul-at
+overflow_mul-at c =
+    omega (arith, at_inside c.args.g c.args.k _ c.requires.1 _ c.block_words.ensures refl, heap_most c.args.g c.requires.0.few)
+
+pub asked-ask-requires : goal.asked-ask-requires
+asked-ask-requires c =
+    (c.requires.0, at_segment c.args.g c.args.k _ c.requires.1 _ c.block_words.ensures refl _ c.segment_of-s.ensures)
+
+pub returns-then-not-ask : goal.returns-then-not-ask
+returns-then-not-ask c =
+    not_asked c.args.g c.args.k _ c.requires.1 _ c.block_words.ensures refl (mem_of c.args.g c.args.mem.now) c.args.condemned_only _
+    c.segment_of-s.ensures _ c.asked-ask.ensures c.if-not-ask.true
+
+pub head-requires : goal.head-requires
+head-requires c =
+    (c.requires.0, at_inside c.args.g c.args.k _ c.requires.1 _ c.block_words.ensures refl, c.segment_of-s.ensures, c.requires.2)
+
+pub returns : goal.returns
+returns c =
+    let a = c.args in
+    fine_by a.g a.k _ c.requires.1 _ c.block_words.ensures refl (mem_of a.g a.mem.now) a.condemned_only _
+    c.segment_of-s.ensures _ c.asked-ask.ensures c.if-not-ask.false
+    (c.is_set-set.ensures.sound c.if-not-set.false) _ c.head.ensures

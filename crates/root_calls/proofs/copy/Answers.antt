@@ -1,0 +1,37 @@
+-- `root_calls::copy` meets its contract.
+use mathlib.Core.Path.{refl, sym, ◌∙◌, ap}
+use Rattle.layout.proofs.Regions.{sized}
+use Rattle.theory.specs.Calls.{c_copy}
+use Rattle.model_laws.proofs.Promised.{size_1, refused, done}
+use Rattle.model.specs.Calls.{act}
+use Rattle.model.specs.Fields.{set_root}
+use Rattle.mutators.proofs.Inside.{in_range}
+use Rattle.mutators.specs.Inside.{inside_then}
+use Rattle.root_calls.proofs.copy.Goals as goal
+
+pub returns-then-wrong_size : goal.returns-then-wrong_size
+returns-then-wrong_size c = size_1 _ _ _ (sym c.wrong_size.ensures ∙ c.if-wrong_size.true)
+
+pub roots_refusal-refused-requires : goal.roots_refusal-refused-requires
+roots_refusal-refused-requires c = sized _ _ (sym c.wrong_size.ensures ∙ c.if-wrong_size.false)
+
+pub returns-then-refused-ne0 : goal.returns-then-refused-ne0
+unfolding inside_then
+returns-then-refused-ne0 c = refused (c_copy _ _ _) _ _ (sym c.wrong_size.ensures ∙ c.if-wrong_size.false) c.roots_refusal-refused.ensures c.if-refused-ne0.true
+
+pub root-held-requires : goal.root-held-requires
+root-held-requires c =
+    let p = in_range _ _ _ c.args.to _ _ c.roots_refusal-refused.ensures c.if-refused-ne0.false in
+    (sized _ _ (sym c.wrong_size.ensures ∙ c.if-wrong_size.false), p.0, p.2)
+
+pub set_root-requires : goal.set_root-requires
+set_root-requires c =
+    let p = in_range _ _ _ _ c.args.from _ c.roots_refusal-refused.ensures c.if-refused-ne0.false in
+    (sized _ _ (sym c.wrong_size.ensures ∙ c.if-wrong_size.false), p.0, p.1)
+
+pub returns : goal.returns
+unfolding inside_then act
+returns c =
+    done (c_copy _ _ _) _ _ (sym c.wrong_size.ensures ∙ c.if-wrong_size.false)
+    (sym c.if-refused-ne0.false ∙ c.roots_refusal-refused.ensures) refl refl refl
+    (c.set_root.ensures ∙ ap (set_root _ _ _) c.root-held.ensures)
