@@ -1,8 +1,7 @@
 # Where the Rattle kit and its compiler are; read by the scripts of this folder.
-machine=$(uname -m)
-kit=${RATTLE_HOME:-$(dirname "$(dirname "$(readlink -f "$(command -v rt || echo /missing/bin/rt)")")")}
-clang=$kit/on/$machine/toolchain/bin/clang
-archiver=$kit/on/$machine/toolchain/bin/llvm-ar
+kit=$(dirname "$(dirname "$(readlink -f "$(command -v rt || echo /missing/bin/rt)")")")
+clang=$kit/toolchain/bin/clang
+archiver=$kit/toolchain/bin/llvm-ar
 
 fail() { echo "port: $*" >&2; exit 1; }
 

@@ -1,5 +1,5 @@
 //! Finds libborvukhai.a and links it: in the folder that BORVUKHAI_LIB_DIR names; else, for x86-64, in
-//! target/staticlib/ at the top of the repository, where `rt staticlib borvukhai` is run if the library is missing or
+//! target/staticlib/ at the top of the repository, where bindings/library is run if the library is missing or
 //! older than a source, and the toolchain is on the path; else in target/port/TARGET/, where bindings/port/build puts
 //! it.
 
@@ -9,7 +9,7 @@ use std::process::{Command, Stdio};
 use std::time::{Instant, SystemTime};
 
 const LIBRARY: &str = "libborvukhai.a";
-const HOW: &str = "build it with `rt staticlib borvukhai` at the top of the repository, or name its folder in BORVUKHAI_LIB_DIR";
+const HOW: &str = "build it with `bindings/library` at the top of the repository, or name its folder in BORVUKHAI_LIB_DIR";
 
 fn main() {
     let manifest = env::var_os("CARGO_MANIFEST_DIR").expect("cargo names the manifest's folder");
@@ -57,11 +57,11 @@ fn built(top: &Path) -> PathBuf {
 /// Proves the library and writes it. A toolchain that is not there, or fails, leaves the folder as it is. Its output
 /// is no word to cargo.
 fn prove(top: &Path) {
-    println!("cargo::warning=proving libborvukhai.a: `rt staticlib borvukhai` takes minutes where crates are not proved yet");
+    println!("cargo::warning=proving libborvukhai.a: `bindings/library` takes minutes where crates are not proved yet");
     let begun = Instant::now();
-    let proved = Command::new("rt").args(["staticlib", "borvukhai"]).current_dir(top).stdout(Stdio::null()).status();
+    let proved = Command::new(top.join("bindings/library")).stdout(Stdio::null()).status();
     let how = if proved.is_ok_and(|status| status.success()) { "took" } else { "failed after" };
-    println!("cargo::warning=`rt staticlib borvukhai` {how} {} s", begun.elapsed().as_secs());
+    println!("cargo::warning=`bindings/library` {how} {} s", begun.elapsed().as_secs());
 }
 
 /// A source of the library that is newer than it, if there is one.

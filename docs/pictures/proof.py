@@ -9,8 +9,8 @@ UPPER, LOWER = 100, 352
 LEVEL = [("lent words", "List ℕ, as long as total says"), ("Mem", "eight regions; Consistent"), ("abstract machine", "State: blocks are numbers; Inv"),
          ("unbounded heap", "Unbounded: nothing is freed")]
 FILL = ["#eef1f5", "#d3e2f6", "#cfe8d6", "#fdebc2"]
-ACROSS = [("memOf", "layout"), ("view", "refine_view"), ("Coupled", "theory")]
-DOWN = [("a function", "storing, making .."), ("exec, startOf, stepOf", "model"), ("act, start, step", "theory"), ("uexec", "theory")]
+ACROSS = [("mem_of", "layout"), ("view", "refine_view"), ("Coupled", "theory")]
+DOWN = [("a function", "storing, making .."), ("exec, start_of, step_of", "model"), ("act, start, step", "theory"), ("uexec", "theory")]
 SQUARE = [("Promise", "answer and memory are the definition's", "each call's own crate"),
           ("AllRefine", "words in order; agrees on what is live", "refine_roots .. refine_start"),
           ("Alike", "same answer; invariant kept", "theory")]

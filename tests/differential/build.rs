@@ -12,7 +12,7 @@ fn main() {
     let library = folder.join("libborvukhai.a");
     println!("cargo:rerun-if-changed={}", library.display());
     if !library.is_file() {
-        eprintln!("no {}: run `rt staticlib borvukhai` at the repository's top, or name its folder in BORVUKHAI_LIB_DIR", library.display());
+        eprintln!("no {}: run bindings/library at the repository's top, or name its folder in BORVUKHAI_LIB_DIR", library.display());
         std::process::exit(1);
     }
     if let Some(source) = newer_source(&Path::new(&here).join("../../crates"), &library) {

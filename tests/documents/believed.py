@@ -71,7 +71,7 @@ class File:
                 continue
             if words.startswith("infix"):
                 continue
-            if current is not None and [current.name] == [f"_{word}_" for word in words.split()[1:2]]:
+            if current is not None and [current.name] == [f"◌{word}◌" for word in words.split()[1:2]]:
                 current.chunks.append([words])  # a clause of an operator, which stands between its arguments
                 continue
             kind, head = HEAD.match(words).groups()
@@ -104,14 +104,14 @@ class File:
 def place(path, crate):
     """Where a `use` path leads: a file of definitions, a declared type, proofs, or the kit."""
     parts = path.split(".")
-    if not parts[0].startswith("Rattle·"):
+    if parts[0] != "Rattle" or not (TOP / "crates" / parts[1]).is_dir():
         return ("kit", path)
-    at = parts[0].split("·")[1]
-    if parts[1] == "proofs":
-        return ("proofs", at, parts[2])
-    if parts[2] == "declared":
-        return ("declared", at, parts[3])
-    return ("specs", at, parts[2])
+    _, at, part, *rest = parts
+    if part == "proofs":
+        return ("proofs", at, rest[0])
+    if rest[0] == "declared":
+        return ("declared", at, rest[1])
+    return ("specs", at, rest[0])
 
 
 FILES = {}
@@ -129,7 +129,7 @@ def declared(crate, name):
             lines = [l for l in found[0].splitlines() if l.strip() and not l.strip().startswith("//")]
             inside = set(re.findall(r"[(:,]\s*([A-Z]\w*)", "\n".join(lines[1:])))  # of the values: no case's own name
             own = {n: (crate, n) for n in re.findall(r"(?m)^pub (?:enum|struct) (\w+) ", text)}
-            used = {n: (c, n) for c, n in re.findall(r"(?m)^use (\w+)::(\w+);", text)}
+            used = {n: (c, n) for c, names in re.findall(r"(?m)^use (\w+)::\{?([\w, ]+)\}?;", text) for n in names.split(", ")}
             return len(lines), path, [t for n, t in {**used, **own}.items() if n in inside and n != name]
     raise SystemExit(f"no {name} is declared in crates/{crate}/src")
 
@@ -162,13 +162,15 @@ def mentions(file, definition):
             target = here.alias[head]
             found.add((target, tail.rstrip(".")))
             return
-        token = token.rstrip(".")
-        if token in here.own or f"_{token}_" in here.own:
-            found.add((("specs",) + here.key, token if token in here.own else f"_{token}_"))
+        token = token.split(".")[0]  # a field of it, or the end of a binder
+        if token in locals_:
+            return
+        if token in here.own or f"◌{token}◌" in here.own:
+            found.add((("specs",) + here.key, token if token in here.own else f"◌{token}◌"))
         elif token in here.cases:
             found.add((("specs",) + here.key, here.cases[token].name))
         else:
-            for name in (token, f"_{token}_"):
+            for name in (token, f"◌{token}◌"):
                 if name in here.imported:
                     found.add((here.imported[name], name))
 
@@ -180,7 +182,7 @@ def mentions(file, definition):
             return False
         if token in here.cases:
             return True
-        target = here.imported.get(token) or here.imported.get(f"_{token}_")
+        target = here.imported.get(token) or here.imported.get(f"◌{token}◌")
         if target is None:
             return False
         if target[0] == "specs":
@@ -273,9 +275,9 @@ def table():
 def users(key, name):
     """Who else uses a definition: files of definitions, of proofs and of code that name it."""
     found = set()
-    path = rf"Rattle·{key[0]}(?:·specs\.specs|\.specs)\.{key[1]}"
-    for file in sorted(TOP.glob("crates/*/*/*")) + sorted(TOP.glob("crates/*/proofs/*/*")):
-        if not file.is_file() or file.suffix == ".edit":
+    path = rf"Rattle\.{key[0]}\.specs\.{key[1]}"
+    for file in [file for part in ("src", "specs", "proofs", "proofs/*") for file in sorted(TOP.glob(f"crates/*/{part}/*"))]:
+        if not file.is_file():
             continue
         text = file.read_text()
         crate, part = file.relative_to(TOP).parts[1:3]

@@ -84,9 +84,9 @@ def refusals():
     """The numbers of each call in SPEC's table and in FORMS', beside 1 and 13, which every call may give."""
     may = {}
     answers = text("crates/model/specs/Answers.antt")
-    for call, numbers in re.findall(r"(?m)^ownNumbers \(c-(\w+)[^)]*\) = (.*) ∷ \[\]", answers):
+    for call, numbers in re.findall(r"(?m)^own_numbers \(c_(\w+)[^)]*\) = (.*) ∷ \[\]", answers):
         may[call] = [int(n) for n in numbers.split(" ∷ ")]
-    may["start"] = [int(n) for n in re.search(r"(?m)^startMayGive = (.*) ∷ \[\]", answers)[1].split(" ∷ ") if n not in ("1", "13")]
+    may["start"] = [int(n) for n in re.search(r"(?m)^start_may_give = (.*) ∷ \[\]", answers)[1].split(" ∷ ") if n not in ("1", "13")]
     spec = {r[0]: r[1] for r in re.findall(r"(?m)^\| (\w+) k.*\| ([^|]*) \|$", text("docs/SPEC.md"))}
     forms = {r[0]: r[1] for r in re.findall(r"(?m)^\| `\((\w+)[^|]*\|[^|]*\|[^|]*\| ([^|]*) \|", text("docs/FORMS.md")) if r[0] in may}
     for page, rows in (("SPEC", spec), ("FORMS", forms)):
@@ -113,7 +113,7 @@ def lengths():
             right = [f"{a:,} n" + (f" + {b:,}" if b else "")] + [f"{a * n + b:,}" for n in (1, 2, 256)]
             if cells != [right]:
                 wrong.append(f"docs/SPEC.md: {lent} at {kib} KiB has {cells}, the header {right}")
-    beside, states = (int(re.search(by, theorem)[1]) for by in (r"total g ≡ each \* g \.segments \+ (\d+)", r"Region\.segments ≡ (\d+) \* g \.segments"))
+    beside, states = (int(re.search(by, theorem)[1]) for by in (r"total g ≡ each \* g\.segments \+ (\d+)", r"Region\.segments ≡ (\d+) \* g\.segments"))
     proved = [[(int(a), beside), (states, 0), (int(b), 0)] for a, b in re.findall(r"Lengths g (\d+) (\d+)", theorem)]
     if list(macros.values()) != proved:
         wrong.append(f"include/borvukhai.h: the lengths are {macros}, those of LengthsAre {proved}")
