@@ -14,11 +14,12 @@ use Rattle.layout.specs.Mem.{Mem}
 use Rattle.theory.specs.Calls.{a_no}
 use Rattle.theory.proofs.Invariant.{none_some}
 use Rattle.model.specs.declared.Answer.{Answer}
-use Rattle.model.specs.Promise.{OpenPromise, OutputPromise, record_words, records}
+use Rattle.model.specs.Promise.{OpenPromise, OutputPromise}
 use Rattle.model.specs.Sheet.{sheet_of}
 use Rattle.model.specs.Answers.{refusal_in, refusal_of, start_may_give, step_may_give, look_may_give}
 use Rattle.model.specs.Looks.{Look, saw_phase, saw_states, saw_sheet, examined_by, LookPromise, look_number}
 use Rattle.model.specs.Lists.{Event, mutator_call, start_call, step_call, opening_call, look_call, Element, Promised, Meets, event_number, number_of}
+use Rattle.model_laws.proofs.Shown.{record_words, records, as_output}
 use Rattle.model.proofs.Numbers.{Given, among_given, may_given}
 use Rattle.guarantee.specs.Keeping.{OneNumber}
 use Rattle.guarantee.specs.EmptyCycle.{NeverTwelve}
@@ -50,7 +51,7 @@ output_table long shown g mem output after r n q e = go (wrong_size g (length me
 
 look_table : (g : Geometry) (mem : List ℕ) (l : Look) (n : ℕ) → LookPromise g mem l → look_number l ≡ some n → Given n
 look_table g mem (saw_phase r) n q e = among_given n look_may_give tt (q.allowed n e)
-look_table g mem (saw_states output r after) n q e = output_table record_words records g mem output after r n q e
+look_table g mem (saw_states output r after) n q e = output_table record_words records g mem output after r n (as_output g mem output r after q) e
 look_table g mem (saw_sheet output r after) n q e = output_table sheet_bytes sheet_of g mem output after r n q e
 look_table g mem (examined_by scratch r after) n q e = go (wrong_size g (length mem)) refl (same_or_not (length scratch) (scratch_words g))
   where

@@ -17,7 +17,8 @@ use Rattle.layout.specs.Mem.{Mem}
 use Rattle.theory.proofs.Invariant.{none_some}
 use Rattle.model.specs.declared.Answer.{Answer}
 use Rattle.model.specs.Answers.{refusal_in, refusal_of, among}
-use Rattle.model.specs.Promise.{OpenPromise, OutputPromise, record_words, records}
+use Rattle.model.specs.Promise.{OpenPromise, OutputPromise}
+use Rattle.model_laws.proofs.Shown.{record_words, records, as_output}
 use Rattle.model.specs.Sheet.{sheet_of}
 use Rattle.model.specs.Looks.{Look, saw_phase, saw_states, saw_sheet, examined_by, LookPromise, look_number}
 use Rattle.model.specs.Lists.{Event, mutator_call, start_call, step_call, opening_call, look_call, Element, Promised, Meets, wrong_sizes, wrong_sized, event_number, number_of}
@@ -94,7 +95,7 @@ module _ (g : Geometry) (mem : List ℕ) where
       go : SizeOrTorn n → OneOr13 (Wrong (saw_phase r)) Unit n
       go (inl z) = inl (ap (λ b. pick b true (not true)) (q.only_size (e ∙ ap (λ x. some x) z)), z)
       go (inr z) = inr (tt, z)
-  look_refused (saw_states output r after) q n e = output_refused record_words records output after r q n e
+  look_refused (saw_states output r after) q n e = output_refused record_words records output after r (as_output g mem output r after q) n e
   look_refused (saw_sheet output r after) q n e = output_refused sheet_bytes sheet_of output after r q n e
   look_refused (examined_by scratch r after) q n e = go (wrong_size g (length mem)) refl (eqb (length scratch) (scratch_words g)) refl
     where

@@ -22,7 +22,7 @@ use Rattle.model.specs.Promise.{PromiseOf}
 use Rattle.model.specs.Looks.{Look, saw_phase, saw_states, saw_sheet, examined_by, look_sized}
 use Rattle.model.specs.Lists.{Event, look_call, Element, Meets, wrong_sized, Chain}
 use Rattle.model.proofs.Numbers.{gives_1}
-use Rattle.model_laws.proofs.Shown.{shown_1}
+use Rattle.model_laws.proofs.Shown.{shown_1, record_words, records, as_states}
 use Rattle.model_cases.specs.Replies.{geometry, large_geometry}
 use Rattle.guarantee_cases.specs.RefusedStand.{RefusedSize, refused_call, refused_start, refused_step, refused_opening, refused_phase, refused_states, refused_sheet, refused_examination, leaving, four, three, RefusedStand}
 use Rattle.theory.specs.Calls as theory
@@ -51,7 +51,7 @@ module _ (count : Geometry) (lent : List ℕ) (wrong : wrong_size count (length 
   meets v refused_step = kept step_answer_of _ step_may_give _ (step_answer.Refused 1) refl refl
   meets v refused_opening = record { sizes = λ _. (refl, refl); exact = λ h. not_right h }
   meets v refused_phase = (kept phase_answer_of _ look_may_give _ (look.Refused 1) refl refl, refl)
-  meets v (refused_states output) = (shown_1 _ _ count lent output wrong, refl)
+  meets v (refused_states output) = (as_states count lent output _ _ (shown_1 record_words records count lent output wrong), refl)
   meets v (refused_sheet output) = (shown_1 _ _ count lent output wrong, refl)
   meets v (refused_examination scratch) = (
     record {

@@ -1,4 +1,4 @@
--- How the look at the phase keeps its promise, and one record as the look at the states tests it.
+-- How the looks keep their promises: the phase, one record, and the states of all segments.
 use mathlib.Core.Path.{◌≡◌, refl, sym, ◌∙◌, ap}
 use mathlib.Core.Bool.{Bool, true, false}
 use mathlib.Core.List.{List}
@@ -10,15 +10,18 @@ use Rattle.basics.proofs.Deciding.{fails}
 use Rattle.classes.specs.Class.{class_test}
 use Rattle.classes.proofs.Every.{class_passes, class_passed}
 use Rattle.layout.specs.declared.Geometry.{Geometry}
-use Rattle.layout.specs.Geometry.{wrong_size}
+use Rattle.layout.specs.Geometry.{wrong_size, len}
 use Rattle.layout.specs.Mem.{Mem, mem_of, control_word}
 use Rattle.theory.specs.Calls.{a_num}
+use Rattle.model.specs.declared.Answer.TheVariants.{Ok, Refused}
 use Rattle.model.specs.Answers.{phase_answer_of, IsPhase, look_may_give}
 use Rattle.model.specs.Fields.{tag, class}
 use Rattle.model.specs.Consistent.{Consistent}
-use Rattle.model.specs.Promise.{PhasePromise}
+use Rattle.model.specs.Promise.{PhasePromise, StatesPromise}
 use Rattle.model_laws.proofs.PromisedSteps.{promise_1, promise_refused, promise_done}
+use Rattle.model_laws.proofs.Shown.{shown_1, shown_short, shown_13, shown_ok, record_words, records, as_states}
 use Rattle.looks.specs.Plausible.{Plausible}
+use Rattle.layout.specs.Region as Region
 use Rattle.model.specs.declared.PhaseLook.TheVariants as look
 
 -- ---- the phase
@@ -54,3 +57,21 @@ module _ (m : Mem) (s t : ℕ) (p : t ≡ tag m s) where
 -- the records of consistent memory pass
 pub consistent_plausible : (g : Geometry) (m : Mem) → Consistent g m → (s : ℕ) → s < g.segments → Plausible m s
 consistent_plausible g m c s l = let o = c.sound.segments s l in record { tags = o.tags; classes = o.classes }
+
+-- ---- the states
+
+module _ (g : Geometry) (xs ys : List ℕ) where
+  pub states_1 : wrong_size g (length xs) ≡ true → StatesPromise g xs ys (Refused 1) ys
+  states_1 e = as_states g xs ys (Refused 1) ys (shown_1 record_words records g xs ys e)
+
+  -- the output is not of its length
+  pub states_short : (length ys ≡ len g Region.segments → ⊥) → StatesPromise g xs ys (Refused 1) ys
+  states_short d = as_states g xs ys (Refused 1) ys (shown_short record_words records g xs ys d)
+
+  module _ (e : wrong_size g (length xs) ≡ false) (l : length ys ≡ len g Region.segments) where
+    pub states_13 : (r : Bool) → Decides r ((s : ℕ) → s < g.segments → Plausible (mem_of g xs) s) → r ≡ false → StatesPromise g xs ys (Refused 13) ys
+    states_13 r d q =
+        as_states g xs ys (Refused 13) ys (shown_13 record_words records g xs ys e l (consistent_plausible g (mem_of g xs)) r d q)
+
+    pub states_ok : (zs : List ℕ) → zs ≡ (mem_of g xs).segments → StatesPromise g xs ys Ok zs
+    states_ok zs q = as_states g xs ys Ok zs (shown_ok record_words records g xs ys e l zs (λ _. q))

@@ -52,7 +52,17 @@ pub record OpenPromise (g : Geometry) (before : List ℕ) (r : Answer) (after : 
 abbrev pub PhasePromise : Geometry → List ℕ → PhaseLook → Type 0
 PhasePromise g mem r = PromiseOf phase_answer_of (λ g. IsPhase) look_may_give (λ g m. (a_num (control_word m 0), m)) g mem r mem
 
--- a look that shows the memory in a lent output of its length: it gets what is shown; "Refused, it leaves the output unchanged"
+-- the look at the segments' states: the output, of as many words as the segment records, gets their words; "Refused, it leaves the output
+-- unchanged"
+pub record StatesPromise (g : Geometry) (mem output : List ℕ) (r : Answer) (after : List ℕ) : Type 0 where
+  pub sizes : (wrong_size g (length mem) ≡ true → answer_of r ≡ a_no 1) × ((length output ≡ len g Region.segments → ⊥) → answer_of r ≡ a_no 1)
+  pub exact : wrong_size g (length mem) ≡ false → length output ≡ len g Region.segments → Consistent g (mem_of g mem) → (answer_of r ≡ a_ok) × (after ≡ (mem_of g mem).segments)
+  pub torn : wrong_size g (length mem) ≡ false → length output ≡ len g Region.segments → (n : ℕ) → refusal_of r ≡ some n → n ≡ 13
+  pub kind : refusal_of r ≡ none → answer_of r ≡ a_ok
+  pub unchanged : (n : ℕ) → refusal_of r ≡ some n → after ≡ output
+
+-- a look that shows the memory in a lent output of its length: it gets what is shown; refused, it leaves the output unchanged. The look at the
+-- states keeps it at the words of the segment records (model_laws/proofs/Shown.antt)
 module _ (long : Geometry → ℕ) (shown : Geometry → Mem → List ℕ) where
   pub record OutputPromise (g : Geometry) (mem output : List ℕ) (r : Answer) (after : List ℕ) : Type 0 where
     pub sizes : (wrong_size g (length mem) ≡ true → answer_of r ≡ a_no 1) × ((length output ≡ long g → ⊥) → answer_of r ≡ a_no 1)
@@ -60,16 +70,6 @@ module _ (long : Geometry → ℕ) (shown : Geometry → Mem → List ℕ) where
     pub torn : wrong_size g (length mem) ≡ false → length output ≡ long g → (n : ℕ) → refusal_of r ≡ some n → n ≡ 13
     pub kind : refusal_of r ≡ none → answer_of r ≡ a_ok
     pub unchanged : (n : ℕ) → refusal_of r ≡ some n → after ≡ output
-
--- the look at the segments' states: the output, of as many words as the segment records, gets their words
-abbrev pub record_words : Geometry → ℕ
-record_words g = len g Region.segments
-
-abbrev pub records : Geometry → Mem → List ℕ
-records g m = m.segments
-
-abbrev pub StatesPromise : Geometry → List ℕ → List ℕ → Answer → List ℕ → Type 0
-StatesPromise = OutputPromise record_words records
 
 -- the sheet: the output, of as many bytes as the sheet, gets its characters. Document 02, No. 10: "The sheet is a look. Turned away: 1 for an
 -- output slice not of the sheet's length."

@@ -9,11 +9,13 @@ use lib.ListN.{length}
 use Rattle.basics.specs.Decides.{Decides}
 use Rattle.basics.proofs.Deciding.{refuted}
 use Rattle.layout.specs.declared.Geometry.{Geometry}
-use Rattle.layout.specs.Geometry.{wrong_size}
+use Rattle.layout.specs.Geometry.{wrong_size, len}
 use Rattle.layout.specs.Mem.{Mem, mem_of}
+use Rattle.layout.specs.Region as Region
+use Rattle.model.specs.declared.Answer.{Answer}
 use Rattle.model.specs.declared.Answer.TheVariants.{Ok, Refused}
 use Rattle.model.specs.Consistent.{Consistent}
-use Rattle.model.specs.Promise.{OutputPromise}
+use Rattle.model.specs.Promise.{OutputPromise, StatesPromise}
 
 module _ (long : Geometry → ℕ) (shown : Geometry → Mem → List ℕ) (g : Geometry) (xs ys : List ℕ) where
   pub shown_1 : wrong_size g (length xs) ≡ true → OutputPromise long shown g xs ys (Refused 1) ys
@@ -54,3 +56,17 @@ module _ (long : Geometry → ℕ) (shown : Geometry → Mem → List ℕ) (g : 
       kind = λ _. refl;
       unchanged = λ n h. absurd (none-ne-some n h);
     }
+
+-- the look at the segments' states is one of them: its output has the words of the segment records
+abbrev pub record_words : Geometry → ℕ
+record_words g = len g Region.segments
+
+abbrev pub records : Geometry → Mem → List ℕ
+records g m = m.segments
+
+module _ (g : Geometry) (xs ys : List ℕ) (r : Answer) (zs : List ℕ) where
+  pub as_states : OutputPromise record_words records g xs ys r zs → StatesPromise g xs ys r zs
+  as_states p = record { sizes = p.sizes; exact = p.exact; torn = p.torn; kind = p.kind; unchanged = p.unchanged }
+
+  pub as_output : StatesPromise g xs ys r zs → OutputPromise record_words records g xs ys r zs
+  as_output p = record { sizes = p.sizes; exact = p.exact; torn = p.torn; kind = p.kind; unchanged = p.unchanged }

@@ -17,7 +17,8 @@ use Rattle.model.specs.declared.Answer.{Answer}
 use Rattle.model.specs.declared.PhaseLook.{PhaseLook}
 use Rattle.model.specs.declared.Examined.{Examined}
 use Rattle.model.specs.Answers.{refusal_in, refusal_of, phase_refusal_of, examined_answer_of, examined_refusal_of, look_may_give}
-use Rattle.model.specs.Promise.{PhasePromise, OutputPromise, ExaminePromise}
+use Rattle.model.specs.Promise.{PhasePromise, StatesPromise, OutputPromise, ExaminePromise}
+use Rattle.model_laws.proofs.Shown.{record_words, records, as_states, as_output}
 use Rattle.model.proofs.Numbers.{OfTable, among_table}
 use Rattle.packing.specs.Packed.{pack, unpack, pack_phase, unpack_phase, judged, pack_examined, unpack_examined}
 use Rattle.packing.proofs.Halves.{value_back, refused_back}
@@ -62,6 +63,11 @@ exports_output long shown g' g xs out after a same p n e =
     number k i =
         by_sizes g' xs (length out) (long g') (λ w. is_1 k i (ap refusal_in (p.sizes.0 w)))
         (λ f. is_1 k i (ap refusal_in (p.sizes.1 f))) (λ w q. let z = p.torn w q k i in (omega arith, omega arith))
+
+-- the look at the segments' states
+pub exports_states : (g' g : Geometry) (xs out after : List ℕ) (a : Answer) → g' ≡ g → StatesPromise g' xs out a after → (n : ℕ) → n ≡ pack a → StatesPromise g xs out (unpack n) after
+exports_states g' g xs out after a same p n e =
+    as_states g xs out (unpack n) after (exports_output record_words records g' g xs out after a same (as_output g' xs out a after p) n e)
 
 -- ---- the examination
 

@@ -14,12 +14,11 @@ use Rattle.layout.proofs.Regions.{right_size, resized, length-flat, mem_of-flat,
 use Rattle.theory.proofs.Invariant.{none_some}
 use Rattle.model.specs.Consistent.{Consistent}
 use Rattle.model.specs.Sheet.{sheet_of}
-use Rattle.model.specs.Promise.{record_words, records}
 use Rattle.model.specs.Looks.{LookPromise}
 use Rattle.model.specs.Lists.{Element, Meets, Gets, Chain}
 use Rattle.model.specs.Run.{Query, of_phase, of_states, of_sheet, of_examination, Command, call, start, step, look, shown_states, shown_sheet, examined, look_of, answer_to, answered, run}
 use Rattle.model_laws.proofs.Lengths.{sizes_of}
-use Rattle.model_laws.proofs.Shown.{shown_short, shown_ok}
+use Rattle.model_laws.proofs.Shown.{shown_short, shown_ok, record_words, records, as_states}
 use Rattle.refine_run.proofs.Sizing.{sizes_exec}
 use Rattle.refine_run.proofs.Collecting.{sizes_start, sizes_step}
 use Rattle.refine_run.proofs.Meeting.{meets_call, meets_start, meets_step}
@@ -55,8 +54,8 @@ module _ (g : Geometry) (words : List ℕ) (z : Sized g (length words)) where
   sized_left r = resized g (length words) (length (answered g words r).after) z (length-left r)
 
   states_promise : (output : List ℕ) (b : Bool) → eqb (length output) (len g Region.segments) ≡ b → LookPromise g words (shown_states b m output)
-  states_promise output true e = shown_ok record_words records g words output right (eqb-true _ _ e) _ (λ _. refl)
-  states_promise output false e = shown_short record_words records g words output (eqb-false _ _ e)
+  states_promise output true e = as_states g words output _ _ (shown_ok record_words records g words output right (eqb-true _ _ e) _ (λ _. refl))
+  states_promise output false e = as_states g words output _ _ (shown_short record_words records g words output (eqb-false _ _ e))
 
   sheet_promise : (output : List ℕ) (b : Bool) → eqb (length output) (sheet_bytes g) ≡ b → LookPromise g words (shown_sheet b g m output)
   sheet_promise output true e = shown_ok sheet_bytes sheet_of g words output right (eqb-true _ _ e) _ (λ _. refl)
