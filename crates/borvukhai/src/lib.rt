@@ -1,4 +1,4 @@
-// The heap for programs in C and Rust: every call and every look as an exported function over the lent slice, which C passes as a pointer and a length. An answer is
+// The heap for programs in C and Rust: every call and every look as a function over the lent slice, which crate borvukhai_c exports. An answer is
 // packed in a number; `unpack` and its like in packing's specs say which answer a number stands for.
 #![tactic(auto)]
 
@@ -9,16 +9,14 @@ ghost use Rattle.model.specs.Promise.{Promise, OpenPromise, StartPromise, StepPr
 ghost use Rattle.packing.specs.Packed.{geometry_of, length_for, states_words, unpack, unpack_number, unpack_same, unpack_shape, unpack_step, unpack_phase, unpack_examined};
 
 // The number of the layout of the lent words.
-#[unsafe(no_mangle)]
-pub extern "C" fn borvukhai_layout() -> u32
+pub fn borvukhai_layout() -> u32
     ensures { result ≡ layout_number }
 {
     layout::LAYOUT_NUMBER
 }
 
 // The words of the slice to lend for so many segments of so many KiB; 0 for a count that is not 1 to 256 and for a size that is neither 16 nor 32.
-#[unsafe(no_mangle)]
-pub extern "C" fn borvukhai_length(segments: u32, kib: u32) -> usize
+pub fn borvukhai_length(segments: u32, kib: u32) -> usize
     ensures { result ≡ length_for total segments kib }
 {
     if packing::no_size(segments, kib) {
@@ -28,8 +26,7 @@ pub extern "C" fn borvukhai_length(segments: u32, kib: u32) -> usize
 }
 
 // The words of the output of the look at the segments' states.
-#[unsafe(no_mangle)]
-pub extern "C" fn borvukhai_states_length(segments: u32, kib: u32) -> usize
+pub fn borvukhai_states_length(segments: u32, kib: u32) -> usize
     ensures { result ≡ length_for states_words segments kib }
 {
     if packing::no_size(segments, kib) {
@@ -39,8 +36,7 @@ pub extern "C" fn borvukhai_states_length(segments: u32, kib: u32) -> usize
 }
 
 // The words of the scratch of the examination.
-#[unsafe(no_mangle)]
-pub extern "C" fn borvukhai_scratch_length(segments: u32, kib: u32) -> usize
+pub fn borvukhai_scratch_length(segments: u32, kib: u32) -> usize
     ensures { result ≡ length_for scratch_words segments kib }
 {
     if packing::no_size(segments, kib) {
@@ -50,8 +46,7 @@ pub extern "C" fn borvukhai_scratch_length(segments: u32, kib: u32) -> usize
 }
 
 // The bytes of the output of the sheet.
-#[unsafe(no_mangle)]
-pub extern "C" fn borvukhai_sheet_length(segments: u32, kib: u32) -> usize
+pub fn borvukhai_sheet_length(segments: u32, kib: u32) -> usize
     ensures { result ≡ length_for sheet_bytes segments kib }
 {
     if packing::no_size(segments, kib) {
@@ -60,22 +55,19 @@ pub extern "C" fn borvukhai_sheet_length(segments: u32, kib: u32) -> usize
     sheet::sheet_bytes(packing::geometry(segments, kib))
 }
 
-#[unsafe(no_mangle)]
-pub extern "C" fn borvukhai_open(segments: u32, kib: u32, mem: &mut [u32]) -> u32
+pub fn borvukhai_open(segments: u32, kib: u32, mem: &mut [u32]) -> u32
     ensures { OpenPromise (geometry_of segments kib) mem.old (unpack result) mem.new }
 {
     packing::packed(opening::open(packing::geometry(segments, kib), mem))
 }
 
-#[unsafe(no_mangle)]
-pub extern "C" fn borvukhai_attach(segments: u32, kib: u32, mem: &mut [u32], mutator: u32) -> u32
+pub fn borvukhai_attach(segments: u32, kib: u32, mem: &mut [u32], mutator: u32) -> u32
     ensures { Promise (c_attach mutator) (geometry_of segments kib) mem.old (unpack result) mem.new }
 {
     packing::packed(attaching::attach(packing::geometry(segments, kib), mem, mutator))
 }
 
-#[unsafe(no_mangle)]
-pub extern "C" fn borvukhai_spawn(
+pub fn borvukhai_spawn(
     segments: u32,
     kib: u32,
     mem: &mut [u32],
@@ -88,15 +80,13 @@ pub extern "C" fn borvukhai_spawn(
     packing::packed(attaching::spawn(packing::geometry(segments, kib), mem, mutator, parent, root))
 }
 
-#[unsafe(no_mangle)]
-pub extern "C" fn borvukhai_detach(segments: u32, kib: u32, mem: &mut [u32], mutator: u32) -> u32
+pub fn borvukhai_detach(segments: u32, kib: u32, mem: &mut [u32], mutator: u32) -> u32
     ensures { Promise (c_detach mutator) (geometry_of segments kib) mem.old (unpack result) mem.new }
 {
     packing::packed(attaching::detach(packing::geometry(segments, kib), mem, mutator))
 }
 
-#[unsafe(no_mangle)]
-pub extern "C" fn borvukhai_make(
+pub fn borvukhai_make(
     segments: u32,
     kib: u32,
     mem: &mut [u32],
@@ -117,8 +107,7 @@ pub extern "C" fn borvukhai_make(
     ))
 }
 
-#[unsafe(no_mangle)]
-pub extern "C" fn borvukhai_copy(
+pub fn borvukhai_copy(
     segments: u32,
     kib: u32,
     mem: &mut [u32],
@@ -131,21 +120,13 @@ pub extern "C" fn borvukhai_copy(
     packing::packed(root_calls::copy(packing::geometry(segments, kib), mem, mutator, to, from))
 }
 
-#[unsafe(no_mangle)]
-pub extern "C" fn borvukhai_clear(
-    segments: u32,
-    kib: u32,
-    mem: &mut [u32],
-    mutator: u32,
-    to: u32,
-) -> u32
+pub fn borvukhai_clear(segments: u32, kib: u32, mem: &mut [u32], mutator: u32, to: u32) -> u32
     ensures { Promise (c_clear mutator to) (geometry_of segments kib) mem.old (unpack result) mem.new }
 {
     packing::packed(root_calls::clear(packing::geometry(segments, kib), mem, mutator, to))
 }
 
-#[unsafe(no_mangle)]
-pub extern "C" fn borvukhai_same(
+pub fn borvukhai_same(
     segments: u32,
     kib: u32,
     mem: &[u32],
@@ -164,8 +145,7 @@ pub extern "C" fn borvukhai_same(
     ))
 }
 
-#[unsafe(no_mangle)]
-pub extern "C" fn borvukhai_load(
+pub fn borvukhai_load(
     segments: u32,
     kib: u32,
     mem: &mut [u32],
@@ -186,8 +166,7 @@ pub extern "C" fn borvukhai_load(
     ))
 }
 
-#[unsafe(no_mangle)]
-pub extern "C" fn borvukhai_store(
+pub fn borvukhai_store(
     segments: u32,
     kib: u32,
     mem: &mut [u32],
@@ -208,8 +187,7 @@ pub extern "C" fn borvukhai_store(
     ))
 }
 
-#[unsafe(no_mangle)]
-pub extern "C" fn borvukhai_put(
+pub fn borvukhai_put(
     segments: u32,
     kib: u32,
     mem: &mut [u32],
@@ -230,8 +208,7 @@ pub extern "C" fn borvukhai_put(
     ))
 }
 
-#[unsafe(no_mangle)]
-pub extern "C" fn borvukhai_get(
+pub fn borvukhai_get(
     segments: u32,
     kib: u32,
     mem: &[u32],
@@ -250,82 +227,61 @@ pub extern "C" fn borvukhai_get(
     ))
 }
 
-#[unsafe(no_mangle)]
-pub extern "C" fn borvukhai_check(segments: u32, kib: u32, mem: &mut [u32], mutator: u32) -> u32
+pub fn borvukhai_check(segments: u32, kib: u32, mem: &mut [u32], mutator: u32) -> u32
     ensures { Promise (c_check mutator) (geometry_of segments kib) mem.old (unpack result) mem.new }
 {
     packing::packed(handshake_calls::check(packing::geometry(segments, kib), mem, mutator))
 }
 
-#[unsafe(no_mangle)]
-pub extern "C" fn borvukhai_leave(segments: u32, kib: u32, mem: &mut [u32], mutator: u32) -> u32
+pub fn borvukhai_leave(segments: u32, kib: u32, mem: &mut [u32], mutator: u32) -> u32
     ensures { Promise (c_leave mutator) (geometry_of segments kib) mem.old (unpack result) mem.new }
 {
     packing::packed(handshake_calls::leave(packing::geometry(segments, kib), mem, mutator))
 }
 
-#[unsafe(no_mangle)]
-pub extern "C" fn borvukhai_enter(segments: u32, kib: u32, mem: &mut [u32], mutator: u32) -> u32
+pub fn borvukhai_enter(segments: u32, kib: u32, mem: &mut [u32], mutator: u32) -> u32
     ensures { Promise (c_enter mutator) (geometry_of segments kib) mem.old (unpack result) mem.new }
 {
     packing::packed(handshake_calls::enter(packing::geometry(segments, kib), mem, mutator))
 }
 
-#[unsafe(no_mangle)]
-pub extern "C" fn borvukhai_shape(
-    segments: u32,
-    kib: u32,
-    mem: &[u32],
-    mutator: u32,
-    root: u32,
-) -> u64
+pub fn borvukhai_shape(segments: u32, kib: u32, mem: &[u32], mutator: u32, root: u32) -> u64
     ensures { Promise (c_shape mutator root) (geometry_of segments kib) mem.now (unpack_shape result) mem.now }
 {
     packing::packed_value(field_calls::shape(packing::geometry(segments, kib), mem, mutator, root))
 }
 
-#[unsafe(no_mangle)]
-pub extern "C" fn borvukhai_start(segments: u32, kib: u32, mem: &mut [u32]) -> u32
+pub fn borvukhai_start(segments: u32, kib: u32, mem: &mut [u32]) -> u32
     ensures { StartPromise (geometry_of segments kib) mem.old (unpack result) mem.new }
 {
     packing::packed(starting::start(packing::geometry(segments, kib), mem))
 }
 
-#[unsafe(no_mangle)]
-pub extern "C" fn borvukhai_step(segments: u32, kib: u32, mem: &mut [u32]) -> u64
+pub fn borvukhai_step(segments: u32, kib: u32, mem: &mut [u32]) -> u64
     ensures { StepPromise (geometry_of segments kib) mem.old (unpack_step result) mem.new }
 {
     packing::packed_step(stepping::step(packing::geometry(segments, kib), mem))
 }
 
-#[unsafe(no_mangle)]
-pub extern "C" fn borvukhai_phase(segments: u32, kib: u32, mem: &[u32]) -> u64
+pub fn borvukhai_phase(segments: u32, kib: u32, mem: &[u32]) -> u64
     ensures { PhasePromise (geometry_of segments kib) mem.now (unpack_phase result) }
 {
     packing::packed_phase(looks::phase(packing::geometry(segments, kib), mem))
 }
 
-#[unsafe(no_mangle)]
-pub extern "C" fn borvukhai_states(segments: u32, kib: u32, mem: &[u32], output: &mut [u32]) -> u32
+pub fn borvukhai_states(segments: u32, kib: u32, mem: &[u32], output: &mut [u32]) -> u32
     ensures { StatesPromise (geometry_of segments kib) mem.now output.old (unpack result) output.new }
 {
     packing::packed(looks::states(packing::geometry(segments, kib), mem, output))
 }
 
-#[unsafe(no_mangle)]
-pub extern "C" fn borvukhai_sheet(segments: u32, kib: u32, mem: &[u32], output: &mut [u8]) -> u32
+pub fn borvukhai_sheet(segments: u32, kib: u32, mem: &[u32], output: &mut [u8]) -> u32
     ensures { SheetPromise (geometry_of segments kib) mem.now output.old (unpack result) output.new }
 {
     packing::packed(sheet::sheet(packing::geometry(segments, kib), mem, output))
 }
 
-#[unsafe(no_mangle)]
-pub extern "C" fn borvukhai_examine(
-    segments: u32,
-    kib: u32,
-    mem: &[u32],
-    scratch: &mut [u32],
-) -> u64
+pub fn borvukhai_examine(segments: u32, kib: u32, mem: &[u32], scratch: &mut [u32]) -> u64
     ensures { ExaminePromise (geometry_of segments kib) mem.now scratch.old (unpack_examined result) scratch.new }
 {
     packing::packed_examined(examining::examine(packing::geometry(segments, kib), mem, scratch))
