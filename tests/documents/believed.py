@@ -124,11 +124,11 @@ def declared(crate, name):
     """The lines of an enum or struct that a crate's code declares, and the types that it names."""
     for path in sorted((TOP / f"crates/{crate}/src").glob("*.rt")):
         text = path.read_text()
-        found = re.search(rf"(?m)^pub (?:enum|struct) {name} \{{$(.*?)^\}}$", text, re.S)
+        found = re.search(rf"(?m)^pub (?:enum|struct) {name}(?:;| \{{$(.*?)^\}})$", text, re.S)
         if found:
             lines = [l for l in found[0].splitlines() if l.strip() and not l.strip().startswith("//")]
             inside = set(re.findall(r"[(:,]\s*([A-Z]\w*)", "\n".join(lines[1:])))  # of the values: no case's own name
-            own = {n: (crate, n) for n in re.findall(r"(?m)^pub (?:enum|struct) (\w+) ", text)}
+            own = {n: (crate, n) for n in re.findall(r"(?m)^pub (?:enum|struct) (\w+)[ ;]", text)}
             used = {n: (c, n) for c, names in re.findall(r"(?m)^use (\w+)::\{?([\w, ]+)\}?;", text) for n in names.split(", ")}
             return len(lines), path, [t for n, t in {**used, **own}.items() if n in inside and n != name]
     raise SystemExit(f"no {name} is declared in crates/{crate}/src")

@@ -15,7 +15,11 @@ use Rattle.theory.specs.Phases.{in_handshake, newcomer}
 use Rattle.theory.specs.Calls.{Call, c_attach, c_spawn, require, if_root, refusal, unless, a_ok}
 use Rattle.theory.proofs.Refusals.{require_ok, root_ok}
 use Rattle.model.specs.declared.Answer.{Answer}
-use Rattle.model.specs.declared.Answer.TheVariants.{Ok, Refused}
+use Rattle.std.specs.Prelude.{Result, Ok, Err}
+use Rattle.model.specs.declared.Answer.TheVariants.{Done}
+use Rattle.model.specs.declared.Refusal.{Refusal}
+use Rattle.model.specs.declared.Refusal.TheVariants.{Mutator, Taken, NotNow}
+use Rattle.model.specs.Refusals.{number_of}
 use Rattle.model.specs.Answers.{ResultOf, among, may_give}
 use Rattle.model.specs.PhaseNumbers.{phase_of}
 use Rattle.model.specs.Fields.{phase, absent, inside, state, root}
@@ -33,10 +37,10 @@ pub handshake : (m : Mem) (n : ℕ) (h : Bool) → n ≡ control_word m 0 → h 
 handshake m n h en eh = sym (eh ∙ ap (λ z. in_handshake (phase_of z)) en)
 
 module _ (m : Mem) (k v n : ℕ) (h : Bool) (en : n ≡ control_word m 0) (eh : h ≡ in_handshake (phase_of n)) where
-  pub not_admitted : h ≡ true → Admits m k v (Refused 11) m
+  pub not_admitted : h ≡ true → Admits m k v (Err NotNow) m
   not_admitted t = record { either = inr (refl, handshake m n h en eh ∙ t, refl) }
 
-  pub admitted : h ≡ false → (a : ℕ) → a ≡ newcomer (phase_of n) → (m' : Mem) → m' ≡ set_entry m k (entry_of v inside a) → Admits m k v Ok m'
+  pub admitted : h ≡ false → (a : ℕ) → a ≡ newcomer (phase_of n) → (m' : Mem) → m' ≡ set_entry m k (entry_of v inside a) → Admits m k v (Ok Done) m'
   unfolding attached
   admitted f a ea m' e = record { either = inl (refl, handshake m n h en eh ∙ f, e ∙ ap (λ z. set_entry m k (entry_of v inside z)) (ea ∙ ap (λ z. newcomer (phase_of z)) en)) }
 
@@ -44,33 +48,33 @@ module _ (m : Mem) (k v n : ℕ) (h : Bool) (en : n ≡ control_word m 0) (eh : 
 
 module _ (c : Call) (g : Geometry) (xs : List ℕ) (k v : ℕ) (acts : act g (mem_of g xs) c ≡ unless (in_handshake (phase (mem_of g xs))) 11 (mem_of g xs) (attached (mem_of g xs) k v))
     (result : ResultOf c a_ok) (can : among 11 (may_give c) ≡ true) where
-  pub comes : wrong_size g (length xs) ≡ false → 0 ≡ refusal (observe (mem_of g xs)) c → (r : Answer) (ys : List ℕ) → Admits (mem_of g xs) k v r (mem_of g ys) → Promise c g xs r ys
+  pub comes : wrong_size g (length xs) ≡ false → 0 ≡ refusal (observe (mem_of g xs)) c → (r : Result Answer Refusal) (ys : List ℕ) → Admits (mem_of g xs) k v r (mem_of g ys) → Promise c g xs r ys
   comes e z r ys a = go a.either
     where
-      go : ((r ≡ Ok) × (in_handshake (phase (mem_of g xs)) ≡ false) × (mem_of g ys ≡ attached (mem_of g xs) k v))
-          ⊎ ((r ≡ Refused 11) × (in_handshake (phase (mem_of g xs)) ≡ true) × (mem_of g ys ≡ mem_of g xs))
+      go : ((r ≡ Ok Done) × (in_handshake (phase (mem_of g xs)) ≡ false) × (mem_of g ys ≡ attached (mem_of g xs) k v))
+          ⊎ ((r ≡ Err NotNow) × (in_handshake (phase (mem_of g xs)) ≡ true) × (mem_of g ys ≡ mem_of g xs))
           → Promise c g xs r ys
       go (inl (q, b, y)) =
           let w = acts ∙ ap (λ x. unless x 11 (mem_of g xs) (attached (mem_of g xs) k v)) b in
           subst (λ r. Promise c g xs r ys) (sym q) (done c g xs e z result refl (sym (ap (λ x. x.0) w)) (y ∙ sym (ap (λ x. x.1) w)))
       go (inr (q, b, y)) =
           subst (λ r. Promise c g xs r ys) (sym q)
-          (declined c g xs e z (acts ∙ ap (λ x. unless x 11 (mem_of g xs) (attached (mem_of g xs) k v)) b) y can (omega arith))
+          (declined c g xs NotNow e z (acts ∙ ap (λ x. unless x 11 (mem_of g xs) (attached (mem_of g xs) k v)) b) y can (omega arith))
 
 -- ---- attach: v is the state word
 
 module _ (g : Geometry) (xs : List ℕ) (k : ℕ) (e : wrong_size g (length xs) ≡ false) where
-  pub attach_2 : mutator_count ≤ k → Promise (c_attach k) g xs (Refused 2) xs
+  pub attach_2 : mutator_count ≤ k → Promise (c_attach k) g xs (Err Mutator) xs
   unfolding require
-  attach_2 l = refused (c_attach k) g xs e (rw (le-ltb _ _ l)) (λ y. omega arith)
+  attach_2 l = refused (c_attach k) g xs Mutator e (rw (le-ltb _ _ l))
 
   module _ (l : k < mutator_count) (v : ℕ) (s : v ≡ state (mem_of g xs) k) where
     -- "3, taken: attach or spawn onto a number in use"
-    pub attach_3 : (v ≡ absent → ⊥) → Promise (c_attach k) g xs (Refused 3) xs
+    pub attach_3 : (v ≡ absent → ⊥) → Promise (c_attach k) g xs (Err Taken) xs
     unfolding require
-    attach_3 f = refused (c_attach k) g xs e (rw (lt-ltb _ _ l, ne_eqb _ _ (λ y. f (s ∙ y)))) (λ y. omega arith)
+    attach_3 f = refused (c_attach k) g xs Taken e (rw (lt-ltb _ _ l, ne_eqb _ _ (λ y. f (s ∙ y))))
 
-    pub attaches : v ≡ absent → (r : Answer) (ys : List ℕ) → Admits (mem_of g xs) k 0 r (mem_of g ys) → Promise (c_attach k) g xs r ys
+    pub attaches : v ≡ absent → (r : Result Answer Refusal) (ys : List ℕ) → Admits (mem_of g xs) k 0 r (mem_of g ys) → Promise (c_attach k) g xs r ys
     unfolding act require
     attaches z r ys = comes (c_attach k) g xs k 0 refl refl refl e (rw (lt-ltb _ _ l, eq-eqb _ _ (sym s ∙ z))) r ys
 
@@ -107,18 +111,19 @@ module _ (m : Mem) (k p i : ℕ) where
       let o = require_ok (is_inside m p) 5 _ (omega arith) q.1 in
       (ltb-true _ _ a.0, ltb-true _ _ b.0, (root_ok i 0 o.1).0)
 
--- ---- spawn: n is the refusal of a spawn
+-- ---- spawn
 
-module _ (g : Geometry) (xs : List ℕ) (k p i n : ℕ) (e : wrong_size g (length xs) ≡ false) (s : n ≡ spawn_refusal (mem_of g xs) k p i) where
-  pub spawn_refused : (n ≡ 0 → ⊥) → Promise (c_spawn k p i) g xs (Refused n) xs
+module _ (g : Geometry) (xs : List ℕ) (k p i : ℕ) (e : wrong_size g (length xs) ≡ false) where
+  pub spawn_refused : (w : Refusal) → number_of w ≡ spawn_refusal (mem_of g xs) k p i → Promise (c_spawn k p i) g xs (Err w) xs
   unfolding spawn_refusal
-  spawn_refused f = refused (c_spawn k p i) g xs e s f
+  spawn_refused w s = refused (c_spawn k p i) g xs w e s
 
-  module _ (z : n ≡ 0) where
+  -- past its refusals
+  module _ (s : 0 ≡ spawn_refusal (mem_of g xs) k p i) where
     pub in_range : (k < mutator_count) × (p < mutator_count) × (i < root_count)
-    in_range = spawn_range (mem_of g xs) k p i (sym s ∙ z)
+    in_range = spawn_range (mem_of g xs) k p i (sym s)
 
-    pub spawns : (v : ℕ) → v ≡ root (mem_of g xs) p i → (r : Answer) (ys : List ℕ) → Admits (mem_of g xs) k v r (mem_of g ys) → Promise (c_spawn k p i) g xs r ys
+    pub spawns : (v : ℕ) → v ≡ root (mem_of g xs) p i → (r : Result Answer Refusal) (ys : List ℕ) → Admits (mem_of g xs) k v r (mem_of g ys) → Promise (c_spawn k p i) g xs r ys
     unfolding act spawn_refusal
     spawns v w r ys a =
-        comes (c_spawn k p i) g xs k (root (mem_of g xs) p i) refl refl refl e (sym z ∙ s) r ys (subst (λ x. Admits (mem_of g xs) k x r (mem_of g ys)) w a)
+        comes (c_spawn k p i) g xs k (root (mem_of g xs) p i) refl refl refl e s r ys (subst (λ x. Admits (mem_of g xs) k x r (mem_of g ys)) w a)

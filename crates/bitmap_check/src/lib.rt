@@ -15,12 +15,7 @@ fn level_ok(s: &[u32], n: u32) -> bool
     ensures { Decides result (Level n s.now) }
 {
     let bit = n % 32;
-    if bit == 0 {
-        return true;
-    }
-    let i = (n / 32) as usize;
-    let clear = clear_from(s[i], bit);
-    if clear < 32 { false } else { true }
+    bit == 0 || clear_from(s[(n / 32) as usize], bit) >= 32
 }
 
 // Whether bit j of the level behind the first m words says whether word j is all ones.
@@ -28,15 +23,10 @@ fn agree(s: &[u32], m: u32, j: u32) -> bool
     requires { (m + words_for m ≤ length s.now) × (j < m) }
     ensures { Decides result (SummaryAgrees s.now m j) }
 {
-    let i = j as usize;
     let k = m as usize + (j / 32) as usize;
-    let w = s[i];
+    let w = s[j as usize];
     let bit = bit_of(s[k], j % 32);
-    if w == 4294967295 {
-        if bit == 1 { true } else { false }
-    } else {
-        if bit == 1 { false } else { true }
-    }
+    (w == u32::MAX) == (bit == 1)
 }
 
 // Whether the level behind the first m words sums them up.
@@ -44,15 +34,7 @@ fn sums_ok(s: &[u32], m: u32) -> bool
     requires { m + words_for m ≤ length s.now }
     ensures { Decides result (Sums m s.now (drop m s.now)) }
 {
-    let mut j: u32 = 0;
-    while j < m {
-        let ok = agree(s, m, j);
-        if !ok {
-            return false;
-        }
-        j += 1;
-    }
-    true
+    (0..m).all(|j| agree(s, m, j))
 }
 
 // Whether the words hold a consistent tree of n bits with so many levels above level 0.
@@ -60,21 +42,12 @@ pub fn is_tree(s: &[u32], n: u32, above: u32) -> bool
     requires { tree_words above n ≤ length s.now }
     ensures { Decides result (Tree above n s.now) }
 {
-    let padded = level_ok(s, n);
-    if !padded {
+    if !level_ok(s, n) {
         return false;
     }
     if above == 0 {
-        if n <= 32 {
-            return true;
-        }
-        return false;
+        return n <= 32;
     }
     let words = words_for(n);
-    let summed = sums_ok(s, words);
-    if !summed {
-        return false;
-    }
-    let m = words as usize;
-    is_tree(&s[m..], words, above - 1)
+    sums_ok(s, words) && is_tree(&s[words as usize..], words, above - 1)
 }

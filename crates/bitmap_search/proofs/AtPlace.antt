@@ -1,4 +1,5 @@
 -- A clear bit at or after a place in its own word, and another after it there or in the next word: the plain scan's answer.
+use Rattle.std.specs.Prelude.{Ok, Err, Some, None}
 use mathlib.Core.Path.{◌≡◌, refl, sym, ◌∙◌}
 use mathlib.Core.Bool.{true}
 use mathlib.Core.List.{List}
@@ -14,23 +15,21 @@ use Rattle.words.proofs.Clear.{clear_first, none_clear_ones}
 use Rattle.words.proofs.Lists.{bit_in}
 use Rattle.words.proofs.Second.{some_below}
 use Rattle.words.proofs.Trees.{tree_level}
-use Rattle.bitmap_search.specs.declared.Found.{Found}
-use Rattle.bitmap_search.specs.declared.Found.TheVariants.{Block, Nothing, Torn}
+use Rattle.bitmap_search.specs.Scan.{Found}
 use Rattle.bitmap_search.specs.Scan.{next_free}
 use Rattle.bitmap_search.specs.Twice.{remains, next_two, NearPromise, TwoPromise}
 use Rattle.bitmap_search.proofs.Scan.{IsNext, next_is, is_next}
 use Rattle.bitmap_search.proofs.Steps.{within, in_word_lem}
 use Rattle.bitmap_search.specs.declared.Two.TheVariants as two
-use Rattle.bitmap_search.specs.declared.Near.TheVariants as near
 
 -- where a block k of n after block b is free, the scan from just after b finds one
 remains_more : (bit : ℕ → ℕ) (n b k : ℕ) → b + 1 ≤ k → k < n → bit k ≡ 0 → two.More b ≡ remains b (next_free bit n (b + 1))
 remains_more bit n b k l h z = go (next_free bit n (b + 1)) (next_is bit n (b + 1))
   where
     go : (r : Found) → IsNext bit n (b + 1) r → two.More b ≡ remains b r
-    go (Block j) x = refl
-    go Nothing x = absurd (x k l h z)
-    go Torn x = absurd x
+    go (Ok (Some j)) x = refl
+    go (Ok None) x = absurd (x k l h z)
+    go (Err _) x = absurd x
 
 module _ (ws : List ℕ) (n p : ℕ) (here : p / 32 < words_for n) where
   -- the lowest clear bit at or after the place in its own word
@@ -42,8 +41,8 @@ module _ (ws : List ℕ) (n p : ℕ) (here : p / 32 < words_for n) where
       → Level n ws → two.More b ≡ next_two (bit_at ws) n p
   two_clear b k e l m h z level =
       let i : p / 32 * 32 + p % 32 ≡ p = omega arith in
-      let f : Block b ≡ next_free (bit_at ws) n p =
-      is_next (bit_at ws) n p (Block b) (rw e (rw i at (in_word_lem ws n level (p / 32) (p % 32) (omega arith) here l))) in
+      let f : Ok (Some b) ≡ next_free (bit_at ws) n p =
+      is_next (bit_at ws) n p (Ok (Some b)) (rw e (rw i at (in_word_lem ws n level (p / 32) (p % 32) (omega arith) here l))) in
       rw (← f) (remains_more (bit_at ws) n b k m (within ws n level k h z) z)
 
   -- the lowest clear bit at or after bit i of word j
@@ -68,5 +67,5 @@ module _ (ws : List ℕ) (n p : ℕ) (here : p / 32 < words_for n) where
       two_clear b ((p / 32 + 1) * 32 + clear_from w 0) e l (omega arith) (omega arith) (clear_in (p / 32 + 1) 0 (omega arith) q)
 
 -- what they tell is promised of a tree
-pub near_two : (a : ℕ) {ws : List ℕ} {n p b : ℕ} → NearPromise ws n p (near.More b) → TwoPromise a ws n p (two.More b)
+pub near_two : (a : ℕ) {ws : List ℕ} {n p b : ℕ} → NearPromise ws n p (Some b) → TwoPromise a ws n p (two.More b)
 near_two a {ws} {n} q = record { within = q.0; scan = λ tree. q.1 (tree_level a n ws tree) }

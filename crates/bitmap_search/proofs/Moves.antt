@@ -1,5 +1,8 @@
 -- The moves, by the tests that the code makes and with the values that it has in hand.
-use mathlib.Core.Path.{◌≡◌, sym, ap, ◌∙◌, subst}
+use Rattle.bitmap_search.specs.Search.{torn}
+use Rattle.std.specs.Prelude.{Result, Ok, Err, Some, None, IsErr}
+use mathlib.Core.Path.{◌≡◌, refl, sym, ap, ◌∙◌, subst}
+use mathlib.Core.Bool.{false≢true}
 use mathlib.Core.List.{List}
 use Prim.Native.Nat.{ℕ, ◌+◌, ◌-◌, ◌*◌, ◌^◌, ◌≤◌, ◌<◌}
 use lib.ListN.{length, get_or, take, drop}
@@ -9,42 +12,47 @@ use Rattle.words.specs.Bits.{clear_from}
 use Rattle.words.specs.Levels.{words_for}
 use Rattle.bitmap_search.specs.declared.BitPos.{BitPos}
 use Rattle.bitmap_search.specs.declared.BitPtr.{BitPtr}
-use Rattle.bitmap_search.specs.declared.Next.{Next}
+use Rattle.bitmap_search.specs.declared.Torn.{Torn}
+use Rattle.bitmap_search.specs.Search.{Next}
 use Rattle.bitmap_search.specs.Pointer.{pos_at, with_pos, index_of, ptr_to}
 use Rattle.bitmap_search.specs.Search.{climbed, lowered, lowered_from, forwarded, block_at, searched, SearchPromise}
 use Rattle.bitmap_search.proofs.Forward.{forwarded_by, beyond, beyond_none, beyond_more, Bounded, bounded, searched_within, searched_scan}
-use Rattle.bitmap_search.specs.declared.Found.{Found}
-use Rattle.bitmap_search.specs.declared.Next.TheVariants as moved
+use Rattle.bitmap_search.specs.Scan.{Found}
+
+-- an error of the search says that the words are torn
+pub err_torn : {A : Type 0} (r : Result A Torn) → IsErr r → r ≡ torn
+err_torn (Ok x) h = absurd (false≢true h)
+err_torn (Err _) h = refl
 
 -- down to word k
 module _ (ws : List ℕ) (m : ℕ) (p : BitPtr) (l k : ℕ) (at : k ≡ index_of (pos_at p (l + 1))) where
-  pub down_past : m ≤ k → moved.Torn ≡ lowered ws m p l
+  pub down_past : m ≤ k → torn ≡ lowered ws m p l
   unfolding lowered
   down_past h = rw (← at, le-ltb k m h)
 
   module _ (here : k < m) (b : ℕ) (bit : b ≡ clear_from (get_or ws k 0) 0) where
-    pub down_at : b < 32 → moved.At (with_pos p l (record { word = k; bit = b })) ≡ lowered ws m p l
+    pub down_at : b < 32 → Ok (with_pos p l (record { word = k; bit = b })) ≡ lowered ws m p l
     unfolding lowered
     down_at h = rw (← at, lt-ltb k m here, ← bit, lt-ltb b 32 h)
 
-    pub down_full : 32 ≤ b → moved.Torn ≡ lowered ws m p l
+    pub down_full : 32 ≤ b → torn ≡ lowered ws m p l
     unfolding lowered
     down_full h = rw (← at, lt-ltb k m here, ← bit, le-ltb b 32 h)
 
 -- forward from the position x
 module _ (a : ℕ) (ws : List ℕ) (n : ℕ) (p : BitPtr) (l : ℕ) (x : BitPos) (at : x ≡ pos_at p l) where
-  pub ahead_past : words_for n ≤ x.word → moved.Nothing ≡ forwarded a ws n p l
+  pub ahead_past : words_for n ≤ x.word → (Ok None) ≡ forwarded a ws n p l
   ahead_past h = rw (forwarded_by ws n p l a, ← at, le-ltb x.word (words_for n) h)
 
   module _ (here : x.word < words_for n) (b : ℕ) (bit : b ≡ clear_from (get_or ws x.word 0) x.bit) where
-    pub ahead_at : b < 32 → moved.At (with_pos p l (record { word = x.word; bit = b })) ≡ forwarded a ws n p l
+    pub ahead_at : b < 32 → Ok (Some (with_pos p l (record { word = x.word; bit = b }))) ≡ forwarded a ws n p l
     ahead_at h = rw (forwarded_by ws n p l a, ← at, lt-ltb x.word (words_for n) here, ← bit, lt-ltb b 32 h)
 
     beyond_is : 32 ≤ b → beyond ws n p l a ≡ forwarded a ws n p l
     beyond_is h = rw (forwarded_by ws n p l a, ← at, lt-ltb x.word (words_for n) here, ← bit, le-ltb b 32 h)
 
     -- no level above
-    pub ahead_none : 32 ≤ b → a ≡ 0 → moved.Nothing ≡ forwarded a ws n p l
+    pub ahead_none : 32 ≤ b → a ≡ 0 → (Ok None) ≡ forwarded a ws n p l
     ahead_none h z = sym (beyond_none ws n p l a z) ∙ beyond_is h
 
     -- what the levels above found, and the way down from there
@@ -58,7 +66,7 @@ pub handed_on : (a : ℕ) (ws : List ℕ) (m l words : ℕ) (p q : BitPtr) (r : 
 handed_on a ws m l words p q r e f g = g ∙ rw (tail_part words ws, e, f)
 
 -- so the bit that they found has a number that fits
-pub handed_bound : (a : ℕ) (ws : List ℕ) (m : ℕ) (q x : BitPtr) (l : ℕ) → moved.At x ≡ forwarded a ws m q l → index_of (pos_at x l) < words_for m * 32
+pub handed_bound : (a : ℕ) (ws : List ℕ) (m : ℕ) (q x : BitPtr) (l : ℕ) → Ok (Some x) ≡ forwarded a ws m q l → index_of (pos_at x l) < words_for m * 32
 handed_bound a ws m q x l e = subst (λ (r : Next). Bounded l (words_for m * 32) r) (sym e) (bounded a ws m q l)
 
 -- the way down from what the levels above found: forward from the position x, past its word, by what the code handed on

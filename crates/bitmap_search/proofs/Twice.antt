@@ -1,5 +1,7 @@
 -- The next free block and whether another remains after it: where one word answers, what the answer is in a consistent tree, and what it says of the
 -- two scans.
+use Rattle.bitmap_search.specs.Search.{torn}
+use Rattle.std.specs.Prelude.{Ok, Err, Some, None}
 use mathlib.Core.Path.{◌≡◌, refl, sym, ap, ◌∙◌, subst}
 use mathlib.Core.Bool.{true}
 use mathlib.Core.Logic.{◌⊎◌, inl, inr, ⊎_elim}
@@ -13,18 +15,16 @@ use Rattle.words.specs.Levels.{words_for}
 use Rattle.words.proofs.Second.{some_below}
 use Rattle.words.specs.Bits.{bit_at, clear_from, some_clear}
 use Rattle.bitmap_search.specs.Pointer.{with_pos, index_of, pos_of, ptr_to}
-use Rattle.bitmap_search.specs.declared.Next.{Next}
+use Rattle.bitmap_search.specs.Search.{Next}
 use Rattle.bitmap_search.proofs.Forward.{right, searched_within, searched_scan}
-use Rattle.bitmap_search.specs.declared.Found.{Found}
+use Rattle.bitmap_search.specs.Scan.{Found}
 use Rattle.bitmap_search.specs.declared.Two.{Two}
 use Rattle.bitmap_search.specs.declared.BitPtr.{BitPtr}
 use Rattle.bitmap_search.specs.Scan.{next_free}
-use Rattle.bitmap_search.specs.declared.Found.TheVariants.{Block, Nothing, Torn}
 use Rattle.bitmap_search.proofs.Moves.{ahead_past, ahead_at}
 use Rattle.bitmap_search.specs.Twice.{remains, and_after, next_two, reached, TwoBelow, TwoPromise}
 use Rattle.bitmap_search.proofs.Scan.{IsNext, next_is, is_next}
 use Rattle.bitmap_search.specs.Search.{forwarded, found_at, block_at, searched, BlockBelow}
-use Rattle.bitmap_search.specs.declared.Next.TheVariants as moved
 use Rattle.bitmap_search.specs.declared.Two.TheVariants as two
 
 -- ---- one word answers
@@ -32,7 +32,7 @@ use Rattle.bitmap_search.specs.declared.Two.TheVariants as two
 module _ (a : ℕ) (ws : List ℕ) (n : ℕ) where
   -- a clear bit at or after the place in its own word
   in_own : (p : ℕ) → p / 32 < words_for n → clear_from (get_or ws (p / 32) 0) (p % 32) < 32
-      → moved.At (with_pos (ptr_to p) 0 (record { word = p / 32; bit = clear_from (get_or ws (p / 32) 0) (p % 32) })) ≡ forwarded a ws n (ptr_to p) 0
+      → Ok (Some (with_pos (ptr_to p) 0 (record { word = p / 32; bit = clear_from (get_or ws (p / 32) 0) (p % 32) }))) ≡ forwarded a ws n (ptr_to p) 0
   in_own p h l = ahead_at a ws n (ptr_to p) 0 (pos_of p) refl h (clear_from (get_or ws (p / 32) 0) (p % 32)) refl l
 
   -- another clear bit after block b in its word
@@ -53,10 +53,10 @@ module _ (a : ℕ) (ws : List ℕ) (n : ℕ) where
 module _ (a : ℕ) (ws : List ℕ) (n b : ℕ) where
   -- the pointer's block
   module _ (q : BitPtr) (at : b ≡ index_of q.low) where
-    pub past_end : n ≤ b → two.Torn ≡ and_after (reached a ws n) (block_at n (moved.At q))
+    pub past_end : n ≤ b → two.Torn ≡ and_after (reached a ws n) (block_at n (Ok (Some q)))
     past_end h = rw (← at, le-ltb b n h)
 
-    pub at_block : b < n → (r : Two) → r ≡ remains b (reached a ws n (b + 1)) → r ≡ and_after (reached a ws n) (block_at n (moved.At q))
+    pub at_block : b < n → (r : Two) → r ≡ remains b (reached a ws n (b + 1)) → r ≡ and_after (reached a ws n) (block_at n (Ok (Some q)))
     at_block h r e = rw (← at, lt-ltb b n h) e
 
   -- where the pointer to just after it led
@@ -77,19 +77,19 @@ from_place a ws n p x y f g = rw (← f, g)
 
 -- two searches that find the same
 after_same : (f h : ℕ → Found) → ((p : ℕ) → f p ≡ h p) → (r : Found) → and_after f r ≡ and_after h r
-after_same f h e (Block b) = ap (remains b) (e (b + 1))
-after_same f h e Nothing = refl
-after_same f h e Torn = refl
+after_same f h e (Ok (Some b)) = ap (remains b) (e (b + 1))
+after_same f h e (Ok None) = refl
+after_same f h e (Err _) = refl
 
 after_below : (f : ℕ → Found) (n : ℕ) (r : Found) → BlockBelow n r → TwoBelow n (and_after f r)
-after_below f n (Block b) h = go (f (b + 1))
+after_below f n (Ok (Some b)) h = go (f (b + 1))
   where
     go : (q : Found) → TwoBelow n (remains b q)
-    go (Block k) = h
-    go Nothing = h
-    go Torn = tt
-after_below f n Nothing h = tt
-after_below f n Torn h = tt
+    go (Ok (Some k)) = h
+    go (Ok None) = h
+    go (Err _) = tt
+after_below f n (Ok None) h = tt
+after_below f n (Err _) h = tt
 
 reached_scan : (a : ℕ) (ws : List ℕ) (n p : ℕ) → ((i : ℕ) → get_or ws i 0 < 2 ^ 32) → Tree a n ws → reached a ws n p ≡ next_free (bit_at ws) n p
 reached_scan a ws n p fits tree =
@@ -109,26 +109,26 @@ promised_two a ws n p r fits e = record {
 
 module _ (f h : ℕ → Found) (p : ℕ) where
   abbrev pub Says : Two → Type 0
-  Says (two.More b) = (f p ≡ Block b) × ((k : ℕ) × (h (b + 1) ≡ Block k))
-  Says (two.Last b) = (f p ≡ Block b) × (h (b + 1) ≡ Nothing)
-  Says two.Nothing = f p ≡ Nothing
-  Says two.Torn = (f p ≡ Torn) ⊎ ((b : ℕ) × (f p ≡ Block b) × (h (b + 1) ≡ Torn))
+  Says (two.More b) = (f p ≡ Ok (Some b)) × ((k : ℕ) × (h (b + 1) ≡ Ok (Some k)))
+  Says (two.Last b) = (f p ≡ Ok (Some b)) × (h (b + 1) ≡ (Ok None))
+  Says two.Nothing = f p ≡ (Ok None)
+  Says two.Torn = (f p ≡ torn) ⊎ ((b : ℕ) × (f p ≡ Ok (Some b)) × (h (b + 1) ≡ torn))
 
   pub two_says : (r : Two) → r ≡ and_after h (f p) → Says r
   two_says r e = subst Says (sym e) (go (f p) refl)
     where
-      then : (b : ℕ) → f p ≡ Block b → (q : Found) → h (b + 1) ≡ q → Says (remains b q)
-      then b u (Block k) v = (u, (k, v))
-      then b u Nothing v = (u, v)
-      then b u Torn v = inr (b, u, v)
+      then : (b : ℕ) → f p ≡ Ok (Some b) → (q : Found) → h (b + 1) ≡ q → Says (remains b q)
+      then b u (Ok (Some k)) v = (u, (k, v))
+      then b u (Ok None) v = (u, v)
+      then b u (Err _) v = inr (b, u, v)
 
       go : (q : Found) → f p ≡ q → Says (and_after h q)
-      go (Block b) u = then b u (h (b + 1)) refl
-      go Nothing u = u
-      go Torn u = inl u
+      go (Ok (Some b)) u = then b u (h (b + 1)) refl
+      go (Ok None) u = u
+      go (Err _) u = inl u
 
 -- the plain scan never meets torn words
-scan_whole : (bit : ℕ → ℕ) (n p : ℕ) → next_free bit n p ≡ Torn → ⊥
+scan_whole : (bit : ℕ → ℕ) (n p : ℕ) → next_free bit n p ≡ torn → ⊥
 scan_whole bit n p e = subst (IsNext bit n p) e (next_is bit n p)
 
 pub never_torn_lem : (bit : ℕ → ℕ) (n p : ℕ) → two.Torn ≡ next_two bit n p → ⊥

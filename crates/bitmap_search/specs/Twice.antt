@@ -1,29 +1,26 @@
 -- The next free block and whether another remains after it, at once. Document 01, of make: it "takes the next free block ..; the place moves just
 -- past it. .. When no free block remains at or after the new place, the segment becomes full in the same call".
-use Rattle.std.specs.Prelude.{◌≡◌, List, ℕ, ◌+◌, ◌*◌, ◌/◌, ◌<◌}
+use Rattle.std.specs.Prelude.{◌≡◌, List, Option, Ok, Err, Some, None, ℕ, ◌+◌, ◌*◌, ◌/◌, ◌<◌}
 use Rattle.words.specs.Bits.{bit_at}
 use Rattle.words.specs.Tree.{Level, Tree}
 use Rattle.bitmap_search.specs.Scan.{next_free}
 use Rattle.bitmap_search.specs.Pointer.{ptr_to}
 use Rattle.bitmap_search.specs.Search.{forwarded, found_at}
-use Rattle.bitmap_search.specs.declared.Found.{Found}
-use Rattle.bitmap_search.specs.declared.Found.TheVariants.{Block, Nothing, Torn}
+use Rattle.bitmap_search.specs.Scan.{Found}
 use Rattle.bitmap_search.specs.declared.Two.{Two}
-use Rattle.bitmap_search.specs.declared.Near.{Near}
 use Rattle.bitmap_search.specs.declared.Two.TheVariants as two
-use Rattle.bitmap_search.specs.declared.Near.TheVariants as near
 
 -- block b was found, and from just after it another, none, or torn words
 abbrev pub remains : ℕ → Found → Two
-remains b (Block k) = two.More b
-remains b Nothing = two.Last b
-remains b Torn = two.Torn
+remains b (Ok (Some k)) = two.More b
+remains b (Ok None) = two.Last b
+remains b (Err _) = two.Torn
 
 -- what was found, and what a search finds from just after it
 abbrev pub and_after : (ℕ → Found) → Found → Two
-and_after find (Block b) = remains b (find (b + 1))
-and_after find Nothing = two.Nothing
-and_after find Torn = two.Torn
+and_after find (Ok (Some b)) = remains b (find (b + 1))
+and_after find (Ok None) = two.Nothing
+and_after find (Err _) = two.Torn
 
 -- by the plain scan
 abbrev pub next_two : (ℕ → ℕ) → ℕ → ℕ → Two
@@ -47,12 +44,12 @@ pub record TwoPromise (above : ℕ) (ws : List ℕ) (n place : ℕ) (r : Two) : 
 
 -- what is promised where only the place's own word was asked: the block is one of that word, over any words; it is the scan's, and another remains, in a
 -- level of any n bits that the place is below
-abbrev pub OwnPromise : List ℕ → ℕ → Near → Type 0
-OwnPromise ws place (near.More b) = (b < (place / 32 + 1) * 32) × ((n : ℕ) → place < n → Level n ws → two.More b ≡ next_two (bit_at ws) n place)
-OwnPromise ws place near.Far = Unit
+abbrev pub OwnPromise : List ℕ → ℕ → Option ℕ → Type 0
+OwnPromise ws place (Some b) = (b < (place / 32 + 1) * 32) × ((n : ℕ) → place < n → Level n ws → two.More b ≡ next_two (bit_at ws) n place)
+OwnPromise ws place None = Unit
 
 -- what is promised where only words at the place were asked: a block is one of n, over any words; it is the scan's, and another remains, in a level
 -- of n bits
-abbrev pub NearPromise : List ℕ → ℕ → ℕ → Near → Type 0
-NearPromise ws n place (near.More b) = (b < n) × (Level n ws → two.More b ≡ next_two (bit_at ws) n place)
-NearPromise ws n place near.Far = Unit
+abbrev pub NearPromise : List ℕ → ℕ → ℕ → Option ℕ → Type 0
+NearPromise ws n place (Some b) = (b < n) × (Level n ws → two.More b ≡ next_two (bit_at ws) n place)
+NearPromise ws n place None = Unit

@@ -2,24 +2,20 @@
 // back down to the block. It is safe over words of any content, and finds what a plain scan finds in a consistent tree.
 #![tactic(auto)]
 
-ghost use Rattle.std.specs.Prelude.{◌≡◌, ◌+◌, ◌-◌, ◌/◌, ◌^◌, ◌≤◌, ◌<◌, length};
+ghost use Rattle.std.specs.Prelude.{◌≡◌, ◌+◌, ◌-◌, ◌/◌, ◌^◌, ◌≤◌, ◌<◌, length, Ok, Some};
 ghost use Rattle.words.specs.Levels.{words_for, tree_words};
 ghost use Rattle.bitmap_search.specs.Pointer.{pos_at, with_pos, aimed, index_of, pos_of, ptr_to};
 ghost use Rattle.bitmap_search.specs.Search.{climbed, lowered, forwarded, block_at, SearchPromise};
 ghost use Rattle.bitmap_search.specs.Twice.{and_after, reached, OwnPromise, NearPromise, TwoPromise};
-ghost use Rattle.bitmap_search.specs.declared.Next.TheVariants.{At};
 
 use words::{clear_after, clear_from, two_clear, words_for};
 
-// What a search for a free block finds.
-#[derive(Drop)]
-pub enum Found {
-    Block(u32),
-    Nothing,
-    Torn,
-}
+// The words are no bitmap tree.
+#[derive(Clone, Copy)]
+pub struct Torn;
 
-// The next free block, where another remains after it; the last one; none.
+// The next free block, where another remains after it; the last one; none; no bitmap tree.
+// Kept: four answers by name are plainer than a Result of an Option of a block and whether another remains.
 #[derive(Drop)]
 pub enum Two {
     More(u32),
@@ -28,15 +24,7 @@ pub enum Two {
     Torn,
 }
 
-// What the words at a place tell of the next free block: the block, where another remains after it. Far: they do not tell.
-#[derive(Drop)]
-pub enum Near {
-    More(u32),
-    Far,
-}
-
 // A bit of one level: its word, and which bit of the word it is.
-#[derive(Drop)]
 #[derive(Clone, Copy)]
 pub struct BitPos {
     pub word: u32,
@@ -44,20 +32,11 @@ pub struct BitPos {
 }
 
 // A bit pointer: a word and a bit at each level.
-#[derive(Drop)]
 #[derive(Clone, Copy)]
 pub struct BitPtr {
     pub low: BitPos,
     pub mid: BitPos,
     pub high: BitPos,
-}
-
-// What a move of a bit pointer comes to: the next pointer, no free bit, or words that are no bitmap tree.
-#[derive(Drop)]
-pub enum Next {
-    At(BitPtr),
-    Nothing,
-    Torn,
 }
 
 impl BitPos {
@@ -159,7 +138,7 @@ impl BitPtr {
     }
 
     // One level down, to the lowest clear bit of the word that the bit stands for. Torn where there is no such word or bit.
-    fn descend(self, s: &[u32], words: u32, level: u32) -> Next
+    fn descend(self, s: &[u32], words: u32, level: u32) -> Result<BitPtr, Torn>
         requires words_in_bounds { (words ≤ length s.now) × (level + 1 < 2 ^ 32) }
         requires level_bound { index_of (pos_at self (level + 1)) < 2 ^ 32 }
         ensures { result ≡ lowered s.now words self level }
@@ -167,23 +146,18 @@ impl BitPtr {
         let up = self.at(level + 1);
         let word = up.index();
         if words <= word {
-            return Next::Torn;
+            return Err(Torn);
         }
-        let i = word as usize;
-        let bit = clear_from(s[i], 0);
+        let bit = clear_from(s[word as usize], 0);
         if bit < 32 {
-            let low = BitPos {
-                word: word,
-                bit: bit,
-            };
-            return Next::At(self.with(level, low));
+            return Ok(self.with(level, BitPos { word, bit }));
         }
-        Next::Torn
+        Err(Torn)
     }
 
     // The next free bit of a level of n bits at or after the pointer's bit there: in its word, or by way of the levels above.
     // The slice holds this level and those above it.
-    fn forward(self, s: &[u32], n: u32, above: u32, level: u32) -> Next
+    fn forward(self, s: &[u32], n: u32, above: u32, level: u32) -> Result<Option<BitPtr>, Torn>
         requires n_in_bounds { (tree_words above n ≤ length s.now) × (level + above < 2 ^ 32) }
         requires level_bound { (pos_at self level).bit < 32 }
         ensures { result ≡ forwarded above s.now n self level }
@@ -192,87 +166,68 @@ impl BitPtr {
         let word = at.word;
         let words = words_for(n);
         if words <= word {
-            return Next::Nothing;
+            return Ok(None);
         }
-        let i = word as usize;
-        let bit = clear_from(s[i], at.bit);
+        let bit = clear_from(s[word as usize], at.bit);
         if bit < 32 {
-            let here = BitPos {
-                word: word,
-                bit: bit,
-            };
-            return Next::At(self.with(level, here));
+            return Ok(Some(self.with(level, BitPos { word, bit })));
         }
         if above == 0 {
-            return Next::Nothing;
+            return Ok(None);
         }
-        let m = words as usize;
-        let found = self
-            .climb(level)
-            .forward(&s[m..], words, above - 1, level + 1);
-        match found {
-            Next::At(q) => q.descend(s, words, level),
-            Next::Nothing => Next::Nothing,
-            Next::Torn => Next::Torn,
-        }
+        let up = self.climb(level);
+        let Some(q) = up.forward(&s[words as usize..], words, above - 1, level + 1)? else {
+            return Ok(None);
+        };
+        Ok(Some(q.descend(s, words, level)?))
     }
 
-    // What `forward` finds at level 0, where a search begins: in one text, so that a block in the pointer's own word needs no call.
-    fn forward_first(self, s: &[u32], n: u32, above: u32) -> Next
+    // What `forward` finds at level 0, where a search begins.
+    // Kept: `forward` again, in one text, so that a block in the pointer's own word needs no call.
+    fn forward_first(self, s: &[u32], n: u32, above: u32) -> Result<Option<BitPtr>, Torn>
         requires { (tree_words above n ≤ length s.now) × (self.low.bit < 32) }
         ensures { result ≡ forwarded above s.now n self 0 }
     {
         let word = self.low.word;
         let words = words_for(n);
         if words <= word {
-            return Next::Nothing;
+            return Ok(None);
         }
-        let i = word as usize;
-        let bit = clear_from(s[i], self.low.bit);
+        let bit = clear_from(s[word as usize], self.low.bit);
         if bit < 32 {
-            let here = BitPos {
-                word: word,
-                bit: bit,
-            };
-            return Next::At(self.with(0, here));
+            return Ok(Some(self.with(0, BitPos { word, bit })));
         }
         if above == 0 {
-            return Next::Nothing;
+            return Ok(None);
         }
-        let m = words as usize;
-        let found = self.climb(0).forward(&s[m..], words, above - 1, 1);
-        match found {
-            Next::At(q) => q.descend(s, words, 0),
-            Next::Nothing => Next::Nothing,
-            Next::Torn => Next::Torn,
-        }
+        let up = self.climb(0);
+        let Some(q) = up.forward(&s[words as usize..], words, above - 1, 1)? else {
+            return Ok(None);
+        };
+        Ok(Some(q.descend(s, words, 0)?))
     }
 
     // The pointer's block, if it is one of n, and whether another remains after it: in its word, else by the search from just after. After the
     // last block of whole words there is nothing to search.
     fn remaining(self, s: &[u32], n: u32, above: u32) -> Two
         requires { (tree_words above n ≤ length s.now) × (index_of self.low < 2 ^ 32) }
-        ensures { result ≡ and_after (reached above s.now n) (block_at n (At self)) }
+        ensures { result ≡ and_after (reached above s.now n) (block_at n (Ok (Some self))) }
     {
         let b = self.low.index();
         if n <= b {
             return Two::Torn;
         }
-        let i = (b / 32) as usize;
-        if clear_after(s[i], b % 32) {
+        if clear_after(s[(b / 32) as usize], b % 32) {
             return Two::More(b);
         }
         let next = b + 1;
-        if next == n {
-            if n % 32 == 0 {
-                return Two::Last(b);
-            }
+        if next == n && n % 32 == 0 {
+            return Two::Last(b);
         }
-        let found = Self::to(next).forward(s, n, above, 0);
-        match found {
-            Next::At(q) => Two::More(b),
-            Next::Nothing => Two::Last(b),
-            Next::Torn => Two::Torn,
+        match Self::to(next).forward(s, n, above, 0) {
+            Ok(Some(_)) => Two::More(b),
+            Ok(None) => Two::Last(b),
+            Err(Torn) => Two::Torn,
         }
     }
 
@@ -281,63 +236,55 @@ impl BitPtr {
         requires { (tree_words above n ≤ length s.now) × (self.low.bit < 32) }
         ensures { result ≡ and_after (reached above s.now n) (block_at n (forwarded above s.now n self 0)) }
     {
-        let found = self.forward_first(s, n, above);
-        match found {
-            Next::At(q) => q.remaining(s, n, above),
-            Next::Nothing => Two::Nothing,
-            Next::Torn => Two::Torn,
+        match self.forward_first(s, n, above) {
+            Ok(Some(q)) => q.remaining(s, n, above),
+            Ok(None) => Two::Nothing,
+            Err(Torn) => Two::Torn,
         }
     }
 }
 
 // The first free block of n at or after a place, where the slice holds a bitmap tree of n bits with so many levels above
 // level 0. Whatever it holds, a block that is found is one of the n.
-pub fn next_free(s: &[u32], n: u32, above: u32, place: u32) -> Found
+pub fn next_free(s: &[u32], n: u32, above: u32, place: u32) -> Result<Option<u32>, Torn>
     requires { tree_words above n ≤ length s.now }
     ensures { SearchPromise above s.now n place result }
 {
-    let found = BitPtr::to(place).forward(s, n, above, 0);
-    match found {
-        Next::At(q) => {
-            let k = q.at(0).index();
-            if k < n { Found::Block(k) } else { Found::Torn }
-        }
-        Next::Nothing => Found::Nothing,
-        Next::Torn => Found::Torn,
-    }
+    let Some(q) = BitPtr::to(place).forward(s, n, above, 0)? else {
+        return Ok(None);
+    };
+    let k = q.at(0).index();
+    if k < n { Ok(Some(k)) } else { Err(Torn) }
 }
 
 // The next free block at or after a place, where the place's own word has it and another clear bit after it, whatever the number of blocks.
-pub fn more_in_word(s: &[u32], place: u32) -> Near
+// None: the word does not tell.
+pub fn more_in_word(s: &[u32], place: u32) -> Option<u32>
     requires { place / 32 < length s.now }
     ensures { OwnPromise s.now place result }
 {
-    let i = (place / 32) as usize;
-    let w = s[i];
+    let w = s[(place / 32) as usize];
     if two_clear(w, place % 32) {
-        return Near::More(place / 32 * 32 + clear_from(w, place % 32));
+        return Some(place / 32 * 32 + clear_from(w, place % 32));
     }
-    Near::Far
+    None
 }
 
 // The next free block of n at or after a place, where the place's own word has it and the next word is not all ones.
-pub fn more_in_next(s: &[u32], n: u32, place: u32) -> Near
+// None: the words do not tell.
+pub fn more_in_next(s: &[u32], n: u32, place: u32) -> Option<u32>
     requires { words_for n ≤ length s.now }
     ensures { NearPromise s.now n place result }
 {
-    if place < n {
-        let word = place / 32;
-        if word < (n - 1) / 32 {
-            let i = word as usize;
-            let bit = clear_from(s[i], place % 32);
-            if bit < 32 {
-                if s[i + 1] != 4294967295 {
-                    return Near::More(word * 32 + bit);
-                }
-            }
+    let word = place / 32;
+    if place < n && word < (n - 1) / 32 {
+        let i = word as usize;
+        let bit = clear_from(s[i], place % 32);
+        if bit < 32 && s[i + 1] != u32::MAX {
+            return Some(word * 32 + bit);
         }
     }
-    Near::Far
+    None
 }
 
 // The next free block of n at or after a place, and whether another remains after it, by the search.

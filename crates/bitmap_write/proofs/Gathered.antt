@@ -3,7 +3,7 @@ use mathlib.Core.Path.{◌≡◌, refl, sym, ap, ap₂, ◌∙◌}
 use mathlib.Core.Logic.{◌⊎◌, inl, inr}
 use mathlib.Core.Bool.{Bool, true, false}
 use mathlib.Core.List.{List, ◌++◌}
-use Prim.Native.Nat.{ℕ, zero, suc, ◌+◌, ◌-◌, ◌*◌, ◌/◌, ◌^◌, ◌≤◌, ◌<◌}
+use Prim.Native.Nat.{ℕ, zero, suc, ◌+◌, ◌-◌, ◌*◌, ◌/◌, ◌^◌, ◌≤◌, ◌<◌, min}
 use native.Mathlib.Nat.{pow-suc, zero-add, suc-mul, mul-le-mul_right, mul-le-mul_left}
 use native.Mathlib.Numerals.{add-one}
 use native.Mathlib.Omega.{arith}
@@ -36,11 +36,12 @@ tail_all from s = take_all (length s - from) (drop from s) (omega (arith, length
 abbrev pub IsCount : ℕ → ℕ → ℕ → Type 0
 IsCount n j count = (count ≤ 32) × (j * 32 + count ≤ n) × ((j * 32 + count ≡ n) ⊎ (j * 32 + 32 ≤ j * 32 + count))
 
-pub few : (n j count : ℕ) → j * 32 ≤ n → n - j * 32 < 32 → count ≡ n - j * 32 → IsCount n j count
-few n j count h l e = (omega arith, omega arith, inl (omega arith))
-
-pub whole : (n j count : ℕ) → 32 ≤ n - j * 32 → count ≡ 32 → IsCount n j count
-whole n j count l e = (omega arith, omega arith, inr (omega arith))
+pub is_count : (n j count : ℕ) → j * 32 ≤ n → count ≡ min (n - j * 32) 32 → IsCount n j count
+is_count n j count h e = go (le_or_lt 32 (n - j * 32))
+  where
+    go : (32 ≤ n - j * 32) ⊎ (n - j * 32 < 32) → IsCount n j count
+    go (inl l) = (omega arith, omega arith, inr (omega arith))
+    go (inr l) = (omega arith, omega arith, inl (omega arith))
 
 -- a word of c bits
 word_lt : (bit : ℕ → ℕ) → ((k : ℕ) → bit k < 2) → (c k : ℕ) → word_from bit c k < 2 ^ c

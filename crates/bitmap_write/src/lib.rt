@@ -15,8 +15,7 @@ fn full_bit(s: &[u32], m: u32, k: u32) -> u32
     requires { (k < m) × (m ≤ length s.now) }
     ensures { result ≡ full_bit s.now m k }
 {
-    let i = k as usize;
-    if s[i] == 4294967295 { 1 } else { 0 }
+    u32::from(s[k as usize] == u32::MAX)
 }
 
 // The word from bit `from` on of the level above the first m words, of which it has `count`: all ones, less a bit for each that is not full.
@@ -24,13 +23,11 @@ fn counted_word(s: &[u32], m: u32, from: u32, count: u32) -> u32
     requires { (m ≤ length s.now) × (count ≤ 32) × (from + count ≤ m) × ((from + count ≡ m) ⊎ (from + 32 ≤ from + count)) }
     ensures { result ≡ word_from (full_bit s.now m) 32 from }
 {
-    let mut w: u32 = 4294967295;
-    let mut i: u32 = 0;
-    while i < count {
+    let mut w = u32::MAX;
+    for i in 0..count {
         if full_bit(s, m, from + i) == 0 {
             w -= 1u32 << i;
         }
-        i += 1;
     }
     w
 }
@@ -53,14 +50,10 @@ fn sum_up(s: &mut [u32], m: u32)
     requires { m + words_for m ≤ length s.old }
     ensures { s.new ≡ summed s.old m }
 {
-    let words = words_for(m);
     let base = m as usize;
-    let mut j: u32 = 0;
-    while j < words {
+    for j in 0..words_for(m) {
         let w = full_word(&s[..], m, j);
-        let i = base + j as usize;
-        s[i] = w;
-        j += 1;
+        s[base + j as usize] = w;
     }
 }
 
@@ -84,10 +77,7 @@ pub fn pad(s: &mut [u32], n: u32)
 {
     let bit = n % 32;
     if bit != 0 {
-        let i = (n / 32) as usize;
-        let ones = ones_from(bit);
-        let w = s[i] | ones;
-        s[i] = w;
+        s[(n / 32) as usize] |= ones_from(bit);
     }
 }
 
@@ -105,12 +95,7 @@ pub fn clear_words(s: &mut [u32], m: u32)
     requires { m ≤ length s.old }
     ensures { s.new ≡ cleared m s.old }
 {
-    let n = m as usize;
-    let mut i: usize = 0;
-    while i < n {
-        s[i] = 0;
-        i += 1;
-    }
+    s[..m as usize].fill(0);
 }
 
 // The one word of a level of n free bits, where it has one.
@@ -166,15 +151,13 @@ fn gathered_word(s: &[u32], from: usize, n: u32, step: u32, j: u32) -> u32
 {
     let first = j * 32;
     let most = n - first;
-    let count = if most < 32 { most } else { 32 };
+    let count = most.min(32);
     let mut w: u32 = 0;
-    let mut i: u32 = 0;
-    while i < count {
+    for i in 0..count {
         let k = (first + i) * step;
         if words::bit_at(&s[from..], k) == 1 {
             w += 1u32 << i;
         }
-        i += 1;
     }
     w
 }
@@ -220,12 +203,9 @@ fn pressed_word(s: &[u32], from: usize, n: u32, step: u32, count: u32, j: u32) -
 {
     let at = from + (j * step) as usize;
     let mut w: u32 = 0;
-    let mut k: u32 = 0;
-    while k < step {
-        let i = at + k as usize;
-        let bits = press(s[i], step, count);
+    for k in 0..step {
+        let bits = press(s[at + k as usize], step, count);
         w += bits << (k * count);
-        k += 1;
     }
     w
 }
@@ -246,13 +226,9 @@ fn gather_by(s: &mut [u32], from: usize, n: u32, step: u32, count: u32)
     requires { (words_for n ≤ from) × (from ≤ length s.old) × (n * step ≤ (length s.old - from) * 32) × (n * step ≤ 2 ^ 20) × (1 ≤ step) × Ways n step count }
     ensures { s.new ≡ copied (words_for n) (gathered (drop from s.old) step n) s.old }
 {
-    let words = words_for(n);
-    let mut j: u32 = 0;
-    while j < words {
+    for j in 0..words_for(n) {
         let w = next_word(&s[..], from, n, step, count, j);
-        let i = j as usize;
-        s[i] = w;
-        j += 1;
+        s[j as usize] = w;
     }
 }
 
@@ -280,10 +256,8 @@ pub fn none_set(s: &[u32]) -> bool
     ensures { result ≡ true → (k : ℕ) → bit_at s.now k ≡ 0 }
 {
     let mut any: u32 = 0;
-    let mut i = 0;
-    while i < s.len() {
-        any |= s[i];
-        i += 1;
+    for w in s {
+        any |= *w;
     }
     any == 0
 }

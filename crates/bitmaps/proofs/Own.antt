@@ -3,9 +3,9 @@ use mathlib.Core.Path.{◌≡◌, ◌∙◌, subst}
 use Prim.Native.Nat.{ℕ, ◌/◌, ◌%◌, ◌<◌}
 use native.Mathlib.Nat.{mod-lt, mod-eq_of_lt}
 use native.Mathlib.Omega.{arith}
+use Rattle.std.specs.Prelude.{Option, Some, None}
 use Rattle.words.specs.Bits.{bit_at}
 use Rattle.classes.specs.Class.{IsClass, first_class}
-use Rattle.bitmap_search.specs.declared.Near.{Near}
 use Rattle.bitmap_search.specs.Twice.{next_two, OwnPromise}
 use Rattle.layout.specs.declared.Geometry.{Geometry}
 use Rattle.layout.specs.Geometry.{most_blocks, mark_words}
@@ -14,7 +14,6 @@ use Rattle.layout.proofs.Sizes.{marks_are}
 use Rattle.model_laws.proofs.Blocks.{blocks_some}
 use Rattle.model.specs.Segments.{bitmap}
 use Rattle.bitmaps.specs.Given.{NearIn}
-use Rattle.bitmap_search.specs.declared.Near.TheVariants as near
 use Rattle.bitmap_search.specs.declared.Two.TheVariants as two
 
 pub first_class_lem : IsClass first_class
@@ -28,8 +27,8 @@ module _ (g : Geometry) (place at : ℕ) (e : at ≡ place % most_blocks g) wher
   pub word_below : at / 32 < mark_words g
   word_below = let l = below in let w = marks_are g 1 in omega arith
 
-  pub near_in : (m : Mem) (s : ℕ) (r : Near) → OwnPromise (bitmap g m s) at r → NearIn g m s place r
-  near_in m s (near.More b) q =
+  pub near_in : (m : Mem) (s : ℕ) (r : Option ℕ) → OwnPromise (bitmap g m s) at r → NearIn g m s place r
+  near_in m s (Some b) q =
       let l = word_below in
       let w = marks_are g 1 in
       let h = q.0 in (
@@ -38,4 +37,4 @@ module _ (g : Geometry) (place at : ℕ) (e : at ≡ place % most_blocks g) wher
             let same : at ≡ place = e ∙ mod-eq_of_lt (omega arith) in
             subst (λ p. p < n → two.More b ≡ next_two (bit_at (bitmap g m s)) n p) same (λ k. q.1 n k level) under,
       )
-  near_in m s near.Far q = tt
+  near_in m s None q = tt

@@ -1,10 +1,9 @@
 -- What the model says of a segment by its record's class and place, here of a class and a place that are given: at those of the record it is the
 -- model's own.
-use Rattle.std.specs.Prelude.{◌≡◌, ℕ, ◌≤◌, ◌<◌, ltb}
+use Rattle.std.specs.Prelude.{◌≡◌, Option, Some, None, ℕ, ◌≤◌, ◌<◌, ltb}
 use Rattle.basics.specs.Pick.{pick}
 use Rattle.words.specs.Bits.{bit_at}
 use Rattle.words.specs.Tree.{Level}
-use Rattle.bitmap_search.specs.declared.Near.{Near}
 use Rattle.bitmap_search.specs.Twice.{next_two}
 use Rattle.bitmap_write.specs.Completed.{adopted}
 use Rattle.classes.specs.Class.{IsClass}
@@ -13,7 +12,6 @@ use Rattle.layout.specs.Geometry.{blocks_in, most_blocks}
 use Rattle.layout.specs.Mem.{Mem}
 use Rattle.model.specs.Segments.{above, bitmap, set_bitmap, marks_in}
 use Rattle.model.specs.Records.{header_of, entered}
-use Rattle.bitmap_search.specs.declared.Near.TheVariants as near
 use Rattle.bitmap_search.specs.declared.Two.TheVariants as two
 
 -- "its level 0 becomes the marks, upper levels rebuilt": `rebuilt_by` is that of the segment's class
@@ -30,6 +28,6 @@ used_bits bit place b = pick (ltb b place) 1 (bit b)
 
 -- what the place's own word tells of the next free block of segment s: a number below the most blocks, over any words; in a level of n blocks that the
 -- place is below, the scan's block, where another remains
-abbrev pub NearIn : Geometry → Mem → ℕ → ℕ → Near → Type 0
-NearIn g m s place (near.More b) = (b < most_blocks g) × ((n : ℕ) → n ≤ most_blocks g → place < n → Level n (bitmap g m s) → two.More b ≡ next_two (bit_at (bitmap g m s)) n place)
-NearIn g m s place near.Far = Unit
+abbrev pub NearIn : Geometry → Mem → ℕ → ℕ → Option ℕ → Type 0
+NearIn g m s place (Some b) = (b < most_blocks g) × ((n : ℕ) → n ≤ most_blocks g → place < n → Level n (bitmap g m s) → two.More b ≡ next_two (bit_at (bitmap g m s)) n place)
+NearIn g m s place None = Unit

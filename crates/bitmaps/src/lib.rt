@@ -13,7 +13,7 @@ ghost use Rattle.model.specs.Making.{freshened};
 ghost use Rattle.model.specs.Segments.{above, bitmap, marks_in};
 ghost use Rattle.bitmaps.specs.Given.{adopted_as, NearIn, Unmarked, used_bits};
 
-use bitmap_search::{Near, Two};
+use bitmap_search::Two;
 use layout::Geometry;
 
 // Segment s gets a tree of free blocks of a class.
@@ -50,7 +50,7 @@ fn search_two(g: Geometry, mem: &[u32], s: usize, class: u32, place: u32) -> Two
 
 // The next free block of segment s at or after a place, where the place's own word has it and another after it. No class is asked for: a block's
 // number is below the most blocks of a segment whatever the words hold.
-pub fn near(g: Geometry, mem: &[u32], s: usize, place: u32) -> Near
+pub fn near(g: Geometry, mem: &[u32], s: usize, place: u32) -> Option<u32>
     requires { (Sized g (length mem.now)) × (s < g.segments) }
     ensures { NearIn g (mem_of g mem.now) s place result }
 {
@@ -71,8 +71,8 @@ pub fn next_two(g: Geometry, mem: &[u32], s: usize, class: u32, place: u32) -> T
     let a = layout::bitmap_from(g, s);
     let b = layout::bitmap_from(g, s + 1);
     match bitmap_search::more_in_next(&mem[a..b], blocks, place) {
-        Near::More(x) => Two::More(x),
-        Near::Far => search_two(g, mem, s, class, place),
+        Some(x) => Two::More(x),
+        None => search_two(g, mem, s, class, place),
     }
 }
 

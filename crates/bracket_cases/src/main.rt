@@ -3,7 +3,7 @@
 // lines are those of document 01's whole case and a line of each form with different numbers; its bad lines are by hand.
 #![tactic(auto)]
 
-use bracket_forms::{Form, Reading, Reply};
+use bracket_forms::{Form, Reply};
 use bracket_lines::Found;
 use std::io::{Read, Stdin};
 
@@ -23,47 +23,34 @@ fn print_bad() {
 }
 
 // A word and its numbers.
-fn print_one(word: &[u8], a: u32) {
+fn print_word(word: &[u8], numbers: &[u32]) {
     print(word);
-    print_number(a);
-}
-
-fn print_two(word: &[u8], a: u32, b: u32) {
-    print_one(word, a);
-    print_number(b);
-}
-
-fn print_three(word: &[u8], a: u32, b: u32, c: u32) {
-    print_two(word, a, b);
-    print_number(c);
-}
-
-fn print_four(word: &[u8], a: u32, b: u32, c: u32, d: u32) {
-    print_three(word, a, b, c);
-    print_number(d);
+    for &n in numbers {
+        print_number(n);
+    }
 }
 
 // The form as a word and its numbers, in the order in which the form holds them.
 fn print_parts(form: Form) {
     match form {
-        Form::Rack(s) => print_one(b" rack", s),
-        Form::Attach(m) => print_one(b" attach", m),
-        Form::Spawn(new, parent, slot) => print_three(b" spawn", new, parent, slot),
-        Form::Detach(m) => print_one(b" detach", m),
-        Form::Make(m, slot, p, n) => print_four(b" make", m, slot, p, n),
-        Form::Load(m, to, slot, field) => print_four(b" load", m, to, slot, field),
-        Form::Store(m, slot, field, from) => print_four(b" store", m, slot, field, from),
-        Form::Copy(m, to, from) => print_three(b" copy", m, to, from),
-        Form::Clear(m, slot) => print_two(b" clear", m, slot),
-        Form::Put(m, slot, field, value) => print_four(b" put", m, slot, field, value),
-        Form::Get(m, slot, field) => print_three(b" get", m, slot, field),
-        Form::Same(m, slot, other) => print_three(b" same", m, slot, other),
-        Form::Shape(m, slot) => print_two(b" shape", m, slot),
-        Form::Check(m) => print_one(b" check", m),
-        Form::Leave(m) => print_one(b" leave", m),
-        Form::Enter(m) => print_one(b" enter", m),
-        Form::Start => print(b" start"),
-        Form::Step => print(b" step"),
+        Form::Rack(s) => print_word(b" rack", &[s]),
+        Form::Attach(m) => print_word(b" attach", &[m]),
+        Form::Spawn(new, parent, slot) => print_word(b" spawn", &[new, parent, slot]),
+        Form::Detach(m) => print_word(b" detach", &[m]),
+        Form::Make(m, slot, p, n) => print_word(b" make", &[m, slot, p, n]),
+        Form::Load(m, to, slot, field) => print_word(b" load", &[m, to, slot, field]),
+        Form::Store(m, slot, field, from) => print_word(b" store", &[m, slot, field, from]),
+        Form::Copy(m, to, from) => print_word(b" copy", &[m, to, from]),
+        Form::Clear(m, slot) => print_word(b" clear", &[m, slot]),
+        Form::Put(m, slot, field, value) => print_word(b" put", &[m, slot, field, value]),
+        Form::Get(m, slot, field) => print_word(b" get", &[m, slot, field]),
+        Form::Same(m, slot, other) => print_word(b" same", &[m, slot, other]),
+        Form::Shape(m, slot) => print_word(b" shape", &[m, slot]),
+        Form::Check(m) => print_word(b" check", &[m]),
+        Form::Leave(m) => print_word(b" leave", &[m]),
+        Form::Enter(m) => print_word(b" enter", &[m]),
+        Form::Start => print_word(b" start", &[]),
+        Form::Step => print_word(b" step", &[]),
     }
 }
 
@@ -76,12 +63,8 @@ fn print_form(form: Form) {
 
 fn read_line(line: &[u8]) {
     match bracket_forms::read_form(line) {
-        Reading::Is(form) => {
-            print_form(form);
-        }
-        Reading::Bad => {
-            print_bad();
-        }
+        Some(form) => print_form(form),
+        None => print_bad(),
     }
     print(b"\n");
 }
@@ -91,8 +74,8 @@ fn hear(found: Found, line: &[u8]) {
     match found {
         Found::More => {}
         Found::Line(n) => {
-            if n <= line.len() {
-                read_line(&line[..n]);
+            if let Some(told) = line.get(..n) {
+                read_line(told);
             }
         }
         Found::Overlong => {
@@ -103,6 +86,7 @@ fn hear(found: Found, line: &[u8]) {
 }
 
 // All lines that end in a piece of the input; answers how many bytes of the next line it has.
+// Kept: the loop is a `while`, since each turn passes over as many bytes as its line has.
 fn read_piece(piece: &[u8], count: usize, line: &mut [u8; 80]) -> usize {
     let mut at = 0;
     let mut n = count;
@@ -110,29 +94,20 @@ fn read_piece(piece: &[u8], count: usize, line: &mut [u8; 80]) -> usize {
         let s = bracket_lines::next_line(piece, at, n, line);
         at = s.next;
         n = s.count;
-        let found = s.found;
-        hear(found, line);
+        hear(s.found, line);
     }
     n
 }
 
-// The input after a piece of it: how many bytes of the next line came, or its end.
-#[derive(Drop)]
-enum Input {
-    Open(usize),
-    Ended,
-}
-
-// One read, which takes what has come. A read that fails counts as the input's end.
-fn read_some(stdin: &mut Stdin, count: usize, line: &mut [u8; 80]) -> Input {
+// One read, which takes what has come: how many bytes of the next line came, unless the input has ended. A read that fails counts as
+// the input's end.
+fn read_some(stdin: &mut Stdin, count: usize, line: &mut [u8; 80]) -> Option<usize> {
     let mut piece = [0u8; 64];
-    let Ok(n) = stdin.read(&mut piece) else {
-        return Input::Ended;
-    };
+    let n = stdin.read(&mut piece).ok()?;
     if n == 0 {
-        return Input::Ended;
+        return None;
     }
-    Input::Open(read_piece(&piece[..n], count, line))
+    Some(read_piece(&piece[..n], count, line))
 }
 
 // The last line may lack its line feed.
@@ -147,14 +122,10 @@ fn main(rt: HostRuntime) {
     let mut line = [0u8; 80];
     let mut count = 0;
     for _ in 0..u64::MAX {
-        match read_some(&mut stdin, count, &mut line) {
-            Input::Open(n) => {
-                count = n;
-            }
-            Input::Ended => {
-                end_input(count, &line);
-                return;
-            }
-        }
+        let Some(n) = read_some(&mut stdin, count, &mut line) else {
+            end_input(count, &line);
+            return;
+        };
+        count = n;
     }
 }

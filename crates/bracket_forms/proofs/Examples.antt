@@ -1,6 +1,6 @@
 -- Lines of document 01 as texts of forms and of replies, and lines that no form has, as rows of tables.
 use Prim.Native.Nat.{ℕ, ◌<◌}
-use mathlib.Core.Path.{◌≡◌, refl}
+use mathlib.Core.Path.{◌≡◌, refl, ap}
 use mathlib.Core.Bool.{Bool, true, false}
 use mathlib.Core.List.{List, [], ◌∷◌}
 use mathlib.Core.Option.{Option, none, some}
@@ -9,15 +9,15 @@ use lib.ListN.{get_or}
 use Rattle.decimals.specs.Ascii.{bytes}
 use Rattle.decimals.specs.Decimal.{digits_of, decimal}
 use Rattle.bracket_text.specs.Text.{fill, text}
-use Rattle.bracket_text.specs.Scan.{digits_on, number_of, piece, matched}
+use Rattle.bracket_text.specs.Scan.{zeros, digits_on, number_of, piece, matched}
+use Rattle.std.specs.Prelude.{None}
 use Rattle.basics.proofs.Table.{Each, every_at}
 use Rattle.bracket_text.proofs.Laws.{◌also◌}
 use Rattle.bracket_forms.specs.Forms.{text_of, FormRead}
-use Rattle.bracket_forms.specs.Kinds.{zeros, forms, form_at, template_at}
+use Rattle.bracket_forms.specs.Kinds.{forms, form_at, template_at, tried_as}
 use Rattle.bracket_forms.specs.Replies.{reply_text}
 use Rattle.bracket_forms.specs.declared.Form.{Form}
 use Rattle.bracket_forms.specs.declared.Form.TheVariants.{Rack, Attach, Make, Load, Store, Clear, Put, Get, Check, Start, Step}
-use Rattle.bracket_forms.specs.declared.Reading.TheVariants.{Bad}
 use Rattle.bracket_forms.specs.declared.Reply.{Reply}
 use Rattle.bracket_forms.specs.declared.Reply.TheVariants.{Ok, OkOne, Waiting, Moved, Traced, Swept, Done}
 use Rattle.bracket_forms.proofs.Table.{every_text, text_passes}
@@ -72,10 +72,10 @@ none_is (some ns) h = absurd h
 unmatched : List ℕ → Bool
 unmatched l = every_text (λ k t. is_none (matched t 0 zeros l))
 
-unmatched_bad : (l : List ℕ) → T (unmatched l) → FormRead l Bad
+unmatched_bad : (l : List ℕ) → T (unmatched l) → FormRead l None
 unfolding unmatched
 unmatched_bad l t =
-    missed l (λ k h. none_is (matched (template_at k) 0 zeros l) (text_passes (λ j u. is_none (matched u 0 zeros l)) t k h))
+    missed l (λ k h. ap (tried_as k) (none_is (matched (template_at k) 0 zeros l) (text_passes (λ j u. is_none (matched u 0 zeros l)) t k h)))
 
 -- an empty line, spaces too many or too few, a number with a leading zero, with a sign, too large, a word in capitals, a carriage
 -- return (13), a tab (9), a NUL (0), a look
@@ -96,11 +96,11 @@ bad_lines =
     ∷ bytes "(phase)"
     ∷ []
 
-pub all_bad : (i : ℕ) → i < 13 → FormRead (get_or bad_lines i []) Bad
+pub all_bad : (i : ℕ) → i < 13 → FormRead (get_or bad_lines i []) None
 unfolding unmatched forms matched piece number_of digits_on
 all_bad i h = unmatched_bad (get_or bad_lines i []) (every_at (λ j l. unmatched l) [] bad_lines tt i h)
 
 -- "A load whose two script numbers differ is (bad)"
-pub load_bad : FormRead (bytes "(load (0 1) (1 0 0))") Bad
+pub load_bad : FormRead (bytes "(load (0 1) (1 0 0))") None
 unfolding template_at form_at forms matched piece number_of digits_on
 load_bad = found (bytes "(load (0 1) (1 0 0))") 5 (lit< tt) (0 ∷ 1 ∷ 1 ∷ 0 ∷ 0 ∷ []) refl

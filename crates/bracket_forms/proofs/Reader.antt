@@ -3,30 +3,29 @@
 use Prim.Native.Nat.{ℕ, zero, suc, ◌≤◌, ◌<◌}
 use mathlib.Core.Path.{◌≡◌, refl, sym, ◌∙◌, ap, subst}
 use mathlib.Core.Bool.{Bool, true, false, cond}
-use mathlib.Core.Logic.{◌↔◌, ◌⊎◌, inl, inr}
+use mathlib.Core.Logic.{◌↔◌}
 use mathlib.Core.List.{List, [], ◌∷◌, ◌++◌}
 use mathlib.Core.Option.{Option, none, some}
 use native.Mathlib.Decide.{ℕ_discrete}
-use native.Mathlib.Nat.{zero-add, eq-or-lt_of_le}
+use native.Mathlib.Nat.{zero-add}
 use native.Mathlib.Omega.{arith}
 use lib.Dec.{eqb, lit<}
-use lib.ListN.{length, get_or, take, drop, length-append, get_or-eq_default}
+use lib.ListN.{length, get_or, take, drop, length-append}
 use lib.Seq.{length-take-le}
-use borrow.Author.Tests.{eq-eqb, ne_eqb, eqb-true}
+use borrow.Author.Tests.{eq-eqb, eqb-true}
 use Rattle.bracket_text.specs.Text.{fill, text, Words}
 use Rattle.bracket_text.specs.Fixed.{length_from, trimmed}
-use Rattle.bracket_text.specs.Scan.{matched, Matches}
+use Rattle.bracket_text.specs.Scan.{zeros, matched}
 use Rattle.basics.proofs.Table.{Each, each_at}
 use Rattle.bracket_text.proofs.Laws.{◌also◌}
 use Rattle.bracket_text.proofs.Templates.{holes, fill_length, matched_sound, matched_complete, differ_apart}
 use Rattle.bracket_forms.specs.Forms.{spelt, text_of, numbers_of, Fitting, FormRead}
-use Rattle.bracket_forms.specs.Kinds.{zeros, wide, padded, form_parts, forms, form_at, template_at, reading_of, reading_at, tried_as}
+use Rattle.bracket_forms.specs.Kinds.{wide, padded, form_parts, forms, form_at, template_at, reading_of, reading_at, tried_as}
 use Rattle.bracket_forms.specs.declared.Form.{Form}
 use Rattle.bracket_forms.specs.declared.Form.TheVariants.{Rack, Attach, Spawn, Detach, Make, Load, Store, Copy, Clear, Put, Get, Same, Shape, Check, Leave, Enter, Start, Step}
 use Rattle.bracket_forms.specs.declared.Parts.{Parts}
-use Rattle.bracket_forms.specs.declared.Reading.{Reading}
-use Rattle.bracket_forms.specs.declared.Reading.TheVariants.{Is, Bad}
-use Rattle.bracket_forms.specs.declared.Tried.TheVariants.{Known, Other}
+use Rattle.std.specs.Prelude.{Some, None}
+use Rattle.std.specs.Prelude.{Option as Maybe}
 use Rattle.bracket_forms.proofs.Table.{template_apart, template_holes, template_most, template_told}
 
 words_take : (n : ℕ) (ns : List ℕ) → Words ns → Words (take n ns)
@@ -73,15 +72,6 @@ kind_of (Enter m) = 15
 kind_of Start = 16
 kind_of Step = 17
 
--- the last of them stands for every number from its own on
-pub last_form : (k a b c d e : ℕ) → 17 ≤ k → form_at k a b c d e ≡ Step
-unfolding form_at forms
-last_form k a b c d e h = go (eq-or-lt_of_le h)
-  where
-    go : (17 ≡ k) ⊎ (17 < k) → get_or (forms a b c d e) k Step ≡ Step
-    go (inl q) = rw (sym q)
-    go (inr l) = get_or-eq_default (forms a b c d e) Step {n = k} l
-
 -- the form of a kind with the first five of these numbers
 abbrev form_with : ℕ → List ℕ → Form
 form_with k ns = form_at k (get_or ns 0 0) (get_or ns 1 0) (get_or ns 2 0) (get_or ns 3 0) (get_or ns 4 0)
@@ -117,8 +107,8 @@ form_tied Start = record { below = lit< tt; whole = refl; own = refl; text = ref
 form_tied Step = record { below = lit< tt; whole = refl; own = refl; text = refl; ends = refl; at = refl }
 
 -- what a line of a kind is, with the numbers ns: a form of that text, and of those numbers
-abbrev Meant : List ℕ → ℕ → Reading → Type 0
-Meant ns k r = (f : Form) → r ≡ Is f → (fill (template_at k) ns ≡ text_of f) × (n : ℕ) × (numbers_of f ≡ take n ns)
+abbrev Meant : List ℕ → ℕ → Maybe Form → Type 0
+Meant ns k r = (f : Form) → r ≡ Some f → (fill (template_at k) ns ≡ text_of f) × (n : ℕ) × (numbers_of f ≡ take n ns)
 
 -- a form is read where its own third number is the text's
 said : (ns : List ℕ) (k : ℕ) (g : Form) (n third : ℕ)
@@ -126,7 +116,7 @@ said : (ns : List ℕ) (k : ℕ) (g : Form) (n third : ℕ)
     → Meant ns k (reading_of g third)
 said ns k g n third h f q = go (eqb (get_or (padded (numbers_of g)) 2 0) third) refl q
   where
-    go : (t : Bool) → eqb (get_or (padded (numbers_of g)) 2 0) third ≡ t → cond t (Is g) Bad ≡ Is f
+    go : (t : Bool) → eqb (get_or (padded (numbers_of g)) 2 0) third ≡ t → cond t (Some g) None ≡ Some f
         → (fill (template_at k) ns ≡ text_of f) × (n : ℕ) × (numbers_of f ≡ take n ns)
     go true t e =
         let p : g ≡ f = cc in
@@ -178,7 +168,7 @@ five_of (a ∷ b ∷ c ∷ d ∷ []) h = absurd (omega arith)
 five_of (a ∷ b ∷ c ∷ d ∷ e ∷ []) h = refl
 five_of (a ∷ b ∷ c ∷ d ∷ e ∷ x ∷ ns) h = absurd (omega arith)
 
-form_back : (f : Form) → reading_at (kind_of f) (padded (numbers_of f)) ≡ Is f
+form_back : (f : Form) → reading_at (kind_of f) (padded (numbers_of f)) ≡ Some f
 form_back f =
     let third = get_or (padded (numbers_of f)) 2 0 in
     ap (λ (g : Form). reading_of g third) (form_tied f).at ∙ rw (eq-eqb third third refl)
@@ -210,10 +200,10 @@ module _ (line : List ℕ) (k : ℕ) (h : k < 18) (ns : List ℕ) (e : matched (
       subst (λ (x : List ℕ). Meant x k (reading_at k ns)) (sym read_five)
       (reading_said (get_or ns 0 0) (get_or ns 1 0) (get_or ns 2 0) (get_or ns 3 0) (get_or ns 4 0) k h)
 
-  read_complete : (f : Form) → Fitting f → text_of f ≡ line → reading_at k ns ≡ Is f
+  read_complete : (f : Form) → Fitting f → text_of f ≡ line → reading_at k ns ≡ Some f
   read_complete f w q = go (ℕ_discrete k (kind_of f))
     where
-      go : Dec (k ≡ kind_of f) → reading_at k ns ≡ Is f
+      go : Dec (k ≡ kind_of f) → reading_at k ns ≡ Some f
       go (no n) =
           absurd
           (differ_apart (template_at k) (template_at (kind_of f)) ns (padded (numbers_of f)) (template_told k h (kind_of f) (form_tied f).below n) (read_text ∙ sym q ∙ sym (form_tied f).text))
@@ -235,49 +225,47 @@ module _ (line : List ℕ) (k : ℕ) (h : k < 18) (ns : List ℕ) (e : matched (
         complete = read_complete;
       }
 
--- a line that no kind's text matches
-pub missed : (line : List ℕ) → ((k : ℕ) → k < 18 → matched (template_at k) 0 zeros line ≡ none) → FormRead line Bad
+-- a line that no kind reads
+pub missed : (line : List ℕ) → ((k : ℕ) → k < 18 → tried_as k (matched (template_at k) 0 zeros line) ≡ None) → FormRead line None
 missed line h =
     record {
       sound = λ f q. absurd (never f q);
       short = λ f q. absurd (never f q);
       fits = λ f q. absurd (never f q);
-      complete = λ f w q. absurd (unmatched f w q);
+      complete = λ f w q. absurd (unread f w q);
     }
   where
-    never : (f : Form) → Bad ≡ Is f → ⊥
+    never : (f : Form) → None ≡ Some f → ⊥
     never f q = let z : ◌≡◌ {A = ℕ} 0 1 = cc in omega arith
 
-    unmatched : (f : Form) → Fitting f → text_of f ≡ line → ⊥
-    unmatched f w q =
+    unread : (f : Form) → Fitting f → text_of f ≡ line → ⊥
+    unread f w q =
         let m = subst (λ (x : List ℕ). matched (template_at (kind_of f)) 0 zeros x ≡ some (padded (numbers_of f))) q (form_matched f w) in
-        let n = h (kind_of f) (form_tied f).below in
-        let z : ◌≡◌ {A = ℕ} 0 1 = cc in
-        omega arith
+        never f (sym (h (kind_of f) (form_tied f).below) ∙ ap (tried_as (kind_of f)) m ∙ form_back f)
 
 -- the text of a form is read as that form
-pub read_back : (f : Form) → Fitting f → (r : Reading) → FormRead (text_of f) r → r ≡ Is f
+pub read_back : (f : Form) → Fitting f → (r : Maybe Form) → FormRead (text_of f) r → r ≡ Some f
 read_back f w r h = h.complete f w refl
 
 -- no two forms share a text
 pub unambiguous : (f g : Form) → Fitting f → Fitting g → text_of f ≡ text_of g → f ≡ g
 unambiguous f g v w e =
-    let p : reading_at (kind_of f) (padded (numbers_of f)) ≡ Is g = (found (text_of f) (kind_of f) (form_tied f).below (padded (numbers_of f)) (form_matched f v)).complete g w (sym e) in
-    let q : reading_at (kind_of f) (padded (numbers_of f)) ≡ Is f = form_back f in
+    let p : reading_at (kind_of f) (padded (numbers_of f)) ≡ Some g = (found (text_of f) (kind_of f) (form_tied f).below (padded (numbers_of f)) (form_matched f v)).complete g w (sym e) in
+    let q : reading_at (kind_of f) (padded (numbers_of f)) ≡ Some f = form_back f in
     cc
 
 -- a line is answered as bad exactly when it is no form's text
-pub bad_exactly : (line : List ℕ) (r : Reading) → FormRead line r → (r ≡ Bad) ↔ ((f : Form) → Fitting f → text_of f ≡ line → ⊥)
+pub bad_exactly : (line : List ℕ) (r : Maybe Form) → FormRead line r → (r ≡ None) ↔ ((f : Form) → Fitting f → text_of f ≡ line → ⊥)
 bad_exactly line r h = (λ e f w q. let p = h.complete f w q in let z : ◌≡◌ {A = ℕ} 0 1 = cc in omega arith, go r h)
   where
-    go : (x : Reading) → FormRead line x → ((f : Form) → Fitting f → text_of f ≡ line → ⊥) → x ≡ Bad
-    go Bad u n = refl
-    go (Is f) u n = absurd (n f (u.fits f refl) (u.sound f refl))
+    go : (x : Maybe Form) → FormRead line x → ((f : Form) → Fitting f → text_of f ≡ line → ⊥) → x ≡ None
+    go None u n = refl
+    go (Some f) u n = absurd (n f (u.fits f refl) (u.sound f refl))
 
 -- a line of more than 80 bytes is no form's text
-pub long_is_bad : (line : List ℕ) → 80 < length line → (r : Reading) → FormRead line r → r ≡ Bad
-long_is_bad line h Bad u = refl
-long_is_bad line h (Is f) u = absurd (omega (arith, u.short f refl))
+pub long_is_bad : (line : List ℕ) → 80 < length line → (r : Maybe Form) → FormRead line r → r ≡ None
+long_is_bad line h None u = refl
+long_is_bad line h (Some f) u = absurd (omega (arith, u.short f refl))
 
 -- the fixed byte string of a kind's form has its template
 pub kind_template : (k : ℕ) (f : Form) (p : Parts) → f ≡ form_at k 0 0 0 0 0 → p ≡ form_parts f → trimmed p.0 ≡ template_at k
@@ -285,40 +273,23 @@ unfolding template_at
 kind_template k f p e q =
     ap (λ (x : Parts). trimmed x.0) q ∙ (form_tied f).whole ∙ ap (λ (g : Form). (spelt g).template) e
 
--- what `reading_of` learns from the form's own third number
-pub third_same : (f : Form) (p : Parts) (third : ℕ) → p ≡ form_parts f → get_or p.1 2 0 ≡ third → Is f ≡ reading_of f third
-third_same f p third e q = sym (rw (eq-eqb (get_or (padded (numbers_of f)) 2 0) third (ap (λ (x : Parts). get_or x.1 2 0) (sym e) ∙ q)))
-
-pub third_differs : (f : Form) (p : Parts) (third : ℕ) → p ≡ form_parts f → (get_or p.1 2 0 ≡ third → ⊥) → Bad ≡ reading_of f third
-third_differs f p third e n =
-    sym (rw (ne_eqb (get_or (padded (numbers_of f)) 2 0) third (λ q. n (ap (λ (x : Parts). get_or x.1 2 0) e ∙ q))))
-
 -- what `read_kind` learns from the match of a text that is its kind's
-pub kind_text : (line part ns : List ℕ) (k : ℕ) (b : Bool) (g : Form) (r : Reading) → part ≡ template_at k
-    → Matches (matched part 0 zeros line) b ns → b ≡ true
-    → g ≡ form_with k ns → r ≡ reading_of g (get_or ns 2 0)
-    → Known r ≡ tried_as k (matched (template_at k) 0 zeros line)
-kind_text line part ns k b g r e m q u v =
-    let n : matched part 0 zeros line ≡ some ns = subst (λ (x : Bool). Matches (matched part 0 zeros line) x ns) q m in
-    ap (λ (x : Reading). Known x) (v ∙ ap (λ (h : Form). reading_of h (get_or ns 2 0)) u)
-    ∙ sym (ap (tried_as k) (ap (λ (t : List ℕ). matched t 0 zeros line) (sym e) ∙ n))
+module _ (line part : List ℕ) (k : ℕ) (e : part ≡ template_at k) where
+  pub kind_text : (ns : List ℕ) (g : Form) (r : Maybe Form) → matched part 0 zeros line ≡ some ns
+      → g ≡ form_with k ns → r ≡ reading_of g (get_or ns 2 0)
+      → r ≡ tried_as k (matched (template_at k) 0 zeros line)
+  kind_text ns g r m u v =
+      v ∙ ap (λ (h : Form). reading_of h (get_or ns 2 0)) u
+      ∙ sym (ap (tried_as k) (ap (λ (t : List ℕ). matched t 0 zeros line) (sym e) ∙ m))
 
-pub kind_other : (line part ns : List ℕ) (k : ℕ) (b : Bool) → part ≡ template_at k → Matches (matched part 0 zeros line) b ns
-    → b ≡ false
-    → Other ≡ tried_as k (matched (template_at k) 0 zeros line)
-kind_other line part ns k b e m q =
-    let n : matched part 0 zeros line ≡ none = subst (λ (x : Bool). Matches (matched part 0 zeros line) x ns) q m in
-    sym (ap (tried_as k) (ap (λ (t : List ℕ). matched t 0 zeros line) (sym e) ∙ n))
+  pub kind_other : matched part 0 zeros line ≡ none → None ≡ tried_as k (matched (template_at k) 0 zeros line)
+  kind_other m = sym (ap (tried_as k) (ap (λ (t : List ℕ). matched t 0 zeros line) (sym e) ∙ m))
 
 -- what `read_form` learns from `read_kind`
-pub text_found : (line : List ℕ) (k : ℕ) (r : Reading) → k < 18 → Known r ≡ tried_as k (matched (template_at k) 0 zeros line)
-    → FormRead line r
-text_found line k r h e = go (matched (template_at k) 0 zeros line) refl e
+pub text_found : (line : List ℕ) (k : ℕ) (f : Form) → k < 18 → Some f ≡ tried_as k (matched (template_at k) 0 zeros line)
+    → FormRead line (Some f)
+text_found line k f h e = go (matched (template_at k) 0 zeros line) refl e
   where
-    go : (o : Option (List ℕ)) → matched (template_at k) 0 zeros line ≡ o → Known r ≡ tried_as k o → FormRead line r
-    go none q f = let z : ◌≡◌ {A = ℕ} 0 1 = cc in absurd (omega arith)
-    go (some ns) q f = let p : reading_at k ns ≡ r = cc in subst (FormRead line) p (found line k h ns q)
-
-pub other_missed : (k : ℕ) (o : Option (List ℕ)) → Other ≡ tried_as k o → o ≡ none
-other_missed k none e = refl
-other_missed k (some ns) e = let z : ◌≡◌ {A = ℕ} 0 1 = cc in absurd (omega arith)
+    go : (o : Option (List ℕ)) → matched (template_at k) 0 zeros line ≡ o → Some f ≡ tried_as k o → FormRead line (Some f)
+    go none q p = let z : ◌≡◌ {A = ℕ} 0 1 = cc in absurd (omega arith)
+    go (some ns) q p = subst (FormRead line) (sym p) (found line k h ns q)

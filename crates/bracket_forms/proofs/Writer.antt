@@ -1,6 +1,5 @@
 -- The writers go by a fixed byte string and its numbers: they stand for the text of the form or the reply, which fits the buffer.
-use Rattle.bracket_forms.specs.declared.Reading.TheVariants.{Is}
-use Rattle.bracket_forms.specs.declared.Reading.{Reading}
+use Rattle.std.specs.Prelude.{Option, Some}
 use lib.Seq.{take_at}
 use Prim.Native.Nat.{ℕ, ◌≤◌}
 use mathlib.Core.Path.{◌≡◌, refl, sym, ◌∙◌, ap, subst}
@@ -80,5 +79,5 @@ written_text text before n after w = rw (w.says, w.front) (take_at text (drop (l
 
 -- so what the writer of forms writes is read as the form
 pub written_back : (f : Form) → Fitting f → (before : List ℕ) (n : ℕ) (after : List ℕ) → Written (text_of f) before n after
-    → (r : Reading) → FormRead (take n after) r → r ≡ Is f
+    → (r : Option Form) → FormRead (take n after) r → r ≡ Some f
 written_back f w before n after h r u = u.complete f w (sym (written_text (text_of f) before n after h))

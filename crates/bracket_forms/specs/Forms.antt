@@ -1,10 +1,8 @@
 -- The grammar of the bracket program's forms: each form's text, as document 01 writes it, and what a reader of lines owes.
-use Rattle.std.specs.Prelude.{ℕ, ◌≤◌, ◌≡◌, List, [], ◌∷◌, length}
+use Rattle.std.specs.Prelude.{ℕ, ◌≤◌, ◌≡◌, List, [], ◌∷◌, length, Option, Some}
 use Rattle.bracket_text.specs.Text.{Spelling, ◌with◌, text, Words}
 use Rattle.bracket_forms.specs.declared.Form.{Form}
 use Rattle.bracket_forms.specs.declared.Form.TheVariants.{Rack, Attach, Spawn, Detach, Make, Load, Store, Copy, Clear, Put, Get, Same, Shape, Check, Leave, Enter, Start, Step}
-use Rattle.bracket_forms.specs.declared.Reading.{Reading}
-use Rattle.bracket_forms.specs.declared.Reading.TheVariants.{Is}
 
 -- each form's text, `#` standing for the numbers that follow it: "A place is (script slot) or (script slot field). make's
 -- second pair is links, numbers. detach, leave and enter are written like check." A load names its script twice
@@ -40,8 +38,8 @@ Fitting f = Words (numbers_of f)
 
 -- what the reader of a line owes: an answer that is a form is the form whose text the line is, "at most 80 bytes"; and a line
 -- that is a form's text is answered by that form
-pub record FormRead (line : List ℕ) (r : Reading) : Type 0 where
-  pub sound : (f : Form) → r ≡ Is f → text_of f ≡ line
-  pub short : (f : Form) → r ≡ Is f → length line ≤ 80
-  pub fits : (f : Form) → r ≡ Is f → Fitting f
-  pub complete : (f : Form) → Fitting f → text_of f ≡ line → r ≡ Is f
+pub record FormRead (line : List ℕ) (r : Option Form) : Type 0 where
+  pub sound : (f : Form) → r ≡ Some f → text_of f ≡ line
+  pub short : (f : Form) → r ≡ Some f → length line ≤ 80
+  pub fits : (f : Form) → r ≡ Some f → Fitting f
+  pub complete : (f : Form) → Fitting f → text_of f ≡ line → r ≡ Some f

@@ -1,22 +1,16 @@
 -- What the reader and the writers go by: the texts as fixed byte strings, and the forms in the order in which the reader tries
 -- them. proofs/Reader.antt and proofs/Writer.antt tie them to the grammars of Forms and Replies.
-use Rattle.std.specs.Prelude.{ℕ, cond, List, [], ◌∷◌, ◌++◌, eqb, get_or, take, replicate}
+use Rattle.std.specs.Prelude.{ℕ, cond, List, [], ◌∷◌, ◌++◌, eqb, get_or, take, replicate, Some, None}
+use Rattle.std.specs.Prelude.{Option as Maybe}
 use Rattle.std.proofs.Math.Option.{Option, none, some}
+use Rattle.bracket_text.specs.Scan.{zeros}
 use Rattle.bracket_text.specs.Text.{Spelling}
 use Rattle.bracket_forms.specs.declared.Form.{Form}
 use Rattle.bracket_forms.specs.declared.Form.TheVariants.{Rack, Attach, Spawn, Detach, Make, Load, Store, Copy, Clear, Put, Get, Same, Shape, Check, Leave, Enter, Start, Step}
-use Rattle.bracket_forms.specs.declared.Reading.{Reading}
-use Rattle.bracket_forms.specs.declared.Reading.TheVariants.{Is, Bad}
 use Rattle.bracket_forms.specs.Forms.{spelt, numbers_of}
 use Rattle.bracket_forms.specs.Replies.{reply_spelt}
 use Rattle.bracket_forms.specs.declared.Parts.{Parts}
 use Rattle.bracket_forms.specs.declared.Reply.{Reply}
-use Rattle.bracket_forms.specs.declared.Tried.{Tried}
-use Rattle.bracket_forms.specs.declared.Tried.TheVariants.{Known, Other}
-
--- no number read yet
-abbrev pub zeros : List ℕ
-zeros = 0 ∷ 0 ∷ 0 ∷ 0 ∷ 0 ∷ []
 
 -- a template with spaces up to 20 bytes, and numbers with zeros up to five
 abbrev pub wide : List ℕ → List ℕ
@@ -66,14 +60,14 @@ unfoldable pub template_at : ℕ → List ℕ
 template_at k = (spelt (form_at k 0 0 0 0 0)).template
 
 -- what a form is whose text had this third number, by its own: "A load whose two script numbers differ is (bad)"
-abbrev pub reading_of : Form → ℕ → Reading
-reading_of f third = cond (eqb (get_or (padded (numbers_of f)) 2 0) third) (Is f) Bad
+abbrev pub reading_of : Form → ℕ → Maybe Form
+reading_of f third = cond (eqb (get_or (padded (numbers_of f)) 2 0) third) (Some f) None
 
 -- what a line of a kind is, from the five numbers of its text
-abbrev pub reading_at : ℕ → List ℕ → Reading
+abbrev pub reading_at : ℕ → List ℕ → Maybe Form
 reading_at k ns = reading_of (form_at k (get_or ns 0 0) (get_or ns 1 0) (get_or ns 2 0) (get_or ns 3 0) (get_or ns 4 0)) (get_or ns 2 0)
 
--- the answer of `read_kind`, from the numbers that its text gives
-abbrev pub tried_as : ℕ → Option (List ℕ) → Tried
-tried_as k none = Other
-tried_as k (some ns) = Known (reading_at k ns)
+-- the answer of `read_kind`, from the numbers that its text gives, if the line is such a text
+abbrev pub tried_as : ℕ → Option (List ℕ) → Maybe Form
+tried_as k none = None
+tried_as k (some ns) = reading_at k ns

@@ -5,14 +5,13 @@
 ghost use Rattle.std.specs.Prelude.{◌≡◌, ◌≤◌, length};
 ghost use Rattle.bracket_text.specs.Text.{fill, Written};
 ghost use Rattle.bracket_text.specs.Fixed.{trimmed};
-ghost use Rattle.bracket_text.specs.Scan.{matched};
+ghost use Rattle.bracket_text.specs.Scan.{zeros, matched};
 ghost use Rattle.bracket_forms.specs.Forms.{FormRead, text_of};
-ghost use Rattle.bracket_forms.specs.Kinds.{template_at, zeros, form_at, reading_of, tried_as, form_parts, reply_parts};
+ghost use Rattle.bracket_forms.specs.Kinds.{template_at, form_at, reading_of, tried_as, form_parts, reply_parts};
 ghost use Rattle.bracket_forms.specs.Replies.{reply_text};
 
 // A form with its numbers, in the order of its text. A load names its mutator twice, and holds it once.
-#[derive(Drop)]
-#[derive(Clone, Copy)]
+#[derive(Clone, Copy, Debug, PartialEq, Eq)]
 pub enum Form {
     // (rack segments)
     Rack(u32),
@@ -52,15 +51,8 @@ pub enum Form {
     Step,
 }
 
-// What a line is.
-#[derive(Drop)]
-pub enum Reading {
-    Is(Form),
-    Bad,
-}
-
 // What the program answers to a line.
-#[derive(Drop)]
+#[derive(Clone, Copy, Debug, PartialEq, Eq)]
 pub enum Reply {
     // (ok)
     Ok,
@@ -152,15 +144,8 @@ const IDLE: Text = *b"(idle)              ";
 // How many forms there are.
 const FORMS: usize = 18;
 
-// What a line is by the text of one form: that form, or a load of two mutators; or no such text.
-#[derive(Drop)]
-enum Tried {
-    Known(Reading),
-    Other,
-}
-
 // What a writer goes by: the text, and its numbers with zeros up to five.
-#[derive(Drop)]
+#[derive(Clone, Copy)]
 struct Parts(Text, [u32; 5]);
 
 fn form_parts(form: Form) -> Parts
@@ -190,6 +175,7 @@ fn form_parts(form: Form) -> Parts
 
 // The forms in the order in which the reader tries them: form number `kind`, with the numbers of its text. The third of a load's
 // is its mutator again.
+#[tactic(auto, unfolding(crate::specs::Kinds::form_at, crate::specs::Kinds::forms))]
 fn form_at(kind: usize, a: u32, b: u32, c: u32, d: u32, e: u32) -> Form
     ensures { result ≡ form_at kind a b c d e }
 {
@@ -216,48 +202,34 @@ fn form_at(kind: usize, a: u32, b: u32, c: u32, d: u32, e: u32) -> Form
 }
 
 // A form whose text had this third number: it must be the form's own, so that the two mutators of a load are the same.
-fn reading_of(form: Form, third: u32) -> Reading
+fn reading_of(form: Form, third: u32) -> Option<Form>
     ensures { result ≡ reading_of form third }
 {
-    let parts = form_parts(form);
-    let own = parts.1;
-    if own[2] == third {
-        Reading::Is(form)
-    } else {
-        Reading::Bad
-    }
+    let own = form_parts(form).1;
+    (own[2] == third).then_some(form)
 }
 
 // Tries the text of one form.
-fn read_kind(line: &[u8], kind: usize) -> Tried
+fn read_kind(line: &[u8], kind: usize) -> Option<Form>
     ensures { result ≡ tried_as kind (matched (template_at kind) 0 zeros line.now) }
 {
-    let parts = form_parts(form_at(kind, 0, 0, 0, 0, 0));
-    let text = parts.0;
-    let mut n = [0u32; 5];
-    if bracket_text::match_text(line, &text, &mut n) {
-        let form = form_at(kind, n[0], n[1], n[2], n[3], n[4]);
-        Tried::Known(reading_of(form, n[2]))
-    } else {
-        Tried::Other
-    }
+    let text = form_parts(form_at(kind, 0, 0, 0, 0, 0)).0;
+    let n = bracket_text::match_text(line, &text)?;
+    let form = form_at(kind, n[0], n[1], n[2], n[3], n[4]);
+    reading_of(form, n[2])
 }
 
 // The form whose text a line is, if there is one.
-pub fn read_form(line: &[u8]) -> Reading
+// Kept: the loop is written out, since the proof with `find_map` was tried and left a goal on its runs that did not close.
+pub fn read_form(line: &[u8]) -> Option<Form>
     ensures { FormRead line.now result }
 {
-    let mut kind = 0;
-    while kind < FORMS {
-        match read_kind(line, kind) {
-            Tried::Known(reading) => {
-                return reading;
-            }
-            Tried::Other => {}
+    for kind in 0..FORMS {
+        if let Some(form) = read_kind(line, kind) {
+            return Some(form);
         }
-        kind += 1;
     }
-    Reading::Bad
+    None
 }
 
 // Writes a text with these numbers at the front of a buffer that is long enough, and says its length.

@@ -1,6 +1,6 @@
 -- The loop over a piece of a stream: what holds while no line has ended, a turn, and the two ways out.
-use Prim.Native.Nat.{ℕ, suc, ◌+◌, ◌-◌, ◌≤◌, ◌<◌}
-use mathlib.Core.Path.{◌≡◌, refl, sym, ◌∙◌, ap}
+use Prim.Native.Nat.{ℕ, suc, ◌+◌, ◌-◌, ◌≤◌, ◌<◌, max}
+use mathlib.Core.Path.{◌≡◌, refl, sym, ◌∙◌, ap, subst}
 use mathlib.Core.Bool.{Bool, true, false, cond}
 use mathlib.Core.List.{List, [], ◌∷◌, ◌++◌, append-nil, append_assoc}
 use native.Mathlib.Numerals.{add-one}
@@ -62,7 +62,7 @@ module _ (chunk : List ℕ) (from count : ℕ) (line : List ℕ) where
 
   pub record Scanning (at n : ℕ) (now : List ℕ) : Type 0 where
     pub onward : from ≤ at
-    pub inside : from ≤ length chunk → at ≤ length chunk
+    pub inside : at ≤ max from (length chunk)
     pub state : through before (part at) ≡ record { count = n; line = now }
     pub none : tells before (part at) ≡ []
     pub rest : scanned from before (drop from chunk) ≡ scanned at (record { count = n; line = now }) (drop at chunk)
@@ -73,7 +73,7 @@ module _ (chunk : List ℕ) (from count : ℕ) (line : List ℕ) where
       let e : part from ≡ [] = ap (λ (n : ℕ). take n (drop from chunk)) zero_left in
       record {
         onward = omega arith;
-        inside = λ h. h;
+        inside = omega arith;
         state = ap (through before) e;
         none = ap (tells before) e;
         rest = refl;
@@ -126,7 +126,7 @@ module _ (chunk : List ℕ) (from count : ℕ) (line : List ℕ) where
       scanning_more q =
           record {
             onward = omega (arith, v.onward);
-            inside = λ k. omega arith;
+            inside = omega (arith, v.inside);
             state = one_state;
             none = one_told ∙ ap (λ (x : Found). heard x next) q;
             rest =
@@ -152,16 +152,19 @@ module _ (chunk : List ℕ) (from count : ℕ) (line : List ℕ) where
             done = λ z. absurd (r z);
           }
 
-    pub scanning_all : length chunk ≤ at → Scans chunk from count line (record { next = at; count = n; found = More }) now
+    pub scanning_all : (end : ℕ) → end ≡ max from (length chunk) → length chunk ≤ at
+        → Scans chunk from count line (record { next = end; count = n; found = More }) now
     unfolding scanned
-    scanning_all h =
-        record {
+    scanning_all end q h =
+        let same : at ≡ end = omega (arith, v.inside, v.onward) in
+        subst (λ (x : ℕ). Scans chunk from count line (record { next = x; count = n; found = More }) now) same
+        (record {
           exact = v.rest ∙ ap (scanned at (record { count = n; line = now })) (drop_of_length-le chunk h);
           bounded = λ k z. none_line z;
           onward = v.onward;
           moves = λ k. omega arith;
-          inside = v.inside;
+          inside = λ k. omega (arith, v.inside);
           state = v.state;
           all = v.none;
           done = λ z. h;
-        }
+        })

@@ -3,11 +3,12 @@
 #![tactic(auto)]
 
 ghost use Rattle.std.specs.Prelude.{◌≡◌};
-ghost use Rattle.bracket_lines.specs.Split.{step_of, keep, finished, Scans};
+ghost use Rattle.bracket_lines.specs.Split.{line_end, step_of, keep, finished, Scans};
 
 // What a byte, a run of bytes or the end of the stream tells: no line; a line of so many bytes, which are at the front
 // of the buffer; or a line of more than 80 bytes.
-#[derive(Drop)]
+// Kept: three things can be told, each with a name, where an Option of a Result would need a type of its own for the third.
+#[derive(Clone, Copy)]
 pub enum Found {
     More,
     Line(usize),
@@ -15,34 +16,41 @@ pub enum Found {
 }
 
 // After a byte: how many bytes of the line came, at most 81, and what is told.
-#[derive(Drop)]
+#[derive(Clone, Copy)]
 pub struct Step {
     pub count: usize,
     pub found: Found,
 }
 
 // After a run of bytes: the place of the next one as well.
-#[derive(Drop)]
+#[derive(Clone, Copy)]
 pub struct Scan {
     pub next: usize,
     pub count: usize,
     pub found: Found,
 }
 
+// The end of a line of so many bytes.
+#[tactic(auto, unfolding(crate::specs::Split::line_end))]
+fn line_end(count: usize) -> Found
+    ensures { result ≡ line_end count }
+{
+    if count <= 80 {
+        Found::Line(count)
+    } else {
+        Found::Overlong
+    }
+}
+
 // One byte of the stream, after `count` bytes of its line.
+#[tactic(auto, unfolding(crate::specs::Split::step_of, crate::specs::Split::keep))]
 pub fn take_byte(count: usize, byte: u8, line: &mut [u8; 80]) -> Step
     ensures { (result ≡ step_of count byte) × (line.new ≡ keep count byte line.old) }
 {
     if byte == b'\n' {
-        if count <= 80 {
-            return Step {
-                count: 0,
-                found: Found::Line(count),
-            };
-        }
         return Step {
             count: 0,
-            found: Found::Overlong,
+            found: line_end(count),
         };
     }
     if count < 80 {
@@ -59,16 +67,14 @@ pub fn take_byte(count: usize, byte: u8, line: &mut [u8; 80]) -> Step
 }
 
 // The end of the stream, after `count` bytes of a line that has no line feed.
+#[tactic(auto, unfolding(crate::specs::Split::finished))]
 pub fn finish(count: usize) -> Found
     ensures { result ≡ finished count }
 {
     if count == 0 {
-        return Found::More;
-    }
-    if count <= 80 {
-        Found::Line(count)
+        Found::More
     } else {
-        Found::Overlong
+        line_end(count)
     }
 }
 
@@ -76,25 +82,15 @@ pub fn finish(count: usize) -> Found
 pub fn next_line(chunk: &[u8], from: usize, count: usize, line: &mut [u8; 80]) -> Scan
     ensures { Scans chunk.now from count line.old result line.new }
 {
-    let mut at = from;
     let mut n = count;
-    while at < chunk.len() {
+    for at in from..chunk.len() {
         let s = take_byte(n, chunk[at], line);
-        at += 1;
         n = s.count;
-        let found = s.found;
-        match found {
+        match s.found {
             Found::More => {}
-            Found::Line(_) => {
+            found => {
                 return Scan {
-                    next: at,
-                    count: n,
-                    found,
-                };
-            }
-            Found::Overlong => {
-                return Scan {
-                    next: at,
+                    next: at + 1,
                     count: n,
                     found,
                 };
@@ -102,7 +98,7 @@ pub fn next_line(chunk: &[u8], from: usize, count: usize, line: &mut [u8; 80]) -
         }
     }
     Scan {
-        next: at,
+        next: from.max(chunk.len()),
         count: n,
         found: Found::More,
     }

@@ -12,28 +12,40 @@ fn show(reply: Reply) {
 }
 
 fn show_results() {
-    show(Reply::Ok);
-    show(Reply::OkOne(77));
-    show(Reply::OkTwo(1, 600));
-    show(Reply::No(13));
-    show(Reply::Bad);
+    for reply in [
+        Reply::Ok,
+        Reply::OkOne(77),
+        Reply::OkTwo(1, 600),
+        Reply::No(13),
+        Reply::Bad,
+    ] {
+        show(reply);
+    }
 }
 
 fn show_steps() {
-    show(Reply::Waiting(1));
-    show(Reply::Moved);
-    show(Reply::Traced);
-    show(Reply::Swept(0, 1));
-    show(Reply::Done);
-    show(Reply::Idle);
+    for reply in [
+        Reply::Waiting(1),
+        Reply::Moved,
+        Reply::Traced,
+        Reply::Swept(0, 1),
+        Reply::Done,
+        Reply::Idle,
+    ] {
+        show(reply);
+    }
 }
 
 fn show_bounds() {
-    show(Reply::OkOne(0));
-    show(Reply::OkOne(9));
-    show(Reply::OkOne(10));
-    show(Reply::OkOne(1000000000));
-    show(Reply::Swept(4294967295, 4294967295));
+    for reply in [
+        Reply::OkOne(0),
+        Reply::OkOne(9),
+        Reply::OkOne(10),
+        Reply::OkOne(1000000000),
+        Reply::Swept(4294967295, 4294967295),
+    ] {
+        show(reply);
+    }
 }
 
 fn main() {

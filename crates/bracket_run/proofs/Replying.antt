@@ -1,15 +1,15 @@
 -- The replies to the lines of a stream, piece by piece.
 use mathlib.Core.Path.{◌≡◌, refl, sym, ◌∙◌, ap, subst}
 use mathlib.Core.List.{List, [], ◌∷◌, ◌++◌, append_assoc, append-nil}
-use Prim.Native.Nat.{ℕ, ◌+◌, ◌-◌, ◌≤◌}
+use Prim.Native.Nat.{ℕ, ◌+◌, ◌-◌}
 use native.Mathlib.Omega.{arith}
-use lib.ListN.{length, take, drop}
-use lib.Seq.{take_all, take-add}
+use lib.ListN.{take, drop}
+use lib.Seq.{take-add}
 use Rattle.bracket_forms.specs.declared.Reply.{Reply}
 use Rattle.bracket_forms.specs.declared.Reply.TheVariants.{Bad}
 use Rattle.bracket_forms.specs.Replies.{reply_text}
 use Rattle.bracket_lines.specs.declared.Found.{Found}
-use Rattle.bracket_lines.specs.declared.Found.TheVariants.{More, Line, Overlong}
+use Rattle.bracket_lines.specs.declared.Found.TheVariants.{More, Overlong}
 use Rattle.bracket_lines.specs.declared.Scan.{Scan}
 use Rattle.bracket_lines.specs.Lines.{Telling, whole, too_long}
 use Rattle.bracket_lines.specs.Split.{Splitter, heard, through, tells, Scans}
@@ -45,9 +45,6 @@ module _ {s : State} {out after : List ℕ} {used r : ℕ} where
     keeps = λ h. h;
   })
 
-  pub wrote_as : {end : State} {f : Found} {n : ℕ} (l : List ℕ) → f ≡ Line n → Wrote s (whole (take n l) ∷ []) out used r after end → Wrote s (heard f l) out used r after end
-  wrote_as {end = end} l e p = subst (λ f. Wrote s (heard f l) out used r after end) (sym e) p
-
 pub wrote_none : {s : State} {f : Found} (l out : List ℕ) (used : ℕ) → f ≡ More → Wrote s (heard f l) out used used out s
 wrote_none {s = s} l out used e = subst (λ f. Wrote s (heard f l) out used used out s) (sym e) (record {
   text = [];
@@ -81,6 +78,3 @@ module _ (s : State) (begun : Splitter) (chunk : List ℕ) where
             (replied_append (p.replied h) (w.replied (p.keeps h)))));
         keeps = λ h. w.keeps (p.keeps h);
       }
-
-  pub passed_all : (at : ℕ) {mid : Splitter} {text : List ℕ} {end : State} → length chunk ≤ at → Passed s begun (take at chunk) mid text end → Passed s begun chunk mid text end
-  passed_all at {mid = mid} {text = text} {end = end} h p = subst (λ (x : List ℕ). Passed s begun x mid text end) (take_all at chunk h) p

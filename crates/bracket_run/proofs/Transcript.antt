@@ -5,8 +5,8 @@ use mathlib.Core.Bool.{true≢false}
 use mathlib.Core.List.{List, [], ◌∷◌, ◌++◌}
 use Prim.Native.Nat.{ℕ}
 use lib.ListN.{length, take}
-use Rattle.bracket_forms.specs.declared.Reading.{Reading}
-use Rattle.bracket_forms.specs.declared.Reading.TheVariants.{Is, Bad}
+use Rattle.std.specs.Prelude.{Option, Some, None}
+use Rattle.bracket_forms.specs.declared.Form.{Form}
 use Rattle.bracket_forms.specs.Forms.{FormRead}
 use Rattle.bracket_forms.specs.Replies.{reply_text}
 use Rattle.bracket_lines.specs.Lines.{Telling}
@@ -40,10 +40,10 @@ program_writes words line h {pieces = pieces} {out = out} {end = end} p = record
 
 -- ---- no choice is left
 
-read_one : {l : List ℕ} {x y : Reading} → FormRead l x → FormRead l y → x ≡ y
-read_one {x = Is f} p q = sym (q.complete f (p.fits f refl) (p.sound f refl))
-read_one {x = Bad} {y = Is g} p q = p.complete g (q.fits g refl) (q.sound g refl)
-read_one {x = Bad} {y = Bad} p q = refl
+read_one : {l : List ℕ} {x y : Option Form} → FormRead l x → FormRead l y → x ≡ y
+read_one {x = Some f} p q = sym (q.complete f (p.fits f refl) (p.sound f refl))
+read_one {x = None} {y = Some g} p q = p.complete g (q.fits g refl) (q.sound g refl)
+read_one {x = None} {y = None} p q = refl
 
 replied_one : {s e e' : State} {ts : List Telling} {a b : List ℕ} → Replied s ts a e → Replied s ts b e' → a ≡ b
 replied_one no_line no_line = refl

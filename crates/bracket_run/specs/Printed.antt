@@ -1,6 +1,6 @@
 -- What the bracket program writes for a stream of lines: a relation to compare with document 01, and what the parts of its loop owe by it.
-use Rattle.std.specs.Prelude.{ℕ, ◌+◌, ◌≤◌, ◌≡◌, List, [], ◌∷◌, ◌++◌, length, take}
-use Rattle.bracket_forms.specs.declared.Reading.{Reading}
+use Rattle.std.specs.Prelude.{ℕ, ◌+◌, ◌≤◌, ◌≡◌, List, [], ◌∷◌, ◌++◌, length, take, Option}
+use Rattle.bracket_forms.specs.declared.Form.{Form}
 use Rattle.bracket_forms.specs.declared.Reply.{Reply}
 use Rattle.bracket_forms.specs.declared.Reply.TheVariants.{Bad}
 use Rattle.bracket_forms.specs.Forms.{FormRead}
@@ -15,7 +15,7 @@ use Rattle.bracket_steps.specs.Said.{State, said, Good}
 -- what is said to it, a longer one by "(bad) for another line"
 pub data Replied : State → List Telling → List ℕ → State → Type 0 where
   no_line : {s : State} → Replied s [] [] s
-  one_line : {s next after : State} {l out : List ℕ} {ts : List Telling} {x : Reading} {r : Reply} → FormRead l x → r ≡ (said x s).0 → next ≡ (said x s).1
+  one_line : {s next after : State} {l out : List ℕ} {ts : List Telling} {x : Option Form} {r : Reply} → FormRead l x → r ≡ (said x s).0 → next ≡ (said x s).1
       → Replied next ts out after → Replied s (whole l ∷ ts) (reply_text r ++ (10 ∷ out)) after
   long_line : {s after : State} {out : List ℕ} {ts : List Telling} → Replied s ts out after → Replied s (too_long ∷ ts) (reply_text Bad ++ (10 ∷ out)) after
 

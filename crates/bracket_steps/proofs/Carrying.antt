@@ -14,8 +14,7 @@ use Rattle.layout.specs.Mem.{mem_of, flat}
 use Rattle.layout.proofs.Regions.{right_size, flat_mem_of}
 use Rattle.model.specs.Consistent.{Consistent}
 use Rattle.bracket_forms.specs.declared.Form.{Form}
-use Rattle.bracket_forms.specs.declared.Reading.{Reading}
-use Rattle.bracket_forms.specs.declared.Reading.TheVariants.{Is, Bad}
+use Rattle.std.specs.Prelude.{Option, Some, None}
 use Rattle.bracket_forms.specs.declared.Reply.{Reply}
 use Rattle.bracket_forms.specs.Forms.{FormRead}
 use Rattle.bracket_steps.specs.declared.Task.{Task}
@@ -82,11 +81,11 @@ module _ (t : Task) (s : State) (n : ℕ) (is : n ≡ segments_for t s.segments)
         (carries_whole (rw z at l) (subst (λ (x : ℕ). Ran t (heap n) (take x s.words) r ys) z p))
 
 -- a line that is a form, and one that is none
-module _ (s : State) (line : List ℕ) {x : Reading} (q : FormRead line x) where
-  pub of_form : {f : Form} {t : Task} {r : Reply} {after : State} → x ≡ Is f → t ≡ task_of f → Carries t s r after → Answers s line r after
+module _ (s : State) (line : List ℕ) {x : Option Form} (q : FormRead line x) where
+  pub of_form : {f : Form} {t : Task} {r : Reply} {after : State} → x ≡ Some f → t ≡ task_of f → Carries t s r after → Answers s line r after
   of_form {f = f} {r = r} {after = after} e i p =
       let k = subst (λ z. Carries z s r after) i p in
-      record { reading = Is f; read = subst (FormRead line) e q; exact = k.exact; keeps = k.keeps }
+      record { reading = Some f; read = subst (FormRead line) e q; exact = k.exact; keeps = k.keeps }
 
-  pub of_none : x ≡ Bad → Answers s line reply.Bad s
-  of_none e = record { reading = Bad; read = subst (FormRead line) e q; exact = λ h. (refl, refl); keeps = λ h. h }
+  pub of_none : x ≡ None → Answers s line reply.Bad s
+  of_none e = record { reading = None; read = subst (FormRead line) e q; exact = λ h. (refl, refl); keeps = λ h. h }

@@ -4,10 +4,12 @@ use mathlib.Core.Bool.{false, true≢false}
 use mathlib.Core.List.{List}
 use Prim.Native.Nat.{ℕ}
 use lib.ListN.{length}
+use Rattle.std.specs.Prelude.{Result}
 use Rattle.layout.specs.declared.Geometry.{Geometry}
 use Rattle.layout.specs.Geometry.{wrong_size}
 use Rattle.layout.specs.Mem.{mem_of}
 use Rattle.model.specs.declared.Answer.{Answer}
+use Rattle.model.specs.declared.Refusal.{Refusal}
 use Rattle.model.specs.declared.Step.{Step}
 use Rattle.model.specs.Answers.{answer_of, step_answer_of}
 use Rattle.model.specs.Promise.{Promise, StartPromise, StepPromise, OpenPromise}
@@ -30,7 +32,7 @@ module _ (g : Geometry) (xs ys : List ℕ) (r : Reply) where
       every_call-keeps g xs (record { geometry = g; before = xs; event = v; after = ys })
       (record { sized = e; consistent = k; meets = p; long = l; gets = record { geometry = refl; memory = refl; opening = o } })
 
-  pub ran_open : {t : Task} {n : ℕ} (a : Answer) → t ≡ Open n → OpenPromise g xs a ys → r ≡ reply_of (answer_of a) → Ran t g xs r ys
+  pub ran_open : {t : Task} {n : ℕ} (a : Result Answer Refusal) → t ≡ Open n → OpenPromise g xs a ys → r ≡ reply_of (answer_of a) → Ran t g xs r ys
   ran_open {n = n} a i p h =
       subst (λ z. Ran z g xs r ys) (sym i) (record {
         exact = λ e k. (h ∙ ap reply_of (p.exact e).0, (p.exact e).1);
@@ -41,14 +43,14 @@ module _ (g : Geometry) (xs ys : List ℕ) (r : Reply) where
         });
       })
 
-  pub ran_call : {t : Task} {q : Request} (a : Answer) → t ≡ Call q → Promise (call_of q) g xs a ys → r ≡ reply_of (answer_of a) → Ran t g xs r ys
+  pub ran_call : {t : Task} {q : Request} (a : Result Answer Refusal) → t ≡ Call q → Promise (call_of q) g xs a ys → r ≡ reply_of (answer_of a) → Ran t g xs r ys
   ran_call {q = q} a i p h =
       subst (λ z. Ran z g xs r ys) (sym i) (record {
         exact = λ e k. (h ∙ ap reply_of (p.exact e k).0, (p.exact e k).1);
         keeps = kept (mutator_call (call_of q) a) (λ z. z) p;
       })
 
-  pub ran_start : {t : Task} (a : Answer) → t ≡ task.Start → StartPromise g xs a ys → r ≡ reply_of (answer_of a) → Ran t g xs r ys
+  pub ran_start : {t : Task} (a : Result Answer Refusal) → t ≡ task.Start → StartPromise g xs a ys → r ≡ reply_of (answer_of a) → Ran t g xs r ys
   ran_start a i p h =
       subst (λ z. Ran z g xs r ys) (sym i) (record {
         exact = λ e k. (h ∙ ap reply_of (p.exact e k).0, (p.exact e k).1);

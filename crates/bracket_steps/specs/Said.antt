@@ -1,5 +1,5 @@
 -- What the bracket program says to a line, from document 01, "The bracket program", over the model of the heap: a definition to compare with it.
-use Rattle.std.specs.Prelude.{◌≡◌, Bool, true, List, ◌++◌, ℕ, eqb, take, drop}
+use Rattle.std.specs.Prelude.{◌≡◌, Bool, true, List, ◌++◌, ℕ, eqb, take, drop, Option, Some, None}
 use Rattle.basics.specs.Pick.{pick, one_if}
 use Rattle.classes.specs.Record.{pointer_count_of, value_count_of}
 use Rattle.layout.specs.declared.Geometry.{Geometry}
@@ -12,8 +12,6 @@ use Rattle.model.specs.Opening.{opened}
 use Rattle.model.specs.Consistent.{Consistent}
 use Rattle.perform.specs.Requests.{call_of}
 use Rattle.bracket_forms.specs.declared.Form.{Form}
-use Rattle.bracket_forms.specs.declared.Reading.{Reading}
-use Rattle.bracket_forms.specs.declared.Reading.TheVariants.{Is}
 use Rattle.bracket_forms.specs.declared.Reply.{Reply}
 use Rattle.bracket_forms.specs.Forms.{FormRead}
 use Rattle.bracket_steps.specs.declared.Task.{Task}
@@ -21,7 +19,6 @@ use Rattle.bracket_steps.specs.declared.Task.TheVariants.{Open, Call, Start, Ste
 use Rattle.theory.specs.Calls as theory
 use Rattle.perform.specs.declared.Request.TheVariants as request
 use Rattle.bracket_forms.specs.declared.Form.TheVariants as form
-use Rattle.bracket_forms.specs.declared.Reading.TheVariants as reading
 use Rattle.bracket_forms.specs.declared.Reply.TheVariants as reply
 
 -- the program's state: how many segments are open, 0 before an opening; and the lent words, of which the heap has the first
@@ -108,9 +105,9 @@ abbrev pub answered : Task → State → Reply × State
 answered t s = pick (one_or_two (segments_for t s.segments)) (carried t (heap (segments_for t s.segments)) s.words) (reply.No 1, s)
 
 -- "It prints one form for each: .. (bad) for another line"
-abbrev pub said : Reading → State → Reply × State
-said (Is f) s = answered (task_of f) s
-said reading.Bad s = (reply.Bad, s)
+abbrev pub said : Option Form → State → Reply × State
+said (Some f) s = answered (task_of f) s
+said None s = (reply.Bad, s)
 
 -- a state whose memory passes the examination, where a heap is open
 abbrev pub Good : State → Type 0
@@ -119,7 +116,7 @@ Good s = one_or_two s.segments ≡ true → Consistent (heap s.segments) (memory
 -- what the answer to a line owes: reply and state are what is said to the form that the line is, or to a line that is none; and a good state is
 -- followed by a good one
 pub record Answers (s : State) (line : List ℕ) (r : Reply) (after : State) : Type 0 where
-  pub reading : Reading
+  pub reading : Option Form
   pub read : FormRead line reading
   pub exact : Good s → (r ≡ (said reading s).0) × (after ≡ (said reading s).1)
   pub keeps : Good s → Good after

@@ -7,16 +7,15 @@ ghost use Rattle.model.specs.Answers.{answer_of, step_answer_of};
 ghost use Rattle.bracket_steps.specs.Said.{reply_of, task_of, segments_for, one_or_two, room_words, Answers};
 ghost use Rattle.bracket_steps.specs.Ran.{Ran, Carries};
 
-use bracket_forms::{Form, Reading, Reply};
+use bracket_forms::{Form, Reply};
 use layout::Geometry;
-use model::{Answer, Step};
+use model::{Answer, Refusal, Step};
 use perform::Request;
 
 // The words to lend: as many as a heap of two segments has.
 pub const WORDS: usize = layout::WORDS_OF_TWO;
 
 // How many segments are open, and 0 before an opening.
-#[derive(Drop)]
 #[derive(Clone, Copy)]
 pub struct Session {
     pub segments: usize,
@@ -30,7 +29,6 @@ pub struct Said {
 }
 
 // What a form asks for: an opening of so many segments, a mutator's call, start or step.
-#[derive(Drop)]
 #[derive(Clone, Copy)]
 enum Task {
     Open(u32),
@@ -100,21 +98,21 @@ fn task_of(form: Form) -> Task
 }
 
 // The reply that says an answer.
-fn reply_of(answer: Answer) -> Reply
+fn reply_of(answer: Result<Answer, Refusal>) -> Reply
     ensures { result ≡ reply_of (answer_of answer) }
 {
     match answer {
-        Answer::Ok => Reply::Ok,
-        Answer::Number(value) => Reply::OkOne(value),
-        Answer::Same(same) => {
+        Ok(Answer::Done) => Reply::Ok,
+        Ok(Answer::Number(value)) => Reply::OkOne(value),
+        Ok(Answer::Same(same)) => {
             if same {
                 Reply::OkOne(1)
             } else {
                 Reply::OkOne(0)
             }
         }
-        Answer::Shape(shape) => Reply::OkTwo(shape.pointer_count, shape.value_count),
-        Answer::Refused(number) => Reply::No(number),
+        Ok(Answer::Shape(shape)) => Reply::OkTwo(shape.pointer_count, shape.value_count),
+        Err(refusal) => Reply::No(refusal.number()),
     }
 }
 
@@ -195,8 +193,8 @@ pub fn answer_line(session: Session, mem: &mut [u32; WORDS], line: &[u8]) -> Sai
     ensures { Answers (record { segments = session.segments; words = mem.old }) line.now result.reply (record { segments = result.session.segments; words = mem.new }) }
 {
     match bracket_forms::read_form(line) {
-        Reading::Is(form) => carry_out(session, mem, task_of(form)),
-        Reading::Bad => Said {
+        Some(form) => carry_out(session, mem, task_of(form)),
+        None => Said {
             reply: Reply::Bad,
             session,
         },

@@ -1,5 +1,5 @@
 -- The length of a template that has spaces after it, one byte from the end at a time.
-use Prim.Native.Nat.{ℕ, zero, suc, ◌-◌, ◌≤◌, ◌<◌}
+use Prim.Native.Nat.{ℕ, zero, suc, ◌+◌, ◌-◌, ◌≤◌, ◌<◌}
 use mathlib.Core.Path.{◌≡◌, sym}
 use mathlib.Core.Bool.{Bool, true, false, cond}
 use mathlib.Core.List.{List}
@@ -37,7 +37,7 @@ module _ (l : List ℕ) where
   past_space zero h e = absurd (omega arith)
   past_space (suc n) h e = let b : get_or l n 0 ≡ 32 = rw one_less at e in rw (one_less, eq-eqb _ _ b)
 
-  pub at_last_byte : (n : ℕ) → 0 < n → (get_or l (n - 1) 0 ≡ 32 → ⊥) → n ≡ length_from l n
+  pub at_last_byte : (n : ℕ) → 0 < n → (get_or l (n - 1) 0 ≡ 32 → ⊥) → n - 1 + 1 ≡ length_from l n
   unfolding length_from
   at_last_byte zero h e = absurd (omega arith)
-  at_last_byte (suc n) h e = rw (ne_eqb (get_or l n 0) 32 (λ b. e (rw one_less b)))
+  at_last_byte (suc n) h e = rw (ne_eqb (get_or l n 0) 32 (λ b. e (rw one_less b))) (omega arith)

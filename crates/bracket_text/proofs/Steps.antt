@@ -1,7 +1,7 @@
 -- One step of reading at a place of a line, for each way that a step can go: what `digits_on` and `number_of` make of the rest
 -- of the line there.
 use Prim.Native.Nat.{ℕ, ◌+◌, ◌*◌, ◌≤◌, ◌<◌}
-use mathlib.Core.Path.{◌≡◌, refl, ◌∙◌, subst}
+use mathlib.Core.Path.{◌≡◌, refl, ◌∙◌}
 use mathlib.Core.Bool.{Bool, true, false}
 use mathlib.Core.List.{List}
 use mathlib.Core.Option.{Option, none}
@@ -10,17 +10,14 @@ use lib.Dec.{eqb}
 use lib.ListN.{length, get_or, drop, set, drop_of_length-le}
 use lib.Arith.{lt_of_le-ne}
 use borrow.Author.Tests.{lt-ltb, le-ltb, eq-eqb, ne_eqb, eqb-true, eqb-false}
-use Rattle.bracket_text.specs.Scan.{digit_of, digits_on, number_of, numbered, NumberRead, Reads, Progress, reading, piece, PieceRead, matched, at_end, Matches}
+use Rattle.bracket_text.specs.Scan.{digit_of, digits_on, number_of, numbered, reading, piece, matched, at_end, Matches}
+use Rattle.std.specs.Bool.{then_some}
 use Rattle.bracket_text.proofs.Laws.{drop-step}
-use Rattle.bracket_text.specs.declared.Number.{Number}
-use Rattle.bracket_text.specs.declared.Number.TheVariants.{Value, Nothing}
-use Rattle.bracket_text.specs.declared.Place.{Place}
-use Rattle.bracket_text.specs.declared.Place.TheVariants.{At, Astray}
 
 module _ (l : List ℕ) (i : ℕ) where
-  pub digits_end : (v : ℕ) → length l ≤ i → digits_on v (drop i l) ≡ numbered v (drop i l)
+  pub digits_end : (v : ℕ) → length l ≤ i → digits_on v (drop i l) ≡ numbered v (drop (length l) l)
   unfolding digits_on
-  digits_end v h = rw (drop_of_length-le l h)
+  digits_end v h = rw (drop_of_length-le l h, drop_of_length-le l {i = length l} (omega arith))
 
   pub number_end : length l ≤ i → number_of (drop i l) ≡ none
   unfolding number_of
@@ -51,14 +48,6 @@ module _ (l : List ℕ) (i : ℕ) where
     unfolding number_of
     number_more s z = rw (drop-step l i h, ← e, lt-ltb d 10 (omega arith), ne_eqb d 0 z)
 
--- a result that is known: what `Reads` says of it
-pub reads_value : (line : List ℕ) (o : Option NumberRead) (r : Number) {v n : ℕ} → Reads line o r → r ≡ Value v n
-    → (o ≡ numbered v (drop n line)) × (n ≤ length line)
-reads_value line o r h e = subst (λ (x : Number). Reads line o x) e h
-
-pub reads_nothing : (line : List ℕ) (o : Option NumberRead) (r : Number) → Reads line o r → r ≡ Nothing → o ≡ none
-reads_nothing line o r h e = subst (λ (x : Number). Reads line o x) e h
-
 -- a byte of a template
 module _ (b n : ℕ) (ns : List ℕ) where
   module _ (l : List ℕ) (h : b ≡ 35) where
@@ -67,9 +56,9 @@ module _ (b n : ℕ) (ns : List ℕ) where
     unfolding piece
     piece_kept v rest e f = rw (eq-eqb b 35 h, e, lt-ltb n 5 f)
 
-    pub piece_full : (v : ℕ) (rest : List ℕ) → number_of l ≡ numbered v rest → 5 ≤ n → piece b n ns l ≡ none
+    pub piece_full : (v : ℕ) (rest : List ℕ) → number_of l ≡ numbered v rest → n ≡ 5 → piece b n ns l ≡ none
     unfolding piece
-    piece_full v rest e f = rw (eq-eqb b 35 h, e, le-ltb n 5 f)
+    piece_full v rest e f = rw (eq-eqb b 35 h, e, le-ltb n 5 (omega arith))
 
     pub piece_no_number : number_of l ≡ none → piece b n ns l ≡ none
     unfolding piece
@@ -88,13 +77,6 @@ module _ (b n : ℕ) (ns : List ℕ) where
     unfolding piece
     piece_end k = rw (ne_eqb b 35 h, drop_of_length-le l k)
 
-pub piece_read_at : (line : List ℕ) (o : Option Progress) (r : Place) (ns : List ℕ) {i n : ℕ} → PieceRead line o r ns → r ≡ At i n
-    → (o ≡ reading n ns (drop i line)) × (i ≤ length line) × (n ≤ 5)
-piece_read_at line o r ns h e = subst (λ (x : Place). PieceRead line o x ns) e h
-
-pub piece_read_astray : (line : List ℕ) (o : Option Progress) (r : Place) (ns : List ℕ) → PieceRead line o r ns → r ≡ Astray → o ≡ none
-piece_read_astray line o r ns h e = subst (λ (x : Place). PieceRead line o x ns) e h
-
 -- the rest of a template at a place
 module _ (t : List ℕ) (i n : ℕ) (ns l : List ℕ) where
   pub matched_more : i < length t → (n' : ℕ) (ns' l' : List ℕ) → piece (get_or t i 0) n ns l ≡ reading n' ns' l'
@@ -112,9 +94,9 @@ module _ (t : List ℕ) (i n : ℕ) (ns l : List ℕ) where
 
 -- a template is done: the line must be
 pub ended : (line ns : List ℕ) (at : ℕ) (o : Option (List ℕ)) → at ≤ length line → o ≡ at_end ns (drop at line)
-    → Matches o (eqb at (length line)) ns
+    → Matches o (then_some (eqb at (length line)) ns)
 ended line ns at o h e = go (eqb at (length line)) refl
   where
-    go : (x : Bool) → eqb at (length line) ≡ x → Matches o x ns
+    go : (x : Bool) → eqb at (length line) ≡ x → Matches o (then_some x ns)
     go true q = e ∙ rw (drop_of_length-le line {i = at} (omega (arith, eqb-true at (length line) q)))
     go false q = e ∙ rw (drop-step line at (lt_of_le-ne h (eqb-false at (length line) q)))

@@ -1,16 +1,19 @@
 -- Reading a line from left to right, as the functions of this crate do. proofs/Numbers.antt and proofs/Templates.antt tie it
 -- to the texts of templates.
-use Rattle.std.specs.Prelude.{ℕ, ◌+◌, ◌-◌, ◌*◌, ◌≤◌, ◌≡◌, Bool, true, false, cond, List, [], ◌∷◌, ltb, eqb, length, drop, set}
+use Rattle.std.specs.Prelude.{ℕ, ◌+◌, ◌-◌, ◌*◌, ◌<◌, ◌≤◌, ◌≡◌, cond, List, [], ◌∷◌, ltb, eqb, length, drop, set, Some, None}
+use Rattle.std.specs.Prelude.{Option as Maybe}
 use Rattle.std.proofs.Math.Option.{Option, none, some}
 use Rattle.bracket_text.specs.Text.{is_hole}
-use Rattle.bracket_text.specs.declared.Number.{Number}
-use Rattle.bracket_text.specs.declared.Number.TheVariants.{Value, Nothing}
-use Rattle.bracket_text.specs.declared.Place.{Place}
-use Rattle.bracket_text.specs.declared.Place.TheVariants.{At, Astray}
+use Rattle.bracket_text.specs.declared.NumbersRead.{NumbersRead}
 
 -- the value of a digit, and 10 for any other byte
 abbrev pub digit_of : ℕ → ℕ
 digit_of b = cond (ltb b 48) 10 (cond (ltb b 58) (b - 48) 10)
+
+-- the answer of `digit`
+abbrev pub IsDigit : ℕ → Maybe ℕ → Type 0
+IsDigit b (Some d) = (d ≡ digit_of b) × (d < 10)
+IsDigit b None = digit_of b ≡ 10
 
 -- a number that was read, and the rest of the line
 pub record NumberRead : Type 0 where
@@ -35,9 +38,9 @@ number_of (b ∷ l) =
     cond (ltb (digit_of b) 10) (cond (eqb (digit_of b) 0) (numbered 0 l) (digits_on (digit_of b) l)) none
 
 -- the answer of `number_at` over a line, from what stands at its place
-abbrev pub Reads : List ℕ → Option NumberRead → Number → Type 0
-Reads line o (Value v next) = (o ≡ numbered v (drop next line)) × (next ≤ length line)
-Reads line o Nothing = o ≡ none
+abbrev pub Reads : List ℕ → Option NumberRead → Maybe (ℕ × ℕ) → Type 0
+Reads line o (Some r) = (o ≡ numbered r.0 (drop r.1 line)) × (r.1 ≤ length line)
+Reads line o None = o ≡ none
 
 -- how far the reading of a template has come: the numbers read, their count, and the rest of the line
 pub record Progress : Type 0 where
@@ -63,9 +66,9 @@ unfoldable pub piece : ℕ → ℕ → List ℕ → List ℕ → Option Progress
 piece b n ns l = cond (is_hole b) (keep_number n ns (number_of l)) (literal b n ns l)
 
 -- the answer of `piece_at` over a line, and the numbers after it
-abbrev pub PieceRead : List ℕ → Option Progress → Place → List ℕ → Type 0
-PieceRead line o (At next n) ns = (o ≡ reading n ns (drop next line)) × (next ≤ length line) × (n ≤ 5)
-PieceRead line o Astray ns = o ≡ none
+abbrev pub PieceRead : List ℕ → Option Progress → Maybe ℕ → NumbersRead → Type 0
+PieceRead line o (Some next) ns = (o ≡ reading ns.count ns.values (drop next line)) × (next ≤ length line) × (ns.count ≤ 5)
+PieceRead line o None ns = o ≡ none
 
 -- the line is whole
 abbrev pub at_end : List ℕ → List ℕ → Option (List ℕ)
@@ -81,7 +84,11 @@ unfoldable pub matched : List ℕ → ℕ → List ℕ → List ℕ → Option (
 matched [] n ns l = at_end ns l
 matched (b ∷ t) n ns l = then_read (piece b n ns l) (λ r. matched t r.count r.numbers r.rest)
 
--- the answer of `match_template`, and the numbers after it
-abbrev pub Matches : Option (List ℕ) → Bool → List ℕ → Type 0
-Matches o true ns = o ≡ some ns
-Matches o false ns = o ≡ none
+-- no number read yet
+abbrev pub zeros : List ℕ
+zeros = 0 ∷ 0 ∷ 0 ∷ 0 ∷ 0 ∷ []
+
+-- the answer of `match_template`
+abbrev pub Matches : Option (List ℕ) → Maybe (List ℕ) → Type 0
+Matches o (Some ns) = o ≡ some ns
+Matches o None = o ≡ none

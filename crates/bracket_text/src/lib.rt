@@ -7,180 +7,130 @@ ghost use Rattle.std.specs.Prelude.{◌≡◌, ◌+◌, ◌^◌, ◌≤◌, ◌<
 ghost use Rattle.bracket_text.specs.Text.{is_hole, piece_text, numbers_taken, fill, Written};
 ghost use Rattle.bracket_text.specs.Fixed.{length_from, trimmed};
 ghost use Rattle.bracket_text.specs.Pen.{Put};
-ghost use Rattle.bracket_text.specs.Scan.{digit_of, digits_on, number_of, piece, matched, Reads, PieceRead, Matches};
+ghost use Rattle.bracket_text.specs.Scan.{IsDigit, digits_on, number_of, zeros, piece, matched, Reads, PieceRead, Matches};
 
-// The largest number.
-const MOST: u64 = 4294967295;
-
-// A number that stands in a line, and the place after it.
-#[derive(Drop)]
-enum Number {
-    Value(u32, usize),
-    Nothing,
+// The numbers read from a line, in order, with zeros behind them.
+// Kept: that at most five were read stands in the contracts and is no ghost field, since the definitions that name this type are cited by
+// the clauses of this file, and a ghost field would read them.
+#[derive(Clone, Copy)]
+struct NumbersRead {
+    values: [u32; 5],
+    count: usize,
 }
 
-// Where the reading of a template goes on: the place in the line and the count of numbers read; or the line is no such
-// text.
-#[derive(Drop)]
-enum Place {
-    At(usize, usize),
-    Astray,
+// Where the writing of a template goes on: the place in the buffer and the count of numbers written.
+#[derive(Clone, Copy)]
+struct Pen {
+    at: usize,
+    count: usize,
 }
 
 // The length of a template without the spaces after it.
 fn template_length(text: &[u8]) -> usize
     ensures { result ≡ length_from text.now (length text.now) }
 {
-    let mut n = text.len();
-    while 0 < n {
-        let last = n - 1;
+    for last in (0..text.len()).rev() {
         if text[last] != b' ' {
-            return n;
+            return last + 1;
         }
-        n = last;
     }
     0
 }
 
-// The value of a digit, and 10 for any other byte.
-fn digit(b: u8) -> u64
-    ensures { result ≡ digit_of b }
+// The value of a digit.
+fn digit(b: u8) -> Option<u32>
+    ensures { IsDigit b result }
 {
-    if b < 48 {
-        10
-    } else if b < 58 {
-        (b - 48) as u64
-    } else {
-        10
-    }
+    char::from(b).to_digit(10)
 }
 
-// The rest of a number whose digits up to `from` make `first`.
-fn digits_on(line: &[u8], from: usize, first: u64) -> Number
-    requires { (from ≤ length line.now) × (first < 4294967296) }
+// The rest of a number whose digits up to `from` make `first`, and the place after it.
+fn digits_on(line: &[u8], from: usize, first: u32) -> Option<(u32, usize)>
+    requires { from ≤ length line.now }
     ensures { Reads line.now (digits_on first (drop from line.now)) result }
 {
     let mut value = first;
-    let mut at = from;
-    while at < line.len() {
-        let d = digit(line[at]);
-        if 9 < d {
-            return Number::Value(value as u32, at);
-        }
-        let next = value * 10 + d;
-        if MOST < next {
-            return Number::Nothing;
-        }
-        value = next;
-        at += 1;
+    for at in from..line.len() {
+        let Some(d) = digit(line[at]) else {
+            return Some((value, at));
+        };
+        value = value.checked_mul(10)?.checked_add(d)?;
     }
-    Number::Value(value as u32, at)
+    Some((value, line.len()))
 }
 
-// The number at a place of a line. A `0` stands alone, so that no number has leading zeros.
-fn number_at(line: &[u8], at: usize) -> Number
+// The number at a place of a line, and the place after it. A `0` stands alone, so that no number has leading zeros.
+fn number_at(line: &[u8], at: usize) -> Option<(u32, usize)>
     ensures { Reads line.now (number_of (drop at line.now)) result }
 {
-    if line.len() <= at {
-        return Number::Nothing;
-    }
-    let d = digit(line[at]);
-    if 9 < d {
-        return Number::Nothing;
-    }
+    let d = digit(*line.get(at)?)?;
     let next = at + 1;
     if d == 0 {
-        return Number::Value(0, next);
+        return Some((0, next));
     }
     digits_on(line, next, d)
 }
 
-// One byte of a template: a number for `#`, which goes to the next of the five places, or the byte itself.
-fn piece_at(line: &[u8], at: usize, byte: u8, count: usize, numbers: &mut [u32; 5]) -> Place
-    requires { (at ≤ length line.now) × (count ≤ 5) }
-    ensures { PieceRead line.now (piece byte count numbers.old (drop at line.now)) result numbers.new }
+// One byte of a template: a number for `#`, which goes to the next of the five places, or the byte itself; and the place in the line
+// after it.
+fn piece_at(line: &[u8], at: usize, byte: u8, numbers: &mut NumbersRead) -> Option<usize>
+    requires { (at ≤ length line.now) × (numbers.old.count ≤ 5) }
+    ensures { PieceRead line.now (piece byte numbers.old.count numbers.old.values (drop at line.now)) result numbers.new }
 {
     if byte == b'#' {
-        match number_at(line, at) {
-            Number::Value(value, next) => {
-                if count < 5 {
-                    numbers[count] = value;
-                    Place::At(next, count + 1)
-                } else {
-                    Place::Astray
-                }
-            }
-            Number::Nothing => Place::Astray,
+        let (value, next) = number_at(line, at)?;
+        let count = numbers.count;
+        if count == 5 {
+            return None;
         }
-    } else if at < line.len() {
-        if line[at] == byte {
-            Place::At(at + 1, count)
-        } else {
-            Place::Astray
-        }
-    } else {
-        Place::Astray
+        numbers.values[count] = value;
+        numbers.count = count + 1;
+        return Some(next);
     }
+    if *line.get(at)? != byte {
+        return None;
+    }
+    Some(at + 1)
 }
 
-// Whether a line is the text of a template. Then the numbers that stand for its `#`s are in `numbers`, in order.
-fn match_template(line: &[u8], template: &[u8], numbers: &mut [u32; 5]) -> bool
-    ensures { Matches (matched template.now 0 numbers.old line.now) result numbers.new }
+// The numbers that stand in a line for the `#`s of a template, in order, if the line is a text of it.
+fn match_template(line: &[u8], template: &[u8]) -> Option<[u32; 5]>
+    ensures { Matches (matched template.now 0 zeros line.now) result }
 {
+    let mut numbers = NumbersRead {
+        values: [0; 5],
+        count: 0,
+    };
     let mut at = 0;
-    let mut count = 0;
-    let mut i = 0;
-    while i < template.len() {
-        match piece_at(line, at, template[i], count, numbers) {
-            Place::At(next, n) => {
-                at = next;
-                count = n;
-            }
-            Place::Astray => {
-                return false;
-            }
-        }
-        i += 1;
+    for &byte in template {
+        at = piece_at(line, at, byte, &mut numbers)?;
     }
-    at == line.len()
+    (at == line.len()).then_some(numbers.values)
 }
 
-// Whether a line is the text of a template in a fixed byte string, and then its numbers.
-pub fn match_text(line: &[u8], text: &[u8], numbers: &mut [u32; 5]) -> bool
-    ensures { Matches (matched (trimmed text.now) 0 numbers.old line.now) result numbers.new }
+// The same for a template in a fixed byte string.
+pub fn match_text(line: &[u8], text: &[u8]) -> Option<[u32; 5]>
+    ensures { Matches (matched (trimmed text.now) 0 zeros line.now) result }
 {
     let n = template_length(text);
-    match_template(line, &text[..n], numbers)
+    match_template(line, &text[..n])
 }
 
-// Where the writing of a template goes on: the place in the buffer and the count of numbers written.
-#[derive(Drop)]
-struct Pen {
-    at: usize,
-    count: usize,
-}
-
-// The number at a place, and 0 past the end.
-fn number_or_zero(numbers: &[u32], i: usize) -> u32
-    ensures { result ≡ get_or numbers.now i 0 }
-{
-    if i < numbers.len() { numbers[i] } else { 0 }
-}
-
-// Writes one byte of a template: the next number's decimal for `#`, or the byte itself.
-fn put_piece(buf: &mut [u8], pen: Pen, byte: u8, numbers: &[u32]) -> Pen
-    requires { (pen.at + length (piece_text (is_hole byte) byte (drop pen.count numbers.now)) ≤ length buf.old) × (pen.count + 1 < 2 ^ 64) }
-    ensures { Put buf.old (piece_text (is_hole byte) byte (drop pen.count numbers.now)) (numbers_taken (is_hole byte)) pen result buf.new }
-{
-    let at = pen.at;
-    let count = pen.count;
-    if byte == b'#' {
-        let value = number_or_zero(numbers, count);
-        Pen {
-            at: decimals::put_number(buf, at, value),
-            count: count + 1,
+impl Pen {
+    // Writes one byte of a template: the next number's decimal for `#`, which past the end is 0, or the byte itself.
+    fn put(self, buf: &mut [u8], byte: u8, numbers: &[u32]) -> Pen
+        requires { (self.at + length (piece_text (is_hole byte) byte (drop self.count numbers.now)) ≤ length buf.old) × (self.count + 1 < 2 ^ 64) }
+        ensures { Put buf.old (piece_text (is_hole byte) byte (drop self.count numbers.now)) (numbers_taken (is_hole byte)) self result buf.new }
+    {
+        let at = self.at;
+        let count = self.count;
+        if byte == b'#' {
+            let value = numbers.get(count).copied().unwrap_or(0);
+            return Pen {
+                at: decimals::put_number(buf, at, value),
+                count: count + 1,
+            };
         }
-    } else {
         buf[at] = byte;
         Pen { at: at + 1, count }
     }
@@ -192,10 +142,8 @@ fn write_template(template: &[u8], numbers: &[u32], buf: &mut [u8]) -> usize
     ensures { Written (fill template.now numbers.now) buf.old result buf.new }
 {
     let mut pen = Pen { at: 0, count: 0 };
-    let mut i = 0;
-    while i < template.len() {
-        pen = put_piece(buf, pen, template[i], numbers);
-        i += 1;
+    for &byte in template {
+        pen = pen.put(buf, byte, numbers);
     }
     pen.at
 }

@@ -2,7 +2,7 @@
 #![tactic(auto)]
 
 use layout::Geometry;
-use model::{Answer, Step};
+use model::{Answer, Refusal, Step};
 use perform::Request;
 
 fn word(text: &[u8]) {
@@ -11,18 +11,18 @@ fn word(text: &[u8]) {
 
 fn number(n: u32) {
     io::write_all(1, b" ");
-    io::print_decimal(1, n as u64);
+    io::print_decimal(1, u64::from(n));
 }
 
 // A call's answer.
-fn say(a: Answer) {
+fn say(a: Result<Answer, Refusal>) {
     match a {
-        Answer::Ok => word(b"(ok"),
-        Answer::Number(v) => {
+        Ok(Answer::Done) => word(b"(ok"),
+        Ok(Answer::Number(v)) => {
             word(b"(ok");
             number(v);
         }
-        Answer::Same(b) => {
+        Ok(Answer::Same(b)) => {
             word(b"(ok");
             if b {
                 number(1);
@@ -30,14 +30,14 @@ fn say(a: Answer) {
                 number(0);
             }
         }
-        Answer::Shape(s) => {
+        Ok(Answer::Shape(s)) => {
             word(b"(ok");
             number(s.pointer_count);
             number(s.value_count);
         }
-        Answer::Refused(n) => {
+        Err(e) => {
             word(b"(no");
-            number(n);
+            number(e.number());
         }
     }
     word(b")\n");
@@ -106,10 +106,9 @@ fn check(mem: &mut [u32]) {
 fn fill(mem: &mut [u32]) {
     say(opening::open(heap(), mem));
     ask(mem, Request::Attach { mutator: 0 });
-    make(mem, 0);
-    make(mem, 1);
-    make(mem, 2);
-    make(mem, 3);
+    for root in 0..4 {
+        make(mem, root);
+    }
     ask(
         mem,
         Request::Store {
@@ -144,12 +143,9 @@ fn begin(mem: &mut [u32]) {
 
 // It marks and sweeps, to its end.
 fn collect(mem: &mut [u32]) {
-    step(mem);
-    step(mem);
-    step(mem);
-    step(mem);
-    step(mem);
-    step(mem);
+    for _ in 0..6 {
+        step(mem);
+    }
 }
 
 // The linked record is there still, with its number.

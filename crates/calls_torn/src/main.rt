@@ -6,11 +6,10 @@
 
 use classes::RecordShape;
 use layout::Geometry;
-use model::{Answer, Step};
+use model::{Answer, Refusal, Step};
 use perform::Request;
 
 // Numbers by a linear congruence.
-#[derive(Drop)]
 #[derive(Clone, Copy)]
 struct Dice {
     x: u32,
@@ -19,7 +18,7 @@ struct Dice {
 impl Dice {
     fn next(self) -> Dice {
         Dice {
-            x: ((self.x as u64 * 1664525 + 1013904223) % 4294967296) as u32,
+            x: self.x.wrapping_mul(1664525).wrapping_add(1013904223),
         }
     }
 
@@ -45,7 +44,7 @@ fn word(text: &[u8]) {
 }
 
 fn number(n: u32) {
-    io::print_decimal(1, n as u64);
+    io::print_decimal(1, u64::from(n));
 }
 
 // Whether a number is one of a call's, as a bit of its set: document 01's table.
@@ -164,15 +163,9 @@ fn request_of(kind: u32, d: Dice) -> Request {
 fn say_refused(kind: u32, torn: bool, n: u32) {
     word(b" no");
     number(n);
-    if given(number_set(kind), n) {
-        if torn {
-            return;
-        }
-        if n != 13 {
-            return;
-        }
+    if !given(number_set(kind), n) || (n == 13 && !torn) {
+        word(b"BAD");
     }
-    word(b"BAD");
 }
 
 // BAD where a number is over the most that it may be.
@@ -208,18 +201,18 @@ fn say_shape(s: RecordShape) {
     at_most(65535, s.value_count);
 }
 
-fn say(kind: u32, torn: bool, a: Answer) {
+fn say(kind: u32, torn: bool, a: Result<Answer, Refusal>) {
     match a {
-        Answer::Ok => {
+        Ok(Answer::Done) => {
             word(b" ok");
             say_result(kind, 0);
         }
-        Answer::Number(v) => {
+        Ok(Answer::Number(v)) => {
             word(b" =");
             number(v);
             say_result(kind, 1);
         }
-        Answer::Same(b) => {
+        Ok(Answer::Same(b)) => {
             if b {
                 word(b" same");
             } else {
@@ -227,11 +220,11 @@ fn say(kind: u32, torn: bool, a: Answer) {
             }
             say_result(kind, 2);
         }
-        Answer::Shape(s) => {
+        Ok(Answer::Shape(s)) => {
             say_shape(s);
             say_result(kind, 3);
         }
-        Answer::Refused(n) => say_refused(kind, torn, n),
+        Err(e) => say_refused(kind, torn, e.number()),
     }
 }
 
@@ -330,11 +323,9 @@ fn filling(d: Dice, small: bool) -> u32 {
 
 fn fill(mem: &mut [u32], d: Dice, small: bool) {
     let mut e = d;
-    let mut i = 0;
-    while i < mem.len() {
+    for w in mem.iter_mut() {
         e = e.next();
-        mem[i] = filling(e, small);
-        i += 1;
+        *w = filling(e, small);
     }
 }
 
@@ -363,11 +354,9 @@ fn turn(mem: &mut [u32], d: Dice, changes: bool, torn: bool) {
 // So many calls, on a line.
 fn play(mem: &mut [u32], d: Dice, rounds: u32, changes: bool, torn: bool) {
     let mut e = d;
-    let mut i: u32 = 0;
-    while i < rounds {
+    for _ in 0..rounds {
         e = e.next().next().next();
         turn(mem, e, changes, torn);
-        i += 1;
     }
     word(b"\n");
 }
@@ -375,30 +364,20 @@ fn play(mem: &mut [u32], d: Dice, rounds: u32, changes: bool, torn: bool) {
 // Two mutators come.
 fn settle(mem: &mut [u32], d: Dice) {
     call(mem, 1, 16, false, d);
-    say(
-        0,
-        false,
-        perform::perform(
-            Geometry {
-                segments: 1,
-                kib: layout::SMALL_KIB,
-            },
-            mem,
-            Request::Attach { mutator: 0 },
-        ),
-    );
-    say(
-        0,
-        false,
-        perform::perform(
-            Geometry {
-                segments: 1,
-                kib: layout::SMALL_KIB,
-            },
-            mem,
-            Request::Attach { mutator: 1 },
-        ),
-    );
+    for mutator in 0..2 {
+        say(
+            0,
+            false,
+            perform::perform(
+                Geometry {
+                    segments: 1,
+                    kib: layout::SMALL_KIB,
+                },
+                mem,
+                Request::Attach { mutator },
+            ),
+        );
+    }
     play(mem, d, 12, false, false);
 }
 
@@ -415,13 +394,11 @@ fn game(mem: &mut [u32], d: Dice) {
 
 // Each game from numbers of its own.
 fn games(mem: &mut [u32]) {
-    let mut i: u32 = 0;
-    while i < 20 {
+    for i in 0u32..20 {
         let d = Dice {
-            x: ((i as u64 * 2654435761 + 97) % 4294967296) as u32,
+            x: i.wrapping_mul(2654435761).wrapping_add(97),
         };
         game(mem, d.next().next());
-        i += 1;
     }
 }
 
@@ -510,12 +487,10 @@ fn renew(mem: &mut [u32], d: Dice, new: bool, small: bool) {
 // line: over new words each, or over the memory as it is.
 fn overs(mem: &mut [u32], d: Dice, sweep: bool, new: bool, small: bool) {
     let mut e = d;
-    let mut i: u32 = 0;
-    while i < 49 {
+    for i in 0..49 {
         e = e.next();
         renew(mem, e, new, small);
         over(mem, sweep, i, e);
-        i += 1;
     }
     word(b"\n");
 }

@@ -8,10 +8,9 @@ use Rattle.words.specs.Bits.{bit_of, bit_at, clear_from}
 use Rattle.words.specs.Levels.{tree_words}
 use Rattle.classes.specs.Class.{class_test}
 use Rattle.classes.specs.Shape.{most_levels, blocks_of, shape_for, segment_shape}
-use Rattle.classes.specs.declared.ClassShape.TheVariants.{Of}
-use Rattle.bitmap_search.specs.declared.Found.{Found}
+use Rattle.std.specs.Prelude.{Some}
 use Rattle.classes.proofs.Shapes.{blocks_most, shape_height}
-use Rattle.bitmap_search.specs.Scan.{next_free}
+use Rattle.bitmap_search.specs.Scan.{Found, next_free}
 use Rattle.bitmap_search.specs.Search.{lowered, forwarded, searched}
 use Rattle.bitmap_write.specs.Rebuild.{rebuilt}
 use Rattle.bitmap_write.specs.Completed.{completed, padded}
@@ -20,7 +19,7 @@ use Rattle.cases.specs.Rows.{long_rows, rows, above, tree_of, BlockHolds, All}
 
 -- a block row from what is computed
 pub row : {z class : ℕ} {bits : List ℕ} {place : ℕ} {found : Found} → T (leb z (32 ^ most_levels)) → T (leb (tree_words (above z class) (blocks_of z class)) (length bits))
-    → segment_shape z class ≡ Of (shape_for (blocks_of z class)) → searched (above z class) (tree_of z class bits) (blocks_of z class) place ≡ found
+    → segment_shape z class ≡ Some (shape_for (blocks_of z class)) → searched (above z class) (tree_of z class bits) (blocks_of z class) place ≡ found
     → next_free (bit_at (tree_of z class bits)) (blocks_of z class) place ≡ found → BlockHolds z class bits place found
 row {z} {class} {bits} most room is search scan = record {
   class_is = is;

@@ -1,10 +1,8 @@
 -- The shape of a segment of each class at both sizes. Document 01 has the table of blocks and bitmap levels of ten classes; document 02, No. 2:
 -- "Classes 13 (two blocks a segment) and 14 (one block) are added"; No. 6: "At 32 KiB class 3 has 4,096 blocks and three levels of 128, 4 and
 -- 1 words. Each class has twice the blocks it has at 16 KiB".
-use Rattle.std.specs.Prelude.{◌≡◌, List, [], ◌∷◌, ℕ, ◌-◌, ◌*◌, ◌^◌, get_or}
+use Rattle.std.specs.Prelude.{◌≡◌, List, [], ◌∷◌, ℕ, ◌-◌, ◌*◌, ◌^◌, get_or, Some, None, Ok}
 use Rattle.classes.specs.Shape.{segment_size, large_size, segment_shape}
-use Rattle.classes.specs.declared.ClassShape.TheVariants.{Of, NoClass}
-use Rattle.bitmap_search.specs.declared.Found.TheVariants.{Block, Nothing}
 use Rattle.cases.specs.Rows.{BlockHolds}
 
 -- a class, its blocks, its levels, and the words of each level
@@ -40,7 +38,7 @@ abbrev pub Shaped : ℕ → List Row → Type 0
 Shaped z [] = Unit
 Shaped z (r ∷ rs) =
     (segment_shape z r.class
-    ≡ Of (record { blocks = r.blocks; levels = r.levels; words0 = get_or r.words 0 0; words1 = get_or r.words 1 0; words2 = get_or r.words 2 0 }))
+    ≡ Some (record { blocks = r.blocks; levels = r.levels; words0 = get_or r.words 0 0; words1 = get_or r.words 1 0; words2 = get_or r.words 2 0 }))
     × Shaped z rs
 
 -- row by row the same class and "twice the blocks"
@@ -55,10 +53,10 @@ pub record Shapes : Type 0 where
   pub at32 : Shaped large_size large
   pub twice : Twice small large
   -- the classes are 3 to 14 at either size
-  pub below : (segment_shape segment_size 2 ≡ NoClass) × (segment_shape large_size 2 ≡ NoClass)
-  pub past : (segment_shape segment_size 15 ≡ NoClass) × (segment_shape large_size 15 ≡ NoClass)
+  pub below : (segment_shape segment_size 2 ≡ None) × (segment_shape large_size 2 ≡ None)
+  pub past : (segment_shape segment_size 15 ≡ None) × (segment_shape large_size 15 ≡ None)
   -- the blocks of class 14 at 32 KiB with no bit set, and the last of 32 of class 10
-  pub first : BlockHolds large_size 14 (0 ∷ []) 0 (Block 0)
-  pub second : BlockHolds large_size 14 (0 ∷ []) 1 (Block 1)
-  pub none : BlockHolds large_size 14 (0 ∷ []) 2 Nothing
-  pub last : BlockHolds large_size 10 ((2 ^ 31 - 1) ∷ []) 0 (Block 31)
+  pub first : BlockHolds large_size 14 (0 ∷ []) 0 (Ok (Some 0))
+  pub second : BlockHolds large_size 14 (0 ∷ []) 1 (Ok (Some 1))
+  pub none : BlockHolds large_size 14 (0 ∷ []) 2 (Ok None)
+  pub last : BlockHolds large_size 10 ((2 ^ 31 - 1) ∷ []) 0 (Ok (Some 31))

@@ -7,8 +7,7 @@ ghost use Rattle.words.specs.Levels.{words_for, tree_words};
 ghost use Rattle.classes.specs.Class.{first_class};
 ghost use Rattle.classes.specs.Shape.{segment_size, blocks_of, longest_of};
 
-use bitmap_search::Found;
-use classes::{ClassShape, SizeClass};
+use bitmap_search::Torn;
 
 // The word at which the mark words begin, behind the longest bitmap, and at which level 1 of that bitmap begins.
 const MARKS: u32 = 67;
@@ -21,7 +20,7 @@ fn word(text: &[u8]) {
 
 fn number(n: u32) {
     io::write_all(1, b" ");
-    io::print_decimal(1, n as u64);
+    io::print_decimal(1, u64::from(n));
 }
 
 // The class of a record of so many fields.
@@ -30,8 +29,8 @@ fn class_line(fields: u32) {
     number(fields);
     let found = classes::class_of(fields);
     match found {
-        SizeClass::Class(c) => number(c),
-        SizeClass::TooBig => word(b" too big"),
+        Some(c) => number(c),
+        None => word(b" too big"),
     }
     word(b"\n");
 }
@@ -42,20 +41,20 @@ fn shape_line(class: u32) {
     number(class);
     let shaped = classes::segment_shape(class);
     match shaped {
-        ClassShape::Of(shape) => {
+        Some(shape) => {
             number(shape.blocks);
             number(shape.levels);
             number(shape.words0);
             number(shape.words1);
             number(shape.words2);
         }
-        ClassShape::NoClass => word(b" none"),
+        None => word(b" none"),
     }
     word(b"\n");
 }
 
 // The blocks of a class and the levels above level 0 of their bitmap; none where there is no such class.
-#[derive(Drop)]
+#[derive(Clone, Copy)]
 struct Space {
     blocks: u32,
     above: u32,
@@ -66,11 +65,11 @@ fn space_of(class: u32) -> Space
 {
     let shaped = classes::segment_shape(class);
     match shaped {
-        ClassShape::Of(shape) => Space {
+        Some(shape) => Space {
             blocks: shape.blocks,
             above: shape.levels - 1,
         },
-        ClassShape::NoClass => Space {
+        None => Space {
             blocks: 0,
             above: 0,
         },
@@ -87,9 +86,9 @@ fn search_line(s: &[u32], class: u32, place: u32)
     let space = space_of(class);
     let found = bitmap_search::next_free(s, space.blocks, space.above, place);
     match found {
-        Found::Block(k) => number(k),
-        Found::Nothing => word(b" none"),
-        Found::Torn => word(b" torn"),
+        Ok(Some(k)) => number(k),
+        Ok(None) => word(b" none"),
+        Err(Torn) => word(b" torn"),
     }
     word(b"\n");
 }
@@ -129,52 +128,18 @@ fn adopt(s: &mut [u32], class: u32)
 
 // The class of the smallest and the largest record of each class, and none past the last.
 fn class_cases() {
-    class_line(0);
-    class_line(1);
-    class_line(2);
-    class_line(3);
-    class_line(4);
-    class_line(7);
-    class_line(8);
-    class_line(15);
-    class_line(16);
-    class_line(31);
-    class_line(32);
-    class_line(63);
-    class_line(64);
-    class_line(127);
-    class_line(128);
-    class_line(255);
-    class_line(256);
-    class_line(511);
-    class_line(512);
-    class_line(1023);
-    class_line(1024);
-    class_line(2047);
-    class_line(2048);
-    class_line(4095);
-    class_line(4096);
-    class_line(65536);
-    class_line(4294967295);
+    for fields in [
+        0, 1, 2, 3, 4, 7, 8, 15, 16, 31, 32, 63, 64, 127, 128, 255, 256, 511, 512, 1023, 1024,
+        2047, 2048, 4095, 4096, 65536, 4294967295,
+    ] {
+        class_line(fields);
+    }
 }
 
 fn shape_cases() {
-    shape_line(0);
-    shape_line(1);
-    shape_line(2);
-    shape_line(3);
-    shape_line(4);
-    shape_line(5);
-    shape_line(6);
-    shape_line(7);
-    shape_line(8);
-    shape_line(9);
-    shape_line(10);
-    shape_line(11);
-    shape_line(12);
-    shape_line(13);
-    shape_line(14);
-    shape_line(15);
+    for class in 0..16 {
+        shape_line(class);
+    }
     shape_line(4294967295);
 }
 
@@ -184,20 +149,8 @@ fn fresh_cases(s: &mut [u32])
 {
     freshen(s, 3);
     check_line(s, 3);
-    search_line(s, 3, 0);
-    search_line(s, 3, 31);
-    search_line(s, 3, 32);
-    search_line(s, 3, 2047);
-    search_line(s, 3, 2048);
-    search_line(s, 3, 4294967295);
-}
-
-// Every bit set.
-fn fill(s: &mut [u32]) {
-    let mut i: usize = 0;
-    while i < s.len() {
-        s[i] = 4294967295;
-        i += 1;
+    for place in [0, 31, 32, 2047, 2048, 4294967295] {
+        search_line(s, 3, place);
     }
 }
 
@@ -205,7 +158,7 @@ fn fill(s: &mut [u32]) {
 fn all_but(s: &mut [u32], block: u32)
     requires { (longest_of segment_size + longest_of segment_size ≤ length s.old) × (block < blocks_of segment_size first_class) }
 {
-    fill(s);
+    s.fill(4294967295);
     words::clear_bit(s, MARKS * 32 + block);
     adopt(s, 3);
 }
@@ -216,11 +169,9 @@ fn near_cases(s: &mut [u32])
 {
     all_but(s, 1000);
     check_line(s, 3);
-    search_line(s, 3, 0);
-    search_line(s, 3, 992);
-    search_line(s, 3, 1000);
-    search_line(s, 3, 1001);
-    search_line(s, 3, 2047);
+    for place in [0, 992, 1000, 1001, 2047] {
+        search_line(s, 3, place);
+    }
 }
 
 // The free block is found by way of two levels.
@@ -229,9 +180,9 @@ fn far_cases(s: &mut [u32])
 {
     all_but(s, 1500);
     check_line(s, 3);
-    search_line(s, 3, 0);
-    search_line(s, 3, 1024);
-    search_line(s, 3, 1501);
+    for place in [0, 1024, 1501] {
+        search_line(s, 3, place);
+    }
 }
 
 // A summary bit that lies: word 5 of level 0 is full, and its bit at level 1 says that it is not. From word 46 on the search does
@@ -241,8 +192,9 @@ fn torn_cases(s: &mut [u32])
 {
     words::clear_bit(s, LEVEL1 * 32 + 5);
     check_line(s, 3);
-    search_line(s, 3, 0);
-    search_line(s, 3, 1472);
+    for place in [0, 1472] {
+        search_line(s, 3, place);
+    }
 }
 
 // A level of half a word: its bits past the end are 1, and are no blocks.
@@ -251,8 +203,9 @@ fn short_cases(s: &mut [u32])
 {
     freshen(s, 10);
     check_line(s, 10);
-    search_line(s, 10, 15);
-    search_line(s, 10, 16);
+    for place in [15, 16] {
+        search_line(s, 10, place);
+    }
     words::set_bit(s, 15);
     search_line(s, 10, 15);
     words::clear_bit(s, 16);
@@ -266,13 +219,14 @@ fn last_cases(s: &mut [u32])
 {
     freshen(s, 13);
     check_line(s, 13);
-    search_line(s, 13, 0);
-    search_line(s, 13, 1);
-    search_line(s, 13, 2);
+    for place in [0, 1, 2] {
+        search_line(s, 13, place);
+    }
     freshen(s, 14);
     check_line(s, 14);
-    search_line(s, 14, 0);
-    search_line(s, 14, 1);
+    for place in [0, 1] {
+        search_line(s, 14, place);
+    }
 }
 
 fn main() {

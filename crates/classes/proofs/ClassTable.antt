@@ -4,12 +4,11 @@ use mathlib.Core.List.{List, [], ◌∷◌, ◌++◌}
 use mathlib.Core.Bool.{Bool, false, ◌&&◌}
 use Prim.Native.Nat.{ℕ, ◌+◌, ◌*◌, ◌/◌, ◌%◌, ◌<◌}
 use native.Mathlib.Omega.{arith}
-use lib.Dec.{T, eqb, ltb, eqb→eq, ltb→lt}
+use lib.Dec.{T, eqb, eqb→eq}
 use lib.ListN.{length, get_or, replicate}
 use Rattle.basics.proofs.Table.{and_left, and_right, every, every_at}
-use Rattle.classes.specs.declared.SizeClass.{SizeClass}
-use Rattle.classes.specs.declared.SizeClass.TheVariants.{Class, TooBig}
-use Rattle.classes.specs.Class.{class_of}
+use Rattle.classes.specs.Class.{SizeClass, class_of}
+use Rattle.std.specs.Prelude.{Some, None}
 
 -- the table, 32 rows of 128: two fields to the first class, and then to each class as many as its block has words more than the one before
 abbrev pub table : List (List ℕ)
@@ -22,13 +21,13 @@ abbrev pub entry_at : List (List ℕ) → ℕ → ℕ
 entry_at t k = get_or (get_or t (k / 128) []) (k % 128) 0
 
 is_class : SizeClass → ℕ → Bool
-is_class (Class c) x = eqb c x
-is_class TooBig x = false
+is_class (Some c) x = eqb c x
+is_class None x = false
 
-is_class_eq : (s : SizeClass) (x : ℕ) → T (is_class s x) → Class x ≡ s
+is_class_eq : (s : SizeClass) (x : ℕ) → T (is_class s x) → Some x ≡ s
 unfolding is_class
-is_class_eq (Class c) x t = ap Class (sym (eqb→eq c x t))
-is_class_eq TooBig x t = absurd t
+is_class_eq (Some c) x t = ap Some (sym (eqb→eq c x t))
+is_class_eq None x t = absurd t
 
 -- the rule at entry j of a row that begins at b, and at row i
 right : ℕ → ℕ → ℕ → Bool
@@ -38,7 +37,7 @@ right_row : ℕ → List ℕ → Bool
 unfolding right
 right_row i row = eqb (length row) 128 && every (right (128 * i)) 0 row
 
-pub in_table : (k : ℕ) → k < 4096 → Class (entry_at table k) ≡ class_of k
+pub in_table : (k : ℕ) → k < 4096 → Some (entry_at table k) ≡ class_of k
 unfolding right_row right is_class
 in_table k l =
     let i = k / 128 in
@@ -49,7 +48,3 @@ in_table k l =
     let e : 128 * i + j ≡ k = omega arith in
     let r = every_at (right (128 * i)) 0 row (and_right (eqb (length row) 128) _ t) j (omega arith) in
     is_class_eq (class_of (128 * i + j)) (entry_at table k) r ∙ ap class_of e
-
--- the same at an entry that is read by its number
-pub entry : {fields k : ℕ} → fields ≡ k → T (ltb k 4096) → Class (entry_at table k) ≡ class_of fields
-entry {fields} {k} e l = in_table k (ltb→lt k 4096 l) ∙ ap class_of (sym e)

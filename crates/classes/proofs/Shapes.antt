@@ -10,7 +10,7 @@ use Rattle.basics.specs.Pick.{pick}
 use Rattle.words.specs.Levels.{Height, tree_words}
 use Rattle.words.proofs.Trees.{levels_pos, levels_le, levels_end}
 use Rattle.classes.specs.declared.SegmentShape.{SegmentShape}
-use Rattle.classes.specs.declared.ClassShape.TheVariants.{Of, NoClass}
+use Rattle.std.specs.Prelude.{Some, None}
 use Rattle.classes.specs.Class.{IsClass, class_test}
 use Rattle.classes.specs.Shape.{segment_size, blocks_of, most_levels, shape_for, longest_of, segment_shape}
 use Rattle.classes.proofs.Every.{every_class, at_class, class_passed}
@@ -34,10 +34,10 @@ pub record IsShape (z c : ℕ) (x : SegmentShape) : Type 0 where
   pub class : IsClass c
   pub shape : x ≡ shape_for (blocks_of z c)
 
-pub shape_is : (z c : ℕ) (x : SegmentShape) → Of x ≡ segment_shape z c → IsShape z c x
+pub shape_is : (z c : ℕ) (x : SegmentShape) → Some x ≡ segment_shape z c → IsShape z c x
 shape_is z c x e = go (class_test c) refl e
   where
-    go : (t : Bool) → class_test c ≡ t → Of x ≡ pick t (Of (shape_for (blocks_of z c))) NoClass → IsShape z c x
+    go : (t : Bool) → class_test c ≡ t → Some x ≡ pick t (Some (shape_for (blocks_of z c))) None → IsShape z c x
     go true q f = record { class = class_passed c q; shape = (cc) }
     go false q f = let u : ◌≡◌ {A = ℕ} 0 1 = cc in absurd (omega arith)
 

@@ -1,10 +1,9 @@
 -- The size class of a record. Document 01: "Class c, 3 to 12, has blocks of 2^c bytes. A record's class is the smallest whose
 -- block holds 1 + P + N words"; document 02, No. 2: "Classes 13 (two blocks a segment) and 14 (one block) are added, so a record
 -- has up to 4,095 fields"; and the number that document 01 gives each answer.
-use Rattle.std.specs.Prelude.{Bool, false, ℕ, zero, suc, ◌+◌, ◌-◌, ◌*◌, ◌/◌, ◌^◌, ◌≤◌, ◌<◌, leb, ltb}
+use Rattle.std.specs.Prelude.{Bool, false, ℕ, zero, suc, ◌+◌, ◌-◌, ◌*◌, ◌/◌, ◌^◌, ◌≤◌, ◌<◌, leb, ltb, Some, None}
+use Rattle.std.specs.declared.option.Option.{Option}
 use Rattle.basics.specs.Pick.{pick}
-use Rattle.classes.specs.declared.SizeClass.{SizeClass}
-use Rattle.classes.specs.declared.SizeClass.TheVariants.{Class, TooBig}
 
 -- the classes are 3 to 14
 abbrev pub first_class : ℕ
@@ -33,10 +32,14 @@ block_words c = 2 ^ c / word_bytes
 abbrev pub max_fields : ℕ
 max_fields = block_words (first_class + class_count - 1) - 1
 
+-- the class of a record, or none: the record has too many fields
+abbrev pub SizeClass : Type 0
+SizeClass = Option ℕ
+
 -- the smallest of the n classes from c on whose block of 2 ^ c bytes holds b bytes
 abbrev pub smallest_from : ℕ → ℕ → ℕ → SizeClass
-smallest_from zero c b = TooBig
-smallest_from (suc n) c b = pick (leb b (2 ^ c)) (Class c) (smallest_from n (suc c) b)
+smallest_from zero c b = None
+smallest_from (suc n) c b = pick (leb b (2 ^ c)) (Some c) (smallest_from n (suc c) b)
 
 -- a header word and a word for each field
 abbrev pub record_bytes : ℕ → ℕ
@@ -52,5 +55,5 @@ pub data Outcome : Type 0 where
 
 -- "Refusal 9 now begins at 4,096 fields." (in no statement: evaluated cases use it)
 abbrev pub outcome_of : SizeClass → Outcome
-outcome_of (Class c) = value c
-outcome_of TooBig = refusal 9
+outcome_of (Some c) = value c
+outcome_of None = refusal 9

@@ -1,8 +1,7 @@
 -- The shape of a record: document 01, "A record has P links and N numbers". Its counts, its class, and which fields it has.
 use Rattle.std.specs.Prelude.{Bool, ℕ, ◌+◌, ltb}
-use Rattle.classes.specs.declared.SizeClass.{SizeClass}
+use Rattle.classes.specs.Class.{SizeClass, class_of}
 use Rattle.classes.specs.declared.RecordShape.{RecordShape}
-use Rattle.classes.specs.Class.{class_of}
 
 -- p pointers and n values
 abbrev pub of_counts : ℕ → ℕ → RecordShape

@@ -1,13 +1,12 @@
 -- The shape of a segment of a class: its blocks and the levels of their bitmap. Document 01: "segments of 16,384 bytes",
 -- "Class c, 3 to 12, has blocks of 2^c bytes", and the table of blocks and bitmap levels; document 02, No. 2: "Classes 13 (two
 -- blocks a segment) and 14 (one block) are added"; No. 6: "Segments of 32 KiB".
-use Rattle.std.specs.Prelude.{ℕ, ◌-◌, ◌/◌, ◌^◌, get_or}
+use Rattle.std.specs.Prelude.{ℕ, ◌-◌, ◌/◌, ◌^◌, get_or, Some, None}
+use Rattle.std.specs.declared.option.Option.{Option}
 use Rattle.basics.specs.Pick.{pick}
 use Rattle.words.specs.Levels.{level_count, level_words, tree_words}
 use Rattle.classes.specs.Class.{first_class, class_test}
 use Rattle.classes.specs.declared.SegmentShape.{SegmentShape}
-use Rattle.classes.specs.declared.ClassShape.{ClassShape}
-use Rattle.classes.specs.declared.ClassShape.TheVariants.{Of, NoClass}
 
 -- the bytes of a segment of 16 KiB
 abbrev pub segment_size : ℕ
@@ -39,6 +38,10 @@ shape_for n = record {
 abbrev pub longest_of : ℕ → ℕ
 longest_of z = tree_words (level_count most_levels (blocks_of z first_class) - 1) (blocks_of z first_class)
 
+-- the shape of a class, or none: there is no such class (in no statement: contracts, evaluated cases and proofs use it)
+abbrev pub ClassShape : Type 0
+ClassShape = Option SegmentShape
+
 -- the shape of a segment of z bytes of class c, where there is such a class (in no statement: contracts, evaluated cases and proofs use it)
 abbrev pub segment_shape : ℕ → ℕ → ClassShape
-segment_shape z c = pick (class_test c) (Of (shape_for (blocks_of z c))) NoClass
+segment_shape z c = pick (class_test c) (Some (shape_for (blocks_of z c))) None

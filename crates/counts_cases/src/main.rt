@@ -4,7 +4,7 @@
 #![tactic(auto)]
 
 use layout::Geometry;
-use model::{Answer, Step};
+use model::{Answer, Refusal, Step};
 use perform::Request;
 
 const SEGMENTS: usize = 4;
@@ -19,13 +19,13 @@ fn word(text: &[u8]) {
 
 fn number(n: u32) {
     io::write_all(1, b" ");
-    io::print_decimal(1, n as u64);
+    io::print_decimal(1, u64::from(n));
 }
 
 // A call that is not refused says nothing.
-fn expect_ok(a: Answer) {
+fn expect_ok(a: Result<Answer, Refusal>) {
     match a {
-        Answer::Ok => word(b""),
+        Ok(Answer::Done) => word(b""),
         _ => word(b"BAD: refused\n"),
     }
 }
@@ -81,13 +81,10 @@ fn check(mem: &mut [u32]) {
 }
 
 // One segment's words.
-fn line(tag: u32, class: u32, place: u32, mutator: u32, kept: u32, handed: u32) {
-    number(tag);
-    number(class);
-    number(place);
-    number(mutator);
-    number(kept);
-    number(handed);
+fn line(words: &[u32]) {
+    for &w in words {
+        number(w);
+    }
     word(b"\n");
 }
 
@@ -96,10 +93,9 @@ fn look(mem: &[u32], title: &[u8]) {
     let mut o = [9u32; STATES];
     expect_ok(looks::states(heap(), mem, &mut o));
     word(title);
-    line(o[0], o[1], o[2], o[3], o[4], o[5]);
-    line(o[6], o[7], o[8], o[9], o[10], o[11]);
-    line(o[12], o[13], o[14], o[15], o[16], o[17]);
-    line(o[18], o[19], o[20], o[21], o[22], o[23]);
+    for words in o.chunks(layout::SEGMENT_RECORD_WORDS) {
+        line(words);
+    }
 }
 
 // Classes 12, 13 and 11: four, two and eight blocks a segment.
@@ -112,9 +108,9 @@ fn begin(mem: &mut [u32]) {
 
 // The first two are filled, and one of class 14 is full at once.
 fn fill(mem: &mut [u32]) {
-    make(mem, 3, 600);
-    make(mem, 4, 600);
-    make(mem, 5, 600);
+    for root in 3..6 {
+        make(mem, root, 600);
+    }
     make(mem, 6, 1024);
     make(mem, 7, 4095);
     look(mem, b"filled\n");
@@ -137,12 +133,9 @@ fn handshakes(mem: &mut [u32]) {
 }
 
 fn trace(mem: &mut [u32]) {
-    step(mem);
-    step(mem);
-    step(mem);
-    step(mem);
-    step(mem);
-    step(mem);
+    for _ in 0..6 {
+        step(mem);
+    }
 }
 
 // Its sweeps: to part, to full and to free.
@@ -209,19 +202,16 @@ fn leave(mem: &mut [u32]) {
 fn third_cycle(mem: &mut [u32]) {
     expect_ok(starting::start(heap(), mem));
     look(mem, b"part ones condemned\n");
-    step(mem);
-    step(mem);
-    step(mem);
-    step(mem);
+    for _ in 0..4 {
+        step(mem);
+    }
 }
 
 // Its sweeps: to free but for that of class 11, which is part again.
 fn last_sweep(mem: &mut [u32]) {
-    step(mem);
-    step(mem);
-    step(mem);
-    step(mem);
-    step(mem);
+    for _ in 0..5 {
+        step(mem);
+    }
     look(mem, b"part ones swept\n");
 }
 

@@ -4,6 +4,7 @@ use mathlib.Core.Path.{◌≡◌, refl, sym, ◌∙◌, ap, subst}
 use mathlib.Core.Option.{Option, none, some}
 use Prim.Native.Nat.{ℕ, zero, suc, ◌+◌, ◌-◌, ◌≤◌, ◌<◌}
 use native.Mathlib.Omega.{arith}
+use Rattle.std.specs.Prelude.{Ok}
 use Rattle.basics.specs.Pick.{one_if}
 use Rattle.layout.specs.declared.Geometry.{Geometry}
 use Rattle.layout.specs.Geometry.{mutator_count, segment_of}
@@ -11,7 +12,6 @@ use Rattle.layout.specs.Mem.{Mem, Sizes, trace_word}
 use Rattle.theory.specs.Phases.{Phase, idle, sync1, sync2, mark, sweep}
 use Rattle.theory.specs.MachineCalls.{sweep_step, step_by}
 use Rattle.theory.proofs.Invariant.{none_some}
-use Rattle.model.specs.declared.Answer.TheVariants.{Ok}
 use Rattle.model.specs.declared.Step.{Step}
 use Rattle.model.specs.declared.Step.TheVariants.{Waiting, Moved, Traced, Swept, Done, Idle, Refused}
 use Rattle.model.specs.Answers.{step_answer_of}
@@ -41,6 +41,7 @@ use Rattle.cycle_bound.proofs.UnmarkedCalls.{was_exec}
 use Rattle.cycle_bound.proofs.Counting.{unmarked_less}
 use Rattle.cycle_bound.proofs.MarkStep.{segment, block, header, traced_unmarked, traced_marked, traced_same, was_traced}
 use Rattle.model.specs.Collector as collector
+use Rattle.model.specs.declared.Answer.TheVariants as call_answer
 
 -- a step that traces, in mark before and after
 pub record Traces (g : Geometry) (m m' : Mem) : Type 0 where
@@ -67,7 +68,7 @@ pub data Advances (g : Geometry) (m m' : Mem) (v : Event) : Type 0 where
 -- ---- the condemned segments
 
 module _ (g : Geometry) (m m' : Mem) (z : Sizes g m) (k : Consistent g m) (v : Event) (a : Acts g m m' v) where
-  same_condemned : (v ≡ start_call Ok → ⊥) → ((s f : ℕ) → v ≡ step_call (Swept s f) → ⊥) → condemned_in g m' ≡ condemned_in g m
+  same_condemned : (v ≡ start_call (Ok call_answer.Done) → ⊥) → ((s f : ℕ) → v ≡ step_call (Swept s f) → ⊥) → condemned_in g m' ≡ condemned_in g m
   same_condemned f h = sum_same _ _ g.segments (λ s l. ap one_if (stays_condemned g m z k s m' v a f (h s)))
 
   one_fewer : (r f : ℕ) → r < g.segments → v ≡ step_call (Swept r f) → condemned_in g m' + 1 ≡ condemned_in g m
@@ -79,7 +80,7 @@ module _ (g : Geometry) (m m' : Mem) (z : Sizes g m) (k : Consistent g m) (v : E
       let w : one_if (is_condemned m' r) ≡ 0 = ap one_if c.1 in
       omega arith
     where
-      other_start : step_call (Swept r f) ≡ start_call Ok → ⊥
+      other_start : step_call (Swept r f) ≡ start_call (Ok call_answer.Done) → ⊥
       other_start q = let y : ◌≡◌ {A = ℕ} 0 1 = cc in omega arith
 
       other_swept : {s b : ℕ} → step_call (Swept s b) ≡ step_call (Swept r f) → s ≡ r

@@ -6,12 +6,12 @@ use mathlib.Core.List.{List, [], ◌∷◌, ◌++◌}
 use Prim.Native.Nat.{ℕ}
 use native.Mathlib.Omega.{arith}
 use lib.ListN.{length}
+use Rattle.std.specs.Prelude.{Ok}
 use Rattle.layout.specs.declared.Geometry.{Geometry}
 use Rattle.layout.specs.Geometry.{wrong_size}
 use Rattle.layout.specs.Mem.{Mem, mem_of}
 use Rattle.layout.proofs.Regions.{sized, right_size}
 use Rattle.theory.specs.Phases.{idle, sync1, in_handshake}
-use Rattle.model.specs.declared.Answer.TheVariants.{Ok}
 use Rattle.model.specs.declared.Step.{Step}
 use Rattle.model.specs.declared.Step.TheVariants.{Waiting, Moved, Traced, Swept, Done, Idle}
 use Rattle.model.specs.Fields.{phase}
@@ -32,6 +32,7 @@ use Rattle.cycle_bound.proofs.Waiting.{waits_only}
 use Rattle.cycle_bound.proofs.Along.{lent, step_promise, Inside, awake, advance, inside_walk}
 use Rattle.cycle_bound.proofs.Bounding.{still_is, from_sync1}
 use Rattle.cycle_bound.proofs.TracedOnce.{belongs_at, distinct_at}
+use Rattle.model.specs.declared.Answer.TheVariants as call_answer
 
 module _ (g : Geometry) where
   -- ---- the start
@@ -43,7 +44,7 @@ module _ (g : Geometry) where
   begun : (words after : List ℕ) (ds : List Element) → InCycle g words after ds → Begun words after ds
   begun words after ds p =
       let m : Mem = mem_of g words in
-      let e : Element = start_element g words Ok after in
+      let e : Element = start_element g words (Ok call_answer.Done) after in
       let c = p.chain in
       let w : next_words words e ≡ after = ahead g words e c.0 (not_refused g words e c.0 refl c.2) in
       let o = every_element g words e p.sized p.consistent c.0 c.1 c.2 in
@@ -71,10 +72,10 @@ module _ (g : Geometry) where
   no_idle m m' v (ends i p h) q = let x : step_call Done ≡ step_call Idle = sym i ∙ q in let y : ◌≡◌ {A = ℕ} 0 1 = cc in omega arith
 
   module _ (words : List ℕ) (e : Element) (ys : List Element) (i : Inside g words (e ∷ ys)) where
-    one_cycle_lem : (e.event ≡ step_call Idle → ⊥) × (e.event ≡ start_call Ok → ⊥)
+    one_cycle_lem : (e.event ≡ step_call Idle → ⊥) × (e.event ≡ start_call (Ok call_answer.Done) → ⊥)
     one_cycle_lem = (no_idle (mem_of g words) (mem_of g (next_words words e)) e.event (advance g words e ys i), no_start_lem)
       where
-        no_start_lem : e.event ≡ start_call Ok → ⊥
+        no_start_lem : e.event ≡ start_call (Ok call_answer.Done) → ⊥
         no_start_lem q =
             let o = every_element g words e i.right i.consistent i.chain.0 i.chain.1 i.chain.2 in
             awake g words e ys i (accepted g (mem_of g words) _ (subst (Acts g (mem_of g words) (mem_of g (next_words words e))) q o.acts)).0
@@ -118,9 +119,9 @@ first_part g [] ys words c = tt
 first_part g (e ∷ xs) ys words c = (c.0, c.1, c.2, first_part g xs ys (next_words words e) c.3)
 
 begins_there : (g : Geometry) (words : List ℕ) (es xs ds ys : List Element) (u v : List ℕ) → wrong_size g (length words) ≡ false → Consistent g (mem_of g words)
-    → Chain g words es → es ≡ xs ++ (start_element g u Ok v ∷ (ds ++ ys)) → DoneLast ds → InCycle g u v ds
+    → Chain g words es → es ≡ xs ++ (start_element g u (Ok call_answer.Done) v ∷ (ds ++ ys)) → DoneLast ds → InCycle g u v ds
 begins_there g words es xs ds ys u v right k c q d =
-    let s : Element = start_element g u Ok v in
+    let s : Element = start_element g u (Ok call_answer.Done) v in
     let w : List ℕ = words_after words xs in
     let a = walk_consistent g xs (s ∷ (ds ++ ys)) words (record { right = right; consistent = k }) (subst (Chain g words) q c) in
     let h = not_refused g w s a.1.0 refl a.1.2 in

@@ -15,8 +15,8 @@ use Rattle.words.proofs.Word.{one_of-not_zero}
 use Rattle.words.proofs.Lists.{at_lt}
 use Rattle.classes.specs.declared.RecordShape.{RecordShape}
 use Rattle.classes.specs.Record.{of_counts, class_of_record}
-use Rattle.classes.specs.declared.SizeClass.{SizeClass}
-use Rattle.classes.specs.declared.SizeClass.TheVariants.{Class, TooBig}
+use Rattle.classes.specs.Class.{SizeClass}
+use Rattle.std.specs.Prelude.{Some, None}
 use Rattle.classes.proofs.Smallest.{class_found}
 use Rattle.layout.specs.declared.Geometry.{Geometry}
 use Rattle.layout.specs.Geometry.{mutator_count, root_count, blocks_in, bitmap_words, mark_bit}
@@ -125,7 +125,7 @@ module _ (g : Geometry) (m : Mem) (c : Ordered g m) (m' : Mem) (k d cl r b : ℕ
 -- ---- the segment that it is taken from
 
 module _ (g : Geometry) (m : Mem) (s : Sizes g m) (c : Ordered g m) (k d cl p n : ℕ) (l : k < mutator_count)
-    (a : is_attached m k ≡ true) (h : d < root_count) (e : class_of_record (of_counts p n) ≡ Class cl) (marking : phase m ≡ mark) where
+    (a : is_attached m k ≡ true) (h : d < root_count) (e : class_of_record (of_counts p n) ≡ Some cl) (marking : phase m ≡ mark) where
   from_taken : (m₁ : Mem) (r : ℕ) → SegmentTaken g m m₁ k cl r → WasUnmarked g m m₁ → WasUnmarked g m (in_segment g m m₁ k d cl r (of_counts p n)).1
   from_taken m₁ r t w =
       let o = in_order g m s c k d cl p n l a h e m₁ r t in
@@ -229,7 +229,7 @@ module _ (g : Geometry) (m : Mem) (s : Sizes g m) (c : Ordered g m) (k d cl p n 
 pub was_make : (g : Geometry) (m : Mem) → Sizes g m → Ordered g m → phase m ≡ mark → (k d p n : ℕ) → refusal (observe m) (c_make k d p n) ≡ 0 → (o : SizeClass)
     → class_of_record (of_counts p n) ≡ o → WasUnmarked g m (of_class m o (λ cl. made g m k d cl (of_counts p n))).1
 unfolding made
-was_make g m s c marking k d p n e (Class cl) q =
+was_make g m s c marking k d p n e (Some cl) q =
     let x = by_ok (observe m) k _ e in
     from_source_lem g m s c k d cl p n x.0 x.1 (root_ok d _ x.3).0 q marking
-was_make g m s c marking k d p n e TooBig q = was_self g m
+was_make g m s c marking k d p n e None q = was_self g m

@@ -1,12 +1,11 @@
 -- Request No. 7, "How long a cycle can be": "After a start that is not refused, over memory that passes the examination, with no opening since and each
 -- call given what the last one left, steps neither refused nor answered waiting, up to and including done, are at most B + C + 4."
-use Rattle.std.specs.Prelude.{◌≡◌, true, false, List, [], ◌∷◌, ◌++◌, ℕ, ◌+◌, ◌-◌, ◌≤◌, ◌<◌, length}
+use Rattle.std.specs.Prelude.{◌≡◌, true, false, List, [], ◌∷◌, ◌++◌, ℕ, ◌+◌, ◌-◌, ◌≤◌, ◌<◌, length, Ok}
 use Rattle.std.proofs.Math.Option.{Option, none, some}
 use Rattle.layout.specs.declared.Geometry.{Geometry}
 use Rattle.layout.specs.Geometry.{wrong_size, mutator_count, mark_bit}
 use Rattle.layout.specs.Mem.{Mem, mem_of, trace_word}
 use Rattle.theory.specs.Phases.{Phase, idle, sync1, sync2, mark, sweep, in_handshake, owes}
-use Rattle.model.specs.declared.Answer.TheVariants.{Ok}
 use Rattle.model.specs.declared.Step.{Step}
 use Rattle.model.specs.declared.Step.TheVariants.{Waiting, Moved, Traced, Done, Idle}
 use Rattle.model.specs.Fields.{phase, trace_count, state, acks, class}
@@ -20,6 +19,7 @@ use Rattle.model.specs.Lists.{start_call, step_call, Element, start_element, wro
 use Rattle.guarantee.specs.Totals.{blocks_in_use}
 use Rattle.cycle_bound.specs.StepsLeft.{counted, condemned_in}
 use Rattle.model.specs.Fields as Fields
+use Rattle.model.specs.declared.Answer.TheVariants as call_answer
 
 -- ---- B
 
@@ -55,7 +55,7 @@ DoneLast ds = (xs ys : List Element) (e : Element) → ds ≡ xs ++ (e ∷ ys) �
 pub record InCycle (g : Geometry) (words after : List ℕ) (ds : List Element) : Type 0 where
   pub sized : wrong_size g (length words) ≡ false
   pub consistent : Consistent g (mem_of g words)
-  pub chain : Chain g words (start_element g words Ok after ∷ ds)
+  pub chain : Chain g words (start_element g words (Ok call_answer.Done) after ∷ ds)
   pub done_last : DoneLast ds
 
 -- ---- "Each traced answer belongs to a different block."
@@ -109,7 +109,7 @@ pub record CycleBound (g : Geometry) (after : List ℕ) (ds : List Element) : Ty
   -- a cycle that is not over has a step left: the far end is reached with done alone
   pub unfinished : (phase (mem_of g (words_after after ds)) ≡ idle → ⊥) → counted ds < used_at_mark g after ds + condemned_in g (mem_of g after) + 4
   -- it is one cycle: no step answers idle, and no start is accepted
-  pub one_cycle : (xs ys : List Element) (e : Element) → ds ≡ xs ++ (e ∷ ys) → (e.event ≡ step_call Idle → ⊥) × (e.event ≡ start_call Ok → ⊥)
+  pub one_cycle : (xs ys : List Element) (e : Element) → ds ≡ xs ++ (e ∷ ys) → (e.event ≡ step_call Idle → ⊥) × (e.event ≡ start_call (Ok call_answer.Done) → ⊥)
   pub belongs : (xs ys : List Element) (e : Element) → ds ≡ xs ++ (e ∷ ys) → e.event ≡ step_call Traced
       → (became : Mem) × (at_mark g after ds ≡ some became) × BelongsTo g became (mem_of g e.before) (mem_of g e.after)
   pub distinct : (xs ys zs : List Element) (d e : Element) → ds ≡ xs ++ (d ∷ (ys ++ (e ∷ zs))) → d.event ≡ step_call Traced → e.event ≡ step_call Traced
@@ -125,6 +125,6 @@ EveryCycle = (g : Geometry) (words after : List ℕ) (ds : List Element) → InC
 -- every start that is not refused begins such a cycle: in every list over memory that passes the examination, and so in every list from an opening
 pub record EveryStartBegins : Type 0 where
   pub anywhere : (g : Geometry) (words : List ℕ) (es xs ds ys : List Element) (u v : List ℕ) → wrong_size g (length words) ≡ false → Consistent g (mem_of g words)
-      → Chain g words es → es ≡ xs ++ (start_element g u Ok v ∷ (ds ++ ys)) → DoneLast ds → InCycle g u v ds
+      → Chain g words es → es ≡ xs ++ (start_element g u (Ok call_answer.Done) v ∷ (ds ++ ys)) → DoneLast ds → InCycle g u v ds
   pub from_opening : (g : Geometry) (words : List ℕ) (w : Ghost) (es xs ds ys : List Element) (u v : List ℕ) → Begins g words w
-      → Chain g words es → es ≡ xs ++ (start_element g u Ok v ∷ (ds ++ ys)) → DoneLast ds → InCycle g u v ds
+      → Chain g words es → es ≡ xs ++ (start_element g u (Ok call_answer.Done) v ∷ (ds ++ ys)) → DoneLast ds → InCycle g u v ds

@@ -28,10 +28,10 @@ pub fn put_number(buf: &mut [u8], at: usize, n: u32) -> usize
     ensures { (result ≡ at + length (decimal n)) × (buf.new ≡ placed buf.old at (decimal n)) }
 {
     if n < 10 {
-        buf[at] = 48 + n as u8;
+        buf[at] = b'0' + n as u8;
         return at + 1;
     }
     let next = put_number(buf, at, n / 10);
-    buf[next] = 48 + (n % 10) as u8;
+    buf[next] = b'0' + (n % 10) as u8;
     next + 1
 }

@@ -2,8 +2,10 @@
 // the word put back yes; words that bind nothing hold junk and are answered yes. Each line says what was changed.
 #![tactic(auto)]
 
+ghost use Rattle.std.specs.Prelude.{◌^◌, ◌<◌};
+
 use layout::Geometry;
-use model::{Answer, Examined, Step};
+use model::{Answer, Refusal, Step};
 use perform::Request;
 
 fn word(text: &[u8]) {
@@ -22,9 +24,9 @@ fn say(mem: &[u32], text: &[u8]) {
     let mut scratch = [7u32; SCRATCH];
     word(text);
     match examining::examine(heap(), mem, &mut scratch) {
-        Examined::Yes => word(b": yes\n"),
-        Examined::No => word(b": no\n"),
-        Examined::Refused(n) => word(b": refused\n"),
+        Ok(true) => word(b": yes\n"),
+        Ok(false) => word(b": no\n"),
+        Err(_) => word(b": refused\n"),
     }
 }
 
@@ -49,47 +51,39 @@ fn put(mem: &mut [u32], i: usize, v: u32) -> u32 {
     0
 }
 
-// The two counts of segment 0.
-fn first_counts(mem: &mut [u32], kept: u32, handed: u32) {
-    put(mem, SEGMENTS + layout::KEPT_AT, kept);
-    put(mem, SEGMENTS + layout::HANDED_AT, handed);
+// The two counts of the segment whose record begins at a place become these; what they were.
+fn put_counts(mem: &mut [u32], from: usize, kept: u32, handed: u32) -> (u32, u32)
+    requires { from < 2 ^ 32 }
+{
+    let old_kept = put(mem, from + layout::KEPT_AT, kept);
+    (old_kept, put(mem, from + layout::HANDED_AT, handed))
 }
 
-// The two counts of segment 1.
-fn second_counts(mem: &mut [u32], kept: u32, handed: u32) {
-    put(mem, SECOND + layout::KEPT_AT, kept);
-    put(mem, SECOND + layout::HANDED_AT, handed);
-}
-
-// A word of segment 0 becomes v, with counts that fit it, so that these are not what is wrong; then all is put back.
-fn first_broken(mem: &mut [u32], kept: u32, handed: u32, i: usize, v: u32, text: &[u8]) {
-    first_counts(mem, kept, handed);
+// A word of a segment becomes v, with counts that fit it, so that these are not what is wrong; then all is put back.
+fn broken_with(mem: &mut [u32], from: usize, kept: u32, handed: u32, i: usize, v: u32, text: &[u8])
+    requires { from < 2 ^ 32 }
+{
+    let (old_kept, old_handed) = put_counts(mem, from, kept, handed);
     let old = put(mem, i, v);
     say(mem, text);
     put(mem, i, old);
-    first_counts(mem, 0, 4);
+    put_counts(mem, from, old_kept, old_handed);
     say(mem, b"  put back");
 }
 
-// The same of segment 1.
-fn second_broken(mem: &mut [u32], kept: u32, handed: u32, i: usize, v: u32, text: &[u8]) {
-    second_counts(mem, kept, handed);
-    let old = put(mem, i, v);
-    say(mem, text);
-    put(mem, i, old);
-    second_counts(mem, 0, 2);
-    say(mem, b"  put back");
+// A call's answer, which says nothing where the call is done.
+fn expect_done(a: Result<Answer, Refusal>) {
+    match a {
+        Ok(Answer::Done) => {}
+        Ok(Answer::Number(_)) => word(b"number\n"),
+        Ok(Answer::Same(_)) => word(b"same\n"),
+        Ok(Answer::Shape(_)) => word(b"shape\n"),
+        Err(_) => word(b"refused\n"),
+    }
 }
 
 fn ask(mem: &mut [u32], request: Request) {
-    let a = perform::perform(heap(), mem, request);
-    match a {
-        Answer::Ok => {}
-        Answer::Number(v) => word(b"number\n"),
-        Answer::Same(b) => word(b"same\n"),
-        Answer::Shape(s) => word(b"shape\n"),
-        Answer::Refused(n) => word(b"refused\n"),
-    }
+    expect_done(perform::perform(heap(), mem, request));
 }
 
 fn make(mem: &mut [u32], root: u32, pointers: u32, values: u32) {
@@ -135,19 +129,12 @@ fn step(mem: &mut [u32]) {
 }
 
 fn begin(mem: &mut [u32]) {
-    let a = starting::start(heap(), mem);
-    match a {
-        Answer::Ok => {}
-        Answer::Number(v) => word(b"number\n"),
-        Answer::Same(b) => word(b"same\n"),
-        Answer::Shape(s) => word(b"shape\n"),
-        Answer::Refused(n) => word(b"refused\n"),
-    }
+    expect_done(starting::start(heap(), mem));
 }
 
 // Segment 0 is full of four records of class 12, the first pointing to the second.
 fn fill(mem: &mut [u32]) {
-    opening::open(heap(), mem);
+    expect_done(opening::open(heap(), mem));
     ask(mem, Request::Attach { mutator: 0 });
     make(mem, 0, 1, 600);
     make(mem, 1, 1, 600);
@@ -200,8 +187,9 @@ const SCRATCH: usize = 2 * (layout::MARK_WORDS + layout::MARK_WORDS + layout::MO
 fn tree_cases(mem: &mut [u32]) {
     say(mem, b"a heap in idle");
     broken(mem, 0, 5, b"a phase over sweep");
-    second_broken(
+    broken_with(
         mem,
+        SECOND,
         32,
         0,
         SECOND_BITMAP,
@@ -218,8 +206,9 @@ fn bit_counts(mem: &mut [u32]) {
         4294967294,
         b"a full segment's bits without its counts",
     );
-    first_broken(
+    broken_with(
         mem,
+        SEGMENTS,
         3,
         1,
         BITMAPS,
@@ -252,24 +241,27 @@ fn count_cases(mem: &mut [u32]) {
 
 // Segment records and stacks.
 fn segment_cases(mem: &mut [u32]) {
-    first_broken(
+    broken_with(
         mem,
+        SEGMENTS,
         0,
         3,
         SEGMENTS + layout::PLACE_AT,
         3,
         b"a full segment's place",
     );
-    second_broken(
+    broken_with(
         mem,
+        SECOND,
         0,
         1024,
         SECOND + layout::PLACE_AT,
         1025,
         b"a held segment's place past its blocks",
     );
-    second_broken(
+    broken_with(
         mem,
+        SECOND,
         0,
         0,
         SECOND + layout::PLACE_AT,
@@ -401,9 +393,9 @@ fn trace_cases(mem: &mut [u32]) {
 // No entry twice; then the phase is mark, and two records are traced.
 fn entry_cases(mem: &mut [u32]) {
     broken(mem, TRACE + 1, 1, b"an entry twice");
-    step(mem);
-    step(mem);
-    step(mem);
+    for _ in 0..3 {
+        step(mem);
+    }
 }
 
 // Marks of blocks in use only, and covered roots.
@@ -480,7 +472,7 @@ fn condemned_places(mem: &mut [u32]) {
     );
     put(mem, BITMAPS, 4294967291);
     put(mem, SEGMENTS + layout::PLACE_AT, 0);
-    first_counts(mem, 3, 0);
+    put_counts(mem, SEGMENTS, 3, 0);
     say(mem, b"a condemned segment that was part");
 }
 

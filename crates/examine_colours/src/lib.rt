@@ -49,15 +49,14 @@ fn entries_behind(g: Geometry, mem: &[u32], n: usize, scratch: &mut [u32]) -> bo
 }
 
 // The n words behind the first n are copied to the front.
+// Kept: a loop over indices, since `copy_from_slice` asks the C library for memmove, and the archive asks for memset alone (docs/LINKING.md).
 fn copy_to_front(n: usize, scratch: &mut [u32])
     requires { n + n ≤ length scratch.old }
     ensures { take n scratch.new ≡ take n (drop n scratch.old) }
 {
-    let mut i: usize = 0;
-    while i < n {
+    for i in 0..n {
         let from = n + i;
         scratch[i] = scratch[from];
-        i += 1;
     }
 }
 
@@ -99,12 +98,10 @@ fn covered(g: Geometry, mem: &[u32], n: usize, scratch: &mut [u32]) -> bool
     requires { Room g mem.now n scratch.old × BitsOf g (mem_of g mem.now) (Live (mem_of g mem.now)) (take n scratch.old) }
     ensures { Decides result (Coloured g (mem_of g mem.now)) }
 {
-    let ok = entries_behind(g, mem, n, scratch);
-    if !ok {
+    if !entries_behind(g, mem, n, scratch) {
         return false;
     }
-    let roots = roots_in(g, mem, n, scratch);
-    if !roots {
+    if !roots_in(g, mem, n, scratch) {
         return false;
     }
     pointers_in(g, mem, n, scratch)
@@ -116,8 +113,7 @@ pub fn tricolour(g: Geometry, mem: &[u32], scratch: &mut [u32]) -> bool
     ensures { Decides result (Coloured g (mem_of g mem.now)) }
 {
     let n = front(g);
-    let ok = live_behind(g, mem, n, scratch);
-    if !ok {
+    if !live_behind(g, mem, n, scratch) {
         return false;
     }
     copy_to_front(n, scratch);
@@ -130,8 +126,7 @@ pub fn swept(g: Geometry, mem: &[u32], scratch: &mut [u32]) -> bool
     ensures { Decides result (SweptOk g (mem_of g mem.now)) }
 {
     let n = front(g);
-    let ok = reached_behind(g, mem, n, scratch);
-    if !ok {
+    if !reached_behind(g, mem, n, scratch) {
         return false;
     }
     marks_in(g, mem, n, scratch)

@@ -15,11 +15,10 @@ ghost use Rattle.layout.specs.Region as Region;
 
 use examine_search::{Edges, Source};
 use layout::Geometry;
-use marks::Bit;
 use model::Segment;
 
 // What is asked of each record of a set: that its pointers are covered if it is marked, or that it is marked if its segment is in the collect set.
-#[derive(Drop)]
+// Kept: `Judged` holds it as a value, and what is asked stands in one match; a closure in its place would be passed through four functions.
 #[derive(Clone, Copy)]
 pub enum Asked {
     Pointers,
@@ -45,11 +44,10 @@ fn fine(g: Geometry, mem: &[u32], cover: &[u32], w: u32) -> bool
     if w == 0 {
         return true;
     }
-    let at = (w - 1) as usize;
-    match examine_record::test(g, mem, at) {
-        Bit::Torn => false,
-        Bit::At(k) => fine_bit(g, mem, cover, k),
-    }
+    let Some(k) = examine_record::test(g, mem, (w - 1) as usize) else {
+        return false;
+    };
+    fine_bit(g, mem, cover, k)
 }
 
 // Whether every word of a run is nil or names a record that passes the test and is covered.
@@ -64,14 +62,11 @@ fn fine_run(
     requires { (Sized g (length mem.now)) × (len g Region.marks ≤ length cover.now) × (from + count ≤ length_of source g) }
     ensures { Decides result (FineRun g (mem_of g mem.now) cover.now (words_of source (mem_of g mem.now)) from count) }
 {
-    let mut f: usize = 0;
-    while f < count {
+    for f in 0..count {
         let w = examine_search::word(g, mem, source, from + f);
-        let ok = fine(g, mem, cover, w);
-        if !ok {
+        if !fine(g, mem, cover, w) {
             return false;
         }
-        f += 1;
     }
     true
 }
@@ -96,15 +91,7 @@ pub fn mutators_fine(g: Geometry, mem: &[u32], cover: &[u32]) -> bool
     requires { (Sized g (length mem.now)) × (len g Region.marks ≤ length cover.now) }
     ensures { Decides result ((k : ℕ) → k < mutator_count → RootsFine g (mem_of g mem.now) cover.now k) }
 {
-    let mut k: u32 = 0;
-    while k < layout::MUTATORS {
-        let ok = mutator_fine(g, mem, cover, k);
-        if !ok {
-            return false;
-        }
-        k += 1;
-    }
-    true
+    (0..layout::MUTATORS).all(|k| mutator_fine(g, mem, cover, k))
 }
 
 // Whether the pointers of the record at a word are covered.
@@ -182,14 +169,11 @@ fn segment_judged(
 {
     let blocks = layout::blocks_in(g, class) as usize;
     let words = classes::block_words(class);
-    let mut b: usize = 0;
     let mut at = layout::word_in(g, s, 0);
-    while b < blocks {
-        let ok = block_judged(g, mem, asked, bits, cover, s, at);
-        if !ok {
+    for b in 0..blocks {
+        if !block_judged(g, mem, asked, bits, cover, s, at) {
             return false;
         }
-        b += 1;
         at += words;
     }
     true
@@ -212,14 +196,5 @@ pub fn judged(g: Geometry, mem: &[u32], asked: Asked, bits: &[u32], cover: &[u32
     requires { (Sized g (length mem.now)) × (len g Region.marks ≤ length cover.now) × Known g (mem_of g mem.now) bits.now }
     ensures { Decides result (Judged asked g (mem_of g mem.now) bits.now cover.now) }
 {
-    let n = g.segments;
-    let mut s: usize = 0;
-    while s < n {
-        let ok = any_judged(g, mem, asked, bits, cover, s);
-        if !ok {
-            return false;
-        }
-        s += 1;
-    }
-    true
+    (0..g.segments).all(|s| any_judged(g, mem, asked, bits, cover, s))
 }

@@ -42,6 +42,7 @@ fn head(g: Geometry, mem: &[u32], at: usize, s: usize) -> bool
 }
 
 // Whether the bits of segment s are asked of: those of every segment, or of the condemned ones only.
+// Kept: `MarksIn`, `BitFine` and `Asked` hold the bool as a value.
 fn asked(g: Geometry, mem: &[u32], s: usize, condemned_only: bool) -> bool
     requires { (Sized g (length mem.now)) × (s < g.segments) }
     ensures { Decides result (Asked condemned_only (mem_of g mem.now) s) }
@@ -58,14 +59,12 @@ fn bit_fine(g: Geometry, mem: &[u32], k: usize, condemned_only: bool) -> bool
     requires { (Sized g (length mem.now)) × (k < g.segments * most_blocks g) × Classes g (mem_of g mem.now) }
     ensures { Decides result (BitFine condemned_only g (mem_of g mem.now) k) }
 {
-    let set = marks::is_set(g, mem, k);
-    if !set {
+    if !marks::is_set(g, mem, k) {
         return true;
     }
     let at = k * classes::block_words(classes::FIRST_CLASS);
     let s = layout::segment_of(g, at);
-    let ask = asked(g, mem, s, condemned_only);
-    if !ask {
+    if !asked(g, mem, s, condemned_only) {
         return true;
     }
     head(g, mem, at, s)
@@ -79,13 +78,10 @@ fn word_fine(g: Geometry, mem: &[u32], q: usize, condemned_only: bool) -> bool
     if layout::mark(g, mem, q) == 0 {
         return true;
     }
-    let mut i = 0;
-    while i < 32 {
-        let ok = bit_fine(g, mem, q * 32 + i, condemned_only);
-        if !ok {
+    for i in 0..32 {
+        if !bit_fine(g, mem, q * 32 + i, condemned_only) {
             return false;
         }
-        i += 1;
     }
     true
 }
@@ -96,13 +92,10 @@ pub fn marks(g: Geometry, mem: &[u32], condemned_only: bool) -> bool
     ensures { Decides result (MarksIn condemned_only g (mem_of g mem.now)) }
 {
     let words = layout::trace_words(g) / 32;
-    let mut q = 0;
-    while q < words {
-        let ok = word_fine(g, mem, q, condemned_only);
-        if !ok {
+    for q in 0..words {
+        if !word_fine(g, mem, q, condemned_only) {
             return false;
         }
-        q += 1;
     }
     true
 }

@@ -2,3 +2,4 @@
 pub mod Tests
 pub mod Records
 pub mod Tables
+pub mod From

@@ -1,41 +1,29 @@
 -- A segment's record, one return at a time: what its tag asks of its other words and of its bits.
 use mathlib.Core.Path.{◌≡◌, sym, ◌∙◌, ap, subst}
-use mathlib.Core.Bool.{Bool, true, false, not}
+use mathlib.Core.Bool.{Bool, false, not}
 use mathlib.Core.Logic.{◌⊎◌, inl, inr}
 use Prim.Native.Nat.{ℕ, ◌+◌, ◌≤◌, ◌<◌}
 use native.Mathlib.Omega.{arith}
-use lib.Dec.{eqb, leb}
+use lib.Dec.{eqb}
 use borrow.Author.Tests.{lt-ltb, le-ltb}
 use Rattle.basics.specs.Decides.{Decides}
 use Rattle.basics.specs.Pick.{pick}
-use Rattle.basics.proofs.Deciding.{fails, via, refuted}
+use Rattle.basics.proofs.Deciding.{fails, via}
 use Rattle.basics.proofs.Order.{le_or_lt}
 use Rattle.words.specs.Bits.{bit_at, ones_among}
 use Rattle.words.proofs.Counts.{zero_less, one_missing, one_there, none_one}
-use Rattle.classes.specs.Class.{first_class, class_count}
+use Rattle.classes.specs.Class.{IsClass, first_class, class_count}
 use Rattle.layout.specs.declared.Geometry.{Geometry}
-use Rattle.layout.specs.Geometry.{mutator_count, blocks_in}
+use Rattle.layout.specs.Geometry.{blocks_in}
 use Rattle.layout.specs.Mem.{Mem}
-use Rattle.model.specs.Fields.{absent, state, holding, tag, class, place, owner}
+use Rattle.model.specs.Fields.{tag, class, place}
 use Rattle.model.specs.Segments.{bitmap, used_bit}
 use Rattle.model.specs.Consistent.{SegmentOk, Occupied}
 use Rattle.model_laws.proofs.Segments.{used_small}
 use Rattle.bitmaps.specs.Given.{used_bits}
-use Rattle.examine_parts.specs.Parts.{Cleared, Open, Owned, Used, SegmentParts}
-use Rattle.examine_parts.proofs.Tests.{eq_decides, le_decides, ne_decides}
+use Rattle.examine_parts.specs.Parts.{Open, Owned, Used, SegmentParts}
+use Rattle.examine_parts.proofs.Tests.{ne_decides}
 use Rattle.model.specs.Tag as Tag
-
--- ---- a free segment's words; c, p and o are its class, its place and its mutator
-
-module _ (m : Mem) (s c p o : ℕ) (x : c ≡ class m s) (y : p ≡ place m s) (z : o ≡ owner m s) where
-  pub cleared_class : (c ≡ 0 → ⊥) → Decides false (Cleared m s)
-  cleared_class f = fails (λ q. f (x ∙ q.0))
-
-  pub cleared_place : (p ≡ 0 → ⊥) → Decides false (Cleared m s)
-  cleared_place f = fails (λ q. f (y ∙ q.1))
-
-  pub cleared_owner : c ≡ 0 → p ≡ 0 → Decides (eqb o 0) (Cleared m s)
-  cleared_owner a b = via (λ e. (sym x ∙ a, sym y ∙ b, sym z ∙ e)) (λ q. z ∙ q.2) (eq_decides o 0)
 
 -- ---- a free block and one in use; u blocks of n are in use
 
@@ -73,106 +61,12 @@ module _ (g : Geometry) (m : Mem) (s c p u n : ℕ) (x : p ≡ place m s) (y : u
           let a = among in
           omega arith
 
--- ---- the mutator of a held segment; k is it, t its state, h what it holds
-
-module _ (m : Mem) (s c k : ℕ) (x : k ≡ owner m s) where
-  pub owned_outside : mutator_count ≤ k → Decides false (Owned m s c)
-  owned_outside l = fails (λ q. let a = q.0 in omega arith)
-
-  pub owned_absent : (t : ℕ) → t ≡ state m k → t ≡ absent → Decides false (Owned m s c)
-  owned_absent t y e = fails (λ q. q.1 (ap (state m) (sym x) ∙ sym y ∙ e))
-
-  pub owned_there : k < mutator_count → (t : ℕ) → t ≡ state m k → (t ≡ absent → ⊥) → (h : ℕ) → h ≡ holding m k c → Decides (eqb h (s + 1)) (Owned m s c)
-  owned_there l t y f h z =
-      via
-      (λ e. (subst (λ v. v < mutator_count) x l, (λ q. f (y ∙ ap (state m) x ∙ q)), ap (λ v. holding m v c) (sym x) ∙ sym z ∙ e ∙ omega arith))
-      (λ q. z ∙ ap (λ v. holding m v c) x ∙ q.2 ∙ omega arith) (eq_decides h (s + 1))
-
--- ---- a segment that is not free
-
-module _ (g : Geometry) (m : Mem) (s t c : ℕ) where
-  module _ (some : 1 ≤ t) (other : t ≡ Tag.held → ⊥) (k : ℕ) (x : k ≡ owner m s) where
-    pub used_owner : (k ≡ 0 → ⊥) → Decides false (Used g m s t c)
-    used_owner f = fails (λ q. f (x ∙ q.unowned other))
-
-    pub used_part : k ≡ 0 → t ≡ Tag.part → (r : Bool) → Decides r (Open g m s c) → Decides r (Used g m s t c)
-    used_part e h r d =
-        via
-        (λ o. record {
-          held = λ a. absurd (other a);
-          unowned = λ _. sym x ∙ e;
-          opened = λ _. o;
-          filled = λ l. absurd (omega arith);
-          within = λ l. absurd (omega arith);
-        })
-        (λ q. q.opened (omega arith)) d
-
-    pub used_full : k ≡ 0 → t ≡ Tag.full → (p b : ℕ) → p ≡ place m s → b ≡ blocks_in g c → Decides (eqb p b) (Used g m s t c)
-    used_full e h p b y z =
-        via
-        (λ o. record {
-          held = λ a. absurd (other a);
-          unowned = λ _. sym x ∙ e;
-          opened = λ l. absurd (omega arith);
-          filled = λ _. sym y ∙ o ∙ z;
-          within = λ l. absurd (omega arith);
-        })
-        (λ q. y ∙ q.filled h ∙ sym z) (eq_decides p b)
-
-    pub used_condemned : k ≡ 0 → (t ≡ Tag.part → ⊥) → (t ≡ Tag.full → ⊥) → (p b : ℕ) → p ≡ place m s → b ≡ blocks_in g c → Decides (leb p b) (Used g m s t c)
-    used_condemned e h f p b y z =
-        via
-        (λ o. record {
-          held = λ a. absurd (other a);
-          unowned = λ _. sym x ∙ e;
-          opened = λ l. absurd (omega arith);
-          filled = λ a. absurd (f a);
-          within = λ _. omega arith;
-        })
-        (λ q. let l = q.within (omega arith) in omega arith) (le_decides p b)
-
-  pub used_stranger : t ≡ Tag.held → (r : Bool) → Decides r (Owned m s c) → r ≡ false → Decides false (Used g m s t c)
-  used_stranger e r d h = fails (λ q. refuted d h (q.held e))
-
-  pub used_held : t ≡ Tag.held → (r : Bool) → Decides r (Owned m s c) → r ≡ true → (b : Bool) → Decides b (Open g m s c) → Decides b (Used g m s t c)
-  used_held e r d h b o =
-      via
-      (λ w. record {
-        held = λ _. d.sound h;
-        unowned = λ f. absurd (f e);
-        opened = λ _. w;
-        filled = λ l. absurd (omega arith);
-        within = λ l. absurd (omega arith);
-      })
-      (λ q. q.opened (omega arith)) o
-
 -- ---- a segment; t is its tag
 
 module _ (g : Geometry) (m : Mem) (s t : ℕ) (x : t ≡ tag m s) where
-  pub segment_free : t ≡ Tag.free → (r : Bool) → Decides r (Cleared m s) → Decides r (SegmentParts g m s)
-  segment_free e r d = via (λ q. (ok q, (λ l h. absurd (omega arith)))) (λ q. q.0.free (sym x ∙ e)) d
-    where
-      ok : Cleared m s → SegmentOk g m s
-      ok q = record {
-        tags = omega arith;
-        free = λ _. q;
-        unowned = λ _. q.2;
-        classes = λ f. absurd (f (sym x ∙ e));
-        remains = λ l h. absurd (omega arith);
-        full = λ h. absurd (omega arith);
-        condemned = λ h. absurd (omega arith);
-        held = λ h. absurd (omega arith);
-      }
-
-  pub segment_past : Tag.condemned < t → Decides false (SegmentParts g m s)
-  segment_past l = fails (λ q. let a = q.0.tags in omega arith)
-
   module _ (used : t ≡ Tag.free → ⊥) (c : ℕ) (y : c ≡ class m s) where
-    pub segment_below : c < first_class → Decides false (SegmentParts g m s)
-    segment_below l = fails (λ q. let a = q.0.classes (λ e. used (x ∙ e)) in let b = a.0 in omega arith)
-
-    pub segment_above : first_class + class_count ≤ c → Decides false (SegmentParts g m s)
-    segment_above l = fails (λ q. let a = q.0.classes (λ e. used (x ∙ e)) in let b = a.1 in omega arith)
+    pub segment_unclassed : (IsClass c → ⊥) → Decides false (SegmentParts g m s)
+    segment_unclassed f = fails (λ q. f (subst IsClass (sym y) (q.0.classes (λ e. used (x ∙ e)))))
 
     pub segment_used : t ≤ Tag.condemned → first_class ≤ c → c < first_class + class_count → (r : Bool) → Decides r (Used g m s t c) → Decides r (SegmentParts g m s)
     segment_used l a b r d = via (λ q. (ok q, occ q)) from d

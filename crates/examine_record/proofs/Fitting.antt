@@ -1,6 +1,6 @@
 -- Whether a record of so many fields is of a class, by the words of the class's block: it holds the record, and half of it does not.
 use mathlib.Core.Path.{◌≡◌, refl, ap, subst}
-use mathlib.Core.Bool.{Bool, true, false}
+use mathlib.Core.Bool.{Bool}
 use mathlib.Core.Logic.{◌⊎◌, inl, inr}
 use Prim.Native.Nat.{ℕ, zero, suc, ◌/◌, ◌^◌, ◌≤◌, ◌<◌}
 use native.Mathlib.Nat.{lt_of_le_of_lt}
@@ -9,37 +9,29 @@ use lib.Dec.{leb}
 use lib.Pow.{pow_mono}
 use borrow.Author.Tests.{leb-true, le-leb}
 use Rattle.basics.specs.Decides.{Decides}
-use Rattle.basics.proofs.Deciding.{holds, fails}
 use Rattle.basics.proofs.Order.{le_or_lt}
-use Rattle.classes.specs.Class.{first_class, class_count, IsClass, block_words, record_bytes, class_of}
+use Rattle.classes.specs.Class.{first_class, class_count, IsClass, block_words, record_bytes, class_of, SizeClass}
 use Rattle.classes.specs.Record.{field_count_of, class_of_record}
 use Rattle.classes.specs.declared.RecordShape.{RecordShape}
-use Rattle.classes.specs.declared.SizeClass.{SizeClass}
-use Rattle.classes.specs.declared.SizeClass.TheVariants.{Class, TooBig}
-use Rattle.classes.proofs.Smallest.{is_smallest, too_big, class_holds}
+use Rattle.std.specs.Prelude.{Some, None}
+use Rattle.classes.proofs.Smallest.{is_smallest, too_big}
 
 module _ (f c : ℕ) (k : IsClass c) where
   -- held by its block, and by no smaller one
-  found : f < block_words c → ((j : ℕ) → first_class ≤ j → j < c → 2 ^ j < record_bytes f) → class_of f ≡ Class c
+  found : f < block_words c → ((j : ℕ) → first_class ≤ j → j < c → 2 ^ j < record_bytes f) → class_of f ≡ Some c
   found h least = go (class_of f) refl
     where
-      same : (x : ℕ) → class_of f ≡ Class x → (x ≤ c) ⊎ (c < x) → (c ≤ x) ⊎ (x < c) → Class x ≡ Class c
-      same x e (inl a) (inl b) = let z : x ≡ c = omega arith in ap Class z
+      same : (x : ℕ) → class_of f ≡ Some x → (x ≤ c) ⊎ (c < x) → (c ≤ x) ⊎ (x < c) → Some x ≡ Some c
+      same x e (inl a) (inl b) = let z : x ≡ c = omega arith in ap Some z
       same x e (inl a) (inr b) = let s = (is_smallest class_count first_class (record_bytes f) x e).1 in absurd (let u = s.holds in let v = least x s.from b in omega arith)
       same x e (inr a) b = let s = (is_smallest class_count first_class (record_bytes f) x e).1 in absurd (let u = s.least c k.0 a in omega arith)
 
-      go : (x : SizeClass) → class_of f ≡ x → x ≡ Class c
-      go TooBig e = absurd (let u = too_big class_count first_class (record_bytes f) e c k.0 k.1 in omega arith)
-      go (Class x) e = same x e (le_or_lt x c) (le_or_lt c x)
-
-  not_held : block_words c ≤ f → Decides false (class_of f ≡ Class c)
-  not_held h = fails (λ e. let l = class_holds f c e in omega arith)
-
-  of_first : f < block_words c → c ≡ first_class → Decides true (class_of f ≡ Class c)
-  of_first h e = holds (found h (λ j l m. absurd (omega arith)))
+      go : (x : SizeClass) → class_of f ≡ x → x ≡ Some c
+      go None e = absurd (let u = too_big class_count first_class (record_bytes f) e c k.0 k.1 in omega arith)
+      go (Some x) e = same x e (le_or_lt x c) (le_or_lt c x)
 
 -- the block of class d + 1 is twice that of class d
-of_half : (f d : ℕ) → IsClass (suc d) → f < block_words (suc d) → (suc d ≡ first_class → ⊥) → Decides (leb (block_words (suc d) / 2) f) (class_of f ≡ Class (suc d))
+of_half : (f d : ℕ) → IsClass (suc d) → f < block_words (suc d) → (suc d ≡ first_class → ⊥) → Decides (leb (block_words (suc d) / 2) f) (class_of f ≡ Some (suc d))
 of_half f d k h n = record {
   sound = λ t.
       let l = leb-true (block_words (suc d) / 2) f t in
@@ -50,21 +42,15 @@ of_half f d k h n = record {
       le-leb (block_words (suc d) / 2) f (omega arith);
 }
 
-half_of : (f c : ℕ) → IsClass c → f < block_words c → (c ≡ first_class → ⊥) → Decides (leb (block_words c / 2) f) (class_of f ≡ Class c)
+half_of : (f c : ℕ) → IsClass c → f < block_words c → (c ≡ first_class → ⊥) → Decides (leb (block_words c / 2) f) (class_of f ≡ Some c)
 half_of f zero k h n = absurd (let l = k.0 in omega arith)
 half_of f (suc d) k h n = of_half f d k h n
 
 -- ---- by the values that the code has in hand
 
 module _ (s s' : RecordShape) (e : s ≡ s') (c w : ℕ) (k : IsClass c) (is : w ≡ block_words c) where
-  there : {r : Bool} → Decides r (class_of_record s ≡ Class c) → Decides r (class_of_record s' ≡ Class c)
-  there {r} d = subst (λ x. Decides r (class_of_record x ≡ Class c)) e d
+  there : {r : Bool} → Decides r (class_of_record s ≡ Some c) → Decides r (class_of_record s' ≡ Some c)
+  there {r} d = subst (λ x. Decides r (class_of_record x ≡ Some c)) e d
 
-  pub too_large : w ≤ field_count_of s → Decides false (class_of_record s' ≡ Class c)
-  too_large h = there (not_held (field_count_of s) c k (omega arith))
-
-  pub in_first : field_count_of s < w → c ≡ first_class → Decides true (class_of_record s' ≡ Class c)
-  in_first h q = there (of_first (field_count_of s) c k (omega arith) q)
-
-  pub by_half : field_count_of s < w → (c ≡ first_class → ⊥) → Decides (leb (w / 2) (field_count_of s)) (class_of_record s' ≡ Class c)
+  pub by_half : field_count_of s < w → (c ≡ first_class → ⊥) → Decides (leb (w / 2) (field_count_of s)) (class_of_record s' ≡ Some c)
   by_half h q = there (rw is (half_of (field_count_of s) c k (omega arith) q))

@@ -15,7 +15,7 @@ use Rattle.words.specs.Bits.{bit_at}
 use Rattle.words.proofs.Trees.{words_in}
 use Rattle.classes.specs.Class.{block_words, first_class, class_test}
 use Rattle.classes.specs.Record.{class_of_record}
-use Rattle.classes.specs.declared.SizeClass.TheVariants.{Class}
+use Rattle.std.specs.Prelude.{Some}
 use Rattle.classes.proofs.Every.{class_passed, class_passes}
 use Rattle.layout.specs.declared.Geometry.{Geometry}
 use Rattle.layout.specs.Geometry.{Sized, len, from, segment_words, most_blocks, blocks_in, bitmap_words, segment_of, mark_bit}
@@ -76,17 +76,17 @@ module _ (g : Geometry) (m : Mem) (at s c : ℕ) (es : s ≡ segment_of g at) (k
   pub not_used : (used_bit g m s (o / w) ≡ 1 → ⊥) → RecordOk g m at → ⊥
   not_used f r = f (used_is ∙ r.block)
 
-  pub not_sized : (class_of_record (shape_of m at) ≡ Class c → ⊥) → RecordOk g m at → ⊥
-  not_sized f r = f (r.sized ∙ ap Class (sym class_is))
+  pub not_sized : (class_of_record (shape_of m at) ≡ Some c → ⊥) → RecordOk g m at → ⊥
+  not_sized f r = f (r.sized ∙ ap Some (sym class_is))
 
-  pub passes : at < len g Region.heap → o % w ≡ 0 → used_bit g m s (o / w) ≡ 1 → class_of_record (shape_of m at) ≡ Class c → (b : ℕ) → b ≡ mark_bit at → RecordOk g m at × (b ≡ mark_bit at)
+  pub passes : at < len g Region.heap → o % w ≡ 0 → used_bit g m s (o / w) ≡ 1 → class_of_record (shape_of m at) ≡ Some c → (b : ℕ) → b ≡ mark_bit at → RecordOk g m at × (b ≡ mark_bit at)
   passes l a u q b e = (
     record {
       inside = l;
       used = λ f. k.used (ap (tag m) es ∙ f);
       aligned = sym head_is ∙ a;
       block = sym used_is ∙ u;
-      sized = q ∙ ap Class class_is;
+      sized = q ∙ ap Some class_is;
     },
     e,
   )

@@ -1,13 +1,11 @@
 -- What the test of a word answers, and what it has found on the way.
-use Rattle.std.specs.Prelude.{◌≡◌, ℕ}
+use Rattle.std.specs.Prelude.{◌≡◌, ℕ, Option, Some, None}
 use Rattle.layout.specs.Geometry.{mark_bit}
 use Rattle.classes.specs.Class.{IsClass}
 use Rattle.layout.specs.declared.Geometry.{Geometry}
 use Rattle.layout.specs.Mem.{Mem}
 use Rattle.model.specs.Fields.{tag, class}
 use Rattle.model.specs.Consistent.{RecordOk}
-use Rattle.marks.specs.declared.Bit.{Bit}
-use Rattle.marks.specs.declared.Bit.TheVariants.{At, Torn}
 use Rattle.model.specs.Tag as Tag
 
 -- segment s is in use and of class c
@@ -17,6 +15,6 @@ pub record Classed (m : Mem) (s c : ℕ) : Type 0 where
   pub used : tag m s ≡ Tag.free → ⊥
 
 -- what the test of a word answers: the bit of a record that passes, or that there is none
-abbrev pub Tested : Geometry → Mem → ℕ → Bit → Type 0
-Tested g m at (At k) = RecordOk g m at × (k ≡ mark_bit at)
-Tested g m at Torn = RecordOk g m at → ⊥
+abbrev pub Tested : Geometry → Mem → ℕ → Option ℕ → Type 0
+Tested g m at (Some k) = RecordOk g m at × (k ≡ mark_bit at)
+Tested g m at None = RecordOk g m at → ⊥

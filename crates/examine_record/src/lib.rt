@@ -2,11 +2,10 @@
 // content; the answer decides `RecordOk`, and with it comes the record's bit.
 #![tactic(auto)]
 
-ghost use Rattle.std.specs.Prelude.{◌≡◌, ◌<◌, length, eqb};
+ghost use Rattle.std.specs.Prelude.{◌≡◌, ◌<◌, length, eqb, Some};
 ghost use Rattle.basics.specs.Decides.{Decides};
 ghost use Rattle.classes.specs.Class.{IsClass};
 ghost use Rattle.classes.specs.Record.{class_of_record};
-ghost use Rattle.classes.specs.declared.SizeClass.TheVariants.{Class};
 ghost use Rattle.layout.specs.Geometry.{Sized, len, segment_of, most_blocks};
 ghost use Rattle.layout.specs.Mem.{mem_of};
 ghost use Rattle.model.specs.Segments.{used_bit};
@@ -16,24 +15,17 @@ ghost use Rattle.examine_record.specs.Tests.{Classed, Tested};
 ghost use Rattle.layout.specs.Region as Region;
 
 use layout::Geometry;
-use marks::Bit;
 use model::Segment;
 
 // Whether the shape at a word is of a class: the class's block holds it, and half the block, which is the block of the class below, does not.
 fn is_of_class(g: Geometry, mem: &[u32], at: usize, class: u32) -> bool
     requires { (Sized g (length mem.now)) × (at < len g Region.heap) × IsClass class }
-    ensures { Decides result (class_of_record (shape_of (mem_of g mem.now) at) ≡ Class class) }
+    ensures { Decides result (class_of_record (shape_of (mem_of g mem.now) at) ≡ Some class) }
 {
     let shape = records::shape(g, mem, at);
     let fields = shape.pointer_count as usize + shape.value_count as usize;
     let words = classes::block_words(class);
-    if words <= fields {
-        return false;
-    }
-    if class == classes::FIRST_CLASS {
-        return true;
-    }
-    words / 2 <= fields
+    fields < words && (class == classes::FIRST_CLASS || words / 2 <= fields)
 }
 
 // Whether block b of segment s is in use.
@@ -50,41 +42,39 @@ pub fn is_used(g: Geometry, mem: &[u32], s: usize, b: usize) -> bool
 }
 
 // The test of a word in a segment of a class.
-fn test_block(g: Geometry, mem: &[u32], at: usize, s: usize, class: u32) -> Bit
+fn test_block(g: Geometry, mem: &[u32], at: usize, s: usize, class: u32) -> Option<usize>
     requires { (Sized g (length mem.now)) × (at < len g Region.heap) × (s ≡ segment_of g at) × Classed (mem_of g mem.now) s class }
     ensures { Tested g (mem_of g mem.now) at result }
 {
     let offset = layout::offset_of(g, at);
     let words = classes::block_words(class);
     if offset % words != 0 {
-        return Bit::Torn;
+        return None;
     }
     let b = offset / words;
-    if is_used(g, mem, s, b) {
-        if is_of_class(g, mem, at, class) {
-            return Bit::At(layout::mark_bit(at));
-        }
+    if is_used(g, mem, s, b) && is_of_class(g, mem, at, class) {
+        return Some(layout::mark_bit(at));
     }
-    Bit::Torn
+    None
 }
 
 // The test of a word: the bit of the record there, or that there is none.
-pub fn test(g: Geometry, mem: &[u32], at: usize) -> Bit
+pub fn test(g: Geometry, mem: &[u32], at: usize) -> Option<usize>
     requires { Sized g (length mem.now) }
     ensures { Tested g (mem_of g mem.now) at result }
 {
     if layout::heap_words(g) <= at {
-        return Bit::Torn;
+        return None;
     }
     let s = layout::segment_of(g, at);
     if segments::tag(g, mem, s) == Segment::TAG_FREE {
-        return Bit::Torn;
+        return None;
     }
     let class = segments::class(g, mem, s);
-    if classes::is_class(class) {
-        return test_block(g, mem, at, s, class);
+    if !classes::is_class(class) {
+        return None;
     }
-    Bit::Torn
+    test_block(g, mem, at, s, class)
 }
 
 // Whether a record's bit is set.

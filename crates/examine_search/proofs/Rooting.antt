@@ -7,7 +7,8 @@ use Prim.Native.Nat.{ℕ, suc, ◌+◌, ◌-◌, ◌^◌, ◌≤◌, ◌<◌}
 use native.Mathlib.Numerals.{add-one}
 use native.Mathlib.Omega.{arith}
 use lib.ListN.{length, get_or, get_or-eq_default}
-use Rattle.basics.proofs.Order.{le_or_lt, same_or_not}
+use Rattle.std.specs.Prelude.{Option, Some, None}
+use Rattle.basics.proofs.Order.{same_or_not}
 use Rattle.words.proofs.Counts.{lt_of}
 use Rattle.layout.specs.declared.Geometry.{Geometry}
 use Rattle.layout.specs.Geometry.{Sized, len, max_segments, mutator_count}
@@ -23,11 +24,9 @@ use Rattle.graph_search.specs.Walk.{State, Valid, Run}
 use Rattle.graph_search.proofs.Walking.{run_still}
 use Rattle.examine_search.specs.declared.Source.{Source}
 use Rattle.examine_search.specs.declared.Source.TheVariants.{Roots, Pointers, Entries}
-use Rattle.examine_search.specs.declared.Met.{Met}
-use Rattle.examine_search.specs.declared.Met.TheVariants.{Top, Bad}
 use Rattle.examine_search.specs.Graph.{records_of, length_of, InRun, RootOf, RootBelow, PointedBy, Seeds, SeedBelow, ByEntry, EntryCount}
-use Rattle.examine_search.specs.Scratch.{state_of, Came, Then}
-use Rattle.examine_search.proofs.Steps.{came_then, came_same}
+use Rattle.examine_search.specs.Scratch.{state_of, Came}
+use Rattle.examine_search.proofs.Steps.{came_then, came_same, came_fails}
 use Rattle.layout.specs.Region as Region
 
 -- what is read has few words
@@ -56,11 +55,11 @@ module _ (g : Geometry) (m : Mem) (s : State) where
   roots_none f = run_still f (λ x q. absurd (omega (arith, q.few)))
 
   -- the roots of one mutator more
-  pub roots_more : (k : ℕ) (met r : Met) (before after : List ℕ) → Came g m (RootBelow m k) s met before → Then g m (RootOf m k) before met r after → Came g m (RootBelow m (k + 1)) s r after
-  roots_more k met r before after c e = came_then g m s (up m k) (here m k) (split m k) met r before after c e
+  pub roots_more : (k t : ℕ) (r : Option ℕ) (before after : List ℕ) → Came g m (RootBelow m k) s (Some t) before → Came g m (RootOf m k) (state_of g before t) r after → Came g m (RootBelow m (k + 1)) s r after
+  roots_more k t r before after c e = came_then g m s (up m k) (here m k) (split m k) t r before after c e
 
   -- the roots of all mutators
-  pub roots_all : (met : Met) (after : List ℕ) → Came g m (RootBelow m mutator_count) s met after → Came g m (IsRoot m) s met after
+  pub roots_all : (met : Option ℕ) (after : List ℕ) → Came g m (RootBelow m mutator_count) s met after → Came g m (IsRoot m) s met after
   roots_all met after c =
       came_same g m s
       (λ x q. record { mutator = q.mutator; index = q.names.1.index; few = q.few; within = q.names.1.within; attached = q.names.0; names = q.names.1.names })
@@ -68,20 +67,10 @@ module _ (g : Geometry) (m : Mem) (s : State) where
       met after c
 
   -- roots, and then the entries
-  pub roots_entries : (met r : Met) (before after : List ℕ) → Came g m (IsRoot m) s met before → Then g m (IsEntry m) before met r after → Came g m (λ at. IsRoot m at ⊎ IsEntry m at) s r after
-  roots_entries met r before after c e = came_then g m s (λ x q. inl q) (λ x q. inr q) (λ x q. q) met r before after c e
+  pub roots_entries : (t : ℕ) (r : Option ℕ) (before after : List ℕ) → Came g m (IsRoot m) s (Some t) before → Came g m (IsEntry m) (state_of g before t) r after → Came g m (λ at. IsRoot m at ⊎ IsEntry m at) s r after
+  roots_entries t r before after c e = came_then g m s (λ x q. inl q) (λ x q. inr q) (λ x q. q) t r before after c e
 
 -- ---- entries
-
-module _ (g : Geometry) (m : Mem) (count most : ℕ) (ec : count ≡ trace_count m) (em : most ≡ len g Region.trace) where
-  pub count_most : most < count → EntryCount g m most
-  count_most l = record { room = omega arith; few = omega arith; all = λ i h. ⊎_elim inl (λ e. inr (omega arith)) (lt_or i most) }
-    where
-      lt_or : (a b : ℕ) → (a < b) ⊎ (b ≤ a)
-      lt_or a b = ⊎_elim inr inl (le_or_lt b a)
-
-  pub count_all : count ≤ most → EntryCount g m count
-  count_all l = record { room = omega arith; few = omega arith; all = λ i h. inl (omega arith) }
 
 -- the words of the trace stack past its end name nothing
 module _ (g : Geometry) (l : List ℕ) (z : Sized g (length l)) (s : State) (n : ℕ) (e : EntryCount g (mem_of g l) n) where
@@ -94,7 +83,7 @@ module _ (g : Geometry) (l : List ℕ) (z : Sized g (length l)) (s : State) (n :
           let w = q.names in
           omega arith
 
-  pub entries_all : (met : Met) (after : List ℕ) → Came g (mem_of g l) (InRun (mem_of g l).trace 0 n) s met after → Came g (mem_of g l) (IsEntry (mem_of g l)) s met after
+  pub entries_all : (met : Option ℕ) (after : List ℕ) → Came g (mem_of g l) (InRun (mem_of g l).trace 0 n) s met after → Came g (mem_of g l) (IsEntry (mem_of g l)) s met after
   entries_all met after c =
       came_same g (mem_of g l) s
       (λ x q. record { index = q.index; within = let a = q.within in let b = e.few in omega arith; names = ap (λ i. get_or (mem_of g l).trace i 0) (omega arith) ∙ q.names })
@@ -102,7 +91,7 @@ module _ (g : Geometry) (l : List ℕ) (z : Sized g (length l)) (s : State) (n :
       met after c
 
   -- all entries, and what they name
-  pub seeds_all : (met : Met) (after : List ℕ) → Came g (mem_of g l) (SeedBelow (mem_of g l) n) s met after → Came g (mem_of g l) (ByEntry (mem_of g l)) s met after
+  pub seeds_all : (met : Option ℕ) (after : List ℕ) → Came g (mem_of g l) (SeedBelow (mem_of g l) n) s met after → Came g (mem_of g l) (ByEntry (mem_of g l)) s met after
   seeds_all met after c = came_same g (mem_of g l) s to from met after c
     where
       to : (x : ℕ) → SeedBelow (mem_of g l) n x → ByEntry (mem_of g l) x
@@ -130,7 +119,7 @@ module _ (g : Geometry) (m : Mem) (s : State) (w : ℕ) where
   pub pointed_none : w ≡ 0 → Valid (records_of g m) s → Run (records_of g m) (PointedBy m w) s s
   pointed_none z f = run_still f (λ x q. absurd (let y = q.1 in omega arith))
 
-  pub pointed_run : (w ≡ 0 → ⊥) → (n : ℕ) → n ≡ pointer_count m (w - 1) → (met : Met) (after : List ℕ) → Came g m (InRun m.heap (w - 1 + 1) n) s met after → Came g m (PointedBy m w) s met after
+  pub pointed_run : (w ≡ 0 → ⊥) → (n : ℕ) → n ≡ pointer_count m (w - 1) → (met : Option ℕ) (after : List ℕ) → Came g m (InRun m.heap (w - 1 + 1) n) s met after → Came g m (PointedBy m w) s met after
   pointed_run d n en met after c =
       came_same g m s
       (λ x q. (w - 1, omega arith, record { field = q.index; within = subst (λ (k : ℕ). q.index < k) en q.within; names = q.names }))
@@ -145,13 +134,11 @@ module _ (g : Geometry) (m : Mem) (s : State) (w : ℕ) where
 
 -- a word, then the pointers of what it names
 module _ (g : Geometry) (m : Mem) (w : ℕ) where
-  pub seed_ok : (met : Met) (t : ℕ) (before mid : List ℕ) → Then g m (λ x. w ≡ suc x) before met (Top t) mid → Valid (records_of g m) (state_of g mid t) × ((x : ℕ) → w ≡ suc x → RecordOk g m x)
-  seed_ok (Top u) t before mid c = (c.valid, λ x q. (c.all x q).0)
-  seed_ok Bad t before mid c = absurd (let z : ◌≡◌ {A = ℕ} 0 1 = cc in omega arith)
+  pub seed_ok : (s : State) (t : ℕ) (mid : List ℕ) → Came g m (λ x. w ≡ suc x) s (Some t) mid → Valid (records_of g m) (state_of g mid t) × ((x : ℕ) → w ≡ suc x → RecordOk g m x)
+  seed_ok s t mid c = (c.valid, λ x q. (c.all x q).0)
 
-  pub seed_then : (met fr r : Met) (before mid after : List ℕ) → Then g m (λ x. w ≡ suc x) before met fr mid → Then g m (PointedBy m w) mid fr r after → Then g m (Seeds m w) before met r after
-  seed_then (Top u) fr r before mid after c e = came_then g m (state_of g before u) (λ x q. inl q) (λ x q. inr q) (λ x q. q) fr r mid after c e
-  seed_then Bad fr r before mid after c e = subst (λ (z : Met). Then g m (PointedBy m w) mid z r after) c e
+  pub seed_then : (s : State) (t : ℕ) (r : Option ℕ) (mid after : List ℕ) → Came g m (λ x. w ≡ suc x) s (Some t) mid → Came g m (PointedBy m w) (state_of g mid t) r after → Came g m (Seeds m w) s r after
+  seed_then s t r mid after c e = came_then g m s (λ x q. inl q) (λ x q. inr q) (λ x q. q) t r mid after c e
 
 module _ (m : Mem) (k x : ℕ) where
   seed_up : SeedBelow m k x → SeedBelow m (k + 1) x
@@ -171,6 +158,10 @@ module _ (g : Geometry) (m : Mem) (s : State) where
   seeds_none f = run_still f (λ x q. absurd (omega (arith, q.few)))
 
   -- one entry more
-  pub seeds_more : (k w : ℕ) → w ≡ get_or m.trace k 0 → (met r : Met) (before after : List ℕ) → Came g m (SeedBelow m k) s met before
-      → Then g m (Seeds m w) before met r after → Came g m (SeedBelow m (k + 1)) s r after
-  seeds_more k w e met r before after c t = came_then g m s (seed_up m k) (seed_here m k) (seed_split m k) met r before after c (subst (λ (z : ℕ). Then g m (Seeds m z) before met r after) e t)
+  pub seeds_more : (k w : ℕ) → w ≡ get_or m.trace k 0 → (t : ℕ) (r : Option ℕ) (before after : List ℕ) → Came g m (SeedBelow m k) s (Some t) before
+      → Came g m (Seeds m w) (state_of g before t) r after → Came g m (SeedBelow m (k + 1)) s r after
+  seeds_more k w e t r before after c q =
+      came_then g m s (seed_up m k) (seed_here m k) (seed_split m k) t r before after c (subst (λ (z : ℕ). Came g m (Seeds m z) (state_of g before t) r after) e q)
+
+  pub seeds_fail : (k n : ℕ) → k < n → (after : List ℕ) → Came g m (SeedBelow m (k + 1)) s None after → Came g m (SeedBelow m n) s None after
+  seeds_fail k n l after c = came_fails g m s (λ x q. record { index = q.index; few = omega (arith, q.few); seed = q.seed }) after c after

@@ -1,14 +1,14 @@
 -- The steps of the search over plain lists: what one word, one more word of a run, a turn and the whole search do.
 use mathlib.Core.Path.{◌≡◌, refl, sym, ap, ◌∙◌, subst}
 use mathlib.Core.Logic.{◌⊎◌, inl, inr, ⊎_elim}
-use mathlib.Core.List.{List}
+use mathlib.Core.List.{List, ◌++◌}
 use mathlib.Core.Bool.{Bool, true, false}
-use Prim.Native.Nat.{ℕ, suc, ◌+◌, ◌-◌, ◌/◌, ◌%◌, ◌≤◌, ◌<◌}
+use Prim.Native.Nat.{ℕ, zero, suc, ◌+◌, ◌-◌, ◌/◌, ◌%◌, ◌≤◌, ◌<◌}
 use native.Mathlib.Numerals.{add-one}
 use native.Mathlib.Omega.{arith}
-use lib.ListN.{length, get_or, set}
+use lib.ListN.{length, get_or, set, replicate}
 use lib.Seq.{get_or-set_same, get_or-set_other}
-use borrow.Author.Tests.{ltb-true, ltb-false}
+use Rattle.std.specs.Prelude.{Option, Some, None}
 use Rattle.basics.specs.Pick.{pick}
 use Rattle.basics.proofs.Order.{same_or_not}
 use Rattle.words.specs.Bits.{bit_of, bit_at, set_bit, with_bit}
@@ -25,15 +25,13 @@ use Rattle.examine_search.proofs.Covering.{is_entered}
 use Rattle.model.specs.Consistent.{RecordOk}
 use Rattle.model_laws.proofs.Blocks.{bit_below, same_bit}
 use Rattle.model_laws.proofs.Apart.{class_of, field_inside}
-use Rattle.graph_search.specs.Walk.{State, Placed, Seen, Valid, Run}
+use Rattle.graph_search.specs.Walk.{State, Placed, Seen, Valid, Run, Underway, left}
 use Rattle.graph_search.proofs.Walking.{room_le, run_still, run_more, run_same, Pushed, push_room, run_push, valid_empty, valid_popped, run_first}
 use Rattle.graph_search.proofs.Walking.{underway_from, exact_roots, fails_roots, underway_turn, left_turn, turn_fails, underway_exact}
 use Rattle.examine_search.specs.declared.Edges.{Edges}
 use Rattle.examine_search.specs.declared.Edges.TheVariants.{All, Unentered}
-use Rattle.examine_search.specs.declared.Met.{Met}
-use Rattle.examine_search.specs.declared.Met.TheVariants.{Top, Bad}
 use Rattle.examine_search.specs.Graph.{records_of, followed, InRun, Follows, graph_of, graph_from}
-use Rattle.examine_search.specs.Scratch.{search_words, Blank, state_of, Enters, Came, Then, Turns, SearchReady, is_waiting, is_good, SoFar, left_of, Searched, Started, Finished}
+use Rattle.examine_search.specs.Scratch.{search_words, Blank, state_of, Enters, Came, Searched, Fresh}
 use Rattle.layout.specs.Region as Region
 
 pub placed : (g : Geometry) (m : Mem) → Placed (records_of g m)
@@ -99,21 +97,20 @@ module _ (g : Geometry) (m : Mem) (s : List ℕ) (top at k : ℕ) (f : Valid (re
 -- ---- a run
 
 module _ (g : Geometry) (m : Mem) (s : State) where
-  pub came_ready : (A : ℕ → Type 0) (met : Met) (scratch : List ℕ) → Came g m A s met scratch → SearchReady g m scratch met
-  came_ready A (Top t) scratch c = c.valid
-  came_ready A Bad scratch c = tt
-
   -- one run after another
   pub came_then : {A B C : ℕ → Type 0} → ((x : ℕ) → A x → C x) → ((x : ℕ) → B x → C x) → ((x : ℕ) → C x → A x ⊎ B x)
-      → (met r : Met) (before after : List ℕ) → Came g m A s met before → Then g m B before met r after → Came g m C s r after
-  came_then {A} {B} {C} up here split Bad r before after c e = subst (λ (x : Met). Came g m C s x after) (sym e) (record { node = c.node; named = up c.node c.named; fails = c.fails })
-  came_then up here split (Top t) (Top u) before after c e = run_more c e up here split
-  came_then up here split (Top t) Bad before after c e = record { node = e.node; named = here e.node e.named; fails = e.fails }
+      → (t : ℕ) (r : Option ℕ) (before after : List ℕ) → Came g m A s (Some t) before → Came g m B (state_of g before t) r after → Came g m C s r after
+  came_then up here split t (Some u) before after c e = run_more c e up here split
+  came_then up here split t None before after c e = record { node = e.node; named = here e.node e.named; fails = e.fails }
+
+  -- a name that fails the test is one of more names
+  pub came_fails : {A C : ℕ → Type 0} → ((x : ℕ) → A x → C x) → (after : List ℕ) → Came g m A s None after → (last : List ℕ) → Came g m C s None last
+  came_fails up after c last = record { node = c.node; named = up c.node c.named; fails = c.fails }
 
   -- the same names said otherwise
-  pub came_same : {A B : ℕ → Type 0} → ((x : ℕ) → A x → B x) → ((x : ℕ) → B x → A x) → (met : Met) (after : List ℕ) → Came g m A s met after → Came g m B s met after
-  came_same to from (Top t) after c = run_same to from c
-  came_same to from Bad after c = record { node = c.node; named = to c.node c.named; fails = c.fails }
+  pub came_same : {A B : ℕ → Type 0} → ((x : ℕ) → A x → B x) → ((x : ℕ) → B x → A x) → (met : Option ℕ) (after : List ℕ) → Came g m A s met after → Came g m B s met after
+  came_same to from (Some t) after c = run_same to from c
+  came_same to from None after c = record { node = c.node; named = to c.node c.named; fails = c.fails }
 
 -- one word more of a run
 module _ (list : List ℕ) (from f x : ℕ) where
@@ -130,13 +127,10 @@ module _ (list : List ℕ) (from f x : ℕ) where
       (same_or_not q.index f)
 
 module _ (g : Geometry) (m : Mem) (list : List ℕ) (from : ℕ) (s : State) where
-  pub came_more : (f w : ℕ) → w ≡ get_or list (from + f) 0 → (met r : Met) (before after : List ℕ) → Came g m (InRun list from f) s met before
-      → Then g m (λ x. w ≡ suc x) before met r after → Came g m (InRun list from (f + 1)) s r after
-  came_more f w e met r before after c t =
-      came_then g m s (run_up list from f) (λ x q. run_here list from f x (sym e ∙ q)) (λ x q. ⊎_elim inl (λ z. inr (e ∙ z)) (run_split list from f x q)) met r before after c t
-
-  pub came_none : (t : ℕ) (scratch : List ℕ) → Valid (records_of g m) (state_of g scratch t) → Run (records_of g m) (InRun list from 0) (state_of g scratch t) (state_of g scratch t)
-  came_none t scratch f = run_still f (λ x q. absurd (omega (arith, q.within)))
+  pub came_more : (f w : ℕ) → w ≡ get_or list (from + f) 0 → (t : ℕ) (r : Option ℕ) (before after : List ℕ) → Came g m (InRun list from f) s (Some t) before
+      → Came g m (λ x. w ≡ suc x) (state_of g before t) r after → Came g m (InRun list from (f + 1)) s r after
+  came_more f w e t r before after c q =
+      came_then g m s (run_up list from f) (λ x q. run_here list from f x (sym e ∙ q)) (λ x q. ⊎_elim inl (λ z. inr (e ∙ z)) (run_split list from f x q)) t r before after c q
 
 -- ---- a turn
 
@@ -170,7 +164,7 @@ module _ (g : Geometry) (m : Mem) (s : List ℕ) (top : ℕ) (f : Valid (records
   pub turn_valid : Valid (records_of g m) (state_of g s (top - 1))
   turn_valid = valid_popped (top - 1) f (omega arith)
 
-  pub turn_came : (e : Edges) (n : ℕ) → n ≡ followed e g m last → (met : Met) (after : List ℕ) → Came g m (InRun m.heap (last + 1) n) (state_of g s (top - 1)) met after
+  pub turn_came : (e : Edges) (n : ℕ) → n ≡ followed e g m last → (met : Option ℕ) (after : List ℕ) → Came g m (InRun m.heap (last + 1) n) (state_of g s (top - 1)) met after
       → Came g m (Follows e g m (get_or s (len g Region.marks + (top - 1)) 0)) (state_of g s (top - 1)) met after
   turn_came e n en met after c =
       subst (λ (z : ℕ). Came g m (Follows e g m (get_or s (z + (top - 1)) 0)) (state_of g s (top - 1)) met after) eb
@@ -178,70 +172,57 @@ module _ (g : Geometry) (m : Mem) (s : List ℕ) (top : ℕ) (f : Valid (records
 
 -- ---- the search
 
--- clearing, one word more, and what it comes to
-pub cleared_more : (s : List ℕ) (i : ℕ) → i < length s → ((j : ℕ) → j < i → get_or s j 0 ≡ 0) → (j : ℕ) → j < i + 1 → get_or (set s i 0) j 0 ≡ 0
-cleared_more s i h z j l =
-    ⊎_elim (λ e. subst (λ (x : ℕ). get_or (set s i 0) x 0 ≡ 0) (sym e) (get_or-set_same s i 0 0 h))
-    (λ d. get_or-set_other s i j 0 0 d ∙ z j (lt_of (subst (λ (x : ℕ). j < x) (add-one i) l) d)) (same_or_not j i)
+zeros_before : (n : ℕ) (rest : List ℕ) (j : ℕ) → j < n → ◌≡◌ {A = ℕ} (get_or (replicate n 0 ++ rest) j 0) 0
+zeros_before zero rest j l = absurd (omega arith)
+zeros_before (suc n) rest zero l = refl
+zeros_before (suc n) rest (suc j) l = zeros_before n rest j (omega arith)
 
-pub cleared_bits : (g : Geometry) (s : List ℕ) → ((j : ℕ) → j < len g Region.marks → get_or s j 0 ≡ 0) → Blank g s
+cleared_bits : (g : Geometry) (s : List ℕ) → ((j : ℕ) → j < len g Region.marks → get_or s j 0 ≡ 0) → Blank g s
 cleared_bits g s z k l = bit_split s k ∙ ap (λ (w : ℕ). bit_of w (k % 32)) (z (k / 32) (bit_word g k l)) ∙ bit_zero (k % 32)
+
+-- zeros before the stack
+pub cleared_part : (g : Geometry) (bits stack : List ℕ) (n : ℕ) → bits ≡ replicate n 0 → len g Region.marks ≤ n → Blank g (bits ++ stack)
+cleared_part g bits stack n e l = cleared_bits g (bits ++ stack) (λ j h. subst (λ (z : List ℕ). get_or (z ++ stack) j 0 ≡ 0) (sym e) (zeros_before n stack j (omega arith)))
 
 module _ (g : Geometry) (m : Mem) (Named : ℕ → Type 0) (s : List ℕ) (blank : Blank g s) where
   pub start_valid : Valid (records_of g m) (state_of g s 0)
   start_valid = valid_empty (at_lt s) blank refl
 
   -- after the roots
-  pub start_waits : (met : Met) (after : List ℕ) → Came g m Named (state_of g s 0) met after → Started g m met after
-  start_waits (Top t) after c = record { valid = c.valid; waits = λ x q. (run_first (placed g m) blank c x q).1 }
-  start_waits Bad after c = tt
+  pub start_waits : (t : ℕ) (after : List ℕ) → Came g m Named (state_of g s 0) (Some t) after → Fresh g m after t
+  start_waits t after c = record { valid = c.valid; waits = λ x q. (run_first (placed g m) blank c x q).1 }
 
   -- what was named is what is seen
-  pub finish_named : (e : Edges) (met : Met) (r : Bool) (before after : List ℕ) → Came g m Named (state_of g s 0) met before → Finished g m e before met r after → Searched (graph_of e g m Named) r after
-  finish_named e (Top t) true before after c f = exact_roots (λ x q. (run_first (placed g m) blank c x q).0) c.all f
-  finish_named e (Top t) false before after c f = fails_roots (λ x q. (run_first (placed g m) blank c x q).0) f
-  finish_named e Bad true before after c f = absurd (let z : ◌≡◌ {A = ℕ} 0 1 = cc in omega arith)
-  finish_named e Bad false before after c f = record { node = c.node; named = root c.named; fails = c.fails }
+  pub finish_named : (e : Edges) (t : ℕ) (r : Bool) (before after : List ℕ) → Came g m Named (state_of g s 0) (Some t) before → Searched (graph_from e g m (state_of g before t)) r after → Searched (graph_of e g m Named) r after
+  finish_named e t true before after c f = exact_roots (λ x q. (run_first (placed g m) blank c x q).0) c.all f
+  finish_named e t false before after c f = fails_roots (λ x q. (run_first (placed g m) blank c x q).0) f
 
--- the search under way, or over at once
-abbrev pub Under : Geometry → Mem → Edges → List ℕ → Met → Met → List ℕ → Type 0
-Under g m e before (Top t) met scratch = SoFar (graph_from e g m (state_of g before t)) g met scratch
-Under g m e before Bad met scratch = met ≡ Bad
+  pub named_fails : (e : Edges) (before after : List ℕ) → Came g m Named (state_of g s 0) None before → Searched (graph_of e g m Named) false after
+  named_fails e before after c = record { node = c.node; named = root c.named; fails = c.fails }
 
-abbrev pub left_under : Geometry → Mem → Edges → List ℕ → Met → Met → List ℕ → ℕ
-left_under g m e before (Top t) met scratch = left_of (graph_from e g m (state_of g before t)) g met scratch
-left_under g m e before Bad met scratch = 0
+-- the search under way, and what is left to do
+abbrev pub Under : Geometry → Mem → Edges → List ℕ → ℕ → ℕ → List ℕ → Type 0
+Under g m e before start t scratch = Underway (graph_from e g m (state_of g before start)) (state_of g scratch t)
 
-module _ (g : Geometry) (m : Mem) (e : Edges) (before : List ℕ) where
-  pub under_start : (start : Met) → Started g m start before → Under g m e before start start before
-  under_start (Top t) f = underway_from f.valid f.waits (λ x q. q) (λ x q. q)
-  under_start Bad f = refl
+abbrev pub left_under : Geometry → Mem → Edges → List ℕ → ℕ → ℕ → List ℕ → ℕ
+left_under g m e before start t scratch = left (graph_from e g m (state_of g before start)) (state_of g scratch t)
 
-  pub under_ready : (start met : Met) (s : List ℕ) → Under g m e before start met s → SearchReady g m s met
-  under_ready (Top t) (Top u) s h = h.valid
-  under_ready (Top t) Bad s h = tt
-  under_ready Bad met s h = subst (λ (x : Met). SearchReady g m s x) (sym h) tt
+module _ (g : Geometry) (m : Mem) (e : Edges) (before : List ℕ) (start : ℕ) where
+  pub under_start : Fresh g m before start → Under g m e before start start before
+  under_start f = underway_from f.valid f.waits (λ x q. q) (λ x q. q)
 
-  -- one turn more
-  so_far_more : (t : ℕ) (met r : Met) (s after : List ℕ) → SoFar (graph_from e g m (state_of g before t)) g met s → is_waiting met ≡ true → Turns g m e s met r after
-      → SoFar (graph_from e g m (state_of g before t)) g r after × (left_of (graph_from e g m (state_of g before t)) g r after < left_of (graph_from e g m (state_of g before t)) g met s)
-  so_far_more t Bad r s after h w q = absurd (let z : ◌≡◌ {A = ℕ} 0 1 = cc in omega arith)
-  so_far_more t (Top v) (Top u) s after h w q =
-      let p : v ≡ suc (v - 1) = omega (arith, ltb-true 0 v w) in
-      let l = left_turn h (v - 1) p q in
-      (underway_turn h (v - 1) p q, omega arith)
-  so_far_more t (Top v) Bad s after h w q = (turn_fails h (v - 1) (omega (arith, ltb-true 0 v w)) q, omega (arith, ltb-true 0 v w))
+  module _ (v : ℕ) (s after : List ℕ) (h : Under g m e before start v s) (some : 0 < v) where
+    popped : v ≡ suc (v - 1)
+    popped = omega (arith, some)
 
-  pub under_more : (start met r : Met) (s after : List ℕ) → Under g m e before start met s → is_waiting met ≡ true → Turns g m e s met r after
-      → Under g m e before start r after × (left_under g m e before start r after < left_under g m e before start met s)
-  under_more (Top t) met r s after h w q = so_far_more t met r s after h w q
-  under_more Bad met r s after h w q = absurd (let z : false ≡ true = ap is_waiting (sym h) ∙ w in let y : ◌≡◌ {A = ℕ} 0 1 = cc in omega arith)
+    -- one turn more
+    pub under_more : (u : ℕ) → Came g m (Follows e g m (get_or s (len g Region.marks + (v - 1)) 0)) (state_of g s (v - 1)) (Some u) after
+        → Under g m e before start u after × (left_under g m e before start u after < left_under g m e before start v s)
+    under_more u q = let l = left_turn h (v - 1) popped q in (underway_turn h (v - 1) popped q, omega arith)
 
-  searched : (t : ℕ) (met : Met) (s : List ℕ) → SoFar (graph_from e g m (state_of g before t)) g met s → is_waiting met ≡ false → Searched (graph_from e g m (state_of g before t)) (is_good met) s
-  searched t (Top u) s h w = underway_exact h (omega (arith, ltb-false 0 u w))
-  searched t Bad s h w = h
+    pub under_fails : Came g m (Follows e g m (get_or s (len g Region.marks + (v - 1)) 0)) (state_of g s (v - 1)) None after → Searched (graph_from e g m (state_of g before start)) false after
+    under_fails q = turn_fails h (v - 1) popped q
 
   -- the end
-  pub under_end : (start met : Met) (s : List ℕ) → Under g m e before start met s → is_waiting met ≡ false → Finished g m e before start (is_good met) s
-  under_end (Top t) met s h w = searched t met s h w
-  under_end Bad met s h w = ap is_good h
+  pub under_end : (v : ℕ) (s : List ℕ) → Under g m e before start v s → v ≤ 0 → Searched (graph_from e g m (state_of g before start)) true s
+  under_end v s h w = underway_exact h (omega (arith, w))

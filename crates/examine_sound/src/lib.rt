@@ -23,12 +23,10 @@ fn idle_ok(g: Geometry, mem: &[u32], scratch: &mut [u32]) -> bool
     requires { (Sized g (length mem.now)) × (length scratch.old ≡ scratch_words g) }
     ensures { Decides result (IdleRest g (mem_of g mem.now)) }
 {
-    let count = control::trace_count(g, mem);
-    if count != 0 {
+    if control::trace_count(g, mem) != 0 {
         return false;
     }
-    let none = examine_parts::none_condemned(g, mem);
-    if !none {
+    if !examine_parts::none_condemned(g, mem) {
         return false;
     }
     examine_colours::live_ok(g, mem, scratch)
@@ -39,11 +37,7 @@ fn sync_ok(g: Geometry, mem: &[u32], scratch: &mut [u32]) -> bool
     requires { (Sized g (length mem.now)) × (length scratch.old ≡ scratch_words g) × Traced g (mem_of g mem.now) }
     ensures { Decides result (SyncRest g (mem_of g mem.now)) }
 {
-    let only = examine_marks::only_entries(g, mem);
-    if !only {
-        return false;
-    }
-    examine_colours::live_ok(g, mem, scratch)
+    examine_marks::only_entries(g, mem) && examine_colours::live_ok(g, mem, scratch)
 }
 
 // In handshake 2 and in mark: marks of blocks in use only, and the tricolour invariant.
@@ -51,11 +45,7 @@ fn mark_ok(g: Geometry, mem: &[u32], scratch: &mut [u32]) -> bool
     requires { (Sized g (length mem.now)) × (length scratch.old ≡ scratch_words g) × Classes g (mem_of g mem.now) }
     ensures { Decides result (MarkRest g (mem_of g mem.now)) }
 {
-    let used = examine_marks::marks(g, mem, false);
-    if !used {
-        return false;
-    }
-    examine_colours::tricolour(g, mem, scratch)
+    examine_marks::marks(g, mem, false) && examine_colours::tricolour(g, mem, scratch)
 }
 
 // In sweep: nothing on the trace stack, marks in the collect set of blocks in use only, and what is reached there is marked.
@@ -63,15 +53,10 @@ fn sweep_ok(g: Geometry, mem: &[u32], scratch: &mut [u32]) -> bool
     requires { (Sized g (length mem.now)) × (length scratch.old ≡ scratch_words g) × Classes g (mem_of g mem.now) }
     ensures { Decides result (SweepRest g (mem_of g mem.now)) }
 {
-    let count = control::trace_count(g, mem);
-    if count != 0 {
+    if control::trace_count(g, mem) != 0 {
         return false;
     }
-    let used = examine_marks::marks(g, mem, true);
-    if !used {
-        return false;
-    }
-    examine_colours::swept(g, mem, scratch)
+    examine_marks::marks(g, mem, true) && examine_colours::swept(g, mem, scratch)
 }
 
 // What the phase asks, and that what is live passes the test.
@@ -98,12 +83,10 @@ fn all_ok(g: Geometry, mem: &[u32], scratch: &mut [u32]) -> bool
     requires { (Sized g (length mem.now)) × (length scratch.old ≡ scratch_words g) }
     ensures { Decides result (Sound g (mem_of g mem.now)) }
 {
-    let parts = examine_parts::parts(g, mem);
-    if !parts {
+    if !examine_parts::parts(g, mem) {
         return false;
     }
-    let trace = examine_trace::trace_ok(g, mem, scratch);
-    if !trace {
+    if !examine_trace::trace_ok(g, mem, scratch) {
         return false;
     }
     rest_ok(g, mem, scratch)

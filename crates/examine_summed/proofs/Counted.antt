@@ -53,15 +53,6 @@ module _ (g : Geometry) (m : Mem) (s c k z : ℕ) (ek : k ≡ kept_count m s) (e
 -- ---- of a segment: t is its tag
 
 module _ (g : Geometry) (m : Mem) (s t : ℕ) (et : t ≡ tag m s) where
-  module _ (f : t ≡ Tag.free) (k : ℕ) (ek : k ≡ kept_count m s) where
-    pub free_kept : (k ≡ 0 → ⊥) → Decides false (CountsOk g m s)
-    free_kept n = fails (λ o. n (ek ∙ (o.free (sym et ∙ f)).0))
-
-    pub free_handed : k ≡ 0 → (h : ℕ) → h ≡ handed_count m s → Decides (eqb h 0) (CountsOk g m s)
-    free_handed e h eh = via
-        (λ q. record { free = λ _. (sym ek ∙ e, sym eh ∙ q); kept = λ n _. absurd (n (sym et ∙ f)); handed = λ n _. absurd (n (sym et ∙ f)) })
-        (λ o. eh ∙ (o.free (sym et ∙ f)).1) (equal? h 0)
-
   module _ (n : t ≡ Tag.free → ⊥) (c : ℕ) (ec : c ≡ class m s) where
     used : tag m s ≡ Tag.free → ⊥
     used e = n (et ∙ e)

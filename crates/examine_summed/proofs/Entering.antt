@@ -1,14 +1,14 @@
--- Which segments belong on a stack, how many, and its entries entered one after the other.
+-- How many segments belong on a stack, and its entries entered one after the other.
 use mathlib.Core.Path.{◌≡◌, refl, sym, ◌∙◌, ap, subst}
-use mathlib.Core.Bool.{Bool, true, false, ◌&&◌, true≢false}
+use mathlib.Core.Bool.{Bool, true, false, true≢false}
 use mathlib.Core.Logic.{◌⊎◌, inl, inr}
 use mathlib.Core.List.{List}
-use Prim.Native.Nat.{ℕ, zero, suc, ◌+◌, ◌-◌, ◌≤◌, ◌<◌}
+use Prim.Native.Nat.{ℕ, ◌+◌, ◌≤◌, ◌<◌}
+use native.Mathlib.Nat.{add-zero}
+use native.Mathlib.Numerals.{add-one}
 use native.Mathlib.Omega.{arith}
-use lib.Dec.{eqb}
 use lib.ListN.{length, get_or, set, length-set}
 use lib.Seq.{get_or-set_same, get_or-set_other}
-use borrow.Author.Tests.{eq-eqb}
 use Rattle.basics.specs.Pick.{one_if}
 use Rattle.basics.proofs.Order.{same_or_not}
 use Rattle.words.specs.Bits.{ones_among}
@@ -16,60 +16,27 @@ use Rattle.words.proofs.Ones.{among_le}
 use Rattle.layout.specs.declared.Geometry.{Geometry}
 use Rattle.layout.specs.Geometry.{max_segments}
 use Rattle.layout.specs.Mem.{Mem}
-use Rattle.model.specs.Fields.{tag, class}
 use Rattle.model.specs.Segments.{count, entry}
 use Rattle.model_laws.proofs.Bools.{one_less}
-use Rattle.model_laws.proofs.Segments.{not_part}
 use Rattle.examine_summed.specs.Stacked.{on_stack, OrderedStack, Enters, Seen, EntersAll}
-use Rattle.model.specs.Tag as Tag
 
--- ---- which belong on stack t; v is the segment's tag
-
-module _ (m : Mem) where
-  pub on_free : (t s v : ℕ) → v ≡ tag m s → t ≡ 0 → eqb v Tag.free ≡ on_stack m t s
-  on_free zero s v p e = ap (λ z. eqb z Tag.free) p
-  on_free (suc t) s v p e = absurd (omega arith)
-
-  pub on_other : (t s v : ℕ) → v ≡ tag m s → (t ≡ 0 → ⊥) → (v ≡ Tag.part → ⊥) → false ≡ on_stack m t s
-  on_other zero s v p f h = absurd (f refl)
-  on_other (suc t) s v p f h = sym (not_part m (3 + t) s (λ e _. h (p ∙ e)))
-
-  pub on_part : (t s v : ℕ) → v ≡ tag m s → (t ≡ 0 → ⊥) → v ≡ Tag.part → (c : ℕ) → c ≡ class m s → eqb c (3 + (t - 1)) ≡ on_stack m t s
-  on_part zero s v p f e c q = absurd (f refl)
-  on_part (suc t) s v p f e c q =
-      let a : 3 + (suc t - 1) ≡ 3 + t = omega arith in
-      ap (λ z. eqb z (3 + (suc t - 1))) q ∙ ap (eqb (class m s)) a ∙ ap (λ z. z && eqb (class m s) (3 + t)) (sym (eq-eqb _ _ (sym p ∙ e)))
-
--- ---- how many do
+-- ---- how many belong on a stack
 
 pub ones_none : (f : ℕ → ℕ) → 0 ≡ ones_among f 0
 unfolding ones_among
 ones_none f = refl
 
-pub ones_next : (f : ℕ → ℕ) (s k r : ℕ) → k ≡ ones_among f s → r ≡ f s → k + r ≡ ones_among f (suc s)
-unfolding ones_among
-ones_next f s k r e q = ap (λ z. z + r) e ∙ ap (λ z. ones_among f s + z) q
+module _ (test : ℕ → Bool) where
+  pub ones_next : (s k : ℕ) → k ≡ ones_among (λ i. one_if (test i)) s → test s ≡ true → k + 1 ≡ ones_among (λ i. one_if (test i)) (s + 1)
+  unfolding ones_among
+  ones_next s k e q = rw (add-one s, q, e) refl
 
-pub ones_few : (test : ℕ → Bool) (s k r : ℕ) → k ≡ ones_among (λ i. one_if (test i)) s → r ≡ one_if (test s) → (k ≤ s) × (r < 2)
-ones_few test s k r e q = (subst (λ z. z ≤ s) (sym e) (among_le (λ i. one_if (test i)) (λ i. one_less (test i)) s), subst (λ z. z < 2) (sym q) (one_less (test s)))
+  pub ones_same : (s k : ℕ) → k ≡ ones_among (λ i. one_if (test i)) s → test s ≡ false → k ≡ ones_among (λ i. one_if (test i)) (s + 1)
+  unfolding ones_among
+  ones_same s k e q = rw (add-one s, q) (e ∙ sym (add-zero _))
 
--- ---- one entry
-
-module _ (g : Geometry) (m : Mem) (t i : ℕ) (seen : List ℕ) (s : ℕ) (p : s ≡ entry g m t i) where
-  pub enter_outside : g.segments ≤ s → Enters g m t i seen false seen
-  enter_outside h = record { new = λ e. absurd (true≢false (sym e)); wrong = λ _ l _ _. omega arith }
-
-  pub enter_stranger : (b : Bool) → b ≡ on_stack m t s → b ≡ false → Enters g m t i seen false seen
-  enter_stranger b q f = record { new = λ e. absurd (true≢false (sym e)); wrong = λ _ _ h _. true≢false (sym h ∙ ap (on_stack m t) (sym p) ∙ sym q ∙ f) }
-
-  pub enter_again : (get_or seen s 0 ≡ 0 → ⊥) → Enters g m t i seen false seen
-  enter_again f = record { new = λ e. absurd (true≢false (sym e)); wrong = λ _ _ _ h. f (ap (λ z. get_or seen z 0) p ∙ h) }
-
-  pub enter_new : s < g.segments → (b : Bool) → b ≡ on_stack m t s → b ≡ true → get_or seen s 0 ≡ 0 → Enters g m t i seen true (set seen s 1)
-  enter_new l b q e h = record {
-    new = λ _. (subst (λ z. z < g.segments) p l, ap (on_stack m t) (sym p) ∙ sym q ∙ e, ap (λ z. get_or seen z 0) (sym p) ∙ h, ap (λ z. set seen z 1) p);
-    wrong = λ e. absurd (true≢false e);
-  }
+  pub ones_few : (s k : ℕ) → k ≡ ones_among (λ i. one_if (test i)) s → k ≤ s
+  ones_few s k e = subst (λ z. z ≤ s) (sym e) (among_le (λ i. one_if (test i)) (λ i. one_less (test i)) s)
 
 -- ---- the entries so far
 

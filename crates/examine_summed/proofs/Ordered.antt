@@ -8,7 +8,7 @@ use native.Mathlib.Omega.{arith}
 use lib.ListN.{get_or, replicate}
 use Rattle.basics.specs.Decides.{Decides}
 use Rattle.basics.specs.Pick.{one_if}
-use Rattle.basics.proofs.Deciding.{fails, refuted}
+use Rattle.basics.proofs.Deciding.{fails, via}
 use Rattle.basics.proofs.Order.{same_or_not}
 use Rattle.words.specs.Bits.{ones_among}
 use Rattle.words.proofs.Ones.{among_le}
@@ -79,11 +79,5 @@ module _ (g : Geometry) (m : Mem) where
   to_stacks s zero l = s.free_segments
   to_stacks s (suc t) l = let x : part_stack (3 + t) ≡ suc t = omega arith in subst (λ z. StackOk g m z (is_part m (3 + t))) x (s.part_segments (3 + t) (omega arith, omega arith))
 
-  pub trees_wrong : (r : Bool) → Decides r Trees → r ≡ false → Decides false (Summed g m)
-  trees_wrong r d e = fails (λ s. refuted d e s.trees)
-
-  pub counts_wrong : (r : Bool) → Decides r Counts → r ≡ false → Decides false (Summed g m)
-  counts_wrong r d e = fails (λ s. refuted d e s.counts)
-
-  pub all_three : (r : Bool) → Decides r Trees → r ≡ true → (n : Bool) → Decides n Counts → n ≡ true → (b : Bool) → Decides b ((t : ℕ) → t < stack_count → OrderedStack g m t) → Decides b (Summed g m)
-  all_three r d e n h f b o = record { sound = λ x. from_stacks (d.sound e) (h.sound f) (o.sound x); complete = λ s. o.complete (to_stacks s) }
+  pub all_three : {r : Bool} → Decides r ((Trees × Counts) × ((t : ℕ) → t < stack_count → OrderedStack g m t)) → Decides r (Summed g m)
+  all_three d = via (λ p. from_stacks p.0.0 p.0.1 p.1) (λ s. ((s.trees, s.counts), to_stacks s)) d

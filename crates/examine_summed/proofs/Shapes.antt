@@ -1,6 +1,6 @@
 -- The tree of a class, any number: its words are too few below the classes, and past them it has one level.
 use mathlib.Core.Path.{◌≡◌, refl, sym, ◌∙◌, ap, subst}
-use mathlib.Core.Bool.{Bool, true, false}
+use mathlib.Core.Bool.{Bool, false}
 use mathlib.Core.List.{List}
 use Prim.Native.Nat.{ℕ, zero, suc, ◌+◌, ◌-◌, ◌*◌, ◌^◌, ◌≤◌, ◌<◌}
 use native.Mathlib.Nat.{div-lt_iff_lt-mul, pow-le-pow_right}
@@ -9,7 +9,7 @@ use lib.ListN.{length}
 use borrow.Author.Tests.{le-leb}
 use borrow.Rule.Slice.PartMut.{mid_of}
 use Rattle.basics.specs.Decides.{Decides}
-use Rattle.basics.proofs.Deciding.{holds, fails, via}
+use Rattle.basics.proofs.Deciding.{fails}
 use Rattle.words.specs.Levels.{words_for, tree_words}
 use Rattle.words.specs.Tree.{Tree}
 use Rattle.words.proofs.Trees.{tree_level}
@@ -17,15 +17,12 @@ use Rattle.classes.specs.Class.{first_class, class_count}
 use Rattle.classes.specs.Shape.{segment_size, blocks_of, longest_of}
 use Rattle.layout.specs.declared.Geometry.{Geometry}
 use Rattle.layout.specs.Geometry.{Sized, bitmap_words, blocks_in, segment_bytes}
-use Rattle.layout.specs.Mem.{Mem, mem_of}
+use Rattle.layout.specs.Mem.{mem_of}
 use Rattle.layout.proofs.Sizes.{bytes_are}
-use Rattle.model.specs.Fields.{tag, class}
 use Rattle.model.specs.Segments.{above, bitmap}
-use Rattle.model.specs.Consistent.{TreeOk}
 use Rattle.model_laws.proofs.Bitmaps.{length-bitmap}
 use Rattle.model_laws.proofs.Lengths.{sizes_of}
 use Rattle.bitmaps.proofs.Lent.{TreePart}
-use Rattle.model.specs.Tag as Tag
 
 -- ---- below the classes
 
@@ -84,12 +81,3 @@ past_tree g c l n e r ws d = subst (λ a. Decides r (Tree a (blocks_in g c) ws))
 pub part_room : (g : Geometry) (xs : List ℕ) → Sized g (length xs) → (s : ℕ) → s < g.segments → (c a b : ℕ) → TreePart g xs s c a b → (k n : ℕ)
     → tree_words k n ≤ bitmap_words g → tree_words k n ≤ length (mid_of a (b - a) xs)
 part_room g xs z s h c a b p k n l = subst (λ w. tree_words k n ≤ w) (sym (ap length p.is ∙ length-bitmap g (mem_of g xs) (sizes_of g xs z) s h)) l
-
--- ---- a segment's
-
-module _ (g : Geometry) (m : Mem) (s t : ℕ) (p : t ≡ tag m s) where
-  pub tree_free : t ≡ Tag.free → Decides true (TreeOk g m s)
-  tree_free e = holds (λ f. absurd (f (sym p ∙ e)))
-
-  pub tree_used : (t ≡ Tag.free → ⊥) → (c : ℕ) → c ≡ class m s → (r : Bool) → Decides r (Tree (above g c) (blocks_in g c) (bitmap g m s)) → Decides r (TreeOk g m s)
-  tree_used f c q r d = via (λ x _. x) (λ y. y (λ e. f (p ∙ e))) (subst (λ z. Decides r (Tree (above g z) (blocks_in g z) (bitmap g m s))) q d)

@@ -54,11 +54,7 @@ fn segment_tree(g: Geometry, mem: &[u32], s: usize) -> bool
     requires { (Sized g (length mem.now)) × (s < g.segments) }
     ensures { Decides result (TreeOk g (mem_of g mem.now) s) }
 {
-    if segments::tag(g, mem, s) == Segment::TAG_FREE {
-        return true;
-    }
-    let class = segments::class(g, mem, s);
-    tree_of(g, mem, s, class)
+    segments::tag(g, mem, s) == Segment::TAG_FREE || tree_of(g, mem, s, segments::class(g, mem, s))
 }
 
 // Whether every segment's bitmap is as its record asks.
@@ -66,16 +62,7 @@ fn trees(g: Geometry, mem: &[u32]) -> bool
     requires { Sized g (length mem.now) }
     ensures { Decides result ((s : ℕ) → s < g.segments → TreeOk g (mem_of g mem.now) s) }
 {
-    let n = g.segments;
-    let mut s = 0;
-    while s < n {
-        let ok = segment_tree(g, mem, s);
-        if !ok {
-            return false;
-        }
-        s += 1;
-    }
-    true
+    (0..g.segments).all(|s| segment_tree(g, mem, s))
 }
 
 // Whether the two counts of segment s, of a class, are the 1 bits among its blocks and the 0 bits before its place: what is in use without a place, and
@@ -90,7 +77,7 @@ fn counts_of(g: Geometry, mem: &[u32], s: usize, class: u32) -> bool
         return false;
     }
     let used = bitmaps::in_use(g, mem, s, class, segments::place(g, mem, s));
-    segments::handed(g, mem, s) as u64 + kept as u64 == used as u64
+    u64::from(segments::handed(g, mem, s)) + u64::from(kept) == u64::from(used)
 }
 
 // Whether the two counts of segment s are as its record asks: 0 of a free one; nothing is asked where the class is none.
@@ -100,16 +87,10 @@ fn segment_counts(g: Geometry, mem: &[u32], s: usize) -> bool
 {
     let tag = segments::tag(g, mem, s);
     if tag == Segment::TAG_FREE {
-        if segments::kept(g, mem, s) != 0 {
-            return false;
-        }
-        return segments::handed(g, mem, s) == 0;
+        return segments::kept(g, mem, s) == 0 && segments::handed(g, mem, s) == 0;
     }
     let class = segments::class(g, mem, s);
-    if classes::is_class(class) {
-        return counts_of(g, mem, s, class);
-    }
-    true
+    !classes::is_class(class) || counts_of(g, mem, s, class)
 }
 
 // Whether every segment's counts are as its record asks.
@@ -117,16 +98,7 @@ fn counts(g: Geometry, mem: &[u32]) -> bool
     requires { Sized g (length mem.now) }
     ensures { Decides result ((s : ℕ) → s < g.segments → CountsOk g (mem_of g mem.now) s) }
 {
-    let n = g.segments;
-    let mut s = 0;
-    while s < n {
-        let ok = segment_counts(g, mem, s);
-        if !ok {
-            return false;
-        }
-        s += 1;
-    }
-    true
+    (0..g.segments).all(|s| segment_counts(g, mem, s))
 }
 
 // Whether segment s belongs on stack t.
@@ -138,19 +110,7 @@ fn belongs(g: Geometry, mem: &[u32], t: usize, s: usize) -> bool
     if t == 0 {
         return tag == Segment::TAG_FREE;
     }
-    if tag != Segment::TAG_PART {
-        return false;
-    }
-    let class = segments::class(g, mem, s) as usize;
-    class == FIRST_CLASS + (t - 1)
-}
-
-// 1 where segment s belongs on stack t, else 0.
-fn one_if(g: Geometry, mem: &[u32], t: usize, s: usize) -> usize
-    requires { (Sized g (length mem.now)) × (s < g.segments) × (t < stack_count) }
-    ensures { result ≡ one_if (on_stack (mem_of g mem.now) t s) }
-{
-    if belongs(g, mem, t, s) { 1 } else { 0 }
+    tag == Segment::TAG_PART && segments::class(g, mem, s) as usize == FIRST_CLASS + (t - 1)
 }
 
 // How many segments belong on stack t.
@@ -158,12 +118,11 @@ fn belonging(g: Geometry, mem: &[u32], t: usize) -> usize
     requires { (Sized g (length mem.now)) × (t < stack_count) }
     ensures { result ≡ ones_among (λ s. one_if (on_stack (mem_of g mem.now) t s)) g.segments }
 {
-    let n = g.segments;
     let mut k = 0;
-    let mut s = 0;
-    while s < n {
-        k += one_if(g, mem, t, s);
-        s += 1;
+    for s in 0..g.segments {
+        if belongs(g, mem, t, s) {
+            k += 1;
+        }
     }
     k
 }
@@ -193,14 +152,7 @@ fn enter(g: Geometry, mem: &[u32], t: usize, i: usize, seen: &mut [u32]) -> bool
     ensures { Enters g (mem_of g mem.now) t i seen.old result seen.new }
 {
     let s = entry(g, mem, t, i);
-    if g.segments <= s {
-        return false;
-    }
-    let there = belongs(g, mem, t, s);
-    if !there {
-        return false;
-    }
-    if seen[s] != 0 {
+    if g.segments <= s || !belongs(g, mem, t, s) || seen[s] != 0 {
         return false;
     }
     seen[s] = 1;
@@ -213,13 +165,10 @@ fn enter_all(g: Geometry, mem: &[u32], t: usize, n: usize, seen: &mut [u32]) -> 
     requires seen_len { (length seen.old ≡ max_segments) × ((s : ℕ) → get_or seen.old s 0 ≡ 0) }
     ensures { EntersAll g (mem_of g mem.now) t result seen.new }
 {
-    let mut i = 0;
-    while i < n {
-        let ok = enter(g, mem, t, i, seen);
-        if !ok {
+    for i in 0..n {
+        if !enter(g, mem, t, i, seen) {
             return false;
         }
-        i += 1;
     }
     true
 }
@@ -243,15 +192,7 @@ fn stacks(g: Geometry, mem: &[u32]) -> bool
     requires { Sized g (length mem.now) }
     ensures { Decides result ((t : ℕ) → t < stack_count → OrderedStack g (mem_of g mem.now) t) }
 {
-    let mut t = 0;
-    while t < layout::STACKS {
-        let ok = stack_ok(g, mem, t);
-        if !ok {
-            return false;
-        }
-        t += 1;
-    }
-    true
+    (0..layout::STACKS).all(|t| stack_ok(g, mem, t))
 }
 
 // Whether the trees, the counts and the stacks are in order.
@@ -259,13 +200,5 @@ pub fn summed(g: Geometry, mem: &[u32]) -> bool
     requires { Sized g (length mem.now) }
     ensures { Decides result (Summed g (mem_of g mem.now)) }
 {
-    let ok = trees(g, mem);
-    if !ok {
-        return false;
-    }
-    let counted = counts(g, mem);
-    if !counted {
-        return false;
-    }
-    stacks(g, mem)
+    trees(g, mem) && counts(g, mem) && stacks(g, mem)
 }

@@ -12,15 +12,13 @@ ghost use Rattle.examine_trace.specs.Traced.{BitEnters, Enters, EntersAll, Trace
 ghost use Rattle.layout.specs.Region as Region;
 
 use layout::Geometry;
-use marks::Bit;
 
 // Bit k of an entry: set, and new among the bits so far.
 fn enter_bit(g: Geometry, mem: &[u32], k: usize, scratch: &mut [u32]) -> bool
     requires { (Sized g (length mem.now)) × (k < g.segments * most_blocks g) × (len g Region.marks ≤ length scratch.old) }
     ensures { BitEnters (mem_of g mem.now) k scratch.old result scratch.new }
 {
-    let set = marks::is_set(g, mem, k);
-    if !set {
+    if !marks::is_set(g, mem, k) {
         return false;
     }
     let bit = k as u32;
@@ -40,11 +38,10 @@ fn enter(g: Geometry, mem: &[u32], i: usize, scratch: &mut [u32]) -> bool
     if w == 0 {
         return false;
     }
-    let at = (w - 1) as usize;
-    match examine_record::test(g, mem, at) {
-        Bit::Torn => false,
-        Bit::At(k) => enter_bit(g, mem, k, scratch),
-    }
+    let Some(k) = examine_record::test(g, mem, (w - 1) as usize) else {
+        return false;
+    };
+    enter_bit(g, mem, k, scratch)
 }
 
 // The n entries of the trace stack entered among the bits, one after the other; false where `enter` says so of one.
@@ -53,13 +50,10 @@ fn enter_all(g: Geometry, mem: &[u32], n: usize, scratch: &mut [u32]) -> bool
     requires g_in_bounds { (len g Region.marks ≤ length scratch.old) × ((k : ℕ) → bit_at scratch.old k ≡ 0) }
     ensures { EntersAll g (mem_of g mem.now) result scratch.new }
 {
-    let mut i = 0;
-    while i < n {
-        let ok = enter(g, mem, i, scratch);
-        if !ok {
+    for i in 0..n {
+        if !enter(g, mem, i, scratch) {
             return false;
         }
-        i += 1;
     }
     true
 }

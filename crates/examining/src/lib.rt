@@ -10,7 +10,7 @@ ghost use Rattle.model.specs.Consistent.{Consistent};
 ghost use Rattle.model.specs.Promise.{ExaminePromise};
 
 use layout::Geometry;
-use model::Examined;
+use model::Refusal;
 
 // The length of the scratch: two bits for each block, and a stack with an entry for each.
 pub fn scratch_words(g: Geometry) -> usize
@@ -35,18 +35,13 @@ fn consistent(g: Geometry, mem: &[u32], scratch: &mut [u32]) -> bool
 }
 
 // The examination: refused 1 for a wrong size, else whether the memory is consistent.
-pub fn examine(g: Geometry, mem: &[u32], scratch: &mut [u32]) -> Examined
+pub fn examine(g: Geometry, mem: &[u32], scratch: &mut [u32]) -> Result<bool, Refusal>
     ensures { ExaminePromise g mem.now scratch.old result scratch.new }
 {
-    if layout::wrong_size(g, mem.len()) {
-        return Examined::Refused(1);
-    }
+    model::require_size(g, mem)?;
     let words = scratch_words(g);
     if scratch.len() != words {
-        return Examined::Refused(1);
+        return Err(Refusal::Size);
     }
-    if consistent(g, mem, scratch) {
-        return Examined::Yes;
-    }
-    Examined::No
+    Ok(consistent(g, mem, scratch))
 }

@@ -6,100 +6,81 @@ ghost use Rattle.theory.specs.Calls.{c_load, c_get, c_put, c_shape};
 ghost use Rattle.model.specs.Promise.{Promise};
 
 use layout::Geometry;
-use model::{Answer, Held};
-use records::FieldAt;
+use model::{Answer, Held, Refusal};
 
 // Root `to` gets what pointer `field` of the record in root `root` holds.
-pub fn load(g: Geometry, mem: &mut [u32], mutator: u32, to: u32, root: u32, field: u32) -> Answer
+pub fn load(
+    g: Geometry,
+    mem: &mut [u32],
+    mutator: u32,
+    to: u32,
+    root: u32,
+    field: u32,
+) -> Result<Answer, Refusal>
     ensures { Promise (c_load mutator to root field) g mem.old result mem.new }
 {
-    if layout::wrong_size(g, mem.len()) {
-        return Answer::Refused(1);
-    }
-    let refused = mutators::roots_refusal(g, mem, mutator, to, root);
-    if refused != 0 {
-        return Answer::Refused(refused);
-    }
+    model::require_size(g, mem)?;
+    mutators::require_roots(g, mem, mutator, to, root)?;
     let slot = records::held_of(mutators::root(g, mem, mutator, root));
     let Held::Record(at) = slot else {
-        return Answer::Refused(7);
+        return Err(Refusal::Nil);
     };
-    match records::pointer_at(g, mem, at, field) {
-        FieldAt::Refused(n) => Answer::Refused(n),
-        FieldAt::Word(word) => {
-            let held = records::field(g, mem, word);
-            mutators::set_root(g, mem, mutator, to, held);
-            Answer::Ok
-        }
-    }
+    let word = records::pointer_at(g, mem, at, field)?;
+    let held = records::field(g, mem, word);
+    mutators::set_root(g, mem, mutator, to, held);
+    Ok(Answer::Done)
 }
 
 // Value `field` of the record in root `root`.
-pub fn get(g: Geometry, mem: &[u32], mutator: u32, root: u32, field: u32) -> Answer
+pub fn get(g: Geometry, mem: &[u32], mutator: u32, root: u32, field: u32) -> Result<Answer, Refusal>
     ensures { Promise (c_get mutator root field) g mem.now result mem.now }
 {
-    if layout::wrong_size(g, mem.len()) {
-        return Answer::Refused(1);
-    }
-    let refused = mutators::root_refusal(g, mem, mutator, root);
-    if refused != 0 {
-        return Answer::Refused(refused);
-    }
+    model::require_size(g, mem)?;
+    mutators::require_root(g, mem, mutator, root)?;
     let slot = records::held_of(mutators::root(g, mem, mutator, root));
     let Held::Record(at) = slot else {
-        return Answer::Refused(7);
+        return Err(Refusal::Nil);
     };
-    match records::value_at(g, mem, at, field) {
-        FieldAt::Refused(n) => Answer::Refused(n),
-        FieldAt::Word(word) => {
-            let value = records::field(g, mem, word);
-            Answer::Number(value)
-        }
-    }
+    let word = records::value_at(g, mem, at, field)?;
+    let value = records::field(g, mem, word);
+    Ok(Answer::Number(value))
 }
 
 // Value `field` of the record in root `root` becomes `value`.
-pub fn put(g: Geometry, mem: &mut [u32], mutator: u32, root: u32, field: u32, value: u32) -> Answer
+pub fn put(
+    g: Geometry,
+    mem: &mut [u32],
+    mutator: u32,
+    root: u32,
+    field: u32,
+    value: u32,
+) -> Result<Answer, Refusal>
     ensures { Promise (c_put mutator root field value) g mem.old result mem.new }
 {
-    if layout::wrong_size(g, mem.len()) {
-        return Answer::Refused(1);
-    }
-    let refused = mutators::root_refusal(g, mem, mutator, root);
-    if refused != 0 {
-        return Answer::Refused(refused);
-    }
+    model::require_size(g, mem)?;
+    mutators::require_root(g, mem, mutator, root)?;
     let slot = records::held_of(mutators::root(g, mem, mutator, root));
     let Held::Record(at) = slot else {
-        return Answer::Refused(7);
+        return Err(Refusal::Nil);
     };
-    match records::value_at(g, mem, at, field) {
-        FieldAt::Refused(n) => Answer::Refused(n),
-        FieldAt::Word(word) => {
-            records::set_field(g, mem, word, value);
-            Answer::Ok
-        }
-    }
+    let word = records::value_at(g, mem, at, field)?;
+    records::set_field(g, mem, word, value);
+    Ok(Answer::Done)
 }
 
 // How many pointers and how many values the record in root `root` has.
-pub fn shape(g: Geometry, mem: &[u32], mutator: u32, root: u32) -> Answer
+pub fn shape(g: Geometry, mem: &[u32], mutator: u32, root: u32) -> Result<Answer, Refusal>
     ensures { Promise (c_shape mutator root) g mem.now result mem.now }
 {
-    if layout::wrong_size(g, mem.len()) {
-        return Answer::Refused(1);
-    }
-    let refused = mutators::root_refusal(g, mem, mutator, root);
-    if refused != 0 {
-        return Answer::Refused(refused);
-    }
+    model::require_size(g, mem)?;
+    mutators::require_root(g, mem, mutator, root)?;
     let slot = records::held_of(mutators::root(g, mem, mutator, root));
     let Held::Record(at) = slot else {
-        return Answer::Refused(7);
+        return Err(Refusal::Nil);
     };
     let end = layout::heap_words(g);
     if end <= at {
-        return Answer::Refused(13);
+        return Err(Refusal::Torn);
     }
-    Answer::Shape(records::shape(g, mem, at))
+    Ok(Answer::Shape(records::shape(g, mem, at)))
 }

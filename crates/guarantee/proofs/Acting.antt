@@ -5,6 +5,7 @@ use mathlib.Core.Bool.{Bool, true}
 use mathlib.Core.List.{List}
 use Prim.Native.Nat.{ℕ}
 use lib.ListN.{length}
+use Rattle.std.specs.Prelude.{Result}
 use Rattle.basics.specs.Pick.{pick}
 use Rattle.layout.specs.declared.Geometry.{Geometry}
 use Rattle.layout.specs.Geometry.{Sized}
@@ -13,6 +14,8 @@ use Rattle.layout.proofs.Regions.{right_size, resized}
 use Rattle.theory.specs.Phases.{idle}
 use Rattle.theory.specs.Calls.{a_ok, a_no}
 use Rattle.model.specs.declared.Answer.{Answer}
+use Rattle.model.specs.declared.Refusal.{Refusal}
+use Rattle.model.specs.declared.Refusal.TheVariants.{NotNow}
 use Rattle.model.specs.Answers.{answer_of}
 use Rattle.model.specs.Fields.{phase}
 use Rattle.model.specs.Collector.{started, start_of}
@@ -20,18 +23,18 @@ use Rattle.model.specs.Consistent.{Consistent}
 use Rattle.model.specs.Lists.{Event, mutator_call, start_call, step_call, opening_call, look_call, Element, Promised, Meets, KeepsLength, IsOpening, Gets, wrong_sized, next_words}
 use Rattle.refine_run.proofs.Elements.{size_number, is_over, ahead}
 use Rattle.guarantee.specs.Elements.{Acts, wrong, looks, calls, starts, start_refused, steps}
-use Rattle.guarantee.proofs.Numbers.{to_number, refused_as, is_ok}
+use Rattle.guarantee.proofs.Numbers.{refused_as, is_ok}
 use Rattle.guarantee.proofs.Refused.{start_either}
 
 -- a start: a cycle begins in idle, or it is refused
-start_acts : (g : Geometry) (m m' : Mem) (r : Answer) → answer_of r ≡ (start_of g m).0 → m' ≡ (start_of g m).1 → Acts g m m' (start_call r)
+start_acts : (g : Geometry) (m m' : Mem) (r : Result Answer Refusal) → answer_of r ≡ (start_of g m).0 → m' ≡ (start_of g m).1 → Acts g m m' (start_call r)
 start_acts g m m' r e h = go (start_either g m)
   where
     go : ((phase m ≡ idle) × (start_of g m ≡ (a_ok, started g m))) ⊎ (start_of g m ≡ (a_no 11, m)) → Acts g m m' (start_call r)
     go (inl x) = rw (is_ok r (e ∙ ap (λ y. y.0) x.1)) (starts x.0 (ap (λ y. y.0) x.1) (h ∙ ap (λ y. y.1) x.1))
     go (inr x) =
         let n : (start_of g m).0 ≡ a_no 11 = ap (λ y. y.0) x in
-        rw (refused_as r 11 (to_number r 11 (e ∙ n))) (start_refused n (h ∙ ap (λ y. y.1) x))
+        rw (refused_as r NotNow (e ∙ n)) (start_refused n (h ∙ ap (λ y. y.1) x))
 
 module _ (g : Geometry) (words : List ℕ) (z : Sized g (length words)) where
   -- what it leaves has the list's length again

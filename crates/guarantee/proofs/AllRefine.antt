@@ -6,9 +6,8 @@ use native.Mathlib.Omega.{arith}
 use lib.Dec.{eqb, leb}
 use borrow.Author.Tests.{eqb-true, eqb-false, leb-true}
 use Rattle.basics.specs.Pick.{pick}
-use Rattle.classes.specs.Class.{max_fields, IsClass}
-use Rattle.classes.specs.declared.SizeClass.{SizeClass}
-use Rattle.classes.specs.declared.SizeClass.TheVariants.{Class, TooBig}
+use Rattle.classes.specs.Class.{max_fields, IsClass, SizeClass}
+use Rattle.std.specs.Prelude.{Some, None}
 use Rattle.classes.proofs.Smallest.{class_limit, class_found}
 use Rattle.classes.specs.Record.{of_counts, class_of_record}
 use Rattle.layout.specs.declared.Geometry.{Geometry}
@@ -52,7 +51,7 @@ some_of zero q = absurd (eqb-false 0 0 q refl)
 some_of (suc x) q = omega arith
 
 module _ (g : Geometry) (m : Mem) (s : Sizes g m) (c : Ordered g m) (k d cl p n : ℕ) (l : k < mutator_count)
-    (a : is_attached m k ≡ true) (h : d < root_count) (e : class_of_record (of_counts p n) ≡ Class cl) where
+    (a : is_attached m k ≡ true) (h : d < root_count) (e : class_of_record (of_counts p n) ≡ Some cl) where
   is_class_lem : IsClass cl
   is_class_lem = class_found (p + n) cl e
 
@@ -116,8 +115,8 @@ make_refines g m s c k d p n e =
   where
     go : (o : SizeClass) → class_of_record (of_counts p n) ≡ o → k < mutator_count → is_attached m k ≡ true → d < root_count → p + n ≤ max_fields
         → Refines struck_out g m (c_make k d p n) (of_class m o (λ cl. made g m k d cl (of_counts p n)))
-    go (Class cl) q l a h f = by_source g m s c k d cl p n l a h q
-    go TooBig q l a h f = absurd (let w = class_limit (p + n) q in omega arith)
+    go (Some cl) q l a h f = by_source g m s c k d cl p n l a h q
+    go None q l a h f = absurd (let w = class_limit (p + n) q in omega arith)
 
 -- ---- all calls
 

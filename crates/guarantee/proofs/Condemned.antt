@@ -7,6 +7,7 @@ use Prim.Native.Nat.{ℕ, zero, suc, ◌<◌}
 use native.Mathlib.Omega.{arith}
 use lib.Dec.{eqb}
 use borrow.Author.Tests.{ne_eqb}
+use Rattle.std.specs.Prelude.{Ok}
 use Rattle.layout.specs.declared.Geometry.{Geometry}
 use Rattle.layout.specs.Geometry.{mutator_count, segment_of}
 use Rattle.layout.specs.Mem.{Mem, Sizes}
@@ -16,7 +17,7 @@ use Rattle.theory.specs.MachineCalls.{step_by}
 use Rattle.theory.proofs.Invariant.{none_some}
 use Rattle.theory.proofs.Updates.{upd_other, upd_same}
 use Rattle.theory.proofs.Condemning.{act_condemned, step_condemned}
-use Rattle.model.specs.declared.Answer.TheVariants.{Ok}
+use Rattle.model.specs.declared.Answer.TheVariants.{Done}
 use Rattle.model.specs.declared.Step.{Step}
 use Rattle.model.specs.Answers.{step_answer_of}
 use Rattle.model.specs.Fields.{phase, trace_count, tag}
@@ -124,7 +125,7 @@ module _ (g : Geometry) (m : Mem) (z : Sizes g m) (k : Consistent g m) (s : ℕ)
 
   -- ---- by the event
 
-  pub stays_condemned : (m' : Mem) (v : Event) → Acts g m m' v → (v ≡ start_call Ok → ⊥) → ((f : ℕ) → v ≡ step_call (step_answer.Swept s f) → ⊥) → is_condemned m' s ≡ is_condemned m s
+  pub stays_condemned : (m' : Mem) (v : Event) → Acts g m m' v → (v ≡ start_call (Ok Done) → ⊥) → ((f : ℕ) → v ≡ step_call (step_answer.Swept s f) → ⊥) → is_condemned m' s ≡ is_condemned m s
   stays_condemned m' v (wrong n h) a b = ap (λ x. is_condemned x s) h
   stays_condemned m' v (looks h) a b = ap (λ x. is_condemned x s) h
   stays_condemned m' v (calls {c = c} e h) a b = ap (λ x. is_condemned x s) h ∙ call_same c

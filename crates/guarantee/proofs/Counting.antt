@@ -8,18 +8,15 @@ use native.Mathlib.Omega.{arith}
 use lib.Dec.{eqb}
 use borrow.Author.Tests.{eqb-true}
 use Rattle.basics.specs.Pick.{pick}
-use Rattle.classes.specs.Class.{class_count}
+use Rattle.classes.specs.Class.{class_count, SizeClass}
 use Rattle.classes.specs.Record.{of_counts, class_of_record}
-use Rattle.classes.specs.declared.SizeClass.{SizeClass}
-use Rattle.classes.specs.declared.SizeClass.TheVariants.{Class, TooBig}
+use Rattle.std.specs.Prelude.{Some, None}
 use Rattle.classes.proofs.Smallest.{class_found}
 use Rattle.layout.specs.declared.Geometry.{Geometry}
 use Rattle.layout.specs.Geometry.{mutator_count, root_count}
 use Rattle.layout.specs.Mem.{Mem, Sizes, set_mutator, set_heap, set_run}
 use Rattle.theory.specs.Phases.{in_handshake, duty}
-use Rattle.theory.specs.Calls.{Call, c_attach, c_detach, c_check, c_leave, c_enter, c_spawn, c_make, c_load, c_store, c_copy, c_clear, c_put, c_get}
-use Rattle.theory.specs.Calls.{c_same, c_shape, CallKind, coming, working, asks_number, asks_flag, asks_shape, making, kind_of, Answer, refusal, refuse, unless, on_record}
-use Rattle.theory.specs.Calls.{a_ok, a_moved, a_traced, a_done, a_idle, a_num, a_flag, a_shape, a_no, a_waiting, a_swept}
+use Rattle.theory.specs.Calls.{Call, c_attach, c_detach, c_check, c_leave, c_enter, c_spawn, c_make, c_load, c_store, c_copy, c_clear, c_put, c_get, c_same, c_shape, CallKind, coming, working, asks_number, asks_flag, asks_shape, making, kind_of, Answer, refusal, refuse, unless, on_record, a_ok, a_moved, a_traced, a_done, a_idle, a_num, a_flag, a_shape, a_no, a_waiting, a_swept}
 use Rattle.theory.proofs.Refusals.{by_ok, root_ok}
 use Rattle.model.specs.Fields.{phase, acks, root, holding, kept_count, handed_count}
 use Rattle.model.specs.Segments.{free_stack, part_stack, count, top}
@@ -96,7 +93,7 @@ CountsBy (making k d) g m r = MakesOne g m r
 -- ---- make
 
 module _ (g : Geometry) (m : Mem) (s : Sizes g m) (c : Ordered g m) (k d cl p n : ℕ) (l : k < mutator_count)
-    (a : is_attached m k ≡ true) (h : d < root_count) (e : class_of_record (of_counts p n) ≡ Class cl) where
+    (a : is_attached m k ≡ true) (h : d < root_count) (e : class_of_record (of_counts p n) ≡ Some cl) where
   -- out of a segment that the mutator holds
   from_taken : (m₁ : Mem) (r : ℕ) → SegmentTaken g m m₁ k cl r → MakesOne g m (in_segment g m m₁ k d cl r (of_counts p n))
   from_taken m₁ r t =
@@ -127,10 +124,10 @@ module _ (g : Geometry) (m : Mem) (s : Sizes g m) (c : Ordered g m) (k d cl p n 
 from_make : (g : Geometry) (m : Mem) → Sizes g m → Ordered g m → (k d p n : ℕ) → refusal (observe m) (c_make k d p n) ≡ 0 → (o : SizeClass)
     → class_of_record (of_counts p n) ≡ o → MakesOne g m (of_class m o (λ cl. made g m k d cl (of_counts p n)))
 unfolding made
-from_make g m s c k d p n e (Class cl) q =
+from_make g m s c k d p n e (Some cl) q =
     let x = by_ok (observe m) k _ e in
     from_source_lem g m s c k d cl p n x.0 x.1 (root_ok d _ x.3).0 q
-from_make g m s c k d p n e TooBig q = inr (refl, refl)
+from_make g m s c k d p n e None q = inr (refl, refl)
 
 -- ---- every call
 

@@ -5,6 +5,7 @@ use mathlib.Core.Bool.{true}
 use mathlib.Core.Option.{Option, none, some, none-ne-some, some-injective}
 use mathlib.Core.List.{List}
 use Prim.Native.Nat.{ℕ, zero, suc, ◌<◌}
+use Rattle.std.specs.Prelude.{Result, Ok}
 use Rattle.basics.specs.Pick.{pick}
 use Rattle.layout.specs.declared.Geometry.{Geometry}
 use Rattle.layout.specs.Geometry.{segment_of}
@@ -18,7 +19,8 @@ use Rattle.theory.proofs.CollectorKeeps.{start_ok}
 use Rattle.theory.proofs.Agree.{Agree}
 use Rattle.theory.proofs.Invariant.{Inv}
 use Rattle.model.specs.declared.Answer.{Answer}
-use Rattle.model.specs.declared.Answer.TheVariants.{Ok}
+use Rattle.model.specs.declared.Answer.TheVariants.{Done}
+use Rattle.model.specs.declared.Refusal.{Refusal}
 use Rattle.model.specs.Answers.{answer_of}
 use Rattle.model.specs.Fields.{phase, tag, class}
 use Rattle.model.specs.Calls.{observe, act, exec}
@@ -68,15 +70,15 @@ module _ (g : Geometry) (m : Mem) (z : Sizes g m) (k : Consistent g m) (w : Ghos
   pub record Next (v : Event) (after : List ℕ) : Type 0 where
     pub couples : Couples g (mem_of g after) (fed w (remaining_call struck_out v) g after) P
     pub steady : Steady g m (mem_of g after)
-    pub answer : (x : Call × Answer) → remaining_call struck_out v ≡ some x → answer_of x.1 ≡ (uexec w.heap x.0).0
+    pub answer : (x : Call × Result Answer Refusal) → remaining_call struck_out v ≡ some x → answer_of x.1 ≡ (uexec w.heap x.0).0
 
   pub data Leads (v : Event) (after : List ℕ) : Type 0 where
     goes : Next v after → Leads v after
-    begins : v ≡ start_call Ok → Begun (mem_of g after) → Leads v after
+    begins : v ≡ start_call (Ok Done) → Begun (mem_of g after) → Leads v after
 
   -- nothing changes beside
   unmoved : (v : Event) (after : List ℕ) → fed w (remaining_call struck_out v) g after ≡ w
-      → ((x : Call × Answer) → remaining_call struck_out v ≡ some x → answer_of x.1 ≡ (uexec w.heap x.0).0) → mem_of g after ≡ m
+      → ((x : Call × Result Answer Refusal) → remaining_call struck_out v ≡ some x → answer_of x.1 ≡ (uexec w.heap x.0).0) → mem_of g after ≡ m
       → Leads v after
   unmoved v after n a h = goes (record {
     couples = subst (λ x. Couples g (mem_of g after) x P) (sym n) (subst (λ x. Couples g x w P) (sym h) o);
@@ -89,12 +91,12 @@ module _ (g : Geometry) (m : Mem) (z : Sizes g m) (k : Consistent g m) (w : Ghos
 
   -- ---- a mutator's call
 
-  module _ (c : Call) (r : Answer) (after : List ℕ) where
+  module _ (c : Call) (r : Result Answer Refusal) (after : List ℕ) where
     -- a call that is answered as the unbounded heap does remains
     remaining : answer_of r ≡ (uexec w.heap c).0 → remaining_call struck_out (mutator_call c r) ≡ some (c, r)
     remaining a = ap (λ b. pick b none (some (c, r))) (not_struck_out r w.heap c a)
 
-    told : answer_of r ≡ (uexec w.heap c).0 → (x : Call × Answer) → remaining_call struck_out (mutator_call c r) ≡ some x → answer_of x.1 ≡ (uexec w.heap x.0).0
+    told : answer_of r ≡ (uexec w.heap c).0 → (x : Call × Result Answer Refusal) → remaining_call struck_out (mutator_call c r) ≡ some x → answer_of x.1 ≡ (uexec w.heap x.0).0
     told a x f = subst (λ x. answer_of x.1 ≡ (uexec w.heap x.0).0) (some-injective (c, r) x (sym (remaining a) ∙ f)) a
 
     -- refused by a number from 2 to 9, on both sides

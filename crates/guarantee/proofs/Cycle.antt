@@ -6,13 +6,14 @@ use mathlib.Core.Option.{Option, none, some}
 use mathlib.Core.List.{List, [], ◌∷◌, ◌++◌}
 use Prim.Native.Nat.{ℕ, zero, suc, ◌<◌}
 use native.Mathlib.Omega.{arith}
+use Rattle.std.specs.Prelude.{Ok}
 use Rattle.layout.specs.declared.Geometry.{Geometry}
 use Rattle.layout.specs.Geometry.{mutator_count}
 use Rattle.layout.specs.Mem.{Mem, mem_of}
 use Rattle.theory.specs.Phases.{Phase, idle, sync1, sync2, mark, sweep}
 use Rattle.theory.specs.Calls.{a_swept}
 use Rattle.theory.proofs.Invariant.{none_some}
-use Rattle.model.specs.declared.Answer.TheVariants.{Ok}
+use Rattle.model.specs.declared.Answer.TheVariants.{Done}
 use Rattle.model.specs.Fields.{phase, trace_count, tag, class}
 use Rattle.model.specs.Collector.{collects, step_of, step_in, moved_or_waiting, traces, sweeps, swept, lowest, waiting, outside_answered}
 use Rattle.model.specs.Lists.{start_call, step_call, Element, start_element, step_element, Meets, KeepsLength, Gets, wrong_sized, event_number, next_words}
@@ -73,10 +74,10 @@ module _ (g : Geometry) (m₀ : Mem) where
 
   -- no start that is not refused
   abbrev NoStart : List Element → Type 0
-  NoStart ds = (xs ys : List Element) (u v : List ℕ) → ds ≡ xs ++ (start_element g u Ok v ∷ ys) → ⊥
+  NoStart ds = (xs ys : List Element) (u v : List ℕ) → ds ≡ xs ++ (start_element g u (Ok Done) v ∷ ys) → ⊥
 
   during_on : (words : List ℕ) (w : Ghost) (P : ℕ → Type 0) (e : Element) → During words w P
-      → ((after : List ℕ) → e ≡ start_element g words Ok after → ⊥) → Meets e → KeepsLength e → (wrong_sized e ≡ true) ⊎ Gets g words e
+      → ((after : List ℕ) → e ≡ start_element g words (Ok Done) after → ⊥) → Meets e → KeepsLength e → (wrong_sized e ≡ true) ⊎ Gets g words e
       → During (next_words words e) (ghost_step struck_out w e) P
   during_on words w P e d f q l h = go (leads_on g words w e q l h P d.point)
     where
@@ -95,7 +96,7 @@ module _ (g : Geometry) (m₀ : Mem) where
 
 -- ---- the cycle of a list
 
-pub accepted : (g : Geometry) (m m' : Mem) → Acts g m m' (start_call Ok) → (phase m ≡ idle) × (m' ≡ collector.started g m)
+pub accepted : (g : Geometry) (m m' : Mem) → Acts g m m' (start_call (Ok Done)) → (phase m ≡ idle) × (m' ≡ collector.started g m)
 accepted g m m' (wrong n h) = none_some n
 accepted g m m' (starts i o h) = (i, h)
 
@@ -123,7 +124,7 @@ module _ (g : Geometry) (words : List ℕ) (w : Ghost) (es : List Element) (c : 
     pub at_end : Point g c.step_after heap_now Any
 
   abbrev cycle_start : Element
-  cycle_start = start_element g c.start_before Ok c.start_after
+  cycle_start = start_element g c.start_before (Ok Done) c.start_after
 
   abbrev cycle_sweep : Element
   cycle_sweep = step_element g c.step_before (step_answer.Swept c.segment c.freed) c.step_after

@@ -9,6 +9,7 @@ use native.Mathlib.Omega.{arith}
 use lib.Dec.{eqb}
 use lib.ListN.{length}
 use borrow.Author.Tests.{eqb-true, eq-eqb, ne_eqb}
+use Rattle.std.specs.Prelude.{Result, Ok}
 use Rattle.basics.specs.Pick.{pick}
 use Rattle.classes.specs.Class.{IsClass}
 use Rattle.layout.specs.declared.Geometry.{Geometry}
@@ -18,7 +19,7 @@ use Rattle.layout.proofs.Regions.{sized}
 use Rattle.theory.specs.Phases.{Phase, idle, sync1, sync2, mark, sweep, in_handshake}
 use Rattle.theory.specs.Calls.{Call, a_ok, a_done}
 use Rattle.model.specs.declared.Answer.{Answer}
-use Rattle.model.specs.declared.Answer.TheVariants.{Ok}
+use Rattle.model.specs.declared.Refusal.{Refusal}
 use Rattle.model.specs.declared.Step.{Step}
 use Rattle.model.specs.declared.Step.TheVariants.{Waiting, Moved, Traced, Swept, Done, Idle, Refused}
 use Rattle.model.specs.Answers.{answer_of, refusal_of}
@@ -57,6 +58,7 @@ use Rattle.guarantee.proofs.Stepping.{step_fits}
 use Rattle.guarantee.proofs.Growing.{Grows, grows_self, grows_then, grows_frees, grows_same, grows_exec}
 use Rattle.guarantee.proofs.SweptOnce.{IsSweep, never_none, never_more, NoStart, no_start_lem, no_later}
 use Rattle.model.specs.Tag as Tag
+use Rattle.model.specs.declared.Answer.TheVariants as call_answer
 
 module _ (g : Geometry) where
   -- ---- one memory: nothing is condemned, and the heap is that of a memory in idle
@@ -84,14 +86,14 @@ module _ (g : Geometry) where
   -- ---- one event
 
   -- the memory in idle after a call that is compared
-  abbrev after? : Mem → Option (Call × Answer) → Mem
+  abbrev after? : Mem → Option (Call × Result Answer Refusal) → Mem
   after? h none = h
   after? h (some x) = (exec g h x.0).1
 
   record Follows (m m' h : Mem) (v : Event) : Type 0 where
     heap : SameHeap m' (after? h (remaining_call left_out v))
     phase : phase (after? h (remaining_call left_out v)) ≡ idle
-    answer : (x : Call × Answer) → remaining_call left_out v ≡ some x → answer_of x.1 ≡ (exec g h x.0).0
+    answer : (x : Call × Result Answer Refusal) → remaining_call left_out v ≡ some x → answer_of x.1 ≡ (exec g h x.0).0
     grows : Grows g m m'
 
   module _ (m h : Mem) (z : Sizes g m) (k : Consistent g m) (n : NoneCondemned m) (e : SameHeap m h) (i : phase h ≡ idle) where
@@ -115,7 +117,7 @@ module _ (g : Geometry) where
     out_1 (opening_call r) q = refl
     out_1 (look_call l) q = refl
 
-    module _ (c : Call) (r : Answer) (m' : Mem) (a : answer_of r ≡ (exec g m c).0) (x : m' ≡ (exec g m c).1) where
+    module _ (c : Call) (r : Result Answer Refusal) (m' : Mem) (a : answer_of r ≡ (exec g m c).0) (x : m' ≡ (exec g m c).1) where
       -- a number that is left out changes nothing
       left_out_lem : (j : ℕ) → refusal_of r ≡ some j → left_out j ≡ true → Follows m m' h (mutator_call c r)
       left_out_lem j q t =
@@ -144,7 +146,7 @@ module _ (g : Geometry) where
           go none q = compared b y (ap (struck left_out) q)
           go (some j) q = number j q (left_out j) refl
 
-    follows : (m' : Mem) (v : Event) → Acts g m m' v → (v ≡ start_call Ok → ⊥) → Follows m m' h v
+    follows : (m' : Mem) (v : Event) → Acts g m m' v → (v ≡ start_call (Ok call_answer.Done) → ⊥) → Follows m m' h v
     follows m' v (wrong q x) f = unmoved m' v (out_1 v q) x
     follows m' v (looks x) f = unmoved m' _ refl x
     follows m' v (calls {c = c} {r = r} a x) f = called c r m' a x (every_call g m h z e i c)
@@ -189,7 +191,7 @@ module _ (g : Geometry) where
     refused_phase (step_call Idle) x q p = refl
     refused_phase (step_call (Refused n)) x q p = refl
 
-    next_phase : (m' : Mem) (v : Event) → Acts g m m' v → (v ≡ start_call Ok → ⊥) → phase m' ≡ phase_by (phase m) v
+    next_phase : (m' : Mem) (v : Event) → Acts g m m' v → (v ≡ start_call (Ok call_answer.Done) → ⊥) → phase m' ≡ phase_by (phase m) v
     next_phase m' v (wrong q x) f = ap phase x ∙ refused_phase v 1 q (phase m)
     next_phase m' v (looks x) f = ap phase x
     next_phase m' v (calls {c = c} a x) f = ap phase x ∙ phase_stays g m c
@@ -200,19 +202,20 @@ module _ (g : Geometry) where
     never_sweep : (m' : Mem) (v : Event) → Acts g m m' v → (s f : ℕ) → v ≡ step_call (Swept s f) → ⊥
     never_sweep m' v a s f q = n s (eqb-true _ _ (swept_condemned g m z k s m' f (subst (Acts g m m') q a)).0)
 
-    still_none : (m' : Mem) (v : Event) → Acts g m m' v → (v ≡ start_call Ok → ⊥) → NoneCondemned m'
+    still_none : (m' : Mem) (v : Event) → Acts g m m' v → (v ≡ start_call (Ok call_answer.Done) → ⊥) → NoneCondemned m'
     still_none m' v a f s q = n s (eqb-true _ _ (sym (stays_condemned g m z k s m' v a f (λ b y. never_sweep m' v a s b y)) ∙ eq-eqb _ _ q))
 
   -- ---- one element
 
   record Passes (words : List ℕ) (h : Mem) (e : Element) : Type 0 where
     quiet : Quiet (next_words words e) (after? h (remaining_call left_out e.event))
-    answer : (x : Call × Answer) → remaining_call left_out e.event ≡ some x → answer_of x.1 ≡ (exec g h x.0).0
+    answer : (x : Call × Result Answer Refusal) → remaining_call left_out e.event ≡ some x → answer_of x.1 ≡ (exec g h x.0).0
     grows : Grows g (mem_of g words) (mem_of g (next_words words e))
     unswept : (s : ℕ) → IsSweep s e → ⊥
     next : phase (mem_of g (next_words words e)) ≡ phase_by (phase (mem_of g words)) e.event
 
-  pass : (words : List ℕ) (h : Mem) (e : Element) → Quiet words h → Meets e → KeepsLength e → (wrong_sized e ≡ true) ⊎ Gets g words e → (e.event ≡ start_call Ok → ⊥) → Passes words h e
+  pass : (words : List ℕ) (h : Mem) (e : Element) → Quiet words h → Meets e → KeepsLength e → (wrong_sized e ≡ true) ⊎ Gets g words e
+      → (e.event ≡ start_call (Ok call_answer.Done) → ⊥) → Passes words h e
   pass words h e q a l x f =
       let o = every_element g words e q.right q.consistent a l x in
       let z = sizes words q.right in
@@ -264,7 +267,7 @@ module _ (g : Geometry) where
       let p = pass words h e q c.0 c.1 c.2 (no_start_lem g words e ds n c.0 c.2) in
       one (remaining_call left_out e.event) p.answer (answers_quiet ds (next_words words e) (after? h (remaining_call left_out e.event)) p.quiet (no_later g e ds n) c.3)
     where
-      one : (o : Option (Call × Answer)) → ((x : Call × Answer) → o ≡ some x → answer_of x.1 ≡ (exec g h x.0).0)
+      one : (o : Option (Call × Result Answer Refusal)) → ((x : Call × Result Answer Refusal) → o ≡ some x → answer_of x.1 ≡ (exec g h x.0).0)
           → remaining_answers left_out ds ≡ heap_answers g (after? h o) (remaining_calls left_out ds)
           → prepend (map (λ x. answer_of x.1) o) (remaining_answers left_out ds) ≡ heap_answers g h (prepend (map (λ x. x.0) o) (remaining_calls left_out ds))
       one none f ih = ih
@@ -284,12 +287,12 @@ module _ (g : Geometry) where
     quiet : Quiet after (mem_of g words)
     chain : Chain g after ds
     grows : Grows g (mem_of g words) (mem_of g after)
-    next_words-is : next_words words (start_element g words Ok after) ≡ after
+    next_words-is : next_words words (start_element g words (Ok call_answer.Done) after) ≡ after
 
   begun : (words after : List ℕ) (ds : List Element) → OverNothing g words after ds → Started words after ds
   begun words after ds p =
       let m : Mem = mem_of g words in
-      let e : Element = start_element g words Ok after in
+      let e : Element = start_element g words (Ok call_answer.Done) after in
       let c = p.chain in
       let w : next_words words e ≡ after = ahead g words e c.0 (not_refused g words e c.0 refl c.2) in
       let o = every_element g words e p.sized p.consistent c.0 c.1 c.2 in
@@ -364,7 +367,7 @@ module _ (g : Geometry) where
     step_done : (xs ys : List Element) (e : Element) (r : Step) → ds ≡ xs ++ (e ∷ ys) → e.event ≡ step_call r → wrong_sized e ≡ false → phase (mem_of g (words_after after xs)) ≡ sweep → r ≡ Done
     step_done xs ys e r i j k l = sym (lent_step xs ys e r i j k) ∙ ap declared_step (sweep_done (mem_of g (words_after after xs)) (at_point xs (e ∷ ys) i).quiet.uncondemned l)
 
-    refused_11 : (xs ys : List Element) (e : Element) (c : Call) (r : Answer) → ds ≡ xs ++ (e ∷ ys) → e.event ≡ mutator_call c r
+    refused_11 : (xs ys : List Element) (e : Element) (c : Call) (r : Result Answer Refusal) → ds ≡ xs ++ (e ∷ ys) → e.event ≡ mutator_call c r
         → refusal_of r ≡ some 11 → in_handshake (phase (mem_of g (words_after after xs))) ≡ true
     refused_11 xs ys e c r i j k =
         let w = at_point xs (e ∷ ys) i in
@@ -373,16 +376,17 @@ module _ (g : Geometry) where
         let a = q.exact w.quiet.right w.quiet.consistent in
         handshakes_only g (mem_of g (words_after after xs)) c (q.allowed 11 k) (sym a.0 ∙ of_number r 11 k)
 
-    grows_between : (xs ys zs : List Element) → start_element g words Ok after ∷ ds ≡ xs ++ (ys ++ zs) → Grows g (mem_of g (words_after words xs)) (mem_of g (words_after (words_after words xs) ys))
+    grows_between : (xs ys zs : List Element) → start_element g words (Ok call_answer.Done) after ∷ ds ≡ xs ++ (ys ++ zs)
+        → Grows g (mem_of g (words_after words xs)) (mem_of g (words_after (words_after words xs) ys))
     grows_between [] [] zs i = grows_self g (mem_of g words)
     grows_between [] (y ∷ ys) zs i =
-        let a : start_element g words Ok after ≡ y = cc in
+        let a : start_element g words (Ok call_answer.Done) after ≡ y = cc in
         let b : ds ≡ ys ++ zs = cc in
         let o = begun words after ds p in
         let t : next_words words y ≡ after = ap (next_words words) (sym a) ∙ o.next_words-is in
         subst (λ u. Grows g (mem_of g words) (mem_of g (words_after u ys))) (sym t) (grows_then g (mem_of g words) (mem_of g after) (mem_of g (words_after after ys)) o.grows (at_point ys zs b).grows)
     grows_between (x ∷ xs) ys zs i =
-        let a : start_element g words Ok after ≡ x = cc in
+        let a : start_element g words (Ok call_answer.Done) after ≡ x = cc in
         let b : ds ≡ xs ++ (ys ++ zs) = cc in
         let w = at_point xs (ys ++ zs) b in
         let t : next_words words x ≡ after = ap (next_words words) (sym a) ∙ (begun words after ds p).next_words-is in

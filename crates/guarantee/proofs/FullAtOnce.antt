@@ -8,9 +8,8 @@ use lib.Dec.{eqb}
 use lib.ListN.{length}
 use borrow.Author.Tests.{eqb-true}
 use Rattle.basics.specs.Pick.{pick}
-use Rattle.classes.specs.Class.{IsClass}
-use Rattle.classes.specs.declared.SizeClass.{SizeClass}
-use Rattle.classes.specs.declared.SizeClass.TheVariants.{Class, TooBig}
+use Rattle.classes.specs.Class.{IsClass, SizeClass}
+use Rattle.std.specs.Prelude.{Some, None}
 use Rattle.classes.proofs.Smallest.{class_found}
 use Rattle.classes.specs.Record.{of_counts, class_of_record}
 use Rattle.layout.specs.declared.Geometry.{Geometry}
@@ -42,7 +41,7 @@ use Rattle.model.specs.Tag as Tag
 use Rattle.guarantee.proofs.Refused as refused
 
 module _ (g : Geometry) (m : Mem) (s : Sizes g m) (c : Consistent g m) (k d cl p n : ℕ) (l : k < mutator_count)
-    (a : is_attached m k ≡ true) (h : d < root_count) (e : class_of_record (of_counts p n) ≡ Class cl) (one : blocks_in g cl ≡ 1) where
+    (a : is_attached m k ≡ true) (h : d < root_count) (e : class_of_record (of_counts p n) ≡ Some cl) (one : blocks_in g cl ≡ 1) where
   is_class_lem : IsClass cl
   is_class_lem = class_found (p + n) cl e
 
@@ -105,20 +104,20 @@ module _ (g : Geometry) (m : Mem) (s : Sizes g m) (c : Consistent g m) (k d cl p
 
 -- ---- the call
 
-make_full : (g : Geometry) (m : Mem) → Sizes g m → Consistent g m → (k d p n cl : ℕ) → class_of_record (of_counts p n) ≡ Class cl → blocks_in g cl ≡ 1
+make_full : (g : Geometry) (m : Mem) → Sizes g m → Consistent g m → (k d p n cl : ℕ) → class_of_record (of_counts p n) ≡ Some cl → blocks_in g cl ≡ 1
     → (exec g m (c_make k d p n)).0 ≡ a_ok → FullAtOnce g m (exec g m (c_make k d p n)).1 k d
 unfolding exec act made
 make_full g m s c k d p n cl w one ok = go (refusal (observe m) (c_make k d p n)) refl ok
   where
-    classed : refusal (observe m) (c_make k d p n) ≡ 0 → (o : SizeClass) → o ≡ Class cl
+    classed : refusal (observe m) (c_make k d p n) ≡ 0 → (o : SizeClass) → o ≡ Some cl
         → (of_class m o (λ x. from_source g m k d x (of_counts p n) (source_of g m k x))).0 ≡ a_ok
         → FullAtOnce g m (of_class m o (λ x. from_source g m k d x (of_counts p n) (source_of g m k x))).1 k d
-    classed z (Class x) q ok =
+    classed z (Some x) q ok =
         let y = by_ok (observe m) k _ z in
         let r = root_ok d _ y.3 in
         let same : x ≡ cl = cc in
         by_source g m s c k d x p n y.0 y.1 r.0 (w ∙ sym q) (ap (blocks_in g) same ∙ one) ok
-    classed z TooBig q ok = refused.result a_ok 9 refl (sym ok)
+    classed z None q ok = refused.result a_ok 9 refl (sym ok)
 
     go : (x : ℕ) → refusal (observe m) (c_make k d p n) ≡ x
         → (refuse x m (of_class m (class_of_record (of_counts p n)) (λ y. from_source g m k d y (of_counts p n) (source_of g m k y)))).0 ≡ a_ok

@@ -11,17 +11,15 @@ use lib.ListN.{get_or}
 use borrow.Author.Tests.{eqb-true, eqb-false, ne_eqb}
 use Rattle.basics.specs.Pick.{pick}
 use Rattle.basics.proofs.Order.{same_or_not}
-use Rattle.classes.specs.Class.{class_count}
+use Rattle.classes.specs.Class.{class_count, SizeClass}
 use Rattle.classes.specs.Record.{of_counts, class_of_record}
-use Rattle.classes.specs.declared.SizeClass.{SizeClass}
-use Rattle.classes.specs.declared.SizeClass.TheVariants.{Class, TooBig}
+use Rattle.std.specs.Prelude.{Some, None}
 use Rattle.classes.proofs.Smallest.{class_found}
 use Rattle.layout.specs.declared.Geometry.{Geometry}
 use Rattle.layout.specs.Geometry.{mutator_count, root_count, blocks_in, bitmap_words}
 use Rattle.layout.specs.Mem.{Mem, Sizes, set_mutator, set_segment, set_stack, set_heap, set_run}
 use Rattle.theory.specs.Phases.{in_handshake, duty}
-use Rattle.theory.specs.Calls.{Call, c_attach, c_detach, c_check, c_leave, c_enter, c_spawn, c_make, c_load, c_store, c_copy, c_clear, c_put, c_get}
-use Rattle.theory.specs.Calls.{c_same, c_shape, Answer, refusal, refuse, unless, on_record}
+use Rattle.theory.specs.Calls.{Call, c_attach, c_detach, c_check, c_leave, c_enter, c_spawn, c_make, c_load, c_store, c_copy, c_clear, c_put, c_get, c_same, c_shape, Answer, refusal, refuse, unless, on_record}
 use Rattle.theory.proofs.Refusals.{by_ok, root_ok}
 use Rattle.model.specs.Fields.{phase, acks, root, holding, tag, class, place}
 use Rattle.model.specs.Segments.{set_segment_state, free_stack, part_stack, count, top, pop, bitmap, used_bit}
@@ -91,7 +89,7 @@ grows_same g m m' e = grows_still g m m' e.segments e.bitmaps
 -- ---- make
 
 module _ (g : Geometry) (m : Mem) (s : Sizes g m) (c : Ordered g m) (k d cl p n : ℕ) (l : k < mutator_count)
-    (a : is_attached m k ≡ true) (h : d < root_count) (e : class_of_record (of_counts p n) ≡ Class cl) where
+    (a : is_attached m k ≡ true) (h : d < root_count) (e : class_of_record (of_counts p n) ≡ Some cl) where
   -- out of a segment that the mutator holds
   grows_handed : (m₁ : Mem) (r : ℕ) → SegmentTaken g m m₁ k cl r → Grows g m m₁ → Grows g m (in_segment g m m₁ k d cl r (of_counts p n)).1
   grows_handed m₁ r t w =
@@ -174,10 +172,10 @@ module _ (g : Geometry) (m : Mem) (s : Sizes g m) (c : Ordered g m) (k d cl p n 
 grows_make : (g : Geometry) (m : Mem) → Sizes g m → Ordered g m → (k d p n : ℕ) → refusal (observe m) (c_make k d p n) ≡ 0 → (o : SizeClass)
     → class_of_record (of_counts p n) ≡ o → Grows g m (of_class m o (λ cl. made g m k d cl (of_counts p n))).1
 unfolding made
-grows_make g m s c k d p n e (Class cl) q =
+grows_make g m s c k d p n e (Some cl) q =
     let x = by_ok (observe m) k _ e in
     grows_source g m s c k d cl p n x.0 x.1 (root_ok d _ x.3).0 q
-grows_make g m s c k d p n e TooBig q = grows_self g m
+grows_make g m s c k d p n e None q = grows_self g m
 
 -- ---- detach: what was held is part, with its class, place and bitmap
 

@@ -7,6 +7,7 @@ use mathlib.Core.List.{List}
 use Prim.Native.Nat.{ℕ, ◌+◌, ◌≤◌, ◌<◌}
 use native.Mathlib.Omega.{arith}
 use lib.ListN.{length}
+use Rattle.std.specs.Prelude.{Result}
 use Rattle.basics.specs.Pick.{pick}
 use Rattle.classes.proofs.Smallest.{class_found}
 use Rattle.layout.specs.declared.Geometry.{Geometry}
@@ -17,6 +18,8 @@ use Rattle.theory.specs.Calls.{Call, c_make, refusal}
 use Rattle.theory.proofs.Refusals.{by_ok}
 use Rattle.theory.proofs.Invariant.{none_some}
 use Rattle.model.specs.declared.Answer.{Answer}
+use Rattle.model.specs.declared.Refusal.{Refusal}
+use Rattle.model.specs.Refusals.{number_of}
 use Rattle.model.specs.Answers.{refusal_in, refusal_of}
 use Rattle.model.specs.Calls.{observe}
 use Rattle.model.specs.Opening.{opened}
@@ -58,7 +61,7 @@ every_call-keeps g words e a = subst (λ x. Consistent g (mem_of g x)) (ahead g 
 
 -- a mutator's call that remains answers as the memory itself does as an unbounded heap: a refusal is from 2 to 9
 remains_number : (g : Geometry) (words after : List ℕ) → Sized g (length words) → Consistent g (mem_of g words) → (v : Event)
-    → Acts g (mem_of g words) (mem_of g after) v → (x : Call × Answer) → remaining_call struck_out v ≡ some x → (n : ℕ)
+    → Acts g (mem_of g words) (mem_of g after) v → (x : Call × Result Answer Refusal) → remaining_call struck_out v ≡ some x → (n : ℕ)
     → refusal_of x.1 ≡ some n → n ≤ 9
 remains_number g words after z c v a x i n t = go (self_leads g (mem_of g words) (sizes_of g words z) c v after a)
   where
@@ -81,7 +84,7 @@ module _ (g : Geometry) (words : List ℕ) (z : Sized g (length words)) (c : Con
       (ap (λ o. pick (struck struck_out o) none (some (k, r))) t ∙ ap (λ b. pick b none (some (k, r))) left) n t in
       omega arith
   event_not v after q (starts i o h) t = none_some t
-  event_not v after q (start_refused {n = x} e h) t = let y = some-injective x n t in let l = start_number g (mem_of g words) x e in omega arith
+  event_not v after q (start_refused {w = x} e h) t = let y = some-injective (number_of x) n t in let l = start_number g (mem_of g words) (number_of x) e in omega arith
   event_not v after q (steps e h) t = none_some (sym (step_answers g (mem_of g words)) ∙ ap refusal_in (sym e) ∙ t)
 
 pub never_torn_lem : NeverTorn

@@ -6,6 +6,7 @@ use mathlib.Core.Option.{Option, none, some, some-injective}
 use Prim.Native.Nat.{ℕ, zero, suc, ◌≤◌}
 use native.Mathlib.Omega.{arith}
 use lib.Dec.{ltb}
+use Rattle.std.specs.Prelude.{Result, Ok, Err}
 use Rattle.classes.specs.declared.RecordShape.{RecordShape}
 use Rattle.layout.specs.Geometry.{root_count}
 use Rattle.theory.specs.Calls.{Call, c_attach, c_detach, c_check, c_leave, c_enter, c_spawn, c_make, c_load, c_store, c_copy, c_clear, c_put, c_get}
@@ -13,33 +14,40 @@ use Rattle.theory.specs.Calls.{c_same, c_shape, Observation, require, if_record,
 use Rattle.theory.specs.Unbounded.{Unbounded, uobserve, uact, uexec}
 use Rattle.theory.proofs.Invariant.{none_some}
 use Rattle.model.specs.declared.Answer.{Answer}
-use Rattle.model.specs.declared.Answer.TheVariants.{Ok, Number, Same, Shape, Refused}
+use Rattle.model.specs.declared.Answer.TheVariants.{Done, Number, Same, Shape}
+use Rattle.model.specs.declared.Refusal.{Refusal}
+use Rattle.model.specs.Refusals.{number_of}
 use Rattle.model.specs.Answers.{answer_of, refusal_in, refusal_of}
+use Rattle.model.proofs.Refusals.{one_number}
 use Rattle.model.specs.Lists.{struck}
 use Rattle.guarantee.specs.Demand3.{struck_out}
 use Rattle.theory.specs.Calls as theory
 
 -- ---- by the value of an answer
 
-pub to_number : (r : Answer) (n : ℕ) → answer_of r ≡ a_no n → refusal_of r ≡ some n
+pub to_number : (r : Result Answer Refusal) (n : ℕ) → answer_of r ≡ a_no n → refusal_of r ≡ some n
 to_number r n e = ap refusal_in e
 
-pub refused_as : (r : Answer) (n : ℕ) → refusal_of r ≡ some n → r ≡ Refused n
-refused_as Ok n e = none_some e
-refused_as (Number v) n e = none_some e
-refused_as (Same b) n e = none_some e
-refused_as (Shape s) n e = none_some e
-refused_as (Refused x) n e = ap Refused (some-injective x n e)
+pub of_number : (r : Result Answer Refusal) (n : ℕ) → refusal_of r ≡ some n → answer_of r ≡ a_no n
+of_number (Ok Done) n e = none_some e
+of_number (Ok (Number v)) n e = none_some e
+of_number (Ok (Same b)) n e = none_some e
+of_number (Ok (Shape s)) n e = none_some e
+of_number (Err x) n e = ap a_no (some-injective (number_of x) n e)
 
-pub of_number : (r : Answer) (n : ℕ) → refusal_of r ≡ some n → answer_of r ≡ a_no n
-of_number r n e = ap answer_of (refused_as r n e)
+pub refused_as : (r : Result Answer Refusal) (w : Refusal) → answer_of r ≡ a_no (number_of w) → r ≡ Err w
+refused_as (Ok Done) w e = cc
+refused_as (Ok (Number v)) w e = cc
+refused_as (Ok (Same b)) w e = cc
+refused_as (Ok (Shape s)) w e = cc
+refused_as (Err x) w e = ap Err (one_number x w (some-injective (number_of x) (number_of w) (ap refusal_in e)))
 
-pub is_ok : (r : Answer) → answer_of r ≡ a_ok → r ≡ Ok
-is_ok Ok e = refl
-is_ok (Number v) e = cc
-is_ok (Same b) e = cc
-is_ok (Shape s) e = cc
-is_ok (Refused n) e = cc
+pub is_ok : (r : Result Answer Refusal) → answer_of r ≡ a_ok → r ≡ Ok Done
+is_ok (Ok Done) e = refl
+is_ok (Ok (Number v)) e = cc
+is_ok (Ok (Same b)) e = cc
+is_ok (Ok (Shape s)) e = cc
+is_ok (Err w) e = cc
 
 -- ---- refusals 2 to 9
 
@@ -133,7 +141,7 @@ unbounded_number un c n e = go (refusal (uobserve un) c) (refusal_stays (uobserv
     go (suc x) (inr h) e = let z : suc x ≡ n = some-injective (suc x) n e in (omega (arith, h.0), omega (arith, h.1))
 
 -- what the unbounded heap answers is not struck out
-pub not_struck_out : (r : Answer) (un : Unbounded) (c : Call) → answer_of r ≡ (uexec un c).0 → struck struck_out (refusal_of r) ≡ false
+pub not_struck_out : (r : Result Answer Refusal) (un : Unbounded) (c : Call) → answer_of r ≡ (uexec un c).0 → struck struck_out (refusal_of r) ≡ false
 not_struck_out r un c e = go (refusal_of r) (λ n h. unbounded_number un c n (sym (ap refusal_in e) ∙ h))
   where
     go : (o : Option ℕ) → ((n : ℕ) → o ≡ some n → (2 ≤ n) × (n ≤ 9)) → struck struck_out o ≡ false

@@ -7,6 +7,7 @@ use mathlib.Core.List.{List}
 use Prim.Native.Nat.{ℕ}
 use native.Mathlib.Omega.{arith}
 use lib.ListN.{length}
+use Rattle.std.specs.Prelude.{Result}
 use Rattle.basics.proofs.Order.{same_or_not}
 use Rattle.layout.specs.declared.Geometry.{Geometry}
 use Rattle.layout.specs.Geometry.{scratch_words, sheet_bytes, wrong_size}
@@ -14,6 +15,7 @@ use Rattle.layout.specs.Mem.{Mem}
 use Rattle.theory.specs.Calls.{a_no}
 use Rattle.theory.proofs.Invariant.{none_some}
 use Rattle.model.specs.declared.Answer.{Answer}
+use Rattle.model.specs.declared.Refusal.{Refusal}
 use Rattle.model.specs.Promise.{OpenPromise, OutputPromise}
 use Rattle.model.specs.Sheet.{sheet_of}
 use Rattle.model.specs.Answers.{refusal_in, refusal_of, start_may_give, step_may_give, look_may_give}
@@ -33,14 +35,14 @@ is_number a x n e q = sym (some-injective x n (sym (ap refusal_in e) ∙ q))
 size_table : (a : theory.Answer) (n : ℕ) → a ≡ a_no 1 → refusal_in a ≡ some n → Given n
 size_table a n e q = let z = is_number a 1 n e q in ((omega arith, omega arith), λ y. omega arith)
 
-opening_table : (g : Geometry) (before after : List ℕ) (r : Answer) (n : ℕ) → OpenPromise g before r after → refusal_of r ≡ some n → Given n
+opening_table : (g : Geometry) (before after : List ℕ) (r : Result Answer Refusal) (n : ℕ) → OpenPromise g before r after → refusal_of r ≡ some n → Given n
 opening_table g before after r n q e = go (wrong_size g (length before)) refl
   where
     go : (b : Bool) → wrong_size g (length before) ≡ b → Given n
     go true h = size_table _ n (q.sizes h).0 e
     go false h = none_some (sym (ap refusal_in (q.exact h).0) ∙ e)
 
-output_table : (long : Geometry → ℕ) (shown : Geometry → Mem → List ℕ) (g : Geometry) (mem output after : List ℕ) (r : Answer) (n : ℕ)
+output_table : (long : Geometry → ℕ) (shown : Geometry → Mem → List ℕ) (g : Geometry) (mem output after : List ℕ) (r : Result Answer Refusal) (n : ℕ)
     → OutputPromise long shown g mem output r after → refusal_of r ≡ some n → Given n
 output_table long shown g mem output after r n q e = go (wrong_size g (length mem)) refl (same_or_not (length output) (long g))
   where

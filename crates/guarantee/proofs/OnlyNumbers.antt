@@ -10,12 +10,14 @@ use native.Mathlib.Omega.{arith}
 use lib.Dec.{eqb}
 use lib.ListN.{length}
 use borrow.Author.Tests.{eqb-true, eqb-false}
+use Rattle.std.specs.Prelude.{Result}
 use Rattle.basics.specs.Pick.{pick}
 use Rattle.layout.specs.declared.Geometry.{Geometry}
 use Rattle.layout.specs.Geometry.{scratch_words, sheet_bytes, wrong_size}
 use Rattle.layout.specs.Mem.{Mem}
 use Rattle.theory.proofs.Invariant.{none_some}
 use Rattle.model.specs.declared.Answer.{Answer}
+use Rattle.model.specs.declared.Refusal.{Refusal}
 use Rattle.model.specs.Answers.{refusal_in, refusal_of, among}
 use Rattle.model.specs.Promise.{OpenPromise, OutputPromise}
 use Rattle.model_laws.proofs.Shown.{record_words, records, as_output}
@@ -79,7 +81,7 @@ module _ (g : Geometry) (mem : List ℕ) where
   abbrev Wrong : Look → Type 0
   Wrong l = wrong_sizes (look_call l) g (length mem) ≡ true
 
-  output_refused : (long : Geometry → ℕ) (shown : Geometry → Mem → List ℕ) (output after : List ℕ) (r : Answer) → OutputPromise long shown g mem output r after
+  output_refused : (long : Geometry → ℕ) (shown : Geometry → Mem → List ℕ) (output after : List ℕ) (r : Result Answer Refusal) → OutputPromise long shown g mem output r after
       → (n : ℕ) → refusal_of r ≡ some n → OneOr13 (pick (wrong_size g (length mem)) true (not (eqb (length output) (long g))) ≡ true) Unit n
   output_refused long shown output after r q n e = go (wrong_size g (length mem)) refl (eqb (length output) (long g)) refl
     where
@@ -132,7 +134,7 @@ module _ (g : Geometry) (mem : List ℕ) where
 
 -- ---- every call
 
-opening_only : (g : Geometry) (before after : List ℕ) (r : Answer) (n : ℕ) → OpenPromise g before r after → refusal_of r ≡ some n → (wrong_size g (length before) ≡ true) × (n ≡ 1)
+opening_only : (g : Geometry) (before after : List ℕ) (r : Result Answer Refusal) (n : ℕ) → OpenPromise g before r after → refusal_of r ≡ some n → (wrong_size g (length before) ≡ true) × (n ≡ 1)
 opening_only g before after r n q e = go (wrong_size g (length before)) refl
   where
     go : (b : Bool) → wrong_size g (length before) ≡ b → (wrong_size g (length before) ≡ true) × (n ≡ 1)

@@ -4,6 +4,7 @@ use mathlib.Core.Option.{Option, none, some}
 use mathlib.Core.List.{List}
 use Prim.Native.Nat.{ℕ, suc}
 use native.Mathlib.Omega.{arith}
+use Rattle.std.specs.Prelude.{Result}
 use Rattle.layout.specs.declared.Geometry.{Geometry}
 use Rattle.layout.specs.Geometry.{segment_of}
 use Rattle.layout.specs.Mem.{mem_of}
@@ -16,13 +17,14 @@ use Rattle.theory.proofs.Agree.{Agree}
 use Rattle.theory.proofs.Updates.{upd2_same}
 use Rattle.theory.proofs.Refusals.{by_ok, root_ok}
 use Rattle.model.specs.declared.Answer.{Answer}
+use Rattle.model.specs.declared.Refusal.{Refusal}
 use Rattle.model.specs.Answers.{answer_of, refusal_in, refusal_of}
 use Rattle.model.specs.Fields.{root}
 use Rattle.model.specs.Lists.{put_unless, block_in}
 use Rattle.refine_view.specs.View.{view}
 use Rattle.model_laws.proofs.Rooted.{named}
 
-module _ (g : Geometry) (after : List ℕ) (n : ℕ) (put : ℕ → Option ℕ) (r : Answer) (b : ℕ) (st : State) where
+module _ (g : Geometry) (after : List ℕ) (n : ℕ) (put : ℕ → Option ℕ) (r : Result Answer Refusal) (b : ℕ) (st : State) where
   -- a call that puts no record
   plain : (o : Option ℕ) → put ≡ put_unless o put put
   plain none = refl

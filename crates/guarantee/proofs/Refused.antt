@@ -5,18 +5,15 @@ use mathlib.Core.Bool.{Bool, true, false}
 use mathlib.Core.Option.{Option, none, some, some-injective}
 use Prim.Native.Nat.{ℕ, zero, suc, ◌+◌, ◌≤◌}
 use native.Mathlib.Omega.{arith}
-use Rattle.classes.specs.Class.{class_of}
-use Rattle.classes.specs.declared.SizeClass.{SizeClass}
-use Rattle.classes.specs.declared.SizeClass.TheVariants.{Class, TooBig}
+use Rattle.classes.specs.Class.{class_of, SizeClass}
+use Rattle.std.specs.Prelude.{Some, None, Ok, Err}
 use Rattle.classes.specs.Record.{of_counts, class_of_record}
 use Rattle.classes.specs.declared.RecordShape.{RecordShape}
 use Rattle.layout.specs.declared.Geometry.{Geometry}
 use Rattle.layout.specs.Mem.{Mem}
-use Rattle.bitmap_search.specs.declared.Found.{Found}
-use Rattle.bitmap_search.specs.declared.Found.TheVariants.{Block, Nothing, Torn}
+use Rattle.bitmap_search.specs.Scan.{Found}
 use Rattle.theory.specs.Phases.{Phase, idle, sync1, sync2, mark, sweep, in_handshake}
-use Rattle.theory.specs.Calls.{Call, c_attach, c_detach, c_check, c_leave, c_enter, c_spawn, c_make, c_load, c_store, c_copy, c_clear, c_put, c_get}
-use Rattle.theory.specs.Calls.{c_same, c_shape, Answer, a_ok, a_no, refusal, refuse, unless, on_record}
+use Rattle.theory.specs.Calls.{Call, c_attach, c_detach, c_check, c_leave, c_enter, c_spawn, c_make, c_load, c_store, c_copy, c_clear, c_put, c_get, c_same, c_shape, Answer, a_ok, a_no, refusal, refuse, unless, on_record}
 use Rattle.theory.proofs.Invariant.{none_some}
 use Rattle.model.specs.Fields.{phase, place, root}
 use Rattle.model.specs.Segments.{free, free_stack, part_stack, pop}
@@ -40,9 +37,9 @@ record_same none m K n h e = refl
 record_same (some at) m K n h e = result (K at).0 n (h at) e
 
 block_same : (g : Geometry) (m m₁ : Mem) (f : Found) (k d c s : ℕ) (shape : RecordShape) (n : ℕ) → (in_block g m m₁ f k d c s shape).0 ≡ a_no n → (in_block g m m₁ f k d c s shape).1 ≡ m
-block_same g m m₁ (Block b) k d c s shape n e = result a_ok n refl e
-block_same g m m₁ Nothing k d c s shape n e = refl
-block_same g m m₁ Torn k d c s shape n e = refl
+block_same g m m₁ (Ok (Some b)) k d c s shape n e = result a_ok n refl e
+block_same g m m₁ (Ok None) k d c s shape n e = refl
+block_same g m m₁ (Err _) k d c s shape n e = refl
 
 source_same : (g : Geometry) (m : Mem) (k d c : ℕ) (shape : RecordShape) (o : Source) (n : ℕ) → (from_source g m k d c shape o).0 ≡ a_no n → (from_source g m k d c shape o).1 ≡ m
 source_same g m k d c shape (held s) n e = block_same g m m (free g m s c (place m s)) k d c s shape n e
@@ -58,8 +55,8 @@ source_same g m k d c shape no_room n e = refl
 
 made_same : (g : Geometry) (m : Mem) (k d : ℕ) (shape : RecordShape) (o : SizeClass) (n : ℕ) → (of_class m o (λ c. made g m k d c shape)).0 ≡ a_no n → (of_class m o (λ c. made g m k d c shape)).1 ≡ m
 unfolding made
-made_same g m k d shape (Class c) n e = source_same g m k d c shape (source_of g m k c) n e
-made_same g m k d shape TooBig n e = refl
+made_same g m k d shape (Some c) n e = source_same g m k d c shape (source_of g m k c) n e
+made_same g m k d shape None n e = refl
 
 act_same : (g : Geometry) (m : Mem) (c : Call) (n : ℕ) → (act g m c).0 ≡ a_no n → (act g m c).1 ≡ m
 unfolding act
@@ -114,7 +111,7 @@ other x y f e = absurd (f (some-injective x y (ap refusal_in e)))
 pub record Roomless (g : Geometry) (m : Mem) (k d p q : ℕ) : Type 0 where
   pub lower : refusal (observe m) (c_make k d p q) ≡ 0
   pub class : ℕ
-  pub sized : class_of (p + q) ≡ Class class
+  pub sized : class_of (p + q) ≡ Some class
   pub source : source_of g m k class ≡ no_room
 
 pub roomless_of : (g : Geometry) (m : Mem) (k d p q : ℕ) → (exec g m (c_make k d p q)).0 ≡ a_no 10 → Roomless g m k d p q
@@ -122,11 +119,11 @@ unfolding exec act made
 roomless_of g m k d p q e = go (refusal (observe m) (c_make k d p q)) refl (refusal_stays (observe m) (c_make k d p q)).either e
   where
     block : (m₁ : Mem) (f : Found) (c s : ℕ) → (in_block g m m₁ f k d c s (of_counts p q)).0 ≡ a_no 10 → ⊥
-    block m₁ (Block b) c s e = result a_ok 10 refl e
-    block m₁ Nothing c s e = other 13 10 (λ z. omega arith) e
-    block m₁ Torn c s e = other 13 10 (λ z. omega arith) e
+    block m₁ (Ok (Some b)) c s e = result a_ok 10 refl e
+    block m₁ (Ok None) c s e = other 13 10 (λ z. omega arith) e
+    block m₁ (Err _) c s e = other 13 10 (λ z. omega arith) e
 
-    from : refusal (observe m) (c_make k d p q) ≡ 0 → (c : ℕ) → class_of (p + q) ≡ Class c → (o : Source) → source_of g m k c ≡ o
+    from : refusal (observe m) (c_make k d p q) ≡ 0 → (c : ℕ) → class_of (p + q) ≡ Some c → (o : Source) → source_of g m k c ≡ o
         → (from_source g m k d c (of_counts p q) o).0 ≡ a_no 10 → Roomless g m k d p q
     from z c h (held s) i e = absurd (block m (free g m s c (place m s)) c s e)
     from z c h (part s) i e =
@@ -143,8 +140,8 @@ roomless_of g m k d p q e = go (refusal (observe m) (c_make k d p q)) refl (refu
 
     classed : refusal (observe m) (c_make k d p q) ≡ 0 → (o : SizeClass) → class_of (p + q) ≡ o
         → (of_class m o (λ c. from_source g m k d c (of_counts p q) (source_of g m k c))).0 ≡ a_no 10 → Roomless g m k d p q
-    classed z (Class c) h e = from z c h (source_of g m k c) refl e
-    classed z TooBig h e = other 9 10 (λ y. omega arith) e
+    classed z (Some c) h e = from z c h (source_of g m k c) refl e
+    classed z None h e = other 9 10 (λ y. omega arith) e
 
     go : (x : ℕ) → refusal (observe m) (c_make k d p q) ≡ x → (x ≡ 0) ⊎ ((2 ≤ x) × (x ≤ 9))
         → (refuse x m (of_class m (class_of (p + q)) (λ c. from_source g m k d c (of_counts p q) (source_of g m k c)))).0 ≡ a_no 10

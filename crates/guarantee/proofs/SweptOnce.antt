@@ -7,12 +7,12 @@ use mathlib.Core.List.{List, [], ◌∷◌, ◌++◌}
 use Prim.Native.Nat.{ℕ, ◌<◌}
 use native.Mathlib.Omega.{arith}
 use lib.ListN.{length}
+use Rattle.std.specs.Prelude.{Ok}
 use Rattle.basics.proofs.Order.{same_or_not}
 use Rattle.layout.specs.declared.Geometry.{Geometry}
 use Rattle.layout.specs.Geometry.{wrong_size}
 use Rattle.layout.specs.Mem.{mem_of, Sizes}
 use Rattle.layout.proofs.Regions.{sized}
-use Rattle.model.specs.declared.Answer.TheVariants.{Ok}
 use Rattle.model.specs.declared.Step.TheVariants.{Waiting, Moved, Traced, Swept, Done, Idle, Refused}
 use Rattle.model.specs.Collector.{full_or_part, collects}
 use Rattle.model.proofs.Collecting.{collects_is, collected_used}
@@ -27,6 +27,7 @@ use Rattle.guarantee.specs.Keeping.{NeverSwept, OnceSwept, SweptOnce}
 use Rattle.guarantee.proofs.Elements.{every_element, not_refused}
 use Rattle.guarantee.proofs.Cycle.{accepted}
 use Rattle.guarantee.proofs.Condemned.{is_condemned, stays_condemned, swept_condemned, done_condemned, start_condemned}
+use Rattle.model.specs.declared.Answer.TheVariants as call_answer
 
 -- ---- one element of a list, and the others
 
@@ -80,9 +81,9 @@ module _ (g : Geometry) where
 
   -- no start that is not refused
   abbrev pub NoStart : List Element → Type 0
-  NoStart ds = (xs ys : List Element) (u v : List ℕ) → ds ≡ xs ++ (start_element g u Ok v ∷ ys) → ⊥
+  NoStart ds = (xs ys : List Element) (u v : List ℕ) → ds ≡ xs ++ (start_element g u (Ok call_answer.Done) v ∷ ys) → ⊥
 
-  pub no_start_lem : (words : List ℕ) (e : Element) (ds : List Element) → NoStart (e ∷ ds) → Meets e → (wrong_sized e ≡ true) ⊎ Gets g words e → e.event ≡ start_call Ok → ⊥
+  pub no_start_lem : (words : List ℕ) (e : Element) (ds : List Element) → NoStart (e ∷ ds) → Meets e → (wrong_sized e ≡ true) ⊎ Gets g words e → e.event ≡ start_call (Ok call_answer.Done) → ⊥
   no_start_lem words e ds n q h i = n [] ds words e.after (ap (λ x. x ∷ ds) (is_over g words e (not_refused g words e q (ap event_number i) h) ∙ ap (λ v. over g words v e.after) i))
 
   pub no_later : (e : Element) (ds : List Element) → NoStart (e ∷ ds) → NoStart ds
@@ -148,7 +149,7 @@ pub swept_once : SweptOnce
 swept_once g words es right k ch c s f =
     let w = walk_consistent g c.before _ words (record { right = right; consistent = k }) (subst (Chain g words) c.whole ch) in
     let u = words_after words c.before in
-    let e = start_element g c.start_before Ok c.start_after in
+    let e = start_element g c.start_before (Ok call_answer.Done) c.start_after in
     let h = not_refused g u e w.1.0 refl w.1.2 in
     let o = next g u e w.0 w.1.0 w.1.1 w.1.2 in
     let z = sizes_of g u (sized g (length u) w.0.right) in

@@ -8,6 +8,7 @@ use Prim.Native.Nat.{ℕ, zero, suc, ◌+◌, ◌-◌, ◌*◌, ◌≤◌, ◌<�
 use native.Mathlib.Omega.{arith}
 use lib.ListN.{length}
 use borrow.Author.Tests.{eq-eqb}
+use Rattle.std.specs.Prelude.{Result, Ok, Err}
 use Rattle.basics.specs.Pick.{pick}
 use Rattle.words.specs.Bits.{ones_among}
 use Rattle.words.proofs.Ones.{among_same}
@@ -21,7 +22,8 @@ use Rattle.theory.specs.Calls.{CallKind, coming, working, asks_number, asks_flag
 use Rattle.theory.specs.Calls.{a_ok, a_moved, a_traced, a_done, a_idle, a_num, a_flag, a_shape, a_no, a_waiting, a_swept}
 use Rattle.theory.proofs.Invariant.{none_some}
 use Rattle.model.specs.declared.Answer.{Answer}
-use Rattle.model.specs.declared.Answer.TheVariants.{Ok, Number, Same, Shape, Refused}
+use Rattle.model.specs.declared.Answer.TheVariants.{Done, Number, Same, Shape}
+use Rattle.model.specs.declared.Refusal.{Refusal}
 use Rattle.model.specs.declared.Step.{Step}
 use Rattle.model.specs.Answers.{answer_of, step_answer_of, refusal_in}
 use Rattle.model.specs.PhaseNumbers.{phase_number}
@@ -101,12 +103,12 @@ module _ (g : Geometry) (m m' : Mem) (c : Consistent g m) (c' : Consistent g m')
 
 -- ---- the answers as document 01 has them
 
-ok_is : (r : Answer) → ok_count r ≡ ok_of (answer_of r)
-ok_is Ok = refl
-ok_is (Number v) = refl
-ok_is (Same b) = refl
-ok_is (Shape s) = refl
-ok_is (Refused n) = refl
+ok_is : (r : Result Answer Refusal) → ok_count r ≡ ok_of (answer_of r)
+ok_is (Ok Done) = refl
+ok_is (Ok (Number v)) = refl
+ok_is (Ok (Same b)) = refl
+ok_is (Ok (Shape s)) = refl
+ok_is (Err e) = refl
 
 abbrev freed_of : theory.Answer → ℕ
 freed_of a_ok = 0
@@ -131,14 +133,14 @@ freed_is step.Idle = refl
 freed_is (step.Refused n) = refl
 
 -- a refusal hands out nothing and frees nothing
-no_made : (r : Answer) (n : ℕ) → refusal_in (answer_of r) ≡ some n → ok_count r ≡ 0
-no_made Ok n e = none_some e
-no_made (Number v) n e = refl
-no_made (Same b) n e = refl
-no_made (Shape s) n e = refl
-no_made (Refused x) n e = refl
+no_made : (r : Result Answer Refusal) (n : ℕ) → refusal_in (answer_of r) ≡ some n → ok_count r ≡ 0
+no_made (Ok Done) n e = none_some e
+no_made (Ok (Number v)) n e = refl
+no_made (Ok (Same b)) n e = refl
+no_made (Ok (Shape s)) n e = refl
+no_made (Err x) n e = refl
 
-kind_none : (k : CallKind) (r : Answer) → ok_count r ≡ 0 → made_by k r ≡ 0
+kind_none : (k : CallKind) (r : Result Answer Refusal) → ok_count r ≡ 0 → made_by k r ≡ 0
 kind_none coming r e = refl
 kind_none working r e = refl
 kind_none asks_number r e = refl
@@ -236,7 +238,7 @@ module _ (g : Geometry) (m : Mem) (s : Sizes g m) (c : Consistent g m) where
 abbrev Balanced : Geometry → Mem → Mem → Event → Type 0
 Balanced g m m' v = blocks_in_use g m + made_at v ≡ blocks_in_use g m' + freed_at v
 
-by_kind : (g : Geometry) (m m' : Mem) → Consistent g m → Consistent g m' → (k : CallKind) (r : Answer) (x : theory.Answer × Mem) → answer_of r ≡ x.0 → m' ≡ x.1
+by_kind : (g : Geometry) (m m' : Mem) → Consistent g m → Consistent g m' → (k : CallKind) (r : Result Answer Refusal) (x : theory.Answer × Mem) → answer_of r ≡ x.0 → m' ≡ x.1
     → CountsBy k g m x → blocks_in_use g m + made_by k r ≡ blocks_in_use g m' + 0
 by_kind g m m' c c' k r x e f h = go k h
   where

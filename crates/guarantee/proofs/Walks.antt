@@ -5,11 +5,13 @@ use mathlib.Core.Bool.{true}
 use mathlib.Core.Option.{Option, none, some, map, none-ne-some}
 use mathlib.Core.List.{List, [], ◌∷◌, ◌++◌}
 use Prim.Native.Nat.{ℕ}
+use Rattle.std.specs.Prelude.{Result}
 use Rattle.layout.specs.declared.Geometry.{Geometry}
 use Rattle.layout.specs.Mem.{mem_of}
 use Rattle.theory.specs.Calls.{Call}
 use Rattle.theory.specs.Unbounded.{uexec, uanswers}
 use Rattle.model.specs.declared.Answer.{Answer}
+use Rattle.model.specs.declared.Refusal.{Refusal}
 use Rattle.model.specs.Answers.{answer_of}
 use Rattle.model.specs.Lists.{Element, Meets, KeepsLength, Gets, wrong_sized, next_words, Chain, words_after, Ghost, fed, prepend, remaining_call, remaining_calls, remaining_answers, ghost_step, ghost_after}
 use Rattle.model_laws.proofs.Lengths.{sizes_of}
@@ -21,7 +23,7 @@ module _ (g : Geometry) where
   -- the point after an element, and what a call that remains is answered
   pub record Passed (words : List ℕ) (w : Ghost) (e : Element) : Type 0 where
     pub point : Point g (next_words words e) (ghost_step struck_out w e) Any
-    pub answer : (x : Call × Answer) → remaining_call struck_out e.event ≡ some x → answer_of x.1 ≡ (uexec w.heap x.0).0
+    pub answer : (x : Call × Result Answer Refusal) → remaining_call struck_out e.event ≡ some x → answer_of x.1 ≡ (uexec w.heap x.0).0
 
   pub pass : (words : List ℕ) (w : Ghost) (e : Element) → Point g words w Any → Meets e → KeepsLength e → (wrong_sized e ≡ true) ⊎ Gets g words e → Passed words w e
   pass words w e p q l h = go (leads_on g words w e q l h Any p)
@@ -44,7 +46,8 @@ module _ (g : Geometry) where
   walk (e ∷ xs) ys words w p c = walk xs ys (next_words words e) (ghost_step struck_out w e) (pass words w e p c.0 c.1 c.2).point c.3
 
   -- "the remaining answers, one by one and in order, equal those that document 01's endless rack .. gives to the same calls"
-  one_answer : (w : Ghost) (es : List Element) (g' : Geometry) (after : List ℕ) (o : Option (Call × Answer)) → ((x : Call × Answer) → o ≡ some x → answer_of x.1 ≡ (uexec w.heap x.0).0)
+  one_answer : (w : Ghost) (es : List Element) (g' : Geometry) (after : List ℕ) (o : Option (Call × Result Answer Refusal))
+      → ((x : Call × Result Answer Refusal) → o ≡ some x → answer_of x.1 ≡ (uexec w.heap x.0).0)
       → remaining_answers struck_out es ≡ uanswers (fed w o g' after).heap (remaining_calls struck_out es)
       → prepend (map (λ x. answer_of x.1) o) (remaining_answers struck_out es) ≡ uanswers w.heap (prepend (map (λ x. x.0) o) (remaining_calls struck_out es))
   one_answer w es g' after none f ih = ih

@@ -1,13 +1,13 @@
 -- The guarantee: "Nobody who works through script calls can learn that a collector exists." One record with both halves, over every list of
 -- calls from an accepted opening of memory of any content to the next accepted one, where of each call only its promise is known, and that its slice
 -- keeps its length.
-use Rattle.std.specs.Prelude.{◌≡◌, ◌⊎◌, Bool, true, List, ◌∷◌, ◌++◌, ℕ, ◌<◌, eqb}
+use Rattle.std.specs.Prelude.{◌≡◌, ◌⊎◌, Bool, true, List, ◌∷◌, ◌++◌, ℕ, ◌<◌, eqb, Ok}
 use Rattle.basics.specs.Pick.{pick}
 use Rattle.layout.specs.declared.Geometry.{Geometry}
 use Rattle.layout.specs.Geometry.{blocks_in}
 use Rattle.layout.specs.Mem.{Mem, mem_of}
 use Rattle.theory.specs.Unbounded.{uanswers}
-use Rattle.model.specs.declared.Answer.TheVariants.{Ok}
+use Rattle.model.specs.declared.Answer.TheVariants.{Done}
 use Rattle.model.specs.declared.Step.TheVariants.{Swept}
 use Rattle.model.specs.Fields.{class}
 use Rattle.model.specs.Segments.{used_bit}
@@ -41,8 +41,8 @@ pub record SweptIn (g : Geometry) (es : List Element) : Type 0 where
   pub step_after : List ℕ
   pub segment : ℕ
   pub freed : ℕ
-  pub whole : es ≡ before ++ (start_element g start_before Ok start_after ∷ (during ++ (step_element g step_before (Swept segment freed) step_after ∷ rest)))
-  pub one_start : (xs ys : List Element) (u v : List ℕ) → during ≡ xs ++ (start_element g u Ok v ∷ ys) → ⊥
+  pub whole : es ≡ before ++ (start_element g start_before (Ok Done) start_after ∷ (during ++ (step_element g step_before (Swept segment freed) step_after ∷ rest)))
+  pub one_start : (xs ys : List Element) (u v : List ℕ) → during ≡ xs ++ (start_element g u (Ok Done) v ∷ ys) → ⊥
 
 -- "the remaining answers, one by one and in order, equal those that document 01's endless rack .. gives to the same calls"
 abbrev pub SameAnswers : Type 0

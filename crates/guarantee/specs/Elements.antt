@@ -1,6 +1,6 @@
 -- What one element of a list does to memory that passes the examination: the law that every theorem over lists stands on, whatever the list
 -- began with.
-use Rattle.std.specs.Prelude.{◌≡◌, ◌⊎◌, true, false, List, ℕ, length}
+use Rattle.std.specs.Prelude.{◌≡◌, ◌⊎◌, true, false, List, ℕ, length, Result, Ok, Err}
 use Rattle.std.proofs.Math.Option.{some}
 use Rattle.layout.specs.declared.Geometry.{Geometry}
 use Rattle.layout.specs.Geometry.{wrong_size}
@@ -8,8 +8,10 @@ use Rattle.layout.specs.Mem.{Mem, mem_of}
 use Rattle.theory.specs.Phases.{idle}
 use Rattle.theory.specs.Calls.{Call, a_ok, a_no}
 use Rattle.model.specs.declared.Answer.{Answer}
-use Rattle.model.specs.declared.Answer.TheVariants.{Ok, Refused}
+use Rattle.model.specs.declared.Answer.TheVariants.{Done}
+use Rattle.model.specs.declared.Refusal.{Refusal}
 use Rattle.model.specs.declared.Step.{Step}
+use Rattle.model.specs.Refusals.{number_of}
 use Rattle.model.specs.Answers.{answer_of, step_answer_of}
 use Rattle.model.specs.Fields.{phase}
 use Rattle.model.specs.Calls.{exec}
@@ -22,9 +24,9 @@ use Rattle.model.specs.Lists.{Event, mutator_call, start_call, step_call, look_c
 pub data Acts (g : Geometry) (m m' : Mem) : Event → Type 0 where
   wrong : {v : Event} → event_number v ≡ some 1 → m' ≡ m → Acts g m m' v
   looks : {l : Look} → m' ≡ m → Acts g m m' (look_call l)
-  calls : {c : Call} {r : Answer} → answer_of r ≡ (exec g m c).0 → m' ≡ (exec g m c).1 → Acts g m m' (mutator_call c r)
-  starts : phase m ≡ idle → (start_of g m).0 ≡ a_ok → m' ≡ started g m → Acts g m m' (start_call Ok)
-  start_refused : {n : ℕ} → (start_of g m).0 ≡ a_no n → m' ≡ m → Acts g m m' (start_call (Refused n))
+  calls : {c : Call} {r : Result Answer Refusal} → answer_of r ≡ (exec g m c).0 → m' ≡ (exec g m c).1 → Acts g m m' (mutator_call c r)
+  starts : phase m ≡ idle → (start_of g m).0 ≡ a_ok → m' ≡ started g m → Acts g m m' (start_call (Ok Done))
+  start_refused : {w : Refusal} → (start_of g m).0 ≡ a_no (number_of w) → m' ≡ m → Acts g m m' (start_call (Err w))
   steps : {r : Step} → step_answer_of r ≡ (step_of g m).0 → m' ≡ (step_of g m).1 → Acts g m m' (step_call r)
 
 pub record Continues (g : Geometry) (words : List ℕ) (e : Element) : Type 0 where

@@ -1,7 +1,7 @@
 -- Request No. 1: "A start in idle with no full segment now opens a cycle over no segments", which by request No. 5 "now needs a start with neither full
 -- nor part ones". What holds from such a start to the next accepted one, over memory that passes the examination and not only along lists from an
 -- opening; that a start in idle is accepted; and that no call is refused 12.
-use Rattle.std.specs.Prelude.{◌≡◌, Bool, true, false, List, [], ◌∷◌, ◌++◌, ℕ, ◌<◌, eqb, length}
+use Rattle.std.specs.Prelude.{◌≡◌, Bool, true, false, List, [], ◌∷◌, ◌++◌, ℕ, ◌<◌, eqb, length, Result, Ok}
 use Rattle.std.proofs.Math.Option.{some}
 use Rattle.basics.specs.Pick.{pick}
 use Rattle.layout.specs.declared.Geometry.{Geometry}
@@ -10,7 +10,7 @@ use Rattle.layout.specs.Mem.{Mem, mem_of}
 use Rattle.theory.specs.Phases.{Phase, idle, sync1, sync2, mark, sweep, in_handshake, owes}
 use Rattle.theory.specs.Calls.{Call}
 use Rattle.model.specs.declared.Answer.{Answer}
-use Rattle.model.specs.declared.Answer.TheVariants.{Ok}
+use Rattle.model.specs.declared.Refusal.{Refusal}
 use Rattle.model.specs.declared.Step.{Step}
 use Rattle.model.specs.declared.Step.TheVariants.{Waiting, Moved, Traced, Swept, Done, Idle, Refused}
 use Rattle.model.specs.Answers.{refusal_of}
@@ -22,6 +22,7 @@ use Rattle.model.specs.Promise.{StartPromise}
 use Rattle.model.specs.Lists.{Event, mutator_call, start_call, step_call, opening_call, look_call, Element, start_element, Meets, wrong_sized, number_of, Chain, words_after, remaining_calls, remaining_answers}
 use Rattle.guarantee.specs.Keeping.{NeverSwept}
 use Rattle.theory.specs.Calls as theory
+use Rattle.model.specs.declared.Answer.TheVariants as call_answer
 
 -- the answers that mutators' calls get, one after the other, from the memory m on
 abbrev pub heap_answers : Geometry → Mem → List Call → List theory.Answer
@@ -38,8 +39,8 @@ pub record OverNothing (g : Geometry) (words after : List ℕ) (ds : List Elemen
   pub sized : wrong_size g (length words) ≡ false
   pub consistent : Consistent g (mem_of g words)
   pub nothing : (s : ℕ) → s < g.segments → collects (mem_of g words) s ≡ false
-  pub chain : Chain g words (start_element g words Ok after ∷ ds)
-  pub one_start : (xs ys : List Element) (u v : List ℕ) → ds ≡ xs ++ (start_element g u Ok v ∷ ys) → ⊥
+  pub chain : Chain g words (start_element g words (Ok call_answer.Done) after ∷ ds)
+  pub one_start : (xs ys : List Element) (u v : List ℕ) → ds ≡ xs ++ (start_element g u (Ok call_answer.Done) v ∷ ys) → ⊥
 
 -- from memory m to a later memory m' nothing becomes free, which is: "the block is not in use, or its segment is free"
 pub record FreesNothing (g : Geometry) (m m' : Mem) : Type 0 where
@@ -102,13 +103,13 @@ pub record EmptyCycle (g : Geometry) (words after : List ℕ) (ds : List Element
   -- "over no segments"
   pub no_swept : (s : ℕ) → NeverSwept s ds
   -- "A cycle over nothing frees nothing": between any two points of the list, the one before the start among them
-  pub frees : (xs ys zs : List Element) → start_element g words Ok after ∷ ds ≡ xs ++ (ys ++ zs)
+  pub frees : (xs ys zs : List Element) → start_element g words (Ok call_answer.Done) after ∷ ds ≡ xs ++ (ys ++ zs)
       → FreesNothing g (mem_of g (words_after words xs)) (mem_of g (words_after (words_after words xs) ys))
   -- "while it lasts each script call answers what it would answer over the same heap in idle": over the heap that was lent to the start, one call
   -- after the other, refusal 10 among the answers
   pub as_in_idle : remaining_answers left_out ds ≡ heap_answers g (mem_of g words) (remaining_calls left_out ds)
   -- "save 11 in its roll calls"
-  pub not_now : (xs ys : List Element) (e : Element) (c : Call) (r : Answer) → ds ≡ xs ++ (e ∷ ys) → e.event ≡ mutator_call c r → refusal_of r ≡ some 11
+  pub not_now : (xs ys : List Element) (e : Element) (c : Call) (r : Result Answer Refusal) → ds ≡ xs ++ (e ∷ ys) → e.event ≡ mutator_call c r → refusal_of r ≡ some 11
       → in_handshake (phase (mem_of g (words_after after xs))) ≡ true
 
 abbrev pub EveryEmptyCycle : Type 0
@@ -117,8 +118,8 @@ EveryEmptyCycle = (g : Geometry) (words after : List ℕ) (ds : List Element) �
 -- "A start in idle .. now opens a cycle": there it is not refused, whatever the segments are
 abbrev pub IdleAccepts : Type 0
 IdleAccepts =
-    (g : Geometry) (words after : List ℕ) (r : Answer) → wrong_size g (length words) ≡ false → Consistent g (mem_of g words) → phase (mem_of g words) ≡ idle
-    → StartPromise g words r after → r ≡ Ok
+    (g : Geometry) (words after : List ℕ) (r : Result Answer Refusal) → wrong_size g (length words) ≡ false → Consistent g (mem_of g words) → phase (mem_of g words) ≡ idle
+    → StartPromise g words r after → r ≡ Ok call_answer.Done
 
 -- "Refusal 12 never occurs any more": whatever a call was lent
 abbrev pub NeverTwelve : Type 0

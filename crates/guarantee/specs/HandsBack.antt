@@ -1,16 +1,15 @@
 -- Request No. 2: "A detach hands back up to eleven segments, as a class 14 one is full from its first block." What a detach that is not
 -- refused hands back, and what a make of a class of one block leaves, over memory that passes the examination and not only along lists
 -- from an opening. Both go by the number of blocks, and not by the class.
-use Rattle.std.specs.Prelude.{◌≡◌, List, [], ◌∷◌, ◌++◌, ℕ, zero, suc, ◌+◌, ◌≤◌, ◌<◌, leb, eqb, length, get_or}
+use Rattle.std.specs.Prelude.{◌≡◌, List, [], ◌∷◌, ◌++◌, ℕ, zero, suc, ◌+◌, ◌≤◌, ◌<◌, leb, eqb, length, get_or, Some, Ok}
 use Rattle.basics.specs.Pick.{pick, one_if}
 use Rattle.words.specs.Bits.{ones_among}
 use Rattle.classes.specs.Class.{first_class, class_count, class_of}
-use Rattle.classes.specs.declared.SizeClass.TheVariants.{Class}
 use Rattle.layout.specs.declared.Geometry.{Geometry}
 use Rattle.layout.specs.Geometry.{large_kib, blocks_in, segment_of}
 use Rattle.layout.specs.Mem.{Mem, mem_of}
 use Rattle.theory.specs.Calls.{c_detach, c_make}
-use Rattle.model.specs.declared.Answer.TheVariants.{Ok}
+use Rattle.model.specs.declared.Answer.TheVariants.{Done}
 use Rattle.model.specs.Fields.{root, holding, tag, class, place, owner}
 use Rattle.model.specs.Lists.{call_element}
 use Rattle.guarantee.specs.Keeping.{Applied}
@@ -61,7 +60,7 @@ pub record HandsBack (g : Geometry) (m m' : Mem) (k : ℕ) : Type 0 where
 
 abbrev pub EveryHandsBack : Type 0
 EveryHandsBack =
-    (g : Geometry) (words after : List ℕ) (k : ℕ) → Applied g words (call_element (c_detach k) g words Ok after)
+    (g : Geometry) (words after : List ℕ) (k : ℕ) → Applied g words (call_element (c_detach k) g words (Ok Done) after)
     → HandsBack g (mem_of g words) (mem_of g after) k
 
 -- ---- a make of a class of one block
@@ -76,5 +75,5 @@ pub record FullAtOnce (g : Geometry) (m m' : Mem) (k d : ℕ) : Type 0 where
 -- at 32 KiB no class has one block, so this says nothing there
 abbrev pub EveryFullAtOnce : Type 0
 EveryFullAtOnce =
-    (g : Geometry) (words after : List ℕ) (k d p n c : ℕ) → Applied g words (call_element (c_make k d p n) g words Ok after)
-    → class_of (p + n) ≡ Class c → blocks_in g c ≡ 1 → FullAtOnce g (mem_of g words) (mem_of g after) k d
+    (g : Geometry) (words after : List ℕ) (k d p n c : ℕ) → Applied g words (call_element (c_make k d p n) g words (Ok Done) after)
+    → class_of (p + n) ≡ Some c → blocks_in g c ≡ 1 → FullAtOnce g (mem_of g words) (mem_of g after) k d

@@ -1,16 +1,15 @@
 -- What stands beside the guarantee: a refusal is one number of the table, and one that its call may give, 1 exactly for a size; the opening establishes consistency, every call keeps it, over memory
 -- that passes the examination and not only along lists from an opening; such memory never meets 13 and a refusal changes no word of it; "no room" comes
 -- exactly when document 01 says so; and a cycle sweeps each segment once that was full or part when it began.
-use Rattle.std.specs.Prelude.{◌≡◌, ◌⊎◌, true, false, List, ◌∷◌, ◌++◌, ℕ, ◌+◌, ◌≤◌, length}
+use Rattle.std.specs.Prelude.{◌≡◌, ◌⊎◌, true, false, List, ◌∷◌, ◌++◌, ℕ, ◌+◌, ◌≤◌, length, Some, Result, Ok}
 use Rattle.std.proofs.Math.Option.{some}
 use Rattle.classes.specs.Class.{class_of}
-use Rattle.classes.specs.declared.SizeClass.TheVariants.{Class}
 use Rattle.layout.specs.declared.Geometry.{Geometry}
 use Rattle.layout.specs.Geometry.{wrong_size}
 use Rattle.layout.specs.Mem.{Mem, mem_of, flat}
 use Rattle.theory.specs.Calls.{c_make, refusal}
 use Rattle.model.specs.declared.Answer.{Answer}
-use Rattle.model.specs.declared.Answer.TheVariants.{Ok}
+use Rattle.model.specs.declared.Refusal.{Refusal}
 use Rattle.model.specs.declared.Step.TheVariants.{Swept, Done}
 use Rattle.model.specs.Answers.{refusal_of, last_number}
 use Rattle.model.specs.Calls.{observe}
@@ -21,6 +20,7 @@ use Rattle.model.specs.Run.{Command, run}
 use Rattle.model.specs.Consistent.{Consistent}
 use Rattle.model.specs.Looks.{Look, saw_phase, saw_states, saw_sheet, examined_by}
 use Rattle.model.specs.Lists.{Event, mutator_call, start_call, step_call, opening_call, look_call, Element, call_element, start_element, step_element, Meets, KeepsLength, Gets, wrong_sized, number_of, Chain, words_after, Ghost, Opened, Begins}
+use Rattle.model.specs.declared.Answer.TheVariants as call_answer
 
 -- "The answer to every call, over lent memory of any length and content, is a result or one number of the table in document 01": whatever the call
 -- was lent, a refusal is one of the numbers of the table
@@ -108,13 +108,13 @@ RefusedUnchanged =
 pub record OutOfRoom (g : Geometry) (m : Mem) (k d p n : ℕ) : Type 0 where
   pub class : ℕ
   pub lower : refusal (observe m) (c_make k d p n) ≡ 0
-  pub sized : class_of (p + n) ≡ Class class
+  pub sized : class_of (p + n) ≡ Some class
   pub no_room : NoRoom g m k class
 
 pub record NoRoomExactly : Type 0 where
-  pub only : (g : Geometry) (words after : List ℕ) (k d p n : ℕ) (r : Answer) → Applied g words (call_element (c_make k d p n) g words r after)
+  pub only : (g : Geometry) (words after : List ℕ) (k d p n : ℕ) (r : Result Answer Refusal) → Applied g words (call_element (c_make k d p n) g words r after)
       → refusal_of r ≡ some 10 → OutOfRoom g (mem_of g words) k d p n
-  pub whenever : (g : Geometry) (words after : List ℕ) (k d p n : ℕ) (r : Answer) → Applied g words (call_element (c_make k d p n) g words r after)
+  pub whenever : (g : Geometry) (words after : List ℕ) (k d p n : ℕ) (r : Result Answer Refusal) → Applied g words (call_element (c_make k d p n) g words r after)
       → OutOfRoom g (mem_of g words) k d p n → refusal_of r ≡ some 10
 
 -- a cycle to its end: a start that is not refused, further calls with no such start among them, and a step that answers done
@@ -126,8 +126,8 @@ pub record EndedIn (g : Geometry) (es : List Element) : Type 0 where
   pub start_after : List ℕ
   pub step_before : List ℕ
   pub step_after : List ℕ
-  pub whole : es ≡ before ++ (start_element g start_before Ok start_after ∷ (during ++ (step_element g step_before Done step_after ∷ rest)))
-  pub one_start : (xs ys : List Element) (u v : List ℕ) → during ≡ xs ++ (start_element g u Ok v ∷ ys) → ⊥
+  pub whole : es ≡ before ++ (start_element g start_before (Ok call_answer.Done) start_after ∷ (during ++ (step_element g step_before Done step_after ∷ rest)))
+  pub one_start : (xs ys : List Element) (u v : List ℕ) → during ≡ xs ++ (start_element g u (Ok call_answer.Done) v ∷ ys) → ⊥
 
 -- no step of a list answers swept for segment s
 abbrev pub NeverSwept : ℕ → List Element → Type 0

@@ -1,13 +1,14 @@
 -- Request No. 3: "Over any calls from an opening to the next, each given what the last one left, all blocks ever handed out, less all freed by
 -- sweeps, equal the blocks in use in segments not free. The first two totals are taken from the calls, not from the stored counts." Said as an
 -- equation of sums, so that no difference is cut off at 0; and from any memory that passes the examination.
-use Rattle.std.specs.Prelude.{◌≡◌, false, List, [], ◌∷◌, ℕ, zero, suc, ◌+◌, ◌<◌, length}
+use Rattle.std.specs.Prelude.{◌≡◌, false, List, [], ◌∷◌, ℕ, zero, suc, ◌+◌, ◌<◌, length, Result, Ok, Err}
 use Rattle.layout.specs.declared.Geometry.{Geometry}
 use Rattle.layout.specs.Geometry.{wrong_size}
 use Rattle.layout.specs.Mem.{Mem, mem_of}
 use Rattle.theory.specs.Calls.{CallKind, coming, working, asks_number, asks_flag, asks_shape, making, kind_of}
 use Rattle.model.specs.declared.Answer.{Answer}
-use Rattle.model.specs.declared.Answer.TheVariants.{Ok, Number, Same, Shape, Refused}
+use Rattle.model.specs.declared.Answer.TheVariants.{Done, Number, Same, Shape}
+use Rattle.model.specs.declared.Refusal.{Refusal}
 use Rattle.model.specs.declared.Step.{Step}
 use Rattle.model.specs.Fields.{kept_count, handed_count}
 use Rattle.model.specs.Segments.{in_use}
@@ -27,14 +28,14 @@ blocks_in_use g m = sum_over (in_use g m) g.segments
 -- ---- the two totals, from the calls and their answers
 
 -- a make answered Ok hands out one block, and no other call does
-abbrev pub ok_count : Answer → ℕ
-ok_count Ok = 1
-ok_count (Number v) = 0
-ok_count (Same b) = 0
-ok_count (Shape s) = 0
-ok_count (Refused n) = 0
+abbrev pub ok_count : Result Answer Refusal → ℕ
+ok_count (Ok Done) = 1
+ok_count (Ok (Number v)) = 0
+ok_count (Ok (Same b)) = 0
+ok_count (Ok (Shape s)) = 0
+ok_count (Err e) = 0
 
-abbrev pub made_by : CallKind → Answer → ℕ
+abbrev pub made_by : CallKind → Result Answer Refusal → ℕ
 made_by coming r = 0
 made_by working r = 0
 made_by asks_number r = 0

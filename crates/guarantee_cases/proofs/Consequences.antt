@@ -7,6 +7,7 @@ use native.Mathlib.Omega.{arith}
 use native.Mathlib.Decide.{ℕ_discrete}
 use Prim.Native.Nat.{ℕ}
 use lib.ListN.{length, take, drop}
+use Rattle.std.specs.Prelude.{Ok, Err}
 use Rattle.layout.specs.declared.Geometry.{Geometry}
 use Rattle.layout.specs.Mem.{mem_of}
 use Rattle.layout.proofs.Regions.{right_size}
@@ -14,7 +15,8 @@ use Rattle.theory.specs.Calls.{c_make, require, if_record}
 use Rattle.theory.specs.Update.{upd}
 use Rattle.theory.specs.Unbounded.{empty, uanswers}
 use Rattle.theory.proofs.Invariant.{none_some}
-use Rattle.model.specs.declared.Answer.TheVariants.{Ok, Refused}
+use Rattle.model.specs.declared.Answer.TheVariants.{Done}
+use Rattle.model.specs.declared.Refusal.TheVariants.{NoRoom}
 use Rattle.model.specs.Fields.{tag}
 use Rattle.model.specs.Lists.{Element, call_element, ghost_start, by_opening}
 use Rattle.model.proofs.Collecting.{collects_is, full_collected}
@@ -86,10 +88,10 @@ module _ (g : Geometry) (p : CaseRun g (commands_in (inputs refusals)) (tail (ou
   elements = elements_of g at (commands_in (inputs refusals)) (tail (outputs refusals))
 
   abbrev fourth : Element
-  fourth = call_element (c_make 0 3 2 510) g (at 42) Ok (at 43)
+  fourth = call_element (c_make 0 3 2 510) g (at 42) (Ok Done) (at 43)
 
   abbrev fifth : Element
-  fifth = call_element (c_make 0 4 2 510) g (at 43) (Refused 10) (at 44)
+  fifth = call_element (c_make 0 4 2 510) g (at 43) (Err NoRoom) (at 44)
 
   fourth_applied : Applied g (at 42) fourth
   fourth_applied = applied_to g (at 0) ghost_start elements (by_opening p.opened) p.chain (take 42 elements) (drop 43 elements) fourth refl (λ e. none_some e)
@@ -116,8 +118,8 @@ module _ (g : Geometry) (p : CaseRun g (commands_in (inputs refusals)) (tail (ou
     before_fifth = at 43;
     after_fifth = at 44;
     makes = refl;
-    room = λ o. none_some (no_room_exactly.whenever g (at 42) (at 43) 0 3 2 510 Ok fourth_applied o);
-    no_room = no_room_exactly.only g (at 43) (at 44) 0 4 2 510 (Refused 10) fifth_applied refl;
+    room = λ o. none_some (no_room_exactly.whenever g (at 42) (at 43) 0 3 2 510 (Ok Done) fourth_applied o);
+    no_room = no_room_exactly.only g (at 43) (at 44) 0 4 2 510 (Err NoRoom) fifth_applied refl;
   }
 
 pub refusals_consequences : OfRefusals

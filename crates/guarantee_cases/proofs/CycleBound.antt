@@ -10,11 +10,11 @@ use native.Mathlib.Omega.{arith}
 use lib.Dec.{eqb}
 use lib.ListN.{take, drop}
 use borrow.Author.Tests.{eqb-true}
+use Rattle.std.specs.Prelude.{Ok}
 use Rattle.basics.specs.Pick.{pick}
 use Rattle.layout.specs.declared.Geometry.{Geometry}
 use Rattle.layout.specs.Geometry.{max_segments, small_kib, large_kib}
 use Rattle.layout.specs.Mem.{Mem, mem_of}
-use Rattle.model.specs.declared.Answer.TheVariants.{Ok}
 use Rattle.model.specs.declared.Step.{Step}
 use Rattle.model.specs.declared.Step.TheVariants.{Waiting, Moved, Traced, Swept, Done, Idle, Refused}
 use Rattle.model.specs.Fields.{phase, tag}
@@ -42,6 +42,7 @@ use Rattle.guarantee_cases.proofs.Instance.{sizes_sevens}
 use Rattle.guarantee_cases.proofs.OverNothing.{nothing_holds}
 use Rattle.guarantee_cases.proofs.RefusedStand.{no_count, refused_stand}
 use Rattle.model.specs.Tag as Tag
+use Rattle.model.specs.declared.Answer.TheVariants as call_answer
 
 -- ---- "up to and including done"
 
@@ -190,7 +191,7 @@ module _ (x : Case) where
   start_after = at (suc x.early)
 
   abbrev begin : Element
-  begin = start_element g start_before Ok start_after
+  begin = start_element g start_before (Ok call_answer.Done) start_after
 
   abbrev before : List Element
   before = take x.early x.calls

@@ -9,7 +9,7 @@ use Prim.Native.Nat.{ℕ, ◌<◌}
 use native.Mathlib.Omega.{arith}
 use native.Mathlib.Decide.{ℕ_discrete}
 use lib.ListN.{length, take, drop}
-use Rattle.classes.specs.declared.SizeClass.TheVariants.{Class}
+use Rattle.std.specs.Prelude.{Some, Err}
 use Rattle.layout.specs.declared.Geometry.{Geometry}
 use Rattle.layout.specs.Geometry.{blocks_in}
 use Rattle.layout.specs.Mem.{Mem, mem_of}
@@ -17,7 +17,6 @@ use Rattle.layout.proofs.Regions.{right_size}
 use Rattle.theory.specs.Calls.{c_check, c_make, require, if_record}
 use Rattle.theory.specs.Update.{upd}
 use Rattle.theory.specs.Unbounded.{empty, uexec, uanswers}
-use Rattle.model.specs.declared.Answer.TheVariants.{Refused}
 use Rattle.model.specs.Fields.{tag, class, place}
 use Rattle.model.specs.Consistent.{is_free}
 use Rattle.model.specs.Opening.{opened}
@@ -42,6 +41,7 @@ use Rattle.guarantee_cases.proofs.Instance.{swept_at, ended_at, check_heap, size
 use Rattle.guarantee_cases.proofs.GarbageFound.{unreached_at}
 use Rattle.guarantee_cases.proofs.Along.{applied_to, along}
 use Rattle.model.specs.Tag as Tag
+use Rattle.model.specs.declared.Refusal.TheVariants.{NoRoom}
 
 abbrev asked : List Command
 asked = commands_in (inputs long_after_short)
@@ -75,7 +75,7 @@ module _ (g : Geometry) (p : CaseRun g asked replied) (w : Points g (mem_of g (p
   elements = elements_of g at asked replied
 
   abbrev long : Element
-  long = call_element (c_make 1 0 0 4095) g (at 7) (Refused 10) (at 8)
+  long = call_element (c_make 1 0 0 4095) g (at 7) (Err NoRoom) (at 8)
 
   long_applied : Applied g (at 7) long
   long_applied =
@@ -83,7 +83,7 @@ module _ (g : Geometry) (p : CaseRun g asked replied) (w : Points g (mem_of g (p
       (λ e. let y : ◌≡◌ {A = ℕ} 10 1 = some-injective 10 1 e in omega arith)
 
   abbrev short : Element
-  short = call_element (c_make 1 0 1 63) g (at 10) (Refused 10) (at 11)
+  short = call_element (c_make 1 0 1 63) g (at 10) (Err NoRoom) (at 11)
 
   short_applied : Applied g (at 10) short
   short_applied =
@@ -111,7 +111,7 @@ module _ (g : Geometry) (p : CaseRun g asked replied) (w : Points g (mem_of g (p
   -- the part segment is of the short one's class
   had_room_lem : OutOfRoom g (mem_of g (at 8)) 1 0 1 63 → ⊥
   had_room_lem o =
-      let e : Class o.class ≡ Class 9 = sym o.sized ∙ refl in
+      let e : Some o.class ≡ Some 9 = sym o.sized ∙ refl in
       let c : o.class ≡ 9 = cc in
       o.no_room.no_part 0 (let e = w.one in omega arith) w.part (w.classed ∙ sym c)
 
@@ -119,7 +119,7 @@ module _ (g : Geometry) (p : CaseRun g asked replied) (w : Points g (mem_of g (p
   of_half_empty =
       let o = opened_point g p.content (at 0) p.opened in
       let t = sym (collects_is (mem_of g (at 8)) 0) ∙ part_collected (mem_of g (at 8)) 0 w.part in
-      let none : OutOfRoom g (mem_of g (at 10)) 1 0 1 63 = no_room_exactly.only g (at 10) (at 11) 1 0 1 63 (Refused 10) short_applied refl in
+      let none : OutOfRoom g (mem_of g (at 10)) 1 0 1 63 = no_room_exactly.only g (at 10) (at 11) 1 0 1 63 (Err NoRoom) short_applied refl in
       record {
         geometry = g;
         content = p.content;
@@ -136,7 +136,7 @@ module _ (g : Geometry) (p : CaseRun g asked replied) (w : Points g (mem_of g (p
         early = take 7 elements;
         long_before = at 7;
         refused = refl;
-        no_room = no_room_exactly.only g (at 7) (at 8) 1 0 0 4095 (Refused 10) long_applied refl;
+        no_room = no_room_exactly.only g (at 7) (at 8) 1 0 0 4095 (Err NoRoom) long_applied refl;
         unreached = unreached;
         used = λ b l. used_before g (mem_of g (at 8)) 0 b (let e = w.places.0 in omega arith);
         condemned = w.condemned;

@@ -6,12 +6,13 @@ use mathlib.Core.List.{List, [], ◌∷◌, tail}
 use Prim.Native.Nat.{ℕ, suc}
 use native.Mathlib.Omega.{arith}
 use lib.ListN.{take, drop}
+use Rattle.std.specs.Prelude.{Ok}
 use Rattle.layout.specs.declared.Geometry.{Geometry}
 use Rattle.layout.specs.Geometry.{segment_of, blocks_in}
 use Rattle.layout.specs.Mem.{Mem, mem_of}
 use Rattle.theory.specs.Calls.{c_make, c_detach}
 use Rattle.theory.proofs.Invariant.{none_some}
-use Rattle.model.specs.declared.Answer.TheVariants.{Ok}
+use Rattle.model.specs.declared.Answer.TheVariants.{Done}
 use Rattle.model.specs.Fields.{root, tag, class, place}
 use Rattle.model.specs.Opening.{opened}
 use Rattle.model.specs.Lists.{Element, call_element, ghost_start, by_opening}
@@ -53,15 +54,15 @@ module _ (g : Geometry) (p : CaseRun g asked replied) (w : Between g (mem_of g (
   abbrev elements : List Element
   elements = elements_of g at asked replied
 
-  made_applied : Applied g (at 3) (call_element (c_make 0 2 0 2048) g (at 3) Ok (at 4))
+  made_applied : Applied g (at 3) (call_element (c_make 0 2 0 2048) g (at 3) (Ok Done) (at 4))
   made_applied =
       applied_to g (at 0) ghost_start elements (by_opening p.opened) p.chain (take 3 elements) (drop 4 elements)
-      (call_element (c_make 0 2 0 2048) g (at 3) Ok (at 4)) refl (λ e. none_some e)
+      (call_element (c_make 0 2 0 2048) g (at 3) (Ok Done) (at 4)) refl (λ e. none_some e)
 
-  detached_applied : Applied g (at 4) (call_element (c_detach 0) g (at 4) Ok (at 5))
+  detached_applied : Applied g (at 4) (call_element (c_detach 0) g (at 4) (Ok Done) (at 5))
   detached_applied =
       applied_to g (at 0) ghost_start elements (by_opening p.opened) p.chain (take 4 elements) (drop 5 elements)
-      (call_element (c_detach 0) g (at 4) Ok (at 5)) refl (λ e. none_some e)
+      (call_element (c_detach 0) g (at 4) (Ok Done) (at 5)) refl (λ e. none_some e)
 
   filled : FullAtOnce g (mem_of g (at 3)) (mem_of g (at 4)) 0 2
   filled = every_full_at_once g (at 3) (at 4) 0 2 0 2048 14 made_applied refl w.one_block

@@ -6,13 +6,13 @@ use mathlib.Core.List.{List, [], ◌∷◌, ◌++◌, tail}
 use Prim.Native.Nat.{ℕ, zero, suc, ◌+◌}
 use native.Mathlib.Omega.{arith}
 use lib.ListN.{take, drop, length-replicate}
+use Rattle.std.specs.Prelude.{Ok}
 use Rattle.basics.specs.Pick.{pick}
 use Rattle.layout.specs.declared.Geometry.{Geometry}
 use Rattle.layout.specs.Geometry.{len}
 use Rattle.layout.specs.Mem.{mem_of, Sizes}
 use Rattle.theory.specs.Calls.{c_check, a_ok, refusal, refuse}
 use Rattle.theory.specs.Unbounded.{Unbounded, uexec, uobserve}
-use Rattle.model.specs.declared.Answer.TheVariants.{Ok}
 use Rattle.model.specs.declared.Step.{Step}
 use Rattle.model.specs.declared.Step.TheVariants.{Swept, Done}
 use Rattle.model.specs.Lists.{Event, mutator_call, start_call, step_call, opening_call, look_call, Element, start_element, step_element, Ghost, ghost_start, by_opening, ghost_after}
@@ -30,6 +30,7 @@ use Rattle.guarantee_cases.proofs.CaseRun.{commands_in, elements_of, CaseRun, me
 use Rattle.guarantee_cases.proofs.GarbageFound.{Found, found}
 use Rattle.layout.specs.Region as Region
 use Rattle.model.specs.Tag as Tag
+use Rattle.model.specs.declared.Answer.TheVariants as call_answer
 
 -- the case after its opening: four records are made, of which the first names the second, a number is put into the second (6), and roots are
 -- cleared, so that the third is garbage; a start (9) and its cycle up to the step that sweeps (19), a load and a get (22)
@@ -64,8 +65,8 @@ has_any t (x ∷ xs) ys e h = go (t x.event) (has_any t xs ys e h)
 abbrev pub any_start : List Element → Bool
 any_start = any_of is_start
 
-pub has_start : (g : Geometry) (xs ys : List Element) (u v : List ℕ) → any_start (xs ++ (start_element g u Ok v ∷ ys)) ≡ true
-has_start g xs ys u v = has_any is_start xs ys (start_element g u Ok v) refl
+pub has_start : (g : Geometry) (xs ys : List Element) (u v : List ℕ) → any_start (xs ++ (start_element g u (Ok call_answer.Done) v ∷ ys)) ≡ true
+has_start g xs ys u v = has_any is_start xs ys (start_element g u (Ok call_answer.Done) v) refl
 
 -- ---- a cycle in a list: s calls, the start, d calls with no start among them, and a step; at n: the words before the n-th call
 
@@ -74,9 +75,9 @@ module _ (g : Geometry) (at : ℕ → List ℕ) (es : List Element) (s d : ℕ) 
   within = take d (drop (1 + s) es)
 
   abbrev pub cut_at : Step → List Element
-  cut_at r = take s es ++ (start_element g (at s) Ok (at (1 + s)) ∷ (within ++ (step_element g (at (1 + s + d)) r (at (2 + s + d)) ∷ drop (2 + s + d) es)))
+  cut_at r = take s es ++ (start_element g (at s) (Ok call_answer.Done) (at (1 + s)) ∷ (within ++ (step_element g (at (1 + s + d)) r (at (2 + s + d)) ∷ drop (2 + s + d) es)))
 
-  pub one_start_lem : any_start within ≡ false → (xs ys : List Element) (u v : List ℕ) → within ≡ xs ++ (start_element g u Ok v ∷ ys) → ⊥
+  pub one_start_lem : any_start within ≡ false → (xs ys : List Element) (u v : List ℕ) → within ≡ xs ++ (start_element g u (Ok call_answer.Done) v ∷ ys) → ⊥
   one_start_lem none xs ys u v e = true≢false (sym (has_start g xs ys u v) ∙ ap any_start (sym e) ∙ none)
 
   abbrev pub swept_at : (segment freed : ℕ) → es ≡ cut_at (Swept segment freed) → any_start within ≡ false → SweptIn g es

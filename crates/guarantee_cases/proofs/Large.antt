@@ -8,6 +8,7 @@ use Prim.Native.Nat.{ℕ}
 use native.Mathlib.Omega.{arith}
 use native.Mathlib.Decide.{ℕ_discrete}
 use lib.ListN.{length, take, drop}
+use Rattle.std.specs.Prelude.{Ok, Err}
 use Rattle.layout.specs.declared.Geometry.{Geometry}
 use Rattle.layout.specs.Geometry.{large_kib, total, blocks_in}
 use Rattle.layout.specs.Mem.{Mem, mem_of}
@@ -16,7 +17,8 @@ use Rattle.theory.specs.Calls.{c_check, c_make, require, if_record}
 use Rattle.theory.specs.Update.{upd}
 use Rattle.theory.specs.Unbounded.{empty, uexec, uanswers}
 use Rattle.theory.proofs.Invariant.{none_some}
-use Rattle.model.specs.declared.Answer.TheVariants.{Ok, Refused}
+use Rattle.model.specs.declared.Answer.TheVariants.{Done}
+use Rattle.model.specs.declared.Refusal.TheVariants.{NoRoom}
 use Rattle.model.specs.Fields.{tag, class}
 use Rattle.model.specs.Lists.{Element, call_element, Ghost, ghost_start, by_opening, ghost_after}
 use Rattle.model.proofs.Collecting.{collects_is, full_collected}
@@ -72,10 +74,10 @@ module _ (h : Geometry) (k : Known h large) (w : AtStart h (mem_of h (k.0.at 14)
   calls = elements h large k
 
   abbrev eighth : Element
-  eighth = call_element (c_make 0 7 1 600) h (at 8) Ok (at 9)
+  eighth = call_element (c_make 0 7 1 600) h (at 8) (Ok Done) (at 9)
 
   abbrev ninth : Element
-  ninth = call_element (c_make 0 8 1 600) h (at 9) (Refused 10) (at 10)
+  ninth = call_element (c_make 0 8 1 600) h (at 9) (Err NoRoom) (at 10)
 
   eighth_applied : Applied h (at 8) eighth
   eighth_applied = applied_to h (at 0) ghost_start calls (by_opening k.0.opened) k.0.chain (take 8 calls) (drop 9 calls) eighth refl (λ e. none_some e)
@@ -130,8 +132,8 @@ module _ (h : Geometry) (k : Known h large) (w : AtStart h (mem_of h (k.0.at 14)
         before_ninth = at 9;
         after_ninth = at 10;
         makes = refl;
-        room = λ q. none_some (no_room_exactly.whenever h (at 8) (at 9) 0 7 1 600 Ok eighth_applied q);
-        no_room = no_room_exactly.only h (at 9) (at 10) 0 8 1 600 (Refused 10) ninth_applied refl;
+        room = λ q. none_some (no_room_exactly.whenever h (at 8) (at 9) 0 7 1 600 (Ok Done) eighth_applied q);
+        no_room = no_room_exactly.only h (at 9) (at 10) 0 8 1 600 (Err NoRoom) ninth_applied refl;
         cycle = swept_in;
         swept = (refl, refl);
         full = (w.full, w.classed);

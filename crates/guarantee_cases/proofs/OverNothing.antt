@@ -7,6 +7,7 @@ use mathlib.Core.List.{List, [], ◌∷◌, tail}
 use Prim.Native.Nat.{ℕ}
 use native.Mathlib.Omega.{arith}
 use lib.ListN.{length, take, drop}
+use Rattle.std.specs.Prelude.{Ok, Err}
 use Rattle.layout.specs.declared.Geometry.{Geometry}
 use Rattle.layout.specs.Geometry.{blocks_in}
 use Rattle.layout.specs.Mem.{Mem, mem_of}
@@ -14,8 +15,9 @@ use Rattle.layout.proofs.Regions.{right_size}
 use Rattle.theory.specs.Phases.{Phase, mark, in_handshake}
 use Rattle.theory.specs.Calls.{c_attach}
 use Rattle.theory.proofs.Invariant.{none_some}
-use Rattle.model.specs.declared.Answer.TheVariants.{Ok, Refused}
+use Rattle.model.specs.declared.Answer.TheVariants.{Done}
 use Rattle.model.specs.declared.Step.{Step}
+use Rattle.model.specs.declared.Refusal.TheVariants.{NotNow}
 use Rattle.model.specs.Fields.{trace_count, tag, class}
 use Rattle.model.specs.Segments.{used_bit}
 use Rattle.model.specs.Opening.{opened}
@@ -80,7 +82,7 @@ module _ (g : Geometry) (p : CaseRun g asked replied) (used : BlockInUse g (mem_
   elements = elements_of g at asked replied
 
   abbrev begin : Element
-  begin = start_element g (at 5) Ok (at 6)
+  begin = start_element g (at 5) (Ok Done) (at 6)
 
   first : Applied g (at 5) begin
   first = applied_to g (at 0) ghost_start elements (by_opening p.opened) p.chain (take 5 elements) (drop 6 elements) begin refl (λ e. none_some e)
@@ -159,7 +161,7 @@ module _ (g : Geometry) (p : CaseRun g asked replied) (used : BlockInUse g (mem_
     attach_before = at 7;
     attach_after = at 8;
     refused = refl;
-    handshake = c.not_now (take 1 (drop 6 elements)) (drop 8 elements) (call_element (c_attach 1) g (at 7) (Refused 11) (at 8)) (c_attach 1) (Refused 11) refl refl refl;
+    handshake = c.not_now (take 1 (drop 6 elements)) (drop 8 elements) (call_element (c_attach 1) g (at 7) (Err NotNow) (at 8)) (c_attach 1) (Err NotNow) refl refl refl;
   }
 
 -- ---- over one segment of sevens

@@ -8,6 +8,7 @@ use Prim.Native.Nat.{ℕ, ◌*◌, ◌≤◌, ◌<◌}
 use native.Mathlib.Omega.{arith}
 use lib.Dec.{ltb}
 use lib.ListN.{length, drop}
+use Rattle.std.specs.Prelude.{Err}
 use Rattle.basics.specs.Pick.{pick}
 use Rattle.basics.proofs.Order.{le_or_lt}
 use Rattle.layout.specs.declared.Geometry.{Geometry}
@@ -16,7 +17,6 @@ use Rattle.layout.specs.Mem.{Mem}
 use Rattle.layout.proofs.Regions.{sized}
 use Rattle.theory.specs.Calls.{c_check, a_no}
 use Rattle.theory.proofs.Invariant.{none_some}
-use Rattle.model.specs.declared.Answer.TheVariants.{Refused}
 use Rattle.model.specs.Answers.{answer_of, step_answer_of, phase_answer_of, refusal_in, among, may_give, start_may_give, step_may_give, look_may_give}
 use Rattle.model.specs.Promise.{PromiseOf}
 use Rattle.model.specs.Looks.{Look, saw_phase, saw_states, saw_sheet, examined_by, look_sized}
@@ -27,8 +27,7 @@ use Rattle.model_cases.specs.Replies.{geometry, large_geometry}
 use Rattle.guarantee_cases.specs.RefusedStand.{RefusedSize, refused_call, refused_start, refused_step, refused_opening, refused_phase, refused_states, refused_sheet, refused_examination, leaving, four, three, RefusedStand}
 use Rattle.theory.specs.Calls as theory
 use Rattle.model.specs.declared.Step.TheVariants as step_answer
-use Rattle.model.specs.declared.PhaseLook.TheVariants as look
-use Rattle.model.specs.declared.Examined.TheVariants as examination
+use Rattle.model.specs.declared.Refusal.TheVariants.{Size}
 
 module _ (count : Geometry) (lent : List ℕ) (wrong : wrong_size count (length lent) ≡ true) where
   not_right : {A : Type 0} → wrong_size count (length lent) ≡ false → A
@@ -46,11 +45,11 @@ module _ (count : Geometry) (lent : List ℕ) (wrong : wrong_size count (length 
   }
 
   meets : (v : Event) → RefusedSize v → Meets (leaving count lent v)
-  meets v (refused_call c) = kept answer_of _ (may_give c) _ (Refused 1) refl (gives_1 c)
-  meets v refused_start = kept answer_of _ start_may_give _ (Refused 1) refl refl
+  meets v (refused_call c) = kept answer_of _ (may_give c) _ (Err Size) refl (gives_1 c)
+  meets v refused_start = kept answer_of _ start_may_give _ (Err Size) refl refl
   meets v refused_step = kept step_answer_of _ step_may_give _ (step_answer.Refused 1) refl refl
   meets v refused_opening = record { sizes = λ _. (refl, refl); exact = λ h. not_right h }
-  meets v refused_phase = (kept phase_answer_of _ look_may_give _ (look.Refused 1) refl refl, refl)
+  meets v refused_phase = (kept phase_answer_of _ look_may_give _ (Err Size) refl refl, refl)
   meets v (refused_states output) = (as_states count lent output _ _ (shown_1 record_words records count lent output wrong), refl)
   meets v (refused_sheet output) = (shown_1 _ _ count lent output wrong, refl)
   meets v (refused_examination scratch) = (
@@ -72,10 +71,10 @@ module _ (count : Geometry) (lent : List ℕ) (wrong : wrong_size count (length 
   wrong_sized_lem v refused_start = wrong
   wrong_sized_lem v refused_step = wrong
   wrong_sized_lem v refused_opening = wrong
-  wrong_sized_lem v refused_phase = wrong_look (saw_phase (look.Refused 1))
-  wrong_sized_lem v (refused_states output) = wrong_look (saw_states output (Refused 1) output)
-  wrong_sized_lem v (refused_sheet output) = wrong_look (saw_sheet output (Refused 1) output)
-  wrong_sized_lem v (refused_examination scratch) = wrong_look (examined_by scratch (examination.Refused 1) scratch)
+  wrong_sized_lem v refused_phase = wrong_look (saw_phase (Err Size))
+  wrong_sized_lem v (refused_states output) = wrong_look (saw_states output (Err Size) output)
+  wrong_sized_lem v (refused_sheet output) = wrong_look (saw_sheet output (Err Size) output)
+  wrong_sized_lem v (refused_examination scratch) = wrong_look (examined_by scratch (Err Size) scratch)
 
   stands : (g : Geometry) (words : List ℕ) (es : List Element) → Chain g words es → (v : Event) → RefusedSize v → Chain g words (leaving count lent v ∷ es)
   stands g words es ch v r =

@@ -6,9 +6,9 @@ use mathlib.Core.Logic.{inl}
 use mathlib.Core.List.{List, [], ◌∷◌}
 use Prim.Native.Nat.{ℕ, ◌+◌}
 use native.Mathlib.Omega.{arith}
+use Rattle.std.specs.Prelude.{Err}
 use Rattle.layout.specs.declared.Geometry.{Geometry}
 use Rattle.theory.specs.Calls.{c_make}
-use Rattle.model.specs.declared.Answer.TheVariants.{Refused}
 use Rattle.model.specs.Lists.{Event, mutator_call, step_call, opening_call, Element, Chain, ghost_start, by_opening, remaining_calls, remaining_answers}
 use Rattle.model.specs.Run.{Command}
 use Rattle.guarantee.specs.Demand3.{struck_out}
@@ -27,6 +27,7 @@ use Rattle.guarantee_cases.proofs.RefusedStand.{no_count, refused_stand}
 use Rattle.guarantee_cases.proofs.CaseRun.{inputs_of, command_in, asked, elements_of, CaseRun, case_run}
 use Rattle.guarantee_cases.proofs.Instance.{sizes_sevens}
 use Rattle.model.specs.declared.Step.TheVariants as step
+use Rattle.model.specs.declared.Refusal.TheVariants.{Size}
 
 -- the lines of a case that are calls, without those that only show words
 abbrev keep_if : Option Command → Line → List Line → List Line
@@ -86,10 +87,10 @@ refused_then_lem : (words : List ℕ) (es : List Element) → Chain (geometry 1)
 refused_then_lem words es ch v r = refused_stand.stands (geometry 1) words es ch (geometry 257) [] no_count v r
 
 abbrev an_opening : Event
-an_opening = opening_call (Refused 1)
+an_opening = opening_call (Err Size)
 
 abbrev a_make : Event
-a_make = mutator_call (c_make 0 0 1 1) (Refused 1)
+a_make = mutator_call (c_make 0 0 1 1) (Err Size)
 
 abbrev a_step : Event
 a_step = step_call (step.Refused 1)

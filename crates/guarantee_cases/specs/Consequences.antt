@@ -1,10 +1,11 @@
 -- What the guarantee and the theorems beside it say of two cases: document 01's whole case, and the case of its refusals.
-use Rattle.std.specs.Prelude.{◌≡◌, List, ◌∷◌, ◌++◌, ℕ, ◌≤◌}
+use Rattle.std.specs.Prelude.{◌≡◌, List, ◌∷◌, ◌++◌, ℕ, ◌≤◌, Ok, Err}
 use Rattle.std.proofs.Math.Option.{some}
 use Rattle.layout.specs.declared.Geometry.{Geometry}
 use Rattle.layout.specs.Mem.{mem_of}
 use Rattle.theory.specs.Calls.{c_make}
-use Rattle.model.specs.declared.Answer.TheVariants.{Ok, Refused}
+use Rattle.model.specs.declared.Answer.TheVariants.{Done}
+use Rattle.model.specs.declared.Refusal.TheVariants.{NoRoom}
 use Rattle.model.specs.Consistent.{Consistent}
 use Rattle.model.specs.Lists.{Element, call_element, Gets, number_of, Chain, words_after, Opened, ghost_start, Begins, remaining_calls, remaining_answers}
 use Rattle.guarantee.specs.Demand3.{struck_out, BlockFree}
@@ -63,6 +64,6 @@ pub record OfRefusals : Type 0 where
   pub before_fourth : List ℕ
   pub before_fifth : List ℕ
   pub after_fifth : List ℕ
-  pub makes : calls ≡ before ++ (call_element (c_make 0 3 2 510) geometry before_fourth Ok before_fifth ∷ call_element (c_make 0 4 2 510) geometry before_fifth (Refused 10) after_fifth ∷ rest)
+  pub makes : calls ≡ before ++ (call_element (c_make 0 3 2 510) geometry before_fourth (Ok Done) before_fifth ∷ call_element (c_make 0 4 2 510) geometry before_fifth (Err NoRoom) after_fifth ∷ rest)
   pub room : OutOfRoom geometry (mem_of geometry before_fourth) 0 3 2 510 → ⊥
   pub no_room : OutOfRoom geometry (mem_of geometry before_fifth) 0 4 2 510

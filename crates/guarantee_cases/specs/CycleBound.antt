@@ -1,11 +1,10 @@
 -- What the theorem of request No. 7 says of computed cases: "steps neither refused nor answered waiting, up to and including done, are at most
 -- B + C + 4. B is the number of blocks in use when the phase became mark, and C the number of segments that start condemned."
-use Rattle.std.specs.Prelude.{◌≡◌, List, [], ◌∷◌, ◌++◌, ℕ, ◌+◌, ◌<◌, length}
+use Rattle.std.specs.Prelude.{◌≡◌, List, [], ◌∷◌, ◌++◌, ℕ, ◌+◌, ◌<◌, length, Ok}
 use Rattle.std.proofs.Math.Option.{Option, none, some}
 use Rattle.layout.specs.declared.Geometry.{Geometry}
 use Rattle.layout.specs.Mem.{mem_of}
 use Rattle.theory.specs.Calls.{c_attach, c_detach, c_check, c_spawn, c_make}
-use Rattle.model.specs.declared.Answer.TheVariants.{Ok}
 use Rattle.model.specs.declared.Step.{Step}
 use Rattle.model.specs.declared.Step.TheVariants.{Waiting, Moved, Traced, Swept, Done, Refused}
 use Rattle.model.specs.Fields.{tag}
@@ -19,6 +18,7 @@ use Rattle.model_cases.specs.Whole.{whole}
 use Rattle.guarantee_cases.specs.Columns.{left_column, right_column}
 use Rattle.guarantee_cases.specs.OverNothing.{over_nothing}
 use Rattle.model.specs.Tag as Tag
+use Rattle.model.specs.declared.Answer.TheVariants as call_answer
 
 -- ---- the cases, each over one segment; records of 1024 values are of class 13, two to a segment, and those of 600 of class 12, four to a segment
 
@@ -113,7 +113,7 @@ pub record OfCycleBound (ls : List Line) (rs : List Step) (n B C : ℕ) : Type 0
   pub rest : List Element
   pub start_before : List ℕ
   pub start_after : List ℕ
-  pub cut : calls ≡ before ++ (start_element geometry start_before Ok start_after ∷ (during ++ rest))
+  pub cut : calls ≡ before ++ (start_element geometry start_before (Ok call_answer.Done) start_after ∷ (during ++ rest))
   pub in_cycle : InCycle geometry start_before start_after during
   pub answers : steps_in during ≡ rs
   pub steps : counted during ≡ n

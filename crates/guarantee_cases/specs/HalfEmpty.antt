@@ -1,10 +1,11 @@
 -- What the guarantee and the theorems beside it say of request No. 5's own case: one segment, part, whose short records are all dead, and a long record
 -- that has no room before the cycle and takes the segment after its sweep.
-use Rattle.std.specs.Prelude.{◌≡◌, true, List, [], ◌∷◌, ◌++◌, ℕ, ◌<◌}
+use Rattle.std.specs.Prelude.{◌≡◌, true, List, [], ◌∷◌, ◌++◌, ℕ, ◌<◌, Ok, Err}
 use Rattle.layout.specs.declared.Geometry.{Geometry}
 use Rattle.layout.specs.Mem.{mem_of}
 use Rattle.theory.specs.Calls.{c_make}
-use Rattle.model.specs.declared.Answer.TheVariants.{Ok, Refused}
+use Rattle.model.specs.declared.Answer.TheVariants.{Done}
+use Rattle.model.specs.declared.Refusal.TheVariants.{NoRoom}
 use Rattle.model.specs.Fields.{tag, class, place}
 use Rattle.model.specs.Segments.{used_bit}
 use Rattle.model.specs.Consistent.{is_free}
@@ -32,7 +33,7 @@ pub record OfHalfEmpty : Type 0 where
   pub part : (tag (mem_of geometry cycle.start_before) cycle.segment ≡ Tag.part) × (class (mem_of geometry cycle.start_before) cycle.segment ≡ 9)
   pub early : List Element
   pub long_before : List ℕ
-  pub refused : cycle.before ≡ early ++ (call_element (c_make 1 0 0 4095) geometry long_before (Refused 10) cycle.start_before ∷ [])
+  pub refused : cycle.before ≡ early ++ (call_element (c_make 1 0 0 4095) geometry long_before (Err NoRoom) cycle.start_before ∷ [])
   pub no_room : OutOfRoom geometry (mem_of geometry long_before) 1 0 0 4095
   -- three blocks of it, in use and not reached
   pub unreached : (b : ℕ) → b < 3
@@ -54,5 +55,5 @@ pub record OfHalfEmpty : Type 0 where
   pub late : List Element
   pub take_before : List ℕ
   pub take_after : List ℕ
-  pub takes : cycle.rest ≡ between ++ (call_element (c_make 1 0 0 4095) geometry take_before Ok take_after ∷ late)
+  pub takes : cycle.rest ≡ between ++ (call_element (c_make 1 0 0 4095) geometry take_before (Ok Done) take_after ∷ late)
   pub taken : (tag (mem_of geometry take_after) cycle.segment ≡ Tag.full) × (class (mem_of geometry take_after) cycle.segment ≡ 14)

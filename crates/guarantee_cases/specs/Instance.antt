@@ -1,10 +1,10 @@
 -- That the guarantee is not empty: a list with a put, a cycle whose start finds an unreached block in use in a full segment, the sweep of that
 -- segment, and a get afterwards that answers the number put before.
-use Rattle.std.specs.Prelude.{◌≡◌, List, [], ◌∷◌, ◌++◌, ℕ}
+use Rattle.std.specs.Prelude.{◌≡◌, List, [], ◌∷◌, ◌++◌, ℕ, Ok}
 use Rattle.layout.specs.declared.Geometry.{Geometry}
 use Rattle.layout.specs.Mem.{mem_of}
 use Rattle.theory.specs.Calls.{c_check, c_clear, c_load, c_put, c_get, a_ok}
-use Rattle.model.specs.declared.Answer.TheVariants.{Ok, Number}
+use Rattle.model.specs.declared.Answer.TheVariants.{Done, Number}
 use Rattle.model.specs.Fields.{tag}
 use Rattle.model.specs.Segments.{used_bit}
 use Rattle.model.specs.Lists.{Element, call_element, Chain, Opened, ghost_start, remaining_calls, remaining_answers, ghost_after}
@@ -34,7 +34,7 @@ pub record Instance : Type 0 where
   pub late : List Element
   pub put_before : List ℕ
   pub put_after : List ℕ
-  pub puts : cycle.before ≡ early ++ (call_element (c_put mutator root field value) geometry put_before Ok put_after ∷ late)
+  pub puts : cycle.before ≡ early ++ (call_element (c_put mutator root field value) geometry put_before (Ok Done) put_after ∷ late)
   -- between that put and the get no other mutators' calls remain than these: the root is cleared and one more, two checks in the cycle, and after
   -- the sweep a load from another root, which is answered ok
   pub gone : ℕ
@@ -48,4 +48,4 @@ pub record Instance : Type 0 where
   pub reloaded : remaining_answers struck_out between ≡ a_ok ∷ []
   pub get_before : List ℕ
   pub get_after : List ℕ
-  pub gets : cycle.rest ≡ between ++ (call_element (c_get mutator root field) geometry get_before (Number value) get_after ∷ [])
+  pub gets : cycle.rest ≡ between ++ (call_element (c_get mutator root field) geometry get_before (Ok (Number value)) get_after ∷ [])

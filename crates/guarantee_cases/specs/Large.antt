@@ -1,12 +1,12 @@
 -- Request No. 6: "Everything promised for scripts is promised at either size." What the guarantee and the theorems beside it say of document 01's
 -- whole case in one segment of 32 KiB: "Each class has twice the blocks it has at 16 KiB", so eight of its records fill the segment, and not four.
-use Rattle.std.specs.Prelude.{◌≡◌, List, [], ◌∷◌, ◌++◌, ℕ, ◌+◌, length}
+use Rattle.std.specs.Prelude.{◌≡◌, List, [], ◌∷◌, ◌++◌, ℕ, ◌+◌, length, Ok, Err}
 use Rattle.layout.specs.declared.Geometry.{Geometry}
 use Rattle.layout.specs.Geometry.{large_kib, blocks_in}
 use Rattle.layout.specs.Mem.{mem_of}
 use Rattle.theory.specs.Calls.{c_attach, c_check, c_make, c_load, c_store, c_clear, c_put, c_get, a_num}
-use Rattle.model.specs.declared.Answer.TheVariants.{Ok, Refused}
 use Rattle.model.specs.declared.Step.TheVariants.{Waiting, Moved, Traced, Swept, Done}
+use Rattle.model.specs.declared.Refusal.TheVariants.{NoRoom}
 use Rattle.model.specs.Fields.{tag, class}
 use Rattle.model.specs.Segments.{used_bit}
 use Rattle.model.specs.Consistent.{Consistent}
@@ -19,6 +19,7 @@ use Rattle.guarantee_cases.specs.Consequences.{Along}
 use Rattle.guarantee_cases.specs.Totals.{OfTotals}
 use Rattle.guarantee_cases.specs.CycleBound.{OfCycleBound}
 use Rattle.model.specs.Tag as Tag
+use Rattle.model.specs.declared.Answer.TheVariants as call_answer
 
 -- as document 01 has it, with eight makes, a ninth that has no room, and seven records reached
 abbrev pub large : List Line
@@ -80,7 +81,7 @@ pub record OfLarge : Type 0 where
   pub before_ninth : List ℕ
   pub after_ninth : List ℕ
   pub makes : calls
-      ≡ early ++ (call_element (c_make 0 7 1 600) geometry before_eighth Ok before_ninth ∷ call_element (c_make 0 8 1 600) geometry before_ninth (Refused 10) after_ninth ∷ late)
+      ≡ early ++ (call_element (c_make 0 7 1 600) geometry before_eighth (Ok call_answer.Done) before_ninth ∷ call_element (c_make 0 8 1 600) geometry before_ninth (Err NoRoom) after_ninth ∷ late)
   pub room : OutOfRoom geometry (mem_of geometry before_eighth) 0 7 1 600 → ⊥
   pub no_room : OutOfRoom geometry (mem_of geometry before_ninth) 0 8 1 600
   -- a start that finds the segment full, with a block in use and not reached, and the sweep of that segment

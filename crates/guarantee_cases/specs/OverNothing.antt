@@ -1,13 +1,14 @@
 -- What the theorem of the cycle over no segments says of a case: one segment, held at the start, one of its two records dropped. The cycle has
 -- a make in each phase, an attach in the first handshake and a make of another class without room; after it comes a get.
-use Rattle.std.specs.Prelude.{◌≡◌, true, List, [], ◌∷◌, ◌++◌, ℕ}
+use Rattle.std.specs.Prelude.{◌≡◌, true, List, [], ◌∷◌, ◌++◌, ℕ, Result, Ok, Err}
 use Rattle.layout.specs.declared.Geometry.{Geometry}
 use Rattle.layout.specs.Mem.{mem_of}
 use Rattle.theory.specs.Phases.{mark, sweep, in_handshake}
 use Rattle.theory.specs.Calls.{c_attach, c_check, c_clear, c_make, c_store, c_put, c_get, a_ok, a_num, a_no}
 use Rattle.model.specs.declared.Answer.{Answer}
-use Rattle.model.specs.declared.Answer.TheVariants.{Ok, Refused}
+use Rattle.model.specs.declared.Refusal.{Refusal}
 use Rattle.model.specs.declared.Step.TheVariants.{Waiting, Moved, Traced, Done, Idle}
+use Rattle.model.specs.declared.Refusal.TheVariants.{NotNow}
 use Rattle.model.specs.Fields.{phase, trace_count}
 use Rattle.model.specs.Collector.{started}
 use Rattle.model.specs.Consistent.{BlockInUse}
@@ -19,6 +20,7 @@ use Rattle.guarantee.specs.Keeping.{NeverSwept}
 use Rattle.guarantee_cases.specs.Columns.{left_column, right_column}
 use Rattle.guarantee_cases.specs.Consequences.{Along}
 use Rattle.model_cases.specs.Replies.{Line, ◌⇒◌, opening, start, step, call, answer, stepped, ok, no}
+use Rattle.model.specs.declared.Answer.TheVariants as call_answer
 
 abbrev pub over_nothing : List Line
 over_nothing =
@@ -66,11 +68,11 @@ pub record OfOverNothing : Type 0 where
   pub during : List Element
   pub start_before : List ℕ
   pub start_after : List ℕ
-  pub starts : calls ≡ before ++ (start_element geometry start_before Ok start_after ∷ during)
+  pub starts : calls ≡ before ++ (start_element geometry start_before (Ok call_answer.Done) start_after ∷ during)
   pub over : OverNothing geometry start_before start_after during
   pub opens : mem_of geometry start_after ≡ started geometry (mem_of geometry start_before)
   -- no other answer keeps the promise of a start there
-  pub accepted : (r : Answer) (after : List ℕ) → StartPromise geometry start_before r after → r ≡ Ok
+  pub accepted : (r : Result Answer Refusal) (after : List ℕ) → StartPromise geometry start_before r after → r ≡ Ok call_answer.Done
   -- the marking ends with an empty trace stack; the cycle comes to its done in sweep, and no segment is swept
   pub to_sweep : List Element
   pub from_sweep : List Element
@@ -88,7 +90,7 @@ pub record OfOverNothing : Type 0 where
   pub no_swept : (s : ℕ) → NeverSwept s during
   -- block 1, whose record the cleared root named, is in use before the start, and still at the end
   pub used : BlockInUse geometry (mem_of geometry start_before) 0 1
-  pub kept : BlockInUse geometry (mem_of geometry (words_after start_before (start_element geometry start_before Ok start_after ∷ during))) 0 1
+  pub kept : BlockInUse geometry (mem_of geometry (words_after start_before (start_element geometry start_before (Ok call_answer.Done) start_after ∷ during))) 0 1
   -- the calls that are compared, and what they are answered, after the start and by the heap before it, in idle: the make without room too
   pub compared : remaining_calls left_out during
       ≡ c_make 0 1 1 510 ∷ c_check 0 ∷ c_make 0 2 1 510 ∷ c_store 0 0 0 1 ∷ c_check 0 ∷ c_make 0 3 1 510 ∷ c_make 0 4 0 0 ∷ c_make 0 5 1 510 ∷ c_get 0 0 0 ∷ []
@@ -99,5 +101,5 @@ pub record OfOverNothing : Type 0 where
   pub late : List Element
   pub attach_before : List ℕ
   pub attach_after : List ℕ
-  pub refused : during ≡ early ++ (call_element (c_attach 1) geometry attach_before (Refused 11) attach_after ∷ late)
+  pub refused : during ≡ early ++ (call_element (c_attach 1) geometry attach_before (Err NotNow) attach_after ∷ late)
   pub handshake : in_handshake (phase (mem_of geometry (words_after start_after early))) ≡ true

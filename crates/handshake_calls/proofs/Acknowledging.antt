@@ -12,7 +12,9 @@ use Rattle.layout.proofs.Regions.{sized}
 use Rattle.theory.specs.Phases.{owes}
 use Rattle.theory.specs.Calls.{Call, c_check, c_leave}
 use Rattle.theory.proofs.Refusals.{by_ok}
-use Rattle.model.specs.declared.Answer.TheVariants.{Ok, Refused}
+use Rattle.std.specs.Prelude.{Ok, Err}
+use Rattle.model.specs.declared.Answer.TheVariants.{Done}
+use Rattle.model.specs.declared.Refusal.TheVariants.{Torn}
 use Rattle.model.specs.PhaseNumbers.{phase_of}
 use Rattle.model.specs.Fields.{phase, outside, set_mutator_state, acks, set_acks, root}
 use Rattle.model.specs.Tracing.{push_roots}
@@ -82,22 +84,22 @@ module _ (g : Geometry) (m : Mem) (k n a : ℕ) (o : Bool) (en : n ≡ control_w
           fails = λ y. fails_acks g m k 2 (q.fails y);
         }
 
--- ---- how check and leave keep their promises: n is the refusal of a mutator that must be inside
+-- ---- how check and leave keep their promises, past the refusals of a mutator that must be inside
 
-module _ (g : Geometry) (xs : List ℕ) (k n : ℕ) (s : n ≡ inside_then (mem_of g xs) k 0) (z : n ≡ 0) where
-  module _ (e : wrong_size g (length xs) ≡ false) (r : Bool) (m₁ : Mem) (p : Acknowledges g (mem_of g xs) k r m₁) where
-    pub checked : r ≡ true → (ys : List ℕ) → mem_of g ys ≡ m₁ → Promise (c_check k) g xs Ok ys
-    unfolding inside_then act
-    checked t ys q = done (c_check k) g xs e (sym z ∙ s) refl refl refl (q ∙ p.done t)
+module _ (g : Geometry) (xs : List ℕ) (k : ℕ) (e : wrong_size g (length xs) ≡ false) (s : 0 ≡ inside_then (mem_of g xs) k 0)
+    (r : Bool) (m₁ : Mem) (p : Acknowledges g (mem_of g xs) k r m₁) where
+  pub checked : r ≡ true → (ys : List ℕ) → mem_of g ys ≡ m₁ → Promise (c_check k) g xs (Ok Done) ys
+  unfolding inside_then act
+  checked t ys q = done (c_check k) g xs e s refl refl refl (q ∙ p.done t)
 
-    pub left : r ≡ true → (ys : List ℕ) → mem_of g ys ≡ set_mutator_state m₁ k outside → Promise (c_leave k) g xs Ok ys
-    unfolding inside_then act
-    left t ys q = done (c_leave k) g xs e (sym z ∙ s) refl refl refl (q ∙ ap (λ m. set_mutator_state m k outside) (p.done t))
+  pub left : r ≡ true → (ys : List ℕ) → mem_of g ys ≡ set_mutator_state m₁ k outside → Promise (c_leave k) g xs (Ok Done) ys
+  unfolding inside_then act
+  left t ys q = done (c_leave k) g xs e s refl refl refl (q ∙ ap (λ m. set_mutator_state m k outside) (p.done t))
 
-    -- "13, torn": a root that cannot be pushed
-    pub hindered : r ≡ false → (c : Call) (ys : List ℕ) → Promise c g xs (Refused 13) ys
-    unfolding inside_then
-    hindered f c ys =
-        let o = by_ok (observe (mem_of g xs)) k 0 (sym s ∙ z) in
-        let y = roots_ready g (mem_of g xs) (sizes_of g xs (sized g (length xs) e)) in
-        torn_13 c g xs e (λ x. roots_succeed g (mem_of g xs) (y x) k o.0 (not_eq _ _ o.1) (p.fails f))
+  -- "13, torn": a root that cannot be pushed
+  pub hindered : r ≡ false → (c : Call) (ys : List ℕ) → Promise c g xs (Err Torn) ys
+  unfolding inside_then
+  hindered f c ys =
+      let o = by_ok (observe (mem_of g xs)) k 0 (sym s) in
+      let y = roots_ready g (mem_of g xs) (sizes_of g xs (sized g (length xs) e)) in
+      torn_13 c g xs e (λ x. roots_succeed g (mem_of g xs) (y x) k o.0 (not_eq _ _ o.1) (p.fails f))

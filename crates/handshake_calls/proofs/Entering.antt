@@ -3,14 +3,15 @@ use mathlib.Core.Path.{◌≡◌, refl, sym, ◌∙◌}
 use mathlib.Core.Bool.{false}
 use mathlib.Core.List.{List}
 use Prim.Native.Nat.{ℕ, ◌≤◌, ◌<◌}
-use native.Mathlib.Omega.{arith}
 use lib.ListN.{length}
 use borrow.Author.Tests.{lt-ltb, le-ltb, eq-eqb, ne_eqb}
 use Rattle.layout.specs.declared.Geometry.{Geometry}
 use Rattle.layout.specs.Geometry.{wrong_size, mutator_count}
 use Rattle.layout.specs.Mem.{Mem, mem_of}
 use Rattle.theory.specs.Calls.{c_enter, require, refusal}
-use Rattle.model.specs.declared.Answer.TheVariants.{Ok, Refused}
+use Rattle.std.specs.Prelude.{Ok, Err}
+use Rattle.model.specs.declared.Answer.TheVariants.{Done}
+use Rattle.model.specs.declared.Refusal.TheVariants.{Mutator, Absent, Side}
 use Rattle.model.specs.Fields.{absent, inside, state, set_mutator_state}
 use Rattle.model.specs.Calls.{observe, act}
 use Rattle.model.specs.Promise.{Promise}
@@ -38,17 +39,17 @@ module _ (m : Mem) (k : ℕ) where
 
 -- v is the state word
 module _ (g : Geometry) (xs : List ℕ) (k : ℕ) (e : wrong_size g (length xs) ≡ false) where
-  pub enter_2 : mutator_count ≤ k → Promise (c_enter k) g xs (Refused 2) xs
-  enter_2 l = refused (c_enter k) g xs e (unknown (mem_of g xs) k l) (λ z. omega arith)
+  pub enter_2 : mutator_count ≤ k → Promise (c_enter k) g xs (Err Mutator) xs
+  enter_2 l = refused (c_enter k) g xs Mutator e (unknown (mem_of g xs) k l)
 
   module _ (l : k < mutator_count) (v : ℕ) (s : v ≡ state (mem_of g xs) k) where
-    pub enter_4 : v ≡ absent → Promise (c_enter k) g xs (Refused 4) xs
-    enter_4 z = refused (c_enter k) g xs e (gone (mem_of g xs) k l (sym s ∙ z)) (λ y. omega arith)
+    pub enter_4 : v ≡ absent → Promise (c_enter k) g xs (Err Absent) xs
+    enter_4 z = refused (c_enter k) g xs Absent e (gone (mem_of g xs) k l (sym s ∙ z))
 
     module _ (a : v ≡ absent → ⊥) where
-      pub enter_5 : v ≡ inside → Promise (c_enter k) g xs (Refused 5) xs
-      enter_5 z = refused (c_enter k) g xs e (already (mem_of g xs) k l (λ y. a (s ∙ y)) (sym s ∙ z)) (λ y. omega arith)
+      pub enter_5 : v ≡ inside → Promise (c_enter k) g xs (Err Side) xs
+      enter_5 z = refused (c_enter k) g xs Side e (already (mem_of g xs) k l (λ y. a (s ∙ y)) (sym s ∙ z))
 
-      pub enter_ok : (v ≡ inside → ⊥) → (ys : List ℕ) → mem_of g ys ≡ set_mutator_state (mem_of g xs) k inside → Promise (c_enter k) g xs Ok ys
+      pub enter_ok : (v ≡ inside → ⊥) → (ys : List ℕ) → mem_of g ys ≡ set_mutator_state (mem_of g xs) k inside → Promise (c_enter k) g xs (Ok Done) ys
       unfolding act
       enter_ok n ys q = done (c_enter k) g xs e (may (mem_of g xs) k l (λ y. a (s ∙ y)) (λ y. n (s ∙ y))) refl refl refl q

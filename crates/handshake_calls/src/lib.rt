@@ -10,7 +10,7 @@ ghost use Rattle.model.specs.Promise.{Promise};
 ghost use Rattle.handshake_calls.specs.Acknowledging.{Acknowledges};
 
 use layout::Geometry;
-use model::{Answer, Phase};
+use model::{Answer, Phase, Refusal};
 
 // The mutator gives the acknowledgement that it owes, if any; in the second handshake its roots are pushed, and false says that one cannot be.
 pub fn acknowledge(g: Geometry, mem: &mut [u32], mutator: u32) -> bool
@@ -30,58 +30,46 @@ pub fn acknowledge(g: Geometry, mem: &mut [u32], mutator: u32) -> bool
 }
 
 // A mutator that owes an acknowledgement gives it.
-pub fn check(g: Geometry, mem: &mut [u32], mutator: u32) -> Answer
+pub fn check(g: Geometry, mem: &mut [u32], mutator: u32) -> Result<Answer, Refusal>
     ensures { Promise (c_check mutator) g mem.old result mem.new }
 {
-    if layout::wrong_size(g, mem.len()) {
-        return Answer::Refused(1);
+    model::require_size(g, mem)?;
+    mutators::require_inside(g, mem, mutator)?;
+    if !acknowledge(g, mem, mutator) {
+        return Err(Refusal::Torn);
     }
-    let refused = mutators::inside_refusal(g, mem, mutator);
-    if refused != 0 {
-        return Answer::Refused(refused);
-    }
-    if acknowledge(g, mem, mutator) {
-        return Answer::Ok;
-    }
-    Answer::Refused(13)
+    Ok(Answer::Done)
 }
 
 // A mutator that owes an acknowledgement gives it, and then the mutator is outside.
-pub fn leave(g: Geometry, mem: &mut [u32], mutator: u32) -> Answer
+pub fn leave(g: Geometry, mem: &mut [u32], mutator: u32) -> Result<Answer, Refusal>
     ensures { Promise (c_leave mutator) g mem.old result mem.new }
 {
-    if layout::wrong_size(g, mem.len()) {
-        return Answer::Refused(1);
-    }
-    let refused = mutators::inside_refusal(g, mem, mutator);
-    if refused != 0 {
-        return Answer::Refused(refused);
-    }
+    model::require_size(g, mem)?;
+    mutators::require_inside(g, mem, mutator)?;
     let given = acknowledge(g, mem, mutator);
-    if given {
-        mutators::set_state(g, mem, mutator, mutators::OUTSIDE);
-        return Answer::Ok;
+    if !given {
+        return Err(Refusal::Torn);
     }
-    Answer::Refused(13)
+    mutators::set_state(g, mem, mutator, mutators::OUTSIDE);
+    Ok(Answer::Done)
 }
 
 // A mutator outside is inside; an acknowledgement that it owes stays owed.
-pub fn enter(g: Geometry, mem: &mut [u32], mutator: u32) -> Answer
+pub fn enter(g: Geometry, mem: &mut [u32], mutator: u32) -> Result<Answer, Refusal>
     ensures { Promise (c_enter mutator) g mem.old result mem.new }
 {
-    if layout::wrong_size(g, mem.len()) {
-        return Answer::Refused(1);
-    }
+    model::require_size(g, mem)?;
     if layout::MUTATORS <= mutator {
-        return Answer::Refused(2);
+        return Err(Refusal::Mutator);
     }
     let state = mutators::state(g, mem, mutator);
     if state == mutators::ABSENT {
-        return Answer::Refused(4);
+        return Err(Refusal::Absent);
     }
     if state == mutators::INSIDE {
-        return Answer::Refused(5);
+        return Err(Refusal::Side);
     }
     mutators::set_state(g, mem, mutator, mutators::INSIDE);
-    Answer::Ok
+    Ok(Answer::Done)
 }

@@ -10,15 +10,14 @@ use lib.Dec.{ltb}
 use lib.ListN.{get_or}
 use borrow.Author.Tests.{ltb-true}
 use Rattle.classes.specs.Record.{of_counts, pointer_count_of, class_of_record}
-use Rattle.classes.specs.declared.SizeClass.{SizeClass}
-use Rattle.classes.specs.declared.SizeClass.TheVariants.{Class, TooBig}
+use Rattle.classes.specs.Class.{SizeClass}
+use Rattle.std.specs.Prelude.{Some, None}
 use Rattle.classes.proofs.Smallest.{class_found}
 use Rattle.layout.specs.declared.Geometry.{Geometry}
 use Rattle.layout.specs.Geometry.{mutator_count, mutator_words}
 use Rattle.layout.specs.Mem.{Mem, Sizes, set_mutator, set_heap}
 use Rattle.theory.specs.Phases.{Duty, nothing, both, old, idle, in_handshake, duty, owes}
-use Rattle.theory.specs.Calls.{Call, c_attach, c_detach, c_check, c_leave, c_enter, c_spawn, c_make, c_load, c_store, c_copy, c_clear, c_put, c_get}
-use Rattle.theory.specs.Calls.{c_same, c_shape, Answer, a_ok, a_num, a_flag, a_shape, a_no, refusal, refuse, on_record, unless, same_ref}
+use Rattle.theory.specs.Calls.{Call, c_attach, c_detach, c_check, c_leave, c_enter, c_spawn, c_make, c_load, c_store, c_copy, c_clear, c_put, c_get, c_same, c_shape, Answer, a_ok, a_num, a_flag, a_shape, a_no, refusal, refuse, on_record, unless, same_ref}
 use Rattle.theory.proofs.Refusals.{require_ok, by_ok, root_ok}
 use Rattle.model.specs.Fields.{phase, inside, outside, state_at, acks, root}
 use Rattle.model.specs.Records.{record?, header_shape, pointer_count, pointer, value}
@@ -154,8 +153,8 @@ module _ (g : Geometry) (m idle_mem : Mem) (s : Sizes g m) (e : SameHeap m idle_
   -- make
   alike_class : (k d p n : ℕ) (o : SizeClass) → class_of_record (of_counts p n) ≡ o
       → Alike (of_class m o (λ c. made g m k d c (of_counts p n))) (of_class idle_mem o (λ c. made g idle_mem k d c (of_counts p n)))
-  alike_class k d p n (Class c) q = alike_made g k d c (of_counts p n) m idle_mem e (class_found (p + n) c q)
-  alike_class k d p n TooBig q = alike_answer m idle_mem e (a_no 9) (a_no 9) refl
+  alike_class k d p n (Some c) q = alike_made g k d c (of_counts p n) m idle_mem e (class_found (p + n) c q)
+  alike_class k d p n None q = alike_answer m idle_mem e (a_no 9) (a_no 9) refl
 
   -- store: in idle no barrier
   alike_store : (k j f at : ℕ) → root idle_mem k j ≡ root m k j

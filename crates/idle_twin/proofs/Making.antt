@@ -5,6 +5,7 @@ use mathlib.Core.List.{List}
 use Prim.Native.Nat.{ℕ, suc, ◌+◌, ◌-◌, ◌*◌}
 use lib.Dec.{eqb}
 use lib.ListN.{take, drop, replicate}
+use Rattle.std.specs.Prelude.{Ok, Err, Some, None}
 use Rattle.basics.specs.Pick.{pick}
 use Rattle.words.specs.Bits.{bit_at}
 use Rattle.classes.specs.Class.{IsClass}
@@ -13,9 +14,7 @@ use Rattle.classes.specs.declared.RecordShape.{RecordShape}
 use Rattle.layout.specs.declared.Geometry.{Geometry}
 use Rattle.layout.specs.Geometry.{mutator_words, blocks_in, bitmap_words}
 use Rattle.layout.specs.Mem.{Mem, set_stack, set_run, with_region}
-use Rattle.bitmap_search.specs.declared.Found.{Found}
-use Rattle.bitmap_search.specs.declared.Found.TheVariants.{Block, Nothing, Torn}
-use Rattle.bitmap_search.specs.Scan.{next_free}
+use Rattle.bitmap_search.specs.Scan.{Found, next_free}
 use Rattle.bitmap_write.specs.Completed.{fresh}
 use Rattle.theory.specs.Phases.{black}
 use Rattle.theory.specs.Calls.{Answer}
@@ -45,9 +44,9 @@ module _ (g : Geometry) (k d c : ℕ) (shape : RecordShape) where
       subst (λ n. SameHeap (counted_out m s) (set_handed_count m' s (n + 1))) (sym (same_handed_count m m' e s)) (same_segment m m' e _ (handed_count m s + 1))
 
   same_advanced : (m m' : Mem) → SameHeap m m' → (s p : ℕ) (f : Found) → SameHeap (advanced g m k c s p f) (advanced g m' k c s p f)
-  same_advanced m m' e s p (Block b) = same_state g m m' e s (Held c p k)
-  same_advanced m m' e s p Nothing = same_mutator _ _ (same_state g m m' e s (Full c)) _ 0
-  same_advanced m m' e s p Torn = same_mutator _ _ (same_state g m m' e s (Full c)) _ 0
+  same_advanced m m' e s p (Ok (Some b)) = same_state g m m' e s (Held c p k)
+  same_advanced m m' e s p (Ok None) = same_mutator _ _ (same_state g m m' e s (Full c)) _ 0
+  same_advanced m m' e s p (Err _) = same_mutator _ _ (same_state g m m' e s (Full c)) _ 0
 
   leaves_blackened : (m : Mem) (at : ℕ) → SameHeap m (blackened g m k at)
   leaves_blackened m at = go (black (phase m) (acks m k))
@@ -74,9 +73,9 @@ module _ (g : Geometry) (k d c : ℕ) (shape : RecordShape) where
 
   module _ (m m' : Mem) (e : SameHeap m m') where
     alike_block : (taken taken' : Mem) → SameHeap taken taken' → (s : ℕ) (f : Found) → Alike (in_block g m taken f k d c s shape) (in_block g m' taken' f k d c s shape)
-    alike_block taken taken' a s (Block b) = record { answer = refl; memory = same_handed taken taken' a s b }
-    alike_block taken taken' a s Nothing = record { answer = refl; memory = e }
-    alike_block taken taken' a s Torn = record { answer = refl; memory = e }
+    alike_block taken taken' a s (Ok (Some b)) = record { answer = refl; memory = same_handed taken taken' a s b }
+    alike_block taken taken' a s (Ok None) = record { answer = refl; memory = e }
+    alike_block taken taken' a s (Err _) = record { answer = refl; memory = e }
 
     alike_segment : (taken taken' : Mem) → SameHeap taken taken' → (s : ℕ) → Alike (in_segment g m taken k d c s shape) (in_segment g m' taken' k d c s shape)
     alike_segment taken taken' a s =

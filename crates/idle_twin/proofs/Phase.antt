@@ -8,19 +8,17 @@ use native.Mathlib.Omega.{arith}
 use lib.Dec.{eqb}
 use lib.ListN.{get_or}
 use lib.Seq.{get_or-set_same, get_or-set_other}
+use Rattle.std.specs.Prelude.{Ok, Err, Some, None}
 use Rattle.basics.specs.Pick.{pick}
-use Rattle.classes.specs.Class.{class_count}
+use Rattle.classes.specs.Class.{class_count, SizeClass}
 use Rattle.classes.specs.Record.{of_counts, class_of_record}
 use Rattle.classes.specs.declared.RecordShape.{RecordShape}
-use Rattle.classes.specs.declared.SizeClass.{SizeClass}
-use Rattle.classes.specs.declared.SizeClass.TheVariants.{Class, TooBig}
+use Rattle.std.specs.Prelude.{Some, None}
 use Rattle.layout.specs.declared.Geometry.{Geometry}
 use Rattle.layout.specs.Mem.{Mem, Sizes, control_word, set_control, set_mutator, set_segment, set_stack, set_heap, set_run}
-use Rattle.bitmap_search.specs.declared.Found.{Found}
-use Rattle.bitmap_search.specs.declared.Found.TheVariants.{Block, Nothing, Torn}
+use Rattle.bitmap_search.specs.Scan.{Found}
 use Rattle.theory.specs.Phases.{Phase, idle, sync1, sync2, mark, sweep, Duty, nothing, both, old, black, duty, in_handshake}
-use Rattle.theory.specs.Calls.{Call, c_attach, c_detach, c_check, c_leave, c_enter, c_spawn, c_make, c_load, c_store, c_copy, c_clear, c_put, c_get}
-use Rattle.theory.specs.Calls.{c_same, c_shape, Answer, refusal, refuse, on_record, unless}
+use Rattle.theory.specs.Calls.{Call, c_attach, c_detach, c_check, c_leave, c_enter, c_spawn, c_make, c_load, c_store, c_copy, c_clear, c_put, c_get, c_same, c_shape, Answer, refusal, refuse, on_record, unless}
 use Rattle.model.specs.PhaseNumbers.{phase_of, phase_number}
 use Rattle.model.specs.Fields.{phase, set_phase, trace_count, outside, state, acks, place, root}
 use Rattle.model.specs.Segments.{set_segment_state, free_stack, part_stack, pop, free}
@@ -44,9 +42,9 @@ Still m m' = control_word m' 0 ≡ control_word m 0
 module _ (g : Geometry) (k d c : ℕ) (shape : RecordShape) where
   still_advanced : (m : Mem) (s p : ℕ) (f : Found) → Still m (advanced g m k c s p f)
   unfolding set_segment_state set_segment set_mutator
-  still_advanced m s p (Block b) = refl
-  still_advanced m s p Nothing = refl
-  still_advanced m s p Torn = refl
+  still_advanced m s p (Ok (Some b)) = refl
+  still_advanced m s p (Ok None) = refl
+  still_advanced m s p (Err _) = refl
 
   still_blackened : (m : Mem) (at : ℕ) → Still m (blackened g m k at)
   unfolding set_entered
@@ -63,9 +61,9 @@ module _ (g : Geometry) (k d c : ℕ) (shape : RecordShape) where
       ∙ still_advanced (counted_out m s) s (b + 1) (free g m s c (b + 1))
 
   still_block : (m taken : Mem) → Still m taken → (f : Found) (s : ℕ) → Still m (in_block g m taken f k d c s shape).1
-  still_block m taken q (Block b) s = still_handed taken s b ∙ q
-  still_block m taken q Nothing s = refl
-  still_block m taken q Torn s = refl
+  still_block m taken q (Ok (Some b)) s = still_handed taken s b ∙ q
+  still_block m taken q (Ok None) s = refl
+  still_block m taken q (Err _) s = refl
 
   still_source : (m : Mem) (o : Source) → Still m (from_source g m k d c shape o).1
   unfolding set_mutator set_segment_state set_segment set_stack set_run
@@ -76,8 +74,8 @@ module _ (g : Geometry) (k d c : ℕ) (shape : RecordShape) where
 
 still_class : (g : Geometry) (m : Mem) (k d : ℕ) (shape : RecordShape) (o : SizeClass) → Still m (of_class m o (λ c. made g m k d c shape)).1
 unfolding made
-still_class g m k d shape (Class c) = still_source g k d c shape m (source_of g m k c)
-still_class g m k d shape TooBig = refl
+still_class g m k d shape (Some c) = still_source g k d c shape m (source_of g m k c)
+still_class g m k d shape None = refl
 
 -- ---- every call
 

@@ -8,6 +8,21 @@ use lib.ListN.{length, get_or, take, drop, set, length-drop, take-append-drop}
 use lib.Seq.{sets, get_or-take, get_or-drop, take-set-le, take-set-lt, drop-set-lt, drop-set-add, get_or-set_same, set-get_or, set-set, take-take, drop-drop, take_at, drop_at, length-take-le}
 use Rattle.layout.specs.Parts.{parts, joined, start, lengths}
 
+-- a part ends where the next begins, and within them all
+first : (ks : List ℕ) → start ks 0 ≡ 0
+first [] = refl
+first (x ∷ ks) = refl
+
+pub next : (ks : List ℕ) (k : ℕ) → start ks (suc k) ≡ start ks k + get_or ks k 0
+next [] k = refl
+next (x ∷ ks) zero = let e = first ks in omega arith
+next (x ∷ ks) (suc k) = let e = next ks k in omega arith
+
+pub ends : (ks : List ℕ) (k : ℕ) → start ks k + get_or ks k 0 ≤ start ks (length ks)
+ends [] k = omega arith
+ends (x ∷ ks) zero = omega arith
+ends (x ∷ ks) (suc k) = let l = ends ks k in omega arith
+
 -- part k
 abbrev pub at : List ℕ → List ℕ → ℕ → List ℕ
 at ks l k = get_or (parts ks l) k []

@@ -4,3 +4,4 @@ pub mod Region
 pub mod Geometry
 pub mod TwoSizes
 pub mod Mem
+pub mod Numbers

@@ -4,20 +4,19 @@
 // numbers of where a region begins.
 #![tactic(auto)]
 
-ghost use Rattle.std.specs.Prelude.{◌≡◌, ◌+◌, ◌*◌, ◌%◌, ◌≤◌, ◌<◌, length, replicate};
+ghost use Rattle.std.specs.Prelude.{◌≡◌, ◌⊎◌, ℕ, suc, ◌+◌, ◌*◌, ◌%◌, ◌≤◌, ◌<◌, length, get_or, set, replicate};
+ghost use Rattle.std.proofs.Common.{rules};
 ghost use Rattle.classes.specs.Class.{IsClass};
 ghost use Rattle.classes.specs.Shape.{shape_for};
-ghost use Rattle.classes.specs.declared.ClassShape.TheVariants.{Of};
-ghost use Rattle.classes.specs.declared.SegmentShape.{SegmentShape};
-ghost use Rattle.layout.specs.Geometry.{len, from, total, segment_words, blocks_in, most_blocks, mark_words, bitmap_words, max_segments, segment_of, mark_bit, mutator_count, mutator_words, IsSize, Units, Sized, no_kib, wrong_size};
-ghost use Rattle.layout.specs.Mem.{mem_of, control_word, mutator_word, segment_record_word, stack_word, bitmap_word, mark_word, trace_word, heap_word, set_control, set_mutator, set_segment, set_stack, set_mark_word, set_trace, set_heap, set_run, clear_region};
+ghost use Rattle.layout.specs.Geometry.{len, from, total, segment_bytes, segment_words, blocks_in, most_blocks, mark_words, bitmap_words, max_segments, region_count, segment_of, mark_bit, mutator_count, mutator_words, IsSize, Units, Sized, no_kib, wrong_size};
+ghost use Rattle.layout.specs.Mem.{mem_of, region, with_region, control_word, mutator_word, segment_record_word, stack_word, bitmap_word, mark_word, trace_word, heap_word, set_control, set_mutator, set_segment, set_stack, set_mark_word, set_trace, set_heap, set_run, clear_region};
 ghost use Rattle.layout.specs.Region as Region;
+ghost use Rattle.layout.specs.Numbers.{small, large};
 
-use classes::{ClassShape, SegmentShape};
+use classes::SegmentShape;
 
 // The size of the heap: its number of segments, and the size of each in KiB, 16 or 32.
-#[derive(Drop)]
-#[derive(Clone, Copy)]
+#[derive(Clone, Copy, PartialEq, Eq, Debug)]
 pub struct Geometry {
     pub segments: usize,
     pub kib: u32,
@@ -58,6 +57,15 @@ const LARGE_MOST_BLOCKS: usize = 4096;
 pub const LARGE_MARK_WORDS: usize = 128;
 
 const LARGE_BITMAP_WORDS: usize = 133;
+
+// The shape of no class.
+const NO_BLOCKS: SegmentShape = SegmentShape {
+    blocks: 0,
+    levels: 0,
+    words0: 0,
+    words1: 0,
+    words2: 0,
+};
 
 // The words of a smallest block, which share a mark bit.
 const SMALLEST_WORDS: usize = 2;
@@ -129,26 +137,53 @@ pub const WORDS_OF_ONE: usize = TOTAL_PER + FIXED;
 
 pub const WORDS_OF_TWO: usize = 2 * TOTAL_PER + FIXED;
 
+// The numbers of a segment of one of the two sizes: its bytes, its words, its most blocks, and of what is before the stacks and of the whole slice
+// so many words for each.
+#[derive(Clone, Copy)]
+struct Numbers {
+    bytes: u32,
+    segment_words: usize,
+    most_blocks: usize,
+    stacks_per: usize,
+    total_per: usize,
+}
+
+const SMALL: Numbers = Numbers {
+    bytes: SEGMENT_BYTES,
+    segment_words: SEGMENT_WORDS,
+    most_blocks: MOST_BLOCKS,
+    stacks_per: STACKS_PER,
+    total_per: TOTAL_PER,
+};
+
+const LARGE: Numbers = Numbers {
+    bytes: LARGE_SEGMENT_BYTES,
+    segment_words: LARGE_SEGMENT_WORDS,
+    most_blocks: LARGE_MOST_BLOCKS,
+    stacks_per: LARGE_STACKS_PER,
+    total_per: LARGE_TOTAL_PER,
+};
+
+// The numbers of a segment's size. A geometry of neither size has those of the smaller.
+fn each_size(g: Geometry) -> Numbers
+    ensures { ((segment_bytes g ≡ 16384) × (result ≡ small)) ⊎ ((segment_bytes g ≡ 32768) × (result ≡ large)) }
+{
+    if g.kib == LARGE_KIB { LARGE } else { SMALL }
+}
+
 // The length of the lent slice.
 pub fn total_words(g: Geometry) -> usize
     requires { g.segments ≤ max_segments }
     ensures { result ≡ total g }
 {
-    if g.kib == LARGE_KIB {
-        g.segments * LARGE_TOTAL_PER + FIXED
-    } else {
-        g.segments * TOTAL_PER + FIXED
-    }
+    g.segments * each_size(g).total_per + FIXED
 }
 
 // Whether a number of KiB is neither of the two sizes.
 pub fn no_kib(kib: u32) -> bool
     ensures { result ≡ no_kib kib }
 {
-    if kib == SMALL_KIB {
-        return false;
-    }
-    kib != LARGE_KIB
+    kib != SMALL_KIB && kib != LARGE_KIB
 }
 
 // Whether the count of segments, their size or the length is wrong. The words of a segment come from the test of the size, so it is tested once.
@@ -156,20 +191,13 @@ pub fn wrong_size(g: Geometry, x: usize) -> bool
     ensures { result ≡ wrong_size g x }
 {
     let n = g.segments;
-    if n < 1 {
+    if n < 1 || MAX_SEGMENTS < n {
         return true;
     }
-    if MAX_SEGMENTS < n {
-        return true;
-    }
-    let each = if g.kib == SMALL_KIB {
-        TOTAL_PER
-    } else {
-        if g.kib == LARGE_KIB {
-            LARGE_TOTAL_PER
-        } else {
-            return true;
-        }
+    let each = match g.kib {
+        SMALL_KIB => TOTAL_PER,
+        LARGE_KIB => LARGE_TOTAL_PER,
+        _ => return true,
     };
     x != n * each + FIXED
 }
@@ -205,38 +233,14 @@ pub fn blocks_in(g: Geometry, class: u32) -> u32
     if 32 <= class {
         return 0;
     }
-    if g.kib == LARGE_KIB {
-        LARGE_SEGMENT_BYTES >> class
-    } else {
-        SEGMENT_BYTES >> class
-    }
+    each_size(g).bytes >> class
 }
 
 // A number below the most blocks of a segment: a place of a segment in use is one, and whatever else a word holds becomes one.
 pub fn block_number(g: Geometry, place: u32) -> u32
     ensures { result ≡ place % most_blocks g }
 {
-    if g.kib == LARGE_KIB {
-        (place as usize % LARGE_MOST_BLOCKS) as u32
-    } else {
-        (place as usize % MOST_BLOCKS) as u32
-    }
-}
-
-// The shape that was found.
-fn found(shape: ClassShape) -> SegmentShape
-    ensures { (x : SegmentShape) → shape ≡ Of x → result ≡ x }
-{
-    match shape {
-        ClassShape::Of(x) => x,
-        ClassShape::NoClass => SegmentShape {
-            blocks: 0,
-            levels: 0,
-            words0: 0,
-            words1: 0,
-            words2: 0,
-        },
-    }
+    (place as usize % each_size(g).most_blocks) as u32
 }
 
 // The shape of a segment of a class.
@@ -245,9 +249,9 @@ pub fn shape_in(g: Geometry, class: u32) -> SegmentShape
     ensures { result ≡ shape_for (blocks_in g class) }
 {
     if g.kib == LARGE_KIB {
-        found(classes::large_shape(class))
+        classes::large_shape(class).unwrap_or(NO_BLOCKS)
     } else {
-        found(classes::segment_shape(class))
+        classes::segment_shape(class).unwrap_or(NO_BLOCKS)
     }
 }
 
@@ -256,11 +260,7 @@ fn segments_from(g: Geometry) -> usize
     requires { g.segments ≤ max_segments }
     ensures { result ≡ from g Region.segments }
 {
-    if g.kib == LARGE_KIB {
-        g.segments * LARGE_SEGMENT_WORDS + HEAP_FROM
-    } else {
-        g.segments * SEGMENT_WORDS + HEAP_FROM
-    }
+    g.segments * each_size(g).segment_words + HEAP_FROM
 }
 
 // Where the stacks begin.
@@ -268,14 +268,11 @@ fn stacks_from(g: Geometry) -> usize
     requires { g.segments ≤ max_segments }
     ensures { result ≡ from g Region.stacks }
 {
-    if g.kib == LARGE_KIB {
-        g.segments * LARGE_STACKS_PER + HEAP_FROM
-    } else {
-        g.segments * STACKS_PER + HEAP_FROM
-    }
+    g.segments * each_size(g).stacks_per + HEAP_FROM
 }
 
 // Where the bitmap of segment s begins, and, for one more, ends.
+// Kept: both numbers by one branch; taken from `each_size` they are chosen one by one, twice the instructions (13 for 7).
 pub fn bitmap_from(g: Geometry, s: usize) -> usize
     requires { (g.segments ≤ max_segments) × (s ≤ max_segments) }
     ensures { result ≡ from g Region.bitmaps + s * bitmap_words g }
@@ -288,6 +285,7 @@ pub fn bitmap_from(g: Geometry, s: usize) -> usize
 }
 
 // Where the marks of segment s begin.
+// Kept: both numbers by one branch; taken from `each_size` they are chosen one by one, twice the instructions (13 for 7).
 pub fn marks_from(g: Geometry, s: usize) -> usize
     requires { (g.segments ≤ max_segments) × (s ≤ max_segments) }
     ensures { result ≡ from g Region.marks + s * mark_words g }
@@ -319,21 +317,13 @@ fn trace_from(g: Geometry) -> usize
 pub fn segment_of(g: Geometry, at: usize) -> usize
     ensures { result ≡ segment_of g at }
 {
-    if g.kib == LARGE_KIB {
-        at / LARGE_SEGMENT_WORDS
-    } else {
-        at / SEGMENT_WORDS
-    }
+    at / each_size(g).segment_words
 }
 
 pub fn offset_of(g: Geometry, at: usize) -> usize
     ensures { result ≡ at % segment_words g }
 {
-    if g.kib == LARGE_KIB {
-        at % LARGE_SEGMENT_WORDS
-    } else {
-        at % SEGMENT_WORDS
-    }
+    at % each_size(g).segment_words
 }
 
 // The word of the heap at a place in segment s.
@@ -351,19 +341,159 @@ pub fn mark_bit(at: usize) -> usize
     at / SMALLEST_WORDS
 }
 
+// A region of the lent slice: which one it is, and where it begins.
+trait Part {
+    ghost region: { ℕ };
+
+    fn begins(g: Geometry) -> usize
+        requires { (g.segments ≤ max_segments) × (IsSize g.kib) }
+        ensures { result ≡ from g region };
+
+    ghost is_one: { region < region_count };
+}
+
+struct ControlPart;
+
+impl Part for ControlPart {
+    ghost region = { Region.control };
+
+    ghost is_one = { Prim.search rules };
+
+    fn begins(_g: Geometry) -> usize {
+        0
+    }
+}
+
+struct MutatorsPart;
+
+impl Part for MutatorsPart {
+    ghost region = { Region.mutators };
+
+    ghost is_one = { Prim.search rules };
+
+    fn begins(_g: Geometry) -> usize {
+        CONTROL_WORDS
+    }
+}
+
+struct HeapPart;
+
+impl Part for HeapPart {
+    ghost region = { Region.heap };
+
+    ghost is_one = { Prim.search rules };
+
+    fn begins(_g: Geometry) -> usize {
+        HEAP_FROM
+    }
+}
+
+struct SegmentsPart;
+
+impl Part for SegmentsPart {
+    ghost region = { Region.segments };
+
+    ghost is_one = { Prim.search rules };
+
+    fn begins(g: Geometry) -> usize {
+        segments_from(g)
+    }
+}
+
+struct StacksPart;
+
+impl Part for StacksPart {
+    ghost region = { Region.stacks };
+
+    ghost is_one = { Prim.search rules };
+
+    fn begins(g: Geometry) -> usize {
+        stacks_from(g)
+    }
+}
+
+struct BitmapsPart;
+
+impl Part for BitmapsPart {
+    ghost region = { Region.bitmaps };
+
+    ghost is_one = { Prim.search rules };
+
+    fn begins(g: Geometry) -> usize {
+        bitmap_from(g, 0)
+    }
+}
+
+struct MarksPart;
+
+impl Part for MarksPart {
+    ghost region = { Region.marks };
+
+    ghost is_one = { Prim.search rules };
+
+    fn begins(g: Geometry) -> usize {
+        first_marks(g)
+    }
+}
+
+struct TracePart;
+
+impl Part for TracePart {
+    ghost region = { Region.trace };
+
+    ghost is_one = { Prim.search rules };
+
+    fn begins(g: Geometry) -> usize {
+        trace_from(g)
+    }
+}
+
+// Word i of a region.
+fn read<P: Part>(g: Geometry, mem: &[u32], i: usize) -> u32
+    requires { (Sized g (length mem.now)) × (i < len g P.region) }
+    ensures { result ≡ get_or (region (mem_of g mem.now) P.region) i 0 }
+{
+    mem[P::begins(g) + i]
+}
+
+fn write<P: Part>(g: Geometry, mem: &mut [u32], i: usize, v: u32)
+    requires { (Sized g (length mem.old)) × (i < len g P.region) }
+    ensures { mem_of g mem.new ≡ with_region (mem_of g mem.old) P.region (set (region (mem_of g mem.old) P.region) i v) }
+{
+    mem[P::begins(g) + i] = v;
+}
+
+// n words of a region cleared, from word i on.
+fn clear_run<P: Part>(g: Geometry, mem: &mut [u32], i: usize, n: usize)
+    requires { (Sized g (length mem.old)) × (i + n ≤ len g P.region) }
+    ensures { mem_of g mem.new ≡ set_run (mem_of g mem.old) P.region i (replicate n 0) }
+{
+    let a = P::begins(g) + i;
+    mem[a..a + n].fill(0);
+}
+
+// A region cleared, which ends where the next begins.
+fn clear<P: Part, N: Part>(g: Geometry, mem: &mut [u32])
+    requires { (Sized g (length mem.old)) × (N.region ≡ suc P.region) }
+    ensures { mem_of g mem.new ≡ clear_region g (mem_of g mem.old) P.region }
+{
+    mem[P::begins(g)..N::begins(g)].fill(0);
+}
+
 // Word i of the control.
 pub fn control(g: Geometry, mem: &[u32], i: usize) -> u32
     requires { (Sized g (length mem.now)) × (i < len g Region.control) }
     ensures { result ≡ control_word (mem_of g mem.now) i }
 {
-    mem[i]
+    read::<ControlPart>(g, mem, i)
 }
 
+#[tactic(auto, unfolding(crate::specs::Mem::set_control))]
 pub fn set_control(g: Geometry, mem: &mut [u32], i: usize, v: u32)
     requires { (Sized g (length mem.old)) × (i < len g Region.control) }
     ensures { mem_of g mem.new ≡ set_control (mem_of g mem.old) i v }
 {
-    mem[i] = v;
+    write::<ControlPart>(g, mem, i, v);
 }
 
 // Word i of the mutators' entries.
@@ -371,14 +501,15 @@ pub fn mutator(g: Geometry, mem: &[u32], i: usize) -> u32
     requires { (Sized g (length mem.now)) × (i < len g Region.mutators) }
     ensures { result ≡ mutator_word (mem_of g mem.now) i }
 {
-    mem[CONTROL_WORDS + i]
+    read::<MutatorsPart>(g, mem, i)
 }
 
+#[tactic(auto, unfolding(crate::specs::Mem::set_mutator))]
 pub fn set_mutator(g: Geometry, mem: &mut [u32], i: usize, v: u32)
     requires { (Sized g (length mem.old)) × (i < len g Region.mutators) }
     ensures { mem_of g mem.new ≡ set_mutator (mem_of g mem.old) i v }
 {
-    mem[CONTROL_WORDS + i] = v;
+    write::<MutatorsPart>(g, mem, i, v);
 }
 
 // Word i of the heap.
@@ -386,14 +517,15 @@ pub fn word(g: Geometry, mem: &[u32], i: usize) -> u32
     requires { (Sized g (length mem.now)) × (i < len g Region.heap) }
     ensures { result ≡ heap_word (mem_of g mem.now) i }
 {
-    mem[HEAP_FROM + i]
+    read::<HeapPart>(g, mem, i)
 }
 
+#[tactic(auto, unfolding(crate::specs::Mem::set_heap))]
 pub fn set_word(g: Geometry, mem: &mut [u32], i: usize, v: u32)
     requires { (Sized g (length mem.old)) × (i < len g Region.heap) }
     ensures { mem_of g mem.new ≡ set_heap (mem_of g mem.old) i v }
 {
-    mem[HEAP_FROM + i] = v;
+    write::<HeapPart>(g, mem, i, v);
 }
 
 // Word i of the segment records.
@@ -401,14 +533,15 @@ pub fn segment(g: Geometry, mem: &[u32], i: usize) -> u32
     requires { (Sized g (length mem.now)) × (i < len g Region.segments) }
     ensures { result ≡ segment_record_word (mem_of g mem.now) i }
 {
-    mem[segments_from(g) + i]
+    read::<SegmentsPart>(g, mem, i)
 }
 
+#[tactic(auto, unfolding(crate::specs::Mem::set_segment))]
 pub fn set_segment(g: Geometry, mem: &mut [u32], i: usize, v: u32)
     requires { (Sized g (length mem.old)) × (i < len g Region.segments) }
     ensures { mem_of g mem.new ≡ set_segment (mem_of g mem.old) i v }
 {
-    mem[segments_from(g) + i] = v;
+    write::<SegmentsPart>(g, mem, i, v);
 }
 
 // Word i of the stacks.
@@ -416,14 +549,15 @@ pub fn stack(g: Geometry, mem: &[u32], i: usize) -> u32
     requires { (Sized g (length mem.now)) × (i < len g Region.stacks) }
     ensures { result ≡ stack_word (mem_of g mem.now) i }
 {
-    mem[stacks_from(g) + i]
+    read::<StacksPart>(g, mem, i)
 }
 
+#[tactic(auto, unfolding(crate::specs::Mem::set_stack))]
 pub fn set_stack(g: Geometry, mem: &mut [u32], i: usize, v: u32)
     requires { (Sized g (length mem.old)) × (i < len g Region.stacks) }
     ensures { mem_of g mem.new ≡ set_stack (mem_of g mem.old) i v }
 {
-    mem[stacks_from(g) + i] = v;
+    write::<StacksPart>(g, mem, i, v);
 }
 
 // Word i of the bitmaps.
@@ -431,7 +565,7 @@ pub fn bitmap(g: Geometry, mem: &[u32], i: usize) -> u32
     requires { (Sized g (length mem.now)) × (i < len g Region.bitmaps) }
     ensures { result ≡ bitmap_word (mem_of g mem.now) i }
 {
-    mem[bitmap_from(g, 0) + i]
+    read::<BitmapsPart>(g, mem, i)
 }
 
 // Word i of the marks.
@@ -439,14 +573,15 @@ pub fn mark(g: Geometry, mem: &[u32], i: usize) -> u32
     requires { (Sized g (length mem.now)) × (i < len g Region.marks) }
     ensures { result ≡ mark_word (mem_of g mem.now) i }
 {
-    mem[first_marks(g) + i]
+    read::<MarksPart>(g, mem, i)
 }
 
+#[tactic(auto, unfolding(crate::specs::Mem::set_mark_word))]
 pub fn set_mark(g: Geometry, mem: &mut [u32], i: usize, v: u32)
     requires { (Sized g (length mem.old)) × (i < len g Region.marks) }
     ensures { mem_of g mem.new ≡ set_mark_word (mem_of g mem.old) i v }
 {
-    mem[first_marks(g) + i] = v;
+    write::<MarksPart>(g, mem, i, v);
 }
 
 // Word i of the trace stack.
@@ -454,67 +589,51 @@ pub fn trace(g: Geometry, mem: &[u32], i: usize) -> u32
     requires { (Sized g (length mem.now)) × (i < len g Region.trace) }
     ensures { result ≡ trace_word (mem_of g mem.now) i }
 {
-    mem[trace_from(g) + i]
+    read::<TracePart>(g, mem, i)
 }
 
+#[tactic(auto, unfolding(crate::specs::Mem::set_trace))]
 pub fn set_trace(g: Geometry, mem: &mut [u32], i: usize, v: u32)
     requires { (Sized g (length mem.old)) × (i < len g Region.trace) }
     ensures { mem_of g mem.new ≡ set_trace (mem_of g mem.old) i v }
 {
-    mem[trace_from(g) + i] = v;
+    write::<TracePart>(g, mem, i, v);
 }
 
-// All words 0.
-fn zero(s: &mut [u32])
-    ensures { s.new ≡ replicate (length s.old) 0 }
-{
-    let mut i = 0;
-    while i < s.len() {
-        s[i] = 0;
-        i += 1;
-    }
-}
-
-// A region cleared, lent whole to a leaf.
+// A region cleared.
 pub fn clear_control(g: Geometry, mem: &mut [u32])
     requires { Sized g (length mem.old) }
     ensures { mem_of g mem.new ≡ clear_region g (mem_of g mem.old) Region.control }
 {
-    zero(&mut mem[0..CONTROL_WORDS]);
+    clear::<ControlPart, MutatorsPart>(g, mem);
 }
 
 pub fn clear_mutators(g: Geometry, mem: &mut [u32])
     requires { Sized g (length mem.old) }
     ensures { mem_of g mem.new ≡ clear_region g (mem_of g mem.old) Region.mutators }
 {
-    zero(&mut mem[CONTROL_WORDS..HEAP_FROM]);
+    clear::<MutatorsPart, HeapPart>(g, mem);
 }
 
 pub fn clear_segments(g: Geometry, mem: &mut [u32])
     requires { Sized g (length mem.old) }
     ensures { mem_of g mem.new ≡ clear_region g (mem_of g mem.old) Region.segments }
 {
-    let a = segments_from(g);
-    let end = stacks_from(g);
-    zero(&mut mem[a..end]);
+    clear::<SegmentsPart, StacksPart>(g, mem);
 }
 
 pub fn clear_stacks(g: Geometry, mem: &mut [u32])
     requires { Sized g (length mem.old) }
     ensures { mem_of g mem.new ≡ clear_region g (mem_of g mem.old) Region.stacks }
 {
-    let a = stacks_from(g);
-    let end = bitmap_from(g, 0);
-    zero(&mut mem[a..end]);
+    clear::<StacksPart, BitmapsPart>(g, mem);
 }
 
 pub fn clear_marks(g: Geometry, mem: &mut [u32])
     requires { Sized g (length mem.old) }
     ensures { mem_of g mem.new ≡ clear_region g (mem_of g mem.old) Region.marks }
 {
-    let a = first_marks(g);
-    let end = trace_from(g);
-    zero(&mut mem[a..end]);
+    clear::<MarksPart, TracePart>(g, mem);
 }
 
 // The entry of mutator k cleared.
@@ -522,9 +641,7 @@ pub fn clear_entry(g: Geometry, mem: &mut [u32], k: usize)
     requires { (Sized g (length mem.old)) × (k < mutator_count) }
     ensures { mem_of g mem.new ≡ set_run (mem_of g mem.old) Region.mutators (k * mutator_words) (replicate mutator_words 0) }
 {
-    let a = CONTROL_WORDS + k * MUTATOR_WORDS;
-    let end = a + MUTATOR_WORDS;
-    zero(&mut mem[a..end]);
+    clear_run::<MutatorsPart>(g, mem, k * MUTATOR_WORDS, MUTATOR_WORDS);
 }
 
 // n words of the heap cleared, from word i on.
@@ -532,7 +649,5 @@ pub fn clear_heap(g: Geometry, mem: &mut [u32], i: usize, n: usize)
     requires { (Sized g (length mem.old)) × (i + n ≤ len g Region.heap) }
     ensures { mem_of g mem.new ≡ set_run (mem_of g mem.old) Region.heap i (replicate n 0) }
 {
-    let a = HEAP_FROM + i;
-    let end = a + n;
-    zero(&mut mem[a..end]);
+    clear_run::<HeapPart>(g, mem, i, n);
 }

@@ -1,3 +1,2 @@
 -- Laws of the two looks, one return at a time.
 pub mod Looking
-pub mod Copying

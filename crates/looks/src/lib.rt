@@ -11,21 +11,19 @@ ghost use Rattle.looks.specs.Plausible.{Plausible};
 ghost use Rattle.layout.specs.Region as Region;
 
 use layout::Geometry;
-use model::{Answer, Phase, PhaseLook, Segment};
+use model::{Answer, Phase, Refusal, Segment};
 
 // The phase's number.
-pub fn phase(g: Geometry, mem: &[u32]) -> PhaseLook
+pub fn phase(g: Geometry, mem: &[u32]) -> Result<u32, Refusal>
     ensures { PhasePromise g mem.now result }
 {
-    if layout::wrong_size(g, mem.len()) {
-        return PhaseLook::Refused(1);
-    }
+    model::require_size(g, mem)?;
     let phase = control::phase(g, mem);
     let number = phase.number;
     if Phase::SWEEP < number {
-        return PhaseLook::Refused(13);
+        return Err(Refusal::Torn);
     }
-    PhaseLook::Phase(number)
+    Ok(number)
 }
 
 // The length of the output of the look at the states: the words of the segment records.
@@ -37,34 +35,26 @@ pub fn states_words(g: Geometry) -> usize
 }
 
 // Whether the record of segment s can be one of consistent memory.
+#[tactic(auto, using(crate::proofs::Looking::by_class))]
 pub fn record_ok(g: Geometry, mem: &[u32], s: usize) -> bool
     requires { (Sized g (length mem.now)) × (s < g.segments) }
     ensures { Decides result (Plausible (mem_of g mem.now) s) }
 {
     let tag = segments::tag(g, mem, s);
-    if Segment::TAG_CONDEMNED < tag {
-        return false;
-    }
-    if tag == Segment::TAG_FREE {
-        return true;
-    }
-    let class = segments::class(g, mem, s);
-    classes::is_class(class)
+    tag <= Segment::TAG_CONDEMNED
+        && (tag == Segment::TAG_FREE || classes::is_class(segments::class(g, mem, s)))
 }
 
 // Whether the record of every segment can be one of consistent memory.
+// Kept: a loop. `(0..g.segments).all(..)` leaves its goal open: what is known of the lent slice's length stops the search before it comes to the records.
 fn records_ok(g: Geometry, mem: &[u32]) -> bool
     requires { Sized g (length mem.now) }
     ensures { Decides result ((s : ℕ) → s < g.segments → Plausible (mem_of g mem.now) s) }
 {
-    let n = g.segments;
-    let mut s = 0;
-    while s < n {
-        let ok = record_ok(g, mem, s);
-        if !ok {
+    for s in 0..g.segments {
+        if !record_ok(g, mem, s) {
             return false;
         }
-        s += 1;
     }
     true
 }
@@ -74,27 +64,22 @@ fn copy(g: Geometry, mem: &[u32], output: &mut [u32])
     requires { (Sized g (length mem.now)) × (length output.old ≡ len g Region.segments) }
     ensures { output.new ≡ (mem_of g mem.now).segments }
 {
-    let mut i = 0;
-    while i < output.len() {
-        output[i] = layout::segment(g, mem, i);
-        i += 1;
+    for (i, word) in output.iter_mut().enumerate() {
+        *word = layout::segment(g, mem, i);
     }
 }
 
 // The states of the segments: the words of their records, into an output of that length.
-pub fn states(g: Geometry, mem: &[u32], output: &mut [u32]) -> Answer
+pub fn states(g: Geometry, mem: &[u32], output: &mut [u32]) -> Result<Answer, Refusal>
     ensures { StatesPromise g mem.now output.old result output.new }
 {
-    if layout::wrong_size(g, mem.len()) {
-        return Answer::Refused(1);
-    }
+    model::require_size(g, mem)?;
     if output.len() != states_words(g) {
-        return Answer::Refused(1);
+        return Err(Refusal::Size);
     }
-    let ok = records_ok(g, mem);
-    if !ok {
-        return Answer::Refused(13);
+    if !records_ok(g, mem) {
+        return Err(Refusal::Torn);
     }
     copy(g, mem, output);
-    Answer::Ok
+    Ok(Answer::Done)
 }

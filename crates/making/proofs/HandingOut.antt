@@ -12,11 +12,9 @@ use Rattle.words.specs.Bits.{bit_at}
 use Rattle.words.proofs.Trees.{tree_level}
 use Rattle.classes.specs.Class.{IsClass}
 use Rattle.classes.specs.declared.RecordShape.{RecordShape}
-use Rattle.bitmap_search.specs.declared.Found.{Found}
-use Rattle.bitmap_search.specs.declared.Found.TheVariants.{Block}
 use Rattle.bitmap_search.specs.declared.Two.{Two}
-use Rattle.bitmap_search.specs.declared.Near.{Near}
-use Rattle.bitmap_search.specs.Scan.{next_free}
+use Rattle.std.specs.Prelude.{Option, Some, Result, Ok, Err}
+use Rattle.bitmap_search.specs.Scan.{next_free, Found}
 use Rattle.bitmap_search.specs.Twice.{TwoBelow, TwoPromise}
 use Rattle.bitmap_search.proofs.Scan.{IsNext, next_is}
 use Rattle.bitmap_search.proofs.Twice.{Says, two_says, never_torn_lem}
@@ -26,7 +24,9 @@ use Rattle.layout.specs.Mem.{Mem, control_word, Sizes}
 use Rattle.theory.specs.Phases.{black}
 use Rattle.theory.specs.Calls.{a_ok}
 use Rattle.model.specs.declared.Answer.{Answer}
-use Rattle.model.specs.declared.Answer.TheVariants.{Ok, Refused}
+use Rattle.model.specs.declared.Answer.TheVariants.{Done}
+use Rattle.model.specs.declared.Refusal.{Refusal}
+use Rattle.model.specs.declared.Refusal.TheVariants.{Torn}
 use Rattle.model.specs.declared.SegmentState.TheVariants.{Full}
 use Rattle.model.specs.Answers.{answer_of}
 use Rattle.model.specs.PhaseNumbers.{phase_of}
@@ -39,21 +39,17 @@ use Rattle.model_laws.proofs.Words.{Recorded, count_state}
 use Rattle.segments.proofs.Records.{place_alone}
 use Rattle.bitmaps.specs.Given.{NearIn}
 use Rattle.marks.specs.Bits.{with_mark}
-use Rattle.making.specs.declared.Taken.{Taken}
-use Rattle.making.specs.declared.Handed.{Handed}
 use Rattle.making.specs.Taking.{segment_in, taken_from, Takes}
 use Rattle.making.specs.HandingOut.{SegmentReady, Advances, filled_as, HandsOut, Makes}
 use Rattle.making.proofs.Readying.{ready}
-use Rattle.making.specs.declared.Taken.TheVariants as taken
-use Rattle.making.specs.declared.Handed.TheVariants as handed
 use Rattle.bitmap_search.specs.declared.Two.TheVariants as two
-use Rattle.bitmap_search.specs.declared.Near.TheVariants as near
+use Rattle.std.specs.declared.result.Result.TheVariants as found
 use Rattle.model.specs.Tag as Tag
 
 pub more_below : {a n p b : ℕ} {ws : List ℕ} {r : Two} → TwoPromise a ws n p r → r ≡ two.More b → b < n
 more_below {n = n} q e = subst (TwoBelow n) e q.within
 
-pub near_at : (g : Geometry) (m : Mem) (s p b : ℕ) (r : Near) → NearIn g m s p r → r ≡ near.More b → NearIn g m s p (near.More b)
+pub near_at : (g : Geometry) (m : Mem) (s p b : ℕ) (r : Option ℕ) → NearIn g m s p r → r ≡ Some b → NearIn g m s p (Some b)
 near_at g m s p b r q e = subst (NearIn g m s p) e q
 
 -- the words of its record, where one block more is counted
@@ -66,13 +62,9 @@ held_record g m k c s y =
 counted_is : (m m₀ : Mem) (s h : ℕ) → h ≡ handed_count m s → m₀ ≡ set_handed_count m s (h + 1) → m₀ ≡ counted_out m s
 counted_is m m₀ s h e f = f ∙ ap (λ x. set_handed_count m s (x + 1)) e
 
--- none is handed out
-no_block : (g : Geometry) (m : Mem) (k c s : ℕ) → (SegmentReady g m k c s → ⊥) → Advances g m k c s handed.Torn m
-no_block g m k c s f = record { below = λ d u. absurd (let z : ◌≡◌ {A = ℕ} 0 1 = cc in omega arith); exact = λ y. absurd (f y) }
-
 -- its count h can grow no more
-pub advanced_most : (g : Geometry) (m : Mem) (k c s h : ℕ) → h ≡ handed_count m s → h ≡ 4294967295 → Advances g m k c s handed.Torn m
-advanced_most g m k c s h e f = no_block g m k c s (λ y. let l = y.counted in omega arith)
+pub advanced_most : (g : Geometry) (m : Mem) (k c s h : ℕ) → h ≡ handed_count m s → h ≡ 4294967295 → Advances g m k c s (Err Torn) m
+advanced_most g m k c s h e f = (refl, λ y. let l = y.counted in omega arith)
 
 -- ---- the block: r is what the search answers from the place p
 
@@ -83,43 +75,42 @@ module _ (g : Geometry) (m : Mem) (k c s : ℕ) (p : ℕ) (ep : p ≡ place m s)
   scans : SegmentReady g m k c s → (x : Two) → r ≡ x → Says scan scan p x
   scans y x e = two_says scan scan p x (sym e ∙ q.scan y.tree)
 
-  one_block : (b : ℕ) (after : Mem) → b < blocks_in g c → (SegmentReady g m k c s → (free g m s c (place m s) ≡ Block b) × (after ≡ advanced g (counted_out m s) k c s (b + 1) (free g m s c (b + 1))))
-      → Advances g m k c s (handed.Block b) after
-  one_block b after l f = record {
-    below = λ d u. let z : b ≡ d = cc in omega arith;
-    exact = λ y. (b, refl, (f y).0, (f y).1);
-  }
-
   module _ (h : ℕ) (eh : h ≡ handed_count m s) (m₀ : Mem) (e₀ : m₀ ≡ set_handed_count m s (h + 1)) where
     counted : m₀ ≡ counted_out m s
     counted = counted_is m m₀ s h eh e₀
 
-    pub advanced_more : (b : ℕ) → r ≡ two.More b → (m₁ : Mem) → m₁ ≡ set_place m₀ s (b + 1) → Advances g m k c s (handed.Block b) m₁
-    advanced_more b e m₁ f = one_block b m₁ (more_below q e)
-        (λ y.
-        let v = scans y (two.More b) e in (
-          ap scan (sym ep) ∙ v.0,
-          f ∙ ap (λ z. set_place z s (b + 1)) counted ∙ sym (place_alone g (counted_out m s) s c (place m s) (b + 1) k (held_record g m k c s y))
-              ∙ ap (advanced g (counted_out m s) k c s (b + 1)) (sym v.1.1),
-        ))
+    pub advanced_more : (b : ℕ) → r ≡ two.More b → (m₁ : Mem) → m₁ ≡ set_place m₀ s (b + 1) → Advances g m k c s (Ok b) m₁
+    advanced_more b e m₁ f = (
+      more_below q e,
+      λ y.
+          let v = scans y (two.More b) e in (
+            ap scan (sym ep) ∙ v.0,
+            f ∙ ap (λ z. set_place z s (b + 1)) counted ∙ sym (place_alone g (counted_out m s) s c (place m s) (b + 1) k (held_record g m k c s y))
+                ∙ ap (advanced g (counted_out m s) k c s (b + 1)) (sym v.1.1),
+          ),
+    )
 
-    pub advanced_last : (b : ℕ) → r ≡ two.Last b → (m₁ m₂ : Mem) → m₁ ≡ set_segment_state g m₀ s (Full c) → m₂ ≡ set_holding m₁ k c 0 → Advances g m k c s (handed.Block b) m₂
-    advanced_last b e m₁ m₂ f h = one_block b m₂ (subst (TwoBelow (blocks_in g c)) e q.within)
-        (λ y.
-        let v = scans y (two.Last b) e in (
-          ap scan (sym ep) ∙ v.0,
-          h ∙ ap (λ z. set_holding z k c 0) (f ∙ ap (λ z. set_segment_state g z s (Full c)) counted) ∙ ap (advanced g (counted_out m s) k c s (b + 1)) (sym v.1),
-        ))
+    pub advanced_last : (b : ℕ) → r ≡ two.Last b → (m₁ m₂ : Mem) → m₁ ≡ set_segment_state g m₀ s (Full c) → m₂ ≡ set_holding m₁ k c 0 → Advances g m k c s (Ok b) m₂
+    advanced_last b e m₁ m₂ f h = (
+      subst (TwoBelow (blocks_in g c)) e q.within,
+      λ y.
+          let v = scans y (two.Last b) e in (
+            ap scan (sym ep) ∙ v.0,
+            h ∙ ap (λ z. set_holding z k c 0) (f ∙ ap (λ z. set_segment_state g z s (Full c)) counted) ∙ ap (advanced g (counted_out m s) k c s (b + 1)) (sym v.1),
+          ),
+    )
 
-  pub advanced_none : r ≡ two.Nothing → Advances g m k c s handed.Torn m
-  advanced_none e = no_block g m k c s
-      (λ y.
-      let n = subst (IsNext (bit_at (bitmap g m s)) (blocks_in g c) p) (scans y two.Nothing e) (next_is (bit_at (bitmap g m s)) (blocks_in g c) p) in
-      let b = y.remains in
-      n b.0 (subst (λ z. z ≤ b.0) (sym ep) b.1) b.2 b.3)
+  pub advanced_none : r ≡ two.Nothing → Advances g m k c s (Err Torn) m
+  advanced_none e = (
+    refl,
+    λ y.
+        let n = subst (IsNext (bit_at (bitmap g m s)) (blocks_in g c) p) (scans y two.Nothing e) (next_is (bit_at (bitmap g m s)) (blocks_in g c) p) in
+        let b = y.remains in
+        n b.0 (subst (λ z. z ≤ b.0) (sym ep) b.1) b.2 b.3,
+  )
 
-  pub advanced_torn : r ≡ two.Torn → Advances g m k c s handed.Torn m
-  advanced_torn e = no_block g m k c s (λ y. never_torn_lem (bit_at (bitmap g m s)) (blocks_in g c) p (sym e ∙ q.scan y.tree))
+  pub advanced_torn : r ≡ two.Torn → Advances g m k c s (Err Torn) m
+  advanced_torn e = (refl, λ y. never_torn_lem (bit_at (bitmap g m s)) (blocks_in g c) p (sym e ∙ q.scan y.tree))
 
 -- ---- born marked: n is the phase's number, a the acknowledgements, t whether that is black
 
@@ -142,25 +133,18 @@ module _ (g : Geometry) (m : Mem) (k d c s b at : ℕ) (e : at ≡ header_of g s
 
 -- ---- out of segment s
 
-module _ (g : Geometry) (m : Mem) (z : Sizes g m) (k d c s : ℕ) (l : s < g.segments) (i : IsClass c) (shape : RecordShape) (r : Handed) (m₁ : Mem) (q : Advances g m k c s r m₁) where
-  pub none_out : r ≡ handed.Torn → HandsOut g m k d c s shape (Refused 13) m₁
-  none_out e = record { either = inr refl; exact = λ y. absurd (let b = q.exact y in let w : ◌≡◌ {A = ℕ} 0 1 = cc in omega arith) }
+module _ (g : Geometry) (m : Mem) (k d c s : ℕ) (shape : RecordShape) (m₁ : Mem) where
+  pub none_out : (w : Refusal) → Advances g m k c s (Err w) m₁ → HandsOut g m k d c s shape (Err w) m₁
+  none_out w q = record { either = inr (ap Err q.0); exact = λ y. absurd (q.1 y) }
 
-  pub handed_out_lem : (b : ℕ) → r ≡ handed.Block b → (m₂ : Mem) → m₂ ≡ filled_as g m₁ k d c s b shape → HandsOut g m k d c s shape Ok m₂
+  pub handed_out_lem : (b : ℕ) → Advances g m k c s (Ok b) m₁ → (m₂ : Mem) → m₂ ≡ filled_as g m₁ k d c s b shape → HandsOut g m k d c s shape (Ok Done) m₂
   unfolding handed_out
-  handed_out_lem b e m₂ f = record {
-    either = inl refl;
-    exact = λ y.
-        let x = q.exact y in
-        let w : b ≡ x.0 = cc in
-        let h : m₁ ≡ advanced g (counted_out m s) k c s (b + 1) (free g m s c (b + 1)) = x.3 ∙ ap (λ v. advanced g (counted_out m s) k c s (v + 1) (free g m s c (v + 1))) (sym w) in
-        (b, refl, x.2 ∙ ap Block (sym w), f ∙ rw h refl);
-  }
+  handed_out_lem b q m₂ f = record { either = inl refl; exact = λ y. let x = q.1 y in (b, refl, x.0, f ∙ rw x.1 refl) }
 
 -- ---- out of segment s where the place's own word tells: p is the place, b the block, h the count
 
-module _ (g : Geometry) (m : Mem) (k d c s : ℕ) (i : IsClass c) (shape : RecordShape) (p : ℕ) (ep : p ≡ place m s) (b : ℕ) (q : NearIn g m s p (near.More b)) (h : ℕ) (eh : h ≡ handed_count m s) where
-  pub near_out : (m₀ m₁ m₂ : Mem) → m₀ ≡ set_handed_count m s (h + 1) → m₁ ≡ set_place m₀ s (b + 1) → m₂ ≡ filled_as g m₁ k d c s (b % blocks_in g c) shape → HandsOut g m k d c s shape Ok m₂
+module _ (g : Geometry) (m : Mem) (k d c s : ℕ) (i : IsClass c) (shape : RecordShape) (p : ℕ) (ep : p ≡ place m s) (b : ℕ) (q : NearIn g m s p (Some b)) (h : ℕ) (eh : h ≡ handed_count m s) where
+  pub near_out : (m₀ m₁ m₂ : Mem) → m₀ ≡ set_handed_count m s (h + 1) → m₁ ≡ set_place m₀ s (b + 1) → m₂ ≡ filled_as g m₁ k d c s (b % blocks_in g c) shape → HandsOut g m k d c s shape (Ok Done) m₂
   unfolding handed_out
   near_out m₀ m₁ m₂ e₀ f e = record {
     either = inl refl;
@@ -188,20 +172,17 @@ module _ (g : Geometry) (m : Mem) (k d c : ℕ) (shape : RecordShape) where
   by_segment (unused q) s e = rw (some-injective q s e) refl
   by_segment no_room s e = absurd (none-ne-some s e)
 
-  module _ (r : Taken) (m₁ : Mem) (q : Takes g m k c r m₁) where
-    pub make_full : r ≡ taken.NoRoom → Makes g m k d c shape (Refused 10) m₁
+  module _ (m₁ : Mem) where
+    pub make_none : (w : Refusal) → Takes g m k c (Err w) m₁ → Makes g m k d c shape (Err w) m₁
     unfolding made
-    make_full e = let y = q.room e in record { either = inr (inl refl); exact = λ x. rw y.0 (refl, y.1) }
+    make_none w (inl y) = record { either = inr (inl (ap Err y.0)); exact = λ x. rw (y.0, y.1) (refl, y.2) }
+    make_none w (inr y) = record { either = inr (inr (ap Err y.0)); exact = λ x. absurd (y.1 x) }
 
-    pub make_torn : r ≡ taken.Torn → Makes g m k d c shape (Refused 13) m₁
-    make_torn e = record { either = inr (inr refl); exact = λ x. absurd (q.torn e x) }
-
-    pub make_done : Sizes g m → k < mutator_count → IsClass c → (s : ℕ) → r ≡ taken.Segment s → (a : Answer) (m₂ : Mem) → HandsOut g m₁ k d c s shape a m₂ → Makes g m k d c shape a m₂
+    pub make_done : Sizes g m → k < mutator_count → IsClass c → (s : ℕ) → Takes g m k c (Ok s) m₁ → (a : Result Answer Refusal) (m₂ : Mem) → HandsOut g m₁ k d c s shape a m₂ → Makes g m k d c shape a m₂
     unfolding made
-    make_done z few i s e a m₂ h = record {
+    make_done z few i s y a m₂ h = record {
       either = ⊎_elim inl (λ v. inr (inr v)) h.either;
       exact = λ x.
-          let y = q.segment s e in
           let o = h.exact (subst (λ v. SegmentReady g v k c s) (sym y.2) (ready g m z x k c few i s y.1)) in
           let w : from_source g m k d c shape (source_of g m k c) ≡ (a_ok, handed_out g m₁ k d c s o.0 shape) =
           by_segment (source_of g m k c) s y.1 ∙ ap (λ v. in_segment g m v k d c s shape) (sym y.2) ∙ ap (λ v. in_block g m m₁ v k d c s shape) o.2 in

@@ -6,7 +6,7 @@ use native.Mathlib.Omega.{arith}
 use Rattle.classes.specs.Class.{IsClass, block_words}
 use Rattle.classes.specs.Record.{field_count_of, class_of_record}
 use Rattle.classes.specs.declared.RecordShape.{RecordShape}
-use Rattle.classes.specs.declared.SizeClass.TheVariants.{Class}
+use Rattle.std.specs.Prelude.{Some}
 use Rattle.classes.proofs.Filling.{two_words}
 use Rattle.classes.proofs.Smallest.{class_found, class_holds}
 use Rattle.layout.specs.declared.Geometry.{Geometry}
@@ -16,7 +16,7 @@ use Rattle.model.specs.Records.{header_of}
 use Rattle.model_laws.proofs.Blocks.{blocks_words, block_within, blocks_most, blocks_some, header_inside}
 use Rattle.layout.specs.Region as Region
 
-pub of_class_lem : (shape : RecordShape) (c : ℕ) → class_of_record shape ≡ Class c → IsClass c
+pub of_class_lem : (shape : RecordShape) (c : ℕ) → class_of_record shape ≡ Some c → IsClass c
 of_class_lem shape c e = class_found (field_count_of shape) c e
 
 pub block_small : (g : Geometry) (c b : ℕ) → IsClass c → b < blocks_in g c → (b < most_blocks g) × (b < 2 ^ 12)
@@ -56,7 +56,7 @@ module _ (g : Geometry) (c b w : ℕ) (i : IsClass c) (ew : w ≡ block_words c)
 
 -- ---- the record of a shape of class c at the word of block b, one of the segment's
 
-pub record_in : (g : Geometry) (c s b : ℕ) (shape : RecordShape) → class_of_record shape ≡ Class c → b < blocks_in g c → s < g.segments → (at : ℕ) → at ≡ header_of g s c b
+pub record_in : (g : Geometry) (c s b : ℕ) (shape : RecordShape) → class_of_record shape ≡ Some c → b < blocks_in g c → s < g.segments → (at : ℕ) → at ≡ header_of g s c b
     → at + 1 + field_count_of shape ≤ len g Region.heap
 record_in g c s b shape sized l h at e =
     let a = header_inside g c (of_class_lem shape c sized) s b l h in

@@ -1,7 +1,7 @@
 -- The segment that a make takes its block from, over memory of any content: the model's source of it and the memory with it taken, or why there is
 -- none. Document 01: "takes the next free block of the script's held segment of that class .. Without one, it first takes a part segment of the class, else a
 -- free one".
-use Rattle.std.specs.Prelude.{◌≡◌, ℕ, ◌<◌, eqb}
+use Rattle.std.specs.Prelude.{◌≡◌, ◌⊎◌, ℕ, ◌<◌, eqb, Result, Ok, Err}
 use Rattle.std.proofs.Math.Option.{Option, none, some}
 use Rattle.basics.specs.Pick.{pick}
 use Rattle.layout.specs.declared.Geometry.{Geometry}
@@ -10,8 +10,8 @@ use Rattle.model.specs.Fields.{place}
 use Rattle.model.specs.Segments.{free_stack, part_stack, count, top, pop}
 use Rattle.model.specs.Making.{Source, held, part, unused, no_room, source_of, set_held, freshened}
 use Rattle.model.specs.Consistent.{Consistent}
-use Rattle.making.specs.declared.Taken.{Taken}
-use Rattle.making.specs.declared.Taken.TheVariants.{Segment, NoRoom, Torn}
+use Rattle.model.specs.declared.Refusal.{Refusal}
+use Rattle.model.specs.declared.Refusal.TheVariants.{NoRoom, Torn}
 
 -- the segment of a source
 abbrev pub segment_in : Source → Option ℕ
@@ -36,16 +36,15 @@ new_source g m c = pick (eqb (count g m (part_stack c)) 0) (free_source g m) (pa
 
 -- what is answered where `source` is the one to take from: its segment and the memory with it taken, no room with nothing changed, or torn where no memory that passes the
 -- examination leads
-pub record TakesFrom (source : Source) (g : Geometry) (m : Mem) (k c : ℕ) (r : Taken) (after : Mem) : Type 0 where
-  pub segment : (s : ℕ) → r ≡ Segment s → (s < g.segments) × (segment_in source ≡ some s) × (after ≡ taken_from g m k c source)
-  pub room : r ≡ NoRoom → (source ≡ no_room) × (after ≡ m)
-  pub torn : r ≡ Torn → Consistent g m → ⊥
+abbrev pub TakesFrom : Source → Geometry → Mem → ℕ → ℕ → Result ℕ Refusal → Mem → Type 0
+TakesFrom source g m k c (Ok s) after = (s < g.segments) × (segment_in source ≡ some s) × (after ≡ taken_from g m k c source)
+TakesFrom source g m k c (Err e) after = ((e ≡ NoRoom) × (source ≡ no_room) × (after ≡ m)) ⊎ ((e ≡ Torn) × (Consistent g m → ⊥))
 
-abbrev pub TakesFree : Geometry → Mem → ℕ → ℕ → Taken → Mem → Type 0
+abbrev pub TakesFree : Geometry → Mem → ℕ → ℕ → Result ℕ Refusal → Mem → Type 0
 TakesFree g m = TakesFrom (free_source g m) g m
 
-abbrev pub TakesNew : Geometry → Mem → ℕ → ℕ → Taken → Mem → Type 0
+abbrev pub TakesNew : Geometry → Mem → ℕ → ℕ → Result ℕ Refusal → Mem → Type 0
 TakesNew g m k c = TakesFrom (new_source g m c) g m k c
 
-abbrev pub Takes : Geometry → Mem → ℕ → ℕ → Taken → Mem → Type 0
+abbrev pub Takes : Geometry → Mem → ℕ → ℕ → Result ℕ Refusal → Mem → Type 0
 Takes g m k c = TakesFrom (source_of g m k c) g m k c

@@ -2,10 +2,9 @@
 // Over memory that fails the examination a stack, a bitmap or a count may lead astray: then the answer is 13.
 #![tactic(auto)]
 
-ghost use Rattle.std.specs.Prelude.{◌≡◌, suc, ◌%◌, ◌≤◌, ◌<◌, length};
+ghost use Rattle.std.specs.Prelude.{◌≡◌, true, suc, ◌%◌, ◌≤◌, ◌<◌, length, Some};
 ghost use Rattle.classes.specs.Class.{IsClass};
 ghost use Rattle.classes.specs.Record.{field_count_of, class_of_record};
-ghost use Rattle.classes.specs.declared.SizeClass.TheVariants.{Class};
 ghost use Rattle.layout.specs.Geometry.{Sized, IsSize, len, max_segments, mutator_count, root_count, blocks_in};
 ghost use Rattle.layout.specs.Mem.{mem_of};
 ghost use Rattle.theory.specs.Calls.{c_make};
@@ -15,44 +14,19 @@ ghost use Rattle.model.specs.Making.{set_held, blackened};
 ghost use Rattle.model.specs.Promise.{Promise};
 ghost use Rattle.making.specs.Taking.{TakesFree, TakesNew, Takes};
 ghost use Rattle.making.specs.HandingOut.{filled_as, Advances, HandsOut};
-ghost use Rattle.making.specs.Beginning.{Begins, Tries, Out, OfClass, Called};
+ghost use Rattle.making.specs.Beginning.{Comes, Begins, Tries, Out, OfClass, Called};
 ghost use Rattle.layout.specs.Region as Region;
 
-use bitmap_search::{Near, Two};
-use classes::{RecordShape, SizeClass};
+use bitmap_search::Two;
+use classes::RecordShape;
 use layout::Geometry;
-use model::{Answer, SegmentState};
-use stacks::Topmost;
+use model::{Answer, Refusal, SegmentState};
 
-// The segment that a make takes its block from.
-#[derive(Drop)]
-pub enum Taken {
-    Segment(usize),
-    NoRoom,
-    Torn,
-}
-
-// The block that a make is handed.
-#[derive(Drop)]
-pub enum Handed {
-    Block(u32),
-    Torn,
-}
-
-// What a make comes to before a search: it is made or refused, or a block of a segment of a class is to be looked for.
+// What a make that is not refused comes to before a search: it is made, or a block of a segment of a class is to be looked for.
 #[derive(Drop)]
 pub enum Begun {
     Made,
-    Refused(u32),
     Search(u32, usize),
-}
-
-// What a make comes to by the quick way: it is made, or a block of a segment of a class is to be looked for; or nothing is done yet.
-#[derive(Drop)]
-pub enum Tried {
-    Made,
-    Search(u32, usize),
-    Nothing,
 }
 
 // The mutator holds segment s, of a class, from a place on.
@@ -70,43 +44,37 @@ fn hold(g: Geometry, mem: &mut [u32], mutator: u32, class: u32, s: usize, place:
 }
 
 // Takes a free segment, and its blocks' bits are all 0.
-fn take_free(g: Geometry, mem: &mut [u32], mutator: u32, class: u32) -> Taken
+fn take_free(g: Geometry, mem: &mut [u32], mutator: u32, class: u32) -> Result<usize, Refusal>
     requires { (Sized g (length mem.old)) × (mutator < mutator_count) × (IsClass class) }
     ensures { TakesFree g (mem_of g mem.old) mutator class result (mem_of g mem.new) }
 {
     let t = stacks::free_stack();
-    match stacks::top(g, mem, t) {
-        Topmost::Empty => Taken::NoRoom,
-        Topmost::Torn => Taken::Torn,
-        Topmost::Segment(s) => {
-            stacks::pop(g, mem, t);
-            hold(g, mem, mutator, class, s, 0);
-            bitmaps::fresh(g, mem, s, class);
-            Taken::Segment(s)
-        }
-    }
+    let Some(s) = stacks::top(g, mem, t)? else {
+        return Err(Refusal::NoRoom);
+    };
+    stacks::pop(g, mem, t);
+    hold(g, mem, mutator, class, s, 0);
+    bitmaps::fresh(g, mem, s, class);
+    Ok(s)
 }
 
 // Takes a part segment of the class, else a free one.
-fn take_new(g: Geometry, mem: &mut [u32], mutator: u32, class: u32) -> Taken
+fn take_new(g: Geometry, mem: &mut [u32], mutator: u32, class: u32) -> Result<usize, Refusal>
     requires { (Sized g (length mem.old)) × (mutator < mutator_count) × (IsClass class) }
     ensures { TakesNew g (mem_of g mem.old) mutator class result (mem_of g mem.new) }
 {
     let t = stacks::part_stack(class);
-    match stacks::top(g, mem, t) {
-        Topmost::Empty => take_free(g, mem, mutator, class),
-        Topmost::Torn => Taken::Torn,
-        Topmost::Segment(s) => {
-            let place = segments::place(g, mem, s);
-            stacks::pop(g, mem, t);
-            hold(g, mem, mutator, class, s, place);
-            Taken::Segment(s)
-        }
-    }
+    let Some(s) = stacks::top(g, mem, t)? else {
+        return take_free(g, mem, mutator, class);
+    };
+    let place = segments::place(g, mem, s);
+    stacks::pop(g, mem, t);
+    hold(g, mem, mutator, class, s, place);
+    Ok(s)
 }
 
 // The segment that the mutator holds of the class, else one that it takes.
-fn take(g: Geometry, mem: &mut [u32], mutator: u32, class: u32) -> Taken
+fn take(g: Geometry, mem: &mut [u32], mutator: u32, class: u32) -> Result<usize, Refusal>
     requires { (Sized g (length mem.old)) × (mutator < mutator_count) × (IsClass class) }
     ensures { Takes g (mem_of g mem.old) mutator class result (mem_of g mem.new) }
 {
@@ -115,36 +83,36 @@ fn take(g: Geometry, mem: &mut [u32], mutator: u32, class: u32) -> Taken
         return take_new(g, mem, mutator, class);
     }
     if g.segments < held {
-        return Taken::Torn;
+        return Err(Refusal::Torn);
     }
-    Taken::Segment(held - 1)
+    Ok(held - 1)
 }
 
 // The next free block of a held segment, counted as handed out: the place moves just past it, and where no other remains the segment becomes full.
-fn advance(g: Geometry, mem: &mut [u32], mutator: u32, class: u32, s: usize) -> Handed
+fn advance(g: Geometry, mem: &mut [u32], mutator: u32, class: u32, s: usize) -> Result<u32, Refusal>
     requires { (Sized g (length mem.old)) × (mutator < mutator_count) × (IsClass class) × (s < g.segments) }
     ensures { Advances g (mem_of g mem.old) mutator class s result (mem_of g mem.new) }
 {
     let handed = segments::handed(g, mem, s);
     if handed == u32::MAX {
-        return Handed::Torn;
+        return Err(Refusal::Torn);
     }
     let place = segments::place(g, mem, s);
     match bitmaps::next_two(g, mem, s, class, place) {
         Two::More(b) => {
             segments::set_handed(g, mem, s, handed + 1);
             segments::set_place(g, mem, s, b + 1);
-            Handed::Block(b)
+            Ok(b)
         }
         Two::Last(b) => {
             let last = handed + 1;
             segments::set_handed(g, mem, s, last);
             segments::write(g, mem, s, SegmentState::Full { class });
             mutators::set_holding(g, mem, mutator, class, 0);
-            Handed::Block(b)
+            Ok(b)
         }
-        Two::Nothing => Handed::Torn,
-        Two::Torn => Handed::Torn,
+        Two::Nothing => Err(Refusal::Torn),
+        Two::Torn => Err(Refusal::Torn),
     }
 }
 
@@ -179,8 +147,8 @@ fn name(g: Geometry, mem: &mut [u32], mutator: u32, to: u32, at: usize)
     mutators::set_root(g, mem, mutator, to, at as u32 + 1);
 }
 
-// The record in block b of segment s, marked where it is allocated black, and root `to` names it.
-fn fill(
+// The record in block b of segment s, marked where it is allocated black, and root `to` names it. FEW: of at most 16 fields.
+fn fill<const FEW: bool>(
     g: Geometry,
     mem: &mut [u32],
     mutator: u32,
@@ -191,31 +159,16 @@ fn fill(
     shape: RecordShape,
 )
     requires sized { (Sized g (length mem.old)) × (mutator < mutator_count) × (to < root_count) × (s < g.segments) }
-    requires shape_value { class_of_record shape ≡ Class class }
+    requires of_class { class_of_record shape ≡ Some class }
+    requires few { FEW ≡ true → field_count_of shape ≤ 16 }
     ensures { mem_of g mem.new ≡ filled_as g (mem_of g mem.old) mutator to class s (b % blocks_in g class) shape }
 {
     let at = word_of(g, class, s, b);
-    records::write(g, mem, at, shape);
-    name(g, mem, mutator, to, at);
-}
-
-// The record of at most 16 fields in block b of segment s, marked where it is allocated black, and root `to` names it.
-fn fill_few(
-    g: Geometry,
-    mem: &mut [u32],
-    mutator: u32,
-    to: u32,
-    class: u32,
-    s: usize,
-    b: u32,
-    shape: RecordShape,
-)
-    requires sized { (Sized g (length mem.old)) × (mutator < mutator_count) × (to < root_count) × (s < g.segments) }
-    requires shape_value { (class_of_record shape ≡ Class class) × (field_count_of shape ≤ 16) }
-    ensures { mem_of g mem.new ≡ filled_as g (mem_of g mem.old) mutator to class s (b % blocks_in g class) shape }
-{
-    let at = word_of(g, class, s, b);
-    records::write_few(g, mem, at, shape);
+    if FEW {
+        records::write_few(g, mem, at, shape);
+    } else {
+        records::write(g, mem, at, shape);
+    }
     name(g, mem, mutator, to, at);
 }
 
@@ -228,23 +181,19 @@ fn hand_out(
     class: u32,
     s: usize,
     shape: RecordShape,
-) -> Answer
+) -> Result<Answer, Refusal>
     requires sized { (Sized g (length mem.old)) × (mutator < mutator_count) × (to < root_count) × (s < g.segments) }
-    requires shape_value { class_of_record shape ≡ Class class }
+    requires of_class { class_of_record shape ≡ Some class }
     ensures { HandsOut g (mem_of g mem.old) mutator to class s shape result (mem_of g mem.new) }
 {
-    match advance(g, mem, mutator, class, s) {
-        Handed::Torn => Answer::Refused(13),
-        Handed::Block(b) => {
-            fill(g, mem, mutator, to, class, s, b, shape);
-            Answer::Ok
-        }
-    }
+    let b = advance(g, mem, mutator, class, s)?;
+    fill::<false>(g, mem, mutator, to, class, s, b, shape);
+    Ok(Answer::Done)
 }
 
 // The next free block of segment s gets the record, where the place's own word has it and another after it, and the count can grow; else it is to be
-// looked for.
-fn hand_near(
+// looked for. FEW: of at most 16 fields, a text of its own, so that the quick way is one run of instructions.
+fn hand_near<const FEW: bool>(
     g: Geometry,
     mem: &mut [u32],
     mutator: u32,
@@ -254,23 +203,22 @@ fn hand_near(
     shape: RecordShape,
 ) -> Begun
     requires sized { (Sized g (length mem.old)) × (mutator < mutator_count) × (to < root_count) × (s < g.segments) }
-    requires shape_value { class_of_record shape ≡ Class class }
-    ensures { Begins (Out g mem.old mutator to class s shape) g mutator to shape result mem.new }
+    requires of_class { class_of_record shape ≡ Some class }
+    requires few { FEW ≡ true → field_count_of shape ≤ 16 }
+    ensures { Comes (Out g mem.old mutator to class s shape) g mutator to shape result mem.new }
 {
     let place = segments::place(g, mem, s);
-    match bitmaps::near(g, mem, s, place) {
-        Near::More(x) => {
-            let handed = segments::handed(g, mem, s);
-            if handed == u32::MAX {
-                return Begun::Search(class, s);
-            }
-            segments::set_handed(g, mem, s, handed + 1);
-            segments::set_place(g, mem, s, x + 1);
-            fill(g, mem, mutator, to, class, s, x, shape);
-            Begun::Made
-        }
-        Near::Far => Begun::Search(class, s),
+    let Some(block) = bitmaps::near(g, mem, s, place) else {
+        return Begun::Search(class, s);
+    };
+    let since = segments::handed(g, mem, s);
+    if since == u32::MAX {
+        return Begun::Search(class, s);
     }
+    segments::set_handed(g, mem, s, since + 1);
+    segments::set_place(g, mem, s, block + 1);
+    fill::<FEW>(g, mem, mutator, to, class, s, block, shape);
+    Begun::Made
 }
 
 // A record of a class for the mutator.
@@ -281,64 +229,31 @@ fn begin_of(
     to: u32,
     class: u32,
     shape: RecordShape,
-) -> Begun
+) -> Result<Begun, Refusal>
     requires sized { (Sized g (length mem.old)) × (mutator < mutator_count) × (to < root_count) }
-    requires shape_value { class_of_record shape ≡ Class class }
+    requires of_class { class_of_record shape ≡ Some class }
     ensures { Begins (OfClass g mem.old mutator to class shape) g mutator to shape result mem.new }
 {
-    match take(g, mem, mutator, class) {
-        Taken::NoRoom => Begun::Refused(10),
-        Taken::Torn => Begun::Refused(13),
-        Taken::Segment(s) => hand_near(g, mem, mutator, to, class, s, shape),
-    }
+    let s = take(g, mem, mutator, class)?;
+    Ok(hand_near::<false>(g, mem, mutator, to, class, s, shape))
 }
 
 // A record of a shape for the mutator into root `to`.
-fn begin(g: Geometry, mem: &mut [u32], mutator: u32, to: u32, shape: RecordShape) -> Begun
-    ensures { Begins (Called g mem.old mutator to shape) g mutator to shape result mem.new }
-{
-    if layout::wrong_size(g, mem.len()) {
-        return Begun::Refused(1);
-    }
-    let refused = mutators::root_refusal(g, mem, mutator, to);
-    if refused != 0 {
-        return Begun::Refused(refused);
-    }
-    match classes::class_of_record(shape) {
-        SizeClass::TooBig => Begun::Refused(9),
-        SizeClass::Class(class) => begin_of(g, mem, mutator, to, class, shape),
-    }
-}
-
-// The same as `hand_near` for at most 16 fields. It is a text of its own: the quick way is one run of instructions, and what it does not do is the
-// search's.
-fn hand_few(
+fn begin(
     g: Geometry,
     mem: &mut [u32],
     mutator: u32,
     to: u32,
-    class: u32,
-    s: usize,
     shape: RecordShape,
-) -> Tried
-    requires sized { (Sized g (length mem.old)) × (mutator < mutator_count) × (to < root_count) × (s < g.segments) }
-    requires shape_value { (class_of_record shape ≡ Class class) × (field_count_of shape ≤ 16) }
-    ensures { Tries (Out g mem.old mutator to class s shape) g mutator to shape mem.old result mem.new }
+) -> Result<Begun, Refusal>
+    ensures { Begins (Called g mem.old mutator to shape) g mutator to shape result mem.new }
 {
-    let place = segments::place(g, mem, s);
-    match bitmaps::near(g, mem, s, place) {
-        Near::More(block) => {
-            let since = segments::handed(g, mem, s);
-            if since == u32::MAX {
-                return Tried::Search(class, s);
-            }
-            segments::set_handed(g, mem, s, since + 1);
-            segments::set_place(g, mem, s, block + 1);
-            fill_few(g, mem, mutator, to, class, s, block, shape);
-            Tried::Made
-        }
-        Near::Far => Tried::Search(class, s),
-    }
+    model::require_size(g, mem)?;
+    mutators::require_root(g, mem, mutator, to)?;
+    let Some(class) = classes::class_of_record(shape) else {
+        return Err(Refusal::TooBig);
+    };
+    begin_of(g, mem, mutator, to, class, shape)
 }
 
 // A record of at most 16 fields where the mutator holds a segment of its class; else nothing.
@@ -349,46 +264,47 @@ fn try_held(
     to: u32,
     class: u32,
     shape: RecordShape,
-) -> Tried
+) -> Option<Begun>
     requires sized { (Sized g (length mem.old)) × (mutator < mutator_count) × (to < root_count) }
-    requires shape_value { (class_of_record shape ≡ Class class) × (field_count_of shape ≤ 16) }
+    requires of_class { (class_of_record shape ≡ Some class) × (field_count_of shape ≤ 16) }
     ensures { Tries (OfClass g mem.old mutator to class shape) g mutator to shape mem.old result mem.new }
 {
     let held = mutators::holding(g, mem, mutator, class) as usize;
     if held != 0 {
         if held <= g.segments {
-            return hand_few(g, mem, mutator, to, class, held - 1, shape);
+            return Some(hand_near::<true>(g, mem, mutator, to, class, held - 1, shape));
         }
     }
-    Tried::Nothing
+    None
 }
 
 // The quick way of a make: at most 16 fields, nothing to refuse, and a segment of the class held; else nothing.
-fn try_few(g: Geometry, mem: &mut [u32], mutator: u32, to: u32, shape: RecordShape) -> Tried
+fn try_few(g: Geometry, mem: &mut [u32], mutator: u32, to: u32, shape: RecordShape) -> Option<Begun>
     ensures { Tries (Called g mem.old mutator to shape) g mutator to shape mem.old result mem.new }
 {
     let fields = shape.pointer_count as u64 + shape.value_count as u64;
     if 16 < fields {
-        return Tried::Nothing;
+        return None;
     }
-    if layout::wrong_size(g, mem.len()) {
-        return Tried::Nothing;
-    }
-    if mutators::root_refusal(g, mem, mutator, to) != 0 {
-        return Tried::Nothing;
-    }
+    model::require_size(g, mem).ok()?;
+    mutators::require_root(g, mem, mutator, to).ok()?;
     let class = classes::class_of_few(fields as u32);
     try_held(g, mem, mutator, to, class, shape)
 }
 
 // A record of a shape for the mutator into root `to`, by the quick way, else by `begin`.
-fn begin_any(g: Geometry, mem: &mut [u32], mutator: u32, to: u32, shape: RecordShape) -> Begun
+fn begin_any(
+    g: Geometry,
+    mem: &mut [u32],
+    mutator: u32,
+    to: u32,
+    shape: RecordShape,
+) -> Result<Begun, Refusal>
     ensures { Begins (Called g mem.old mutator to shape) g mutator to shape result mem.new }
 {
     match try_few(g, mem, mutator, to, shape) {
-        Tried::Made => Begun::Made,
-        Tried::Search(class, s) => Begun::Search(class, s),
-        Tried::Nothing => begin(g, mem, mutator, to, shape),
+        Some(begun) => Ok(begun),
+        None => begin(g, mem, mutator, to, shape),
     }
 }
 
@@ -400,16 +316,15 @@ pub fn make(
     to: u32,
     pointers: u32,
     values: u32,
-) -> Answer
+) -> Result<Answer, Refusal>
     ensures { Promise (c_make mutator to pointers values) g mem.old result mem.new }
 {
     let shape = RecordShape {
         pointer_count: pointers,
         value_count: values,
     };
-    match begin_any(g, mem, mutator, to, shape) {
-        Begun::Made => Answer::Ok,
-        Begun::Refused(r) => Answer::Refused(r),
+    match begin_any(g, mem, mutator, to, shape)? {
+        Begun::Made => Ok(Answer::Done),
         Begun::Search(class, s) => hand_out(g, mem, mutator, to, class, s, shape),
     }
 }

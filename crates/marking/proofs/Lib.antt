@@ -1,4 +1,3 @@
 -- Laws of the visit of a record.
 pub mod Pointers
-pub mod Visiting
 pub mod Tracing

@@ -24,16 +24,14 @@ fn pointer(g: Geometry, mem: &[u32], at: usize, i: usize) -> u32
 }
 
 // Pushes the n pointers of the record at a word, in order; false where one has no bit, or the stack no room.
+#[tactic(auto, using(crate::proofs::Pointers::pushed_one_by_one))]
 fn push_pointers(g: Geometry, mem: &mut [u32], at: usize, n: usize) -> bool
     requires { (Sized g (length mem.old)) × (at + n < len g Region.heap) }
     ensures { PushesPointers g (mem_of g mem.old) at n result (mem_of g mem.new) }
 {
-    let mut i: usize = 0;
-    while i < n {
+    for i in 0..n {
         let w = pointer(g, mem, at, i);
-        if tracing::push(g, mem, w) {
-            i += 1;
-        } else {
+        if !tracing::push(g, mem, w) {
             return false;
         }
     }

@@ -11,22 +11,15 @@ ghost use Rattle.marks.specs.Bits.{record_bit_at, with_mark};
 
 use layout::Geometry;
 
-// The number of a record's bit among the marks, or none.
-#[derive(Drop)]
-pub enum Bit {
-    At(usize),
-    Torn,
-}
-
-// The bit of the record at a word; none off the heap.
-pub fn record_bit(g: Geometry, at: usize) -> Bit
+// The number of the bit of the record at a word; none off the heap.
+pub fn record_bit(g: Geometry, at: usize) -> Option<usize>
     requires { (g.segments ≤ max_segments) × (IsSize g.kib) }
     ensures { result ≡ record_bit_at g at }
 {
     if layout::heap_words(g) <= at {
-        return Bit::Torn;
+        return None;
     }
-    Bit::At(layout::mark_bit(at))
+    Some(layout::mark_bit(at))
 }
 
 // Whether bit k is set.

@@ -3,3 +3,4 @@ pub mod Phases
 pub mod Collecting
 pub mod InUse
 pub mod Numbers
+pub mod Refusals

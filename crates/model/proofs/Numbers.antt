@@ -6,7 +6,7 @@ use mathlib.Core.Logic.{◌⊎◌, inl, inr}
 use mathlib.Core.List.{List, [], ◌∷◌}
 use Prim.Native.Nat.{ℕ, ◌≤◌}
 use native.Mathlib.Omega.{arith}
-use lib.Dec.{T, eqb, leb, leb→le}
+use lib.Dec.{T, eqb, eqb→eq}
 use borrow.Author.Tests.{eqb-true}
 use Rattle.classes.specs.declared.RecordShape.{RecordShape}
 use Rattle.basics.specs.Pick.{pick}
@@ -14,6 +14,8 @@ use Rattle.basics.proofs.Table.{and_left, and_right}
 use Rattle.theory.specs.Calls.{Call, c_attach, c_detach, c_check, c_leave, c_enter, c_spawn, c_make, c_load, c_store, c_copy, c_clear, c_put, c_get}
 use Rattle.theory.specs.Calls.{c_same, c_shape, Observation, require, if_record, if_inside, if_root, refusal}
 use Rattle.model.specs.Answers.{among, last_number, own_numbers, may_give}
+use Rattle.model.specs.Refusals.{number_of, refusal_numbered}
+use Rattle.model.proofs.Refusals.{in_table}
 
 -- no refusal, or a number of the list that is not 1
 pub record Among (ns : List ℕ) (n : ℕ) : Type 0 where
@@ -75,7 +77,7 @@ one_of ns n f a = go a.either
     go (inl z) = absurd (f z)
     go (inr b) = b
 
--- ---- a number that a call may give is one of the table, and not 12
+-- ---- a number that a call may give is a refusal's: one of the table, and not 12
 
 abbrev pub OfTable : ℕ → Type 0
 OfTable n = (1 ≤ n) × (n ≤ last_number)
@@ -84,24 +86,28 @@ abbrev pub Given : ℕ → Type 0
 Given n = OfTable n × (n ≡ 12 → ⊥)
 
 abbrev is_given : ℕ → Bool
-is_given x = leb 1 x && (leb x last_number && not (eqb x 12))
+is_given x = eqb (number_of (refusal_numbered x)) x && not (eqb x 12)
 
 abbrev pub all_given : List ℕ → Bool
 all_given [] = true
 all_given (x ∷ xs) = is_given x && all_given xs
 
-given : (x : ℕ) → T (is_given x) → Given x
-given x t =
-    let u = and_right (leb 1 x) (leb x last_number && not (eqb x 12)) t in
-    ((leb→le 1 x (and_left (leb 1 x) _ t), leb→le x last_number (and_left (leb x last_number) _ u)), λ q. subst (λ y. T (not (eqb y 12))) q (and_right (leb x last_number) _ u))
+among_is : (n : ℕ) (xs : List ℕ) → T (all_given xs) → among n xs ≡ true → T (is_given n)
+among_is n [] t e = absurd (true≢false (sym e))
+among_is n (x ∷ xs) t e = go (eqb n x) refl e (among_is n xs (and_right (is_given x) (all_given xs) t))
+  where
+    go : (b : Bool) → eqb n x ≡ b → pick b true (among n xs) ≡ true → (among n xs ≡ true → T (is_given n)) → T (is_given n)
+    go true q f rest = subst (λ y. T (is_given y)) (sym (eqb-true n x q)) (and_left (is_given x) (all_given xs) t)
+    go false q f rest = rest f
+
+pub among_numbered : (n : ℕ) (xs : List ℕ) → T (all_given xs) → among n xs ≡ true → number_of (refusal_numbered n) ≡ n
+among_numbered n xs t e = eqb→eq _ n (and_left (eqb (number_of (refusal_numbered n)) n) (not (eqb n 12)) (among_is n xs t e))
 
 pub among_given : (n : ℕ) (xs : List ℕ) → T (all_given xs) → among n xs ≡ true → Given n
-among_given n [] t e = absurd (true≢false (sym e))
-among_given n (x ∷ xs) t e = go (eqb n x) refl e (among_given n xs (and_right (is_given x) (all_given xs) t))
-  where
-    go : (b : Bool) → eqb n x ≡ b → pick b true (among n xs) ≡ true → (among n xs ≡ true → Given n) → Given n
-    go true q f rest = subst Given (sym (eqb-true n x q)) (given x (and_left (is_given x) (all_given xs) t))
-    go false q f rest = rest f
+among_given n xs t e = (
+  subst OfTable (among_numbered n xs t e) (in_table (refusal_numbered n)),
+  λ q. subst (λ y. T (not (eqb y 12))) q (and_right (eqb (number_of (refusal_numbered n)) n) (not (eqb n 12)) (among_is n xs t e)),
+)
 
 pub among_table : (n : ℕ) (xs : List ℕ) → T (all_given xs) → among n xs ≡ true → OfTable n
 among_table n xs t e = (among_given n xs t e).0
@@ -122,6 +128,9 @@ all_given_lem (c_put k i f v) = tt
 all_given_lem (c_get k i f) = tt
 all_given_lem (c_same k i j) = tt
 all_given_lem (c_shape k i) = tt
+
+pub may_numbered : (n : ℕ) (c : Call) → among n (may_give c) ≡ true → number_of (refusal_numbered n) ≡ n
+may_numbered n c e = among_numbered n (may_give c) (all_given_lem c) e
 
 pub may_given : (n : ℕ) (c : Call) → among n (may_give c) ≡ true → Given n
 may_given n c e = among_given n (may_give c) (all_given_lem c) e

@@ -1,6 +1,6 @@
 -- The declared answers as document 01 has them: for each enum one definition gives the number and the values of its cases, and the promises use
 -- it. Then which results and which refusals a call may give, over memory of any content.
-use Rattle.std.specs.Prelude.{◌≡◌, Bool, true, false, List, [], ◌∷◌, ℕ, ◌≤◌, ◌<◌, eqb}
+use Rattle.std.specs.Prelude.{◌≡◌, Bool, true, false, List, [], ◌∷◌, ℕ, ◌≤◌, ◌<◌, eqb, Result, Ok, Err}
 use Rattle.std.proofs.Math.Option.{Option, none, some}
 use Rattle.basics.specs.Pick.{pick}
 use Rattle.classes.specs.declared.RecordShape.{RecordShape}
@@ -11,24 +11,22 @@ use Rattle.theory.specs.Calls.{Call, CallKind, coming, working, asks_number, ask
 use Rattle.model.specs.PhaseNumbers.{phase_number}
 use Rattle.model.specs.Records.{InHalves}
 use Rattle.model.specs.declared.Answer.{Answer}
-use Rattle.model.specs.declared.Answer.TheVariants.{Ok, Number, Same, Shape, Refused}
+use Rattle.model.specs.declared.Answer.TheVariants.{Done, Number, Same, Shape}
+use Rattle.model.specs.declared.Refusal.{Refusal}
+use Rattle.model.specs.Refusals.{number_of}
 use Rattle.model.specs.declared.Step.{Step}
-use Rattle.model.specs.declared.PhaseLook.{PhaseLook}
-use Rattle.model.specs.declared.Examined.{Examined}
 use Rattle.theory.specs.Calls as theory
 use Rattle.model.specs.declared.Step.TheVariants as step_answer
-use Rattle.model.specs.declared.PhaseLook.TheVariants as look
-use Rattle.model.specs.declared.Examined.TheVariants as examination
 
 -- ---- the enums
 
 -- of a mutator's call, of an opening and of start: ok, a number, whether two roots are equal, a shape, or a refusal
-abbrev pub answer_of : Answer → theory.Answer
-answer_of Ok = a_ok
-answer_of (Number v) = a_num v
-answer_of (Same b) = a_flag b
-answer_of (Shape s) = a_shape s
-answer_of (Refused n) = a_no n
+abbrev pub answer_of : Result Answer Refusal → theory.Answer
+answer_of (Ok Done) = a_ok
+answer_of (Ok (Number v)) = a_num v
+answer_of (Ok (Same b)) = a_flag b
+answer_of (Ok (Shape s)) = a_shape s
+answer_of (Err e) = a_no (number_of e)
 
 -- of step
 abbrev pub step_answer_of : Step → theory.Answer
@@ -41,15 +39,14 @@ step_answer_of step_answer.Idle = a_idle
 step_answer_of (step_answer.Refused n) = a_no n
 
 -- of the look at the phase: the phase's number
-abbrev pub phase_answer_of : PhaseLook → theory.Answer
-phase_answer_of (look.Phase p) = a_num p
-phase_answer_of (look.Refused n) = a_no n
+abbrev pub phase_answer_of : Result ℕ Refusal → theory.Answer
+phase_answer_of (Ok p) = a_num p
+phase_answer_of (Err e) = a_no (number_of e)
 
 -- of the examination: whether it "says yes"
-abbrev pub examined_answer_of : Examined → theory.Answer
-examined_answer_of examination.Yes = a_flag true
-examined_answer_of examination.No = a_flag false
-examined_answer_of (examination.Refused n) = a_no n
+abbrev pub examined_answer_of : Result Bool Refusal → theory.Answer
+examined_answer_of (Ok b) = a_flag b
+examined_answer_of (Err e) = a_no (number_of e)
 
 -- the number of a refusal
 abbrev pub refusal_in : theory.Answer → Option ℕ
@@ -65,16 +62,16 @@ refusal_in (a_no n) = some n
 refusal_in (a_waiting n) = none
 refusal_in (a_swept s f) = none
 
-abbrev pub refusal_of : Answer → Option ℕ
+abbrev pub refusal_of : Result Answer Refusal → Option ℕ
 refusal_of r = refusal_in (answer_of r)
 
 abbrev pub step_refusal_of : Step → Option ℕ
 step_refusal_of r = refusal_in (step_answer_of r)
 
-abbrev pub phase_refusal_of : PhaseLook → Option ℕ
+abbrev pub phase_refusal_of : Result ℕ Refusal → Option ℕ
 phase_refusal_of r = refusal_in (phase_answer_of r)
 
-abbrev pub examined_refusal_of : Examined → Option ℕ
+abbrev pub examined_refusal_of : Result Bool Refusal → Option ℕ
 examined_refusal_of r = refusal_in (examined_answer_of r)
 
 -- ---- which result a call gives, over memory of any content: "No script call answers a block or segment number"

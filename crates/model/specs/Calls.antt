@@ -1,10 +1,9 @@
 -- Every mutator call over the memory: its refusals 2 to 9 by what the memory shows, in the order that theory's `refusal` writes once, then
 -- 10 and 11, and what it does.
-use Rattle.std.specs.Prelude.{Bool, not, ℕ, eqb, ltb}
+use Rattle.std.specs.Prelude.{Bool, not, ℕ, eqb, ltb, Some, None}
 use Rattle.std.proofs.Math.Option.{map}
 use Rattle.classes.specs.Record.{of_counts, class_of_record}
-use Rattle.classes.specs.declared.SizeClass.{SizeClass}
-use Rattle.classes.specs.declared.SizeClass.TheVariants.{Class, TooBig}
+use Rattle.classes.specs.Class.{SizeClass}
 use Rattle.layout.specs.declared.Geometry.{Geometry}
 use Rattle.layout.specs.Geometry.{root_count}
 use Rattle.layout.specs.Mem.{Mem}
@@ -31,8 +30,8 @@ observe m = record {
 }
 
 abbrev pub of_class : Mem → SizeClass → (ℕ → Answer × Mem) → Answer × Mem
-of_class m (Class c) rest = rest c
-of_class m TooBig rest = (a_no 9, m)
+of_class m (Some c) rest = rest c
+of_class m None rest = (a_no 9, m)
 
 -- what a call does that no number from 2 to 9 refuses; "11, not now: attach, spawn, detach in a roll call"
 unfoldable pub act : Geometry → Mem → Call → Answer × Mem

@@ -2,12 +2,11 @@
 -- establishes and every call keeps". Two halves: `Summed`, of what can be built again from the other words (the
 -- bitmaps' trees over their level 0, the stacks of segments, each segment's two counts), and `Sound`, which reads
 -- nothing of that.
-use Rattle.std.specs.Prelude.{◌≡◌, Bool, true, ◌&&◌, ℕ, suc, ◌+◌, ◌*◌, ◌%◌, ◌≤◌, ◌<◌, eqb}
+use Rattle.std.specs.Prelude.{◌≡◌, Bool, true, ◌&&◌, ℕ, suc, ◌+◌, ◌*◌, ◌%◌, ◌≤◌, ◌<◌, eqb, Some}
 use Rattle.words.specs.Bits.{bit_at, ones_among}
 use Rattle.words.specs.Tree.{Tree}
 use Rattle.classes.specs.Class.{IsClass, first_class, block_words}
 use Rattle.classes.specs.Record.{class_of_record}
-use Rattle.classes.specs.declared.SizeClass.TheVariants.{Class}
 use Rattle.layout.specs.declared.Geometry.{Geometry}
 use Rattle.layout.specs.Geometry.{mutator_count, mutator_words, entry_words, segment_words, most_blocks, blocks_in, segment_of}
 use Rattle.layout.specs.Mem.{Mem, control_word, mutator_word, trace_word}
@@ -112,7 +111,7 @@ pub record RecordOk (g : Geometry) (m : Mem) (at : ℕ) : Type 0 where
   pub used : tag m (segment_of g at) ≡ Tag.free → ⊥
   pub aligned : at % segment_words g % block_words (class m (segment_of g at)) ≡ 0
   pub block : used_bit g m (segment_of g at) (block_of g m at) ≡ 1
-  pub sized : class_of_record (shape_of m at) ≡ Class (class m (segment_of g at))
+  pub sized : class_of_record (shape_of m at) ≡ Some (class m (segment_of g at))
 
 -- ---- the trace stack
 

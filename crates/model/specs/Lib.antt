@@ -1,4 +1,5 @@
 -- Document 01 as definitions over the memory.
+pub mod Refusals
 pub mod PhaseNumbers
 pub mod Tag
 pub mod Fields

@@ -1,6 +1,6 @@
 -- Lists of calls from one opening to the next, as document 01's section on the endless rack takes them. An element is a call with what it was
 -- lent, its answer, and what it left; all that is known of it is its promise, and that its slice keeps its length.
-use Rattle.std.specs.Prelude.{◌≡◌, ◌⊎◌, Bool, true, false, not, List, [], ◌∷◌, ℕ, ◌-◌, length}
+use Rattle.std.specs.Prelude.{◌≡◌, ◌⊎◌, Bool, true, false, not, List, [], ◌∷◌, ℕ, ◌-◌, length, Result, Ok}
 use Rattle.std.proofs.Math.Option.{Option, none, some, map}
 use Rattle.basics.specs.Pick.{pick}
 use Rattle.layout.specs.declared.Geometry.{Geometry}
@@ -9,7 +9,8 @@ use Rattle.layout.specs.Mem.{mem_of}
 use Rattle.theory.specs.Calls.{Call}
 use Rattle.theory.specs.Unbounded.{Unbounded, UReached, empty, uexec, puts}
 use Rattle.model.specs.declared.Answer.{Answer}
-use Rattle.model.specs.declared.Answer.TheVariants.{Ok}
+use Rattle.model.specs.declared.Answer.TheVariants.{Done}
+use Rattle.model.specs.declared.Refusal.{Refusal}
 use Rattle.model.specs.declared.Step.{Step}
 use Rattle.model.specs.Answers.{answer_of, refusal_of, step_refusal_of}
 use Rattle.model.specs.Promise.{Promise, StartPromise, StepPromise, OpenPromise}
@@ -21,10 +22,10 @@ use Rattle.theory.specs.Calls as theory
 
 -- a mutator's call, the collector's calls, an opening and a look, each with its answer
 pub data Event : Type 0 where
-  mutator_call : Call → Answer → Event
-  start_call : Answer → Event
+  mutator_call : Call → Result Answer Refusal → Event
+  start_call : Result Answer Refusal → Event
   step_call : Step → Event
-  opening_call : Answer → Event
+  opening_call : Result Answer Refusal → Event
   look_call : Look → Event
 
 -- an event with the memory that it was lent and the memory that it left
@@ -34,10 +35,10 @@ pub record Element : Type 0 where
   pub event : Event
   pub after : List ℕ
 
-abbrev pub call_element : Call → Geometry → (before : List ℕ) → Answer → (after : List ℕ) → Element
+abbrev pub call_element : Call → Geometry → (before : List ℕ) → Result Answer Refusal → (after : List ℕ) → Element
 call_element c g before r after = record { geometry = g; before = before; event = mutator_call c r; after = after }
 
-abbrev pub start_element : Geometry → (before : List ℕ) → Answer → (after : List ℕ) → Element
+abbrev pub start_element : Geometry → (before : List ℕ) → Result Answer Refusal → (after : List ℕ) → Element
 start_element g before r after = record { geometry = g; before = before; event = start_call r; after = after }
 
 abbrev pub step_element : Geometry → (before : List ℕ) → Step → (after : List ℕ) → Element
@@ -127,7 +128,7 @@ abbrev pub block_in : Geometry → List ℕ → ℕ → ℕ → ℕ
 block_in g words k d = root (mem_of g words) k d - 1
 
 -- fed a mutator's call that remains, with its answer, which left the words `after`
-abbrev pub fed : Ghost → Option (Call × Answer) → Geometry → List ℕ → Ghost
+abbrev pub fed : Ghost → Option (Call × Result Answer Refusal) → Geometry → List ℕ → Ghost
 fed w none g after = w
 fed w (some x) g after = record {
   heap = (uexec w.heap x.0).1;
@@ -145,7 +146,7 @@ pub record BlockReached (w : Ghost) (at : ℕ) : Type 0 where
 -- an opening of memory of any content that is not refused
 pub record Opened (g : Geometry) (content words : List ℕ) : Type 0 where
   pub sized : wrong_size g (length content) ≡ false
-  pub opening : OpenPromise g content Ok words
+  pub opening : OpenPromise g content (Ok Done) words
   pub long : length words ≡ length content
 
 -- the unbounded heap at an opening: no record, and none put into a block
@@ -168,7 +169,7 @@ module _ (out : ℕ → Bool) where
   struck (some n) = out n
 
   -- a mutator's call that remains, and its answer
-  abbrev pub remaining_call : Event → Option (Call × Answer)
+  abbrev pub remaining_call : Event → Option (Call × Result Answer Refusal)
   remaining_call (mutator_call c r) = pick (struck (refusal_of r)) none (some (c, r))
   remaining_call (start_call r) = none
   remaining_call (step_call r) = none

@@ -1,22 +1,21 @@
 -- The looks: each with its answer and, where it has one, its lent output or scratch before and after. A further look is one more case of each
 -- definition here.
-use Rattle.std.specs.Prelude.{Bool, true, List, ℕ, eqb, length}
+use Rattle.std.specs.Prelude.{Bool, true, List, ℕ, eqb, length, Result}
 use Rattle.std.proofs.Math.Option.{Option}
 use Rattle.layout.specs.declared.Geometry.{Geometry}
 use Rattle.layout.specs.Geometry.{len, scratch_words, sheet_bytes}
 use Rattle.model.specs.declared.Answer.{Answer}
-use Rattle.model.specs.declared.PhaseLook.{PhaseLook}
-use Rattle.model.specs.declared.Examined.{Examined}
+use Rattle.model.specs.declared.Refusal.{Refusal}
 use Rattle.model.specs.Answers.{refusal_of, phase_refusal_of, examined_refusal_of}
 use Rattle.model.specs.Promise.{PhasePromise, StatesPromise, SheetPromise, ExaminePromise}
 use Rattle.layout.specs.Region as Region
 
 -- "Looks: phase, segment states, examination."; document 02, No. 10: "The sheet is a look."
 pub data Look : Type 0 where
-  saw_phase : PhaseLook → Look
-  saw_states : (output : List ℕ) → Answer → (after : List ℕ) → Look
-  saw_sheet : (output : List ℕ) → Answer → (after : List ℕ) → Look
-  examined_by : (scratch : List ℕ) → Examined → (after : List ℕ) → Look
+  saw_phase : Result ℕ Refusal → Look
+  saw_states : (output : List ℕ) → Result Answer Refusal → (after : List ℕ) → Look
+  saw_sheet : (output : List ℕ) → Result Answer Refusal → (after : List ℕ) → Look
+  examined_by : (scratch : List ℕ) → Result Bool Refusal → (after : List ℕ) → Look
 
 -- what it promises, over the memory that it was lent
 abbrev pub LookPromise : Geometry → List ℕ → Look → Type 0

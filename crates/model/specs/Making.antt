@@ -1,13 +1,12 @@
 -- make: the segment it takes from, the block it is handed, and the record there. Document 01: "takes the next free block of the script's held
 -- segment of that class; the place moves just past it. Without one, it first takes a part segment of the class, else a free one".
-use Rattle.std.specs.Prelude.{◌≡◌, ℕ, suc, ◌+◌, ◌-◌, ◌<◌, eqb}
+use Rattle.std.specs.Prelude.{◌≡◌, ℕ, suc, ◌+◌, ◌-◌, ◌<◌, eqb, Ok, Err, Some, None}
 use Rattle.basics.specs.Pick.{pick}
 use Rattle.classes.specs.declared.RecordShape.{RecordShape}
 use Rattle.layout.specs.Geometry.{blocks_in}
 use Rattle.layout.specs.declared.Geometry.{Geometry}
 use Rattle.layout.specs.Mem.{Mem}
-use Rattle.bitmap_search.specs.declared.Found.{Found}
-use Rattle.bitmap_search.specs.declared.Found.TheVariants.{Block, Nothing, Torn}
+use Rattle.bitmap_search.specs.Scan.{Found}
 use Rattle.bitmap_write.specs.Completed.{fresh}
 use Rattle.theory.specs.Phases.{black}
 use Rattle.theory.specs.Calls.{Answer, a_ok, a_no}
@@ -45,9 +44,9 @@ freshened g m s c = set_bitmap g m s (fresh (above g c) (blocks_in g c) (bitmap 
 
 -- "When no free block remains at or after the new place, the segment becomes full in the same call"
 abbrev pub advanced : Geometry → Mem → ℕ → ℕ → ℕ → ℕ → Found → Mem
-advanced g m k c s p (Block b) = set_segment_state g m s (Held c p k)
-advanced g m k c s p Nothing = set_holding (set_segment_state g m s (Full c)) k c 0
-advanced g m k c s p Torn = set_holding (set_segment_state g m s (Full c)) k c 0
+advanced g m k c s p (Ok (Some b)) = set_segment_state g m s (Held c p k)
+advanced g m k c s p (Ok None) = set_holding (set_segment_state g m s (Full c)) k c 0
+advanced g m k c s p (Err _) = set_holding (set_segment_state g m s (Full c)) k c 0
 
 -- "born marked"
 abbrev pub blackened : Geometry → Mem → ℕ → ℕ → Mem
@@ -64,9 +63,9 @@ handed_out g m k d c s b shape =
 
 -- the block at or after the place; a held segment always has one
 abbrev pub in_block : Geometry → Mem → Mem → Found → ℕ → ℕ → ℕ → ℕ → RecordShape → Answer × Mem
-in_block g m taken (Block b) k d c s shape = (a_ok, handed_out g taken k d c s b shape)
-in_block g m taken Nothing k d c s shape = (a_no 13, m)
-in_block g m taken Torn k d c s shape = (a_no 13, m)
+in_block g m taken (Ok (Some b)) k d c s shape = (a_ok, handed_out g taken k d c s b shape)
+in_block g m taken (Ok None) k d c s shape = (a_no 13, m)
+in_block g m taken (Err _) k d c s shape = (a_no 13, m)
 
 abbrev pub in_segment : Geometry → Mem → Mem → ℕ → ℕ → ℕ → ℕ → RecordShape → Answer × Mem
 in_segment g m taken k d c s shape = in_block g m taken (free g taken s c (place taken s)) k d c s shape

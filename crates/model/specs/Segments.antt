@@ -9,8 +9,7 @@ use Rattle.classes.specs.Shape.{shape_for}
 use Rattle.layout.specs.declared.Geometry.{Geometry}
 use Rattle.layout.specs.Geometry.{blocks_in, bitmap_words}
 use Rattle.layout.specs.Mem.{Mem, stack_word, set_stack, read_run, set_run}
-use Rattle.bitmap_search.specs.declared.Found.{Found}
-use Rattle.bitmap_search.specs.Scan.{next_free}
+use Rattle.bitmap_search.specs.Scan.{Found, next_free}
 use Rattle.model.specs.declared.SegmentState.{SegmentState}
 use Rattle.model.specs.Fields.{tag, set_tag, class, set_class, place, set_place, owner, set_owner}
 use Rattle.model.specs.Records.{header_of, entered}

@@ -2,11 +2,16 @@
 // The definitions that every call is held to stand in specs/.
 #![tactic(auto)]
 
-ghost use Rattle.std.specs.Prelude.{◌≡◌};
+ghost use Rattle.std.specs.Prelude.{◌≡◌, length, Ok, Err};
+ghost use Rattle.basics.specs.Pick.{pick};
+ghost use Rattle.layout.specs.Geometry.{wrong_size};
+ghost use Rattle.model.specs.declared.Refusal.TheVariants.{Size};
 ghost use Rattle.theory.specs.Phases.{duty, owes, black, in_handshake, newcomer};
+ghost use Rattle.model.specs.Refusals.{number_of};
 ghost use Rattle.model.specs.PhaseNumbers.{phase_of, duty_of};
 
 use classes::RecordShape;
+use layout::Geometry;
 
 // What a root or a pointer field holds: nil, or a record by the index of its header word in the heap.
 #[derive(Drop)]
@@ -58,14 +63,50 @@ impl Segment {
     pub const TAG_CONDEMNED: u32 = 4;
 }
 
-// The answer of a mutator's call, of an opening and of start.
+// Why a call is refused: the words of document 01's table, by its numbers. Request No. 1: "Refusal 12 never occurs any more": no call gives NoneFull.
+#[derive(Clone, Copy)]
+pub enum Refusal {
+    Size = 1,
+    Mutator = 2,
+    Taken = 3,
+    Absent = 4,
+    Side = 5,
+    Root = 6,
+    Nil = 7,
+    Field = 8,
+    TooBig = 9,
+    NoRoom = 10,
+    NotNow = 11,
+    NoneFull = 12,
+    Torn = 13,
+}
+
+impl Refusal {
+    // Its number in the table.
+    pub fn number(self) -> u32
+        ensures { result ≡ number_of self }
+    {
+        self as u32
+    }
+}
+
+// Refuses where the count of segments, their size or the slice's length is wrong.
+pub fn require_size(g: Geometry, mem: &[u32]) -> Result<(), Refusal>
+    ensures { result ≡ pick (wrong_size g (length mem.now)) (Err Size) (Ok tt) }
+{
+    if layout::wrong_size(g, mem.len()) {
+        return Err(Refusal::Size);
+    }
+    Ok(())
+}
+
+// The answer of a mutator's call, of an opening and of start that is not refused.
 #[derive(Drop)]
 pub enum Answer {
-    Ok,
+    Done,
     Number(u32),
     Same(bool),
     Shape(RecordShape),
-    Refused(u32),
 }
 
 // The answer of step.
@@ -80,21 +121,6 @@ pub enum Step {
     Refused(u32),
 }
 
-// The answer of the look at the phase.
-#[derive(Drop)]
-pub enum PhaseLook {
-    Phase(u32),
-    Refused(u32),
-}
-
-// The answer of the examination.
-#[derive(Drop)]
-pub enum Examined {
-    Yes,
-    No,
-    Refused(u32),
-}
-
 // What a store pushes on the trace stack: nothing, the new value and then the old, or the old value.
 #[derive(Drop)]
 pub enum Duty {
@@ -104,7 +130,6 @@ pub enum Duty {
 }
 
 // The phase of the cycle, by its number.
-#[derive(Drop)]
 #[derive(Clone, Copy)]
 pub struct Phase {
     pub number: u32,

@@ -13,7 +13,8 @@ use Rattle.layout.specs.declared.Geometry.{Geometry}
 use Rattle.layout.specs.Geometry.{len, wrong_size, mutator_count, root_count}
 use Rattle.layout.specs.Mem.{Mem, mem_of}
 use Rattle.theory.specs.Calls.{Call, require, if_record, refusal}
-use Rattle.model.specs.declared.Answer.TheVariants.{Refused}
+use Rattle.std.specs.Prelude.{Err}
+use Rattle.model.specs.declared.Refusal.TheVariants.{Nil, Field, Torn}
 use Rattle.model.specs.Fields.{root}
 use Rattle.model.specs.Records.{pointer_count, value_count, shape_of}
 use Rattle.model.specs.Calls.{is_attached, observe}
@@ -43,9 +44,9 @@ module _ (c : Call) (g : Geometry) (xs : List ℕ) (k i : ℕ) (test : RecordSha
   shape_nil e = rw (q.attached, lt-ltb _ _ q.within, e)
 
   -- "7, dark"
-  pub nil_7 : root m k i ≡ 0 → Promise c g xs (Refused 7) xs
+  pub nil_7 : root m k i ≡ 0 → Promise c g xs (Err Nil) xs
   unfolding if_record
-  nil_7 e = refused c g xs q.size (ap (λ o. if_record o test) (sym (shape_nil e)) ∙ q.rest) (λ z. omega arith)
+  nil_7 e = refused c g xs Nil q.size (ap (λ o. if_record o test) (sym (shape_nil e)) ∙ q.rest)
 
   module _ (at : ℕ) (p : Names g xs k i at) where
     shape_at : (observe m).shape k i ≡ some (shape_of m at)
@@ -57,12 +58,12 @@ module _ (c : Call) (g : Geometry) (xs : List ℕ) (k i : ℕ) (test : RecordSha
     by_test x t = t ∙ ap (λ o. if_record o test) (sym shape_at) ∙ q.rest
 
     -- "13, torn": a word of the record off the heap
-    pub off_13 : (y : ℕ) → y ≤ pointer_count m at + value_count m at → len g Region.heap ≤ at + y → Promise c g xs (Refused 13) xs
+    pub off_13 : (y : ℕ) → y ≤ pointer_count m at + value_count m at → len g Region.heap ≤ at + y → Promise c g xs (Err Torn) xs
     off_13 y l o =
         torn_13 c g xs q.size
         (λ s. let t = field_inside g m at (rooted m k i at q.known q.within q.attached p.word g s) y l in omega arith)
 
-    pub header_13 : len g Region.heap ≤ at → Promise c g xs (Refused 13) xs
+    pub header_13 : len g Region.heap ≤ at → Promise c g xs (Err Torn) xs
     header_13 l = off_13 0 (omega arith) (omega arith)
 
     -- field f of n, where the test asks for it
@@ -72,6 +73,6 @@ module _ (c : Call) (g : Geometry) (xs : List ℕ) (k i : ℕ) (test : RecordSha
       has_0 l = by_test 0 (sym (asks ∙ rw (lt-ltb _ _ l) refl))
 
       -- "8, field"
-      pub field_8 : n ≤ f → Promise c g xs (Refused 8) xs
+      pub field_8 : n ≤ f → Promise c g xs (Err Field) xs
       unfolding require
-      field_8 l = refused c g xs q.size (by_test 8 (sym (asks ∙ rw (le-ltb _ _ l) refl))) (λ z. omega arith)
+      field_8 l = refused c g xs Field q.size (by_test 8 (sym (asks ∙ rw (le-ltb _ _ l) refl)))

@@ -13,12 +13,15 @@ use Rattle.layout.specs.Geometry.{wrong_size, len}
 use Rattle.layout.specs.Mem.{Mem, mem_of}
 use Rattle.layout.specs.Region as Region
 use Rattle.model.specs.declared.Answer.{Answer}
-use Rattle.model.specs.declared.Answer.TheVariants.{Ok, Refused}
+use Rattle.std.specs.Prelude.{Result, Ok, Err}
+use Rattle.model.specs.declared.Answer.TheVariants.{Done}
+use Rattle.model.specs.declared.Refusal.{Refusal}
+use Rattle.model.specs.declared.Refusal.TheVariants.{Size, Torn}
 use Rattle.model.specs.Consistent.{Consistent}
 use Rattle.model.specs.Promise.{OutputPromise, StatesPromise}
 
 module _ (long : Geometry → ℕ) (shown : Geometry → Mem → List ℕ) (g : Geometry) (xs ys : List ℕ) where
-  pub shown_1 : wrong_size g (length xs) ≡ true → OutputPromise long shown g xs ys (Refused 1) ys
+  pub shown_1 : wrong_size g (length xs) ≡ true → OutputPromise long shown g xs ys (Err Size) ys
   shown_1 e = record {
     sizes = (λ _. refl, λ _. refl);
     exact = λ f. absurd (true≢false (sym e ∙ f));
@@ -28,7 +31,7 @@ module _ (long : Geometry → ℕ) (shown : Geometry → Mem → List ℕ) (g : 
   }
 
   -- the output is not of its length
-  pub shown_short : (length ys ≡ long g → ⊥) → OutputPromise long shown g xs ys (Refused 1) ys
+  pub shown_short : (length ys ≡ long g → ⊥) → OutputPromise long shown g xs ys (Err Size) ys
   shown_short d = record {
     sizes = (λ _. refl, λ _. refl);
     exact = λ _ h. absurd (d h);
@@ -39,7 +42,7 @@ module _ (long : Geometry → ℕ) (shown : Geometry → Mem → List ℕ) (g : 
 
   module _ (e : wrong_size g (length xs) ≡ false) (l : length ys ≡ long g) where
     -- what a test refutes holds of consistent memory
-    pub shown_13 : {P : Type 0} → (Consistent g (mem_of g xs) → P) → (r : Bool) → Decides r P → r ≡ false → OutputPromise long shown g xs ys (Refused 13) ys
+    pub shown_13 : {P : Type 0} → (Consistent g (mem_of g xs) → P) → (r : Bool) → Decides r P → r ≡ false → OutputPromise long shown g xs ys (Err Torn) ys
     shown_13 k r d q = record {
       sizes = (λ h. absurd (true≢false (sym h ∙ e)), λ h. absurd (h l));
       exact = λ _ _ c. absurd (refuted d q (k c));
@@ -48,7 +51,7 @@ module _ (long : Geometry → ℕ) (shown : Geometry → Mem → List ℕ) (g : 
       unchanged = λ n h. refl;
     }
 
-    pub shown_ok : (zs : List ℕ) → (Consistent g (mem_of g xs) → zs ≡ shown g (mem_of g xs)) → OutputPromise long shown g xs ys Ok zs
+    pub shown_ok : (zs : List ℕ) → (Consistent g (mem_of g xs) → zs ≡ shown g (mem_of g xs)) → OutputPromise long shown g xs ys (Ok Done) zs
     shown_ok zs q = record {
       sizes = (λ h. absurd (true≢false (sym h ∙ e)), λ h. absurd (h l));
       exact = λ _ _ c. (refl, q c);
@@ -64,7 +67,7 @@ record_words g = len g Region.segments
 abbrev pub records : Geometry → Mem → List ℕ
 records g m = m.segments
 
-module _ (g : Geometry) (xs ys : List ℕ) (r : Answer) (zs : List ℕ) where
+module _ (g : Geometry) (xs ys : List ℕ) (r : Result Answer Refusal) (zs : List ℕ) where
   pub as_states : OutputPromise record_words records g xs ys r zs → StatesPromise g xs ys r zs
   as_states p = record { sizes = p.sizes; exact = p.exact; torn = p.torn; kind = p.kind; unchanged = p.unchanged }
 

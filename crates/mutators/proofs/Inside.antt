@@ -16,7 +16,10 @@ use Rattle.layout.specs.Geometry.{mutator_count, root_count, wrong_size}
 use Rattle.layout.specs.Mem.{Mem, mem_of}
 use Rattle.theory.specs.Calls.{Call, require, if_root, if_record, refusal}
 use Rattle.theory.proofs.Refusals.{by_ok, root_ok, root_rest, inside_on, root_on}
-use Rattle.model.specs.declared.Answer.TheVariants.{Refused}
+use Rattle.std.specs.Prelude.{Err}
+use Rattle.model.specs.declared.Refusal.{Refusal}
+use Rattle.model.specs.Refusals.{number_of}
+use Rattle.model.proofs.Refusals.{no_0}
 use Rattle.model.specs.Fields.{absent, inside, state}
 use Rattle.model.specs.Calls.{observe}
 use Rattle.model.specs.Promise.{Promise}
@@ -79,9 +82,9 @@ module _ (g : Geometry) (xs : List ℕ) (k i n : ℕ) (s : n ≡ inside_then (me
 
   module _ (c : Call) (e : wrong_size g (length xs) ≡ false) (test : RecordShape → ℕ)
       (is : inside_then (mem_of g xs) k (if_root i (if_record ((observe (mem_of g xs)).shape k i) test)) ≡ refusal (observe (mem_of g xs)) c) where
-    pub refused_at : (n ≡ 0 → ⊥) → Promise c g xs (Refused n) xs
+    pub refused_at : (w : Refusal) → number_of w ≡ n → Promise c g xs (Err w) xs
     unfolding inside_then
-    refused_at f = refused c g xs e (inside_on n _ _ (root_on n 0 _ (λ z. absurd (f z)) i) (observe (mem_of g xs)) k s ∙ is) f
+    refused_at w q = refused c g xs w e (q ∙ inside_on n _ _ (root_on n 0 _ (λ z. absurd (no_0 w (q ∙ z))) i) (observe (mem_of g xs)) k s ∙ is)
 
     pub reaches_at : n ≡ 0 → Reaches c g xs k i test
     unfolding inside_then
@@ -108,10 +111,10 @@ module _ (g : Geometry) (xs : List ℕ) (k i j n : ℕ) (s : n ≡ inside_then (
 
   module _ (c : Call) (e : wrong_size g (length xs) ≡ false) (r : ℕ) (test : RecordShape → ℕ)
       (is : inside_then (mem_of g xs) k (if_root i (if_root j (if_record ((observe (mem_of g xs)).shape k r) test))) ≡ refusal (observe (mem_of g xs)) c) where
-    pub refused_with : (n ≡ 0 → ⊥) → Promise c g xs (Refused n) xs
+    pub refused_with : (w : Refusal) → number_of w ≡ n → Promise c g xs (Err w) xs
     unfolding inside_then
-    refused_with f =
-        refused c g xs e (inside_on n _ _ (root_on n _ _ (root_on n 0 _ (λ z. absurd (f z)) j) i) (observe (mem_of g xs)) k s ∙ is) f
+    refused_with w q =
+        refused c g xs w e (q ∙ inside_on n _ _ (root_on n _ _ (root_on n 0 _ (λ z. absurd (no_0 w (q ∙ z))) j) i) (observe (mem_of g xs)) k s ∙ is)
 
     -- the record is in one of the two
     pub reaches_with : n ≡ 0 → (r ≡ i) ⊎ (r ≡ j) → Reaches c g xs k r test

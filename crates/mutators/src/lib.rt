@@ -9,10 +9,12 @@ ghost use Rattle.layout.specs.Mem.{mem_of};
 ghost use Rattle.theory.specs.Calls.{if_root};
 ghost use Rattle.model.specs.Fields.{inside, root, set_root, state, set_mutator_state, acks, set_acks, holding, set_holding};
 ghost use Rattle.model.specs.Mutators.{set_entry};
+ghost use Rattle.model.specs.Refusals.{number_or_0};
 ghost use Rattle.mutators.specs.Inside.{inside_then};
 ghost use Rattle.mutators.specs.Entry.{entry_of};
 
 use layout::Geometry;
+use model::Refusal;
 
 // The states of a mutator, as its entry has them.
 pub const ABSENT: u32 = 0;
@@ -93,28 +95,28 @@ pub fn set_holding(g: Geometry, mem: &mut [u32], k: u32, class: u32, v: u32)
     );
 }
 
-// The lowest refusal, 2, 4, 5 or 6, of a call by a mutator that must be inside with two roots, or 0 for none.
-fn lowest_refusal(g: Geometry, mem: &[u32], k: u32, i: u32, j: u32) -> u32
+// The lowest refusal, 2, 4, 5 or 6, of a call by a mutator that must be inside with two roots, if there is one.
+fn require_all(g: Geometry, mem: &[u32], k: u32, i: u32, j: u32) -> Result<(), Refusal>
     requires { Sized g (length mem.now) }
-    ensures { result ≡ inside_then (mem_of g mem.now) k (if_root i (if_root j 0)) }
+    ensures { number_or_0 result ≡ inside_then (mem_of g mem.now) k (if_root i (if_root j 0)) }
 {
     if layout::MUTATORS <= k {
-        return 2;
+        return Err(Refusal::Mutator);
     }
     let state = state(g, mem, k);
     if state == ABSENT {
-        return 4;
+        return Err(Refusal::Absent);
     }
     if state != INSIDE {
-        return 5;
+        return Err(Refusal::Side);
     }
     if layout::ROOTS <= i {
-        return 6;
+        return Err(Refusal::Root);
     }
     if layout::ROOTS <= j {
-        return 6;
+        return Err(Refusal::Root);
     }
-    0
+    Ok(())
 }
 
 // Whether mutator k is attached and inside.
@@ -128,44 +130,44 @@ fn is_inside(g: Geometry, mem: &[u32], k: u32) -> bool
     state(g, mem, k) == INSIDE
 }
 
-// The refusal 2, 4 or 5 of a call by a mutator that must be inside, or 0 for none. Here and below the number is looked for only where the call does not
-// pass: that takes fewer instructions on the way of a call that does.
-pub fn inside_refusal(g: Geometry, mem: &[u32], k: u32) -> u32
+// The refusal 2, 4 or 5 of a call by a mutator that must be inside, if there is one. Here and below it is looked for only where the call does not pass:
+// that takes fewer instructions on the way of a call that does.
+pub fn require_inside(g: Geometry, mem: &[u32], k: u32) -> Result<(), Refusal>
     requires { Sized g (length mem.now) }
-    ensures { result ≡ inside_then (mem_of g mem.now) k 0 }
+    ensures { number_or_0 result ≡ inside_then (mem_of g mem.now) k 0 }
 {
     if is_inside(g, mem, k) {
-        return 0;
+        return Ok(());
     }
-    lowest_refusal(g, mem, k, 0, 0)
+    require_all(g, mem, k, 0, 0)
 }
 
-// The refusal 2, 4, 5 or 6 of a call by a mutator that must be inside, 6 unless i is a root's index; or 0 for none.
-pub fn root_refusal(g: Geometry, mem: &[u32], k: u32, i: u32) -> u32
+// The refusal 2, 4, 5 or 6 of a call by a mutator that must be inside, 6 unless i is a root's index; if there is one.
+pub fn require_root(g: Geometry, mem: &[u32], k: u32, i: u32) -> Result<(), Refusal>
     requires { Sized g (length mem.now) }
-    ensures { result ≡ inside_then (mem_of g mem.now) k (if_root i 0) }
+    ensures { number_or_0 result ≡ inside_then (mem_of g mem.now) k (if_root i 0) }
 {
     if is_inside(g, mem, k) {
         if i < layout::ROOTS {
-            return 0;
+            return Ok(());
         }
     }
-    lowest_refusal(g, mem, k, i, 0)
+    require_all(g, mem, k, i, 0)
 }
 
-// The refusal 2, 4, 5 or 6 of a call by a mutator that must be inside, 6 unless i and j are roots' indices; or 0 for none.
-pub fn roots_refusal(g: Geometry, mem: &[u32], k: u32, i: u32, j: u32) -> u32
+// The refusal 2, 4, 5 or 6 of a call by a mutator that must be inside, 6 unless i and j are roots' indices; if there is one.
+pub fn require_roots(g: Geometry, mem: &[u32], k: u32, i: u32, j: u32) -> Result<(), Refusal>
     requires { Sized g (length mem.now) }
-    ensures { result ≡ inside_then (mem_of g mem.now) k (if_root i (if_root j 0)) }
+    ensures { number_or_0 result ≡ inside_then (mem_of g mem.now) k (if_root i (if_root j 0)) }
 {
     if is_inside(g, mem, k) {
         if i < layout::ROOTS {
             if j < layout::ROOTS {
-                return 0;
+                return Ok(());
             }
         }
     }
-    lowest_refusal(g, mem, k, i, j)
+    require_all(g, mem, k, i, j)
 }
 
 // Root i of mutator k.

@@ -1,6 +1,6 @@
 -- The free stack as the opening fills it, one entry at a time, and what the whole comes to.
 use mathlib.Core.Path.{◌≡◌, refl, sym, ◌∙◌, ap}
-use mathlib.Core.Bool.{true, false, true≢false}
+use mathlib.Core.Bool.{false, true≢false}
 use mathlib.Core.List.{List, ◌∷◌, ◌++◌}
 use Prim.Native.Nat.{ℕ, zero, suc, ◌+◌, ◌-◌, ◌≤◌, ◌<◌}
 use native.Mathlib.Omega.{arith}
@@ -9,39 +9,32 @@ use lib.Seq.{sets, sets-eq}
 use Rattle.layout.specs.declared.Geometry.{Geometry}
 use Rattle.layout.specs.Geometry.{len, wrong_size}
 use Rattle.layout.specs.Mem.{Mem, mem_of, with_region, clear_region, set_stack}
-use Rattle.model.specs.declared.Answer.TheVariants.{Ok, Refused}
+use Rattle.std.specs.Prelude.{Ok}
+use Rattle.model.specs.declared.Answer.TheVariants.{Done}
 use Rattle.model.specs.Opening.{down_to0, opened}
 use Rattle.model.specs.Promise.{OpenPromise}
 use Rattle.opening.specs.Stacking.{stacked_down}
 use Rattle.layout.specs.Region as Region
 
-stacked_none : (m : Mem) (at n : ℕ) → n ≡ 0 → m ≡ stacked_down m at n
-unfolding stacked_down down_to0
-stacked_none m at n e = rw e refl
-
-stacked_more : (m m₁ m₂ : Mem) (at n : ℕ) → (n ≡ 0 → ⊥) → m₁ ≡ set_stack m at (n - 1) → m₂ ≡ stacked_down m₁ (at + 1) (n - 1) → m₂ ≡ stacked_down m at n
-unfolding stacked_down down_to0 set_stack
-stacked_more m m₁ m₂ at zero f e h = absurd (f refl)
-stacked_more m m₁ m₂ at (suc n) f e h =
-    let p : suc n - 1 ≡ n = omega arith in
-    let q : at + 1 ≡ suc at = omega arith in
-    h ∙ rw (e, p, q) refl
-
--- ---- entry by entry: after i of n entries, what is left to do comes to w, as the whole did
+-- ---- entry by entry: with i of n entries written, what is left to do comes to the whole
 
 pub left_all : (m : Mem) (at n : ℕ) → stacked_down m (at + 0) (n - 0) ≡ stacked_down m at n
 left_all m at n = let p : at + 0 ≡ at = omega arith in let q : n - 0 ≡ n = omega arith in rw (p, q)
 
-module _ (m w : Mem) (at n i : ℕ) (e : stacked_down m (at + i) (n - i) ≡ w) where
-  pub left_less : i < n → (m₁ : Mem) → m₁ ≡ set_stack m (at + i) (n - 1 - i) → stacked_down m₁ (at + (i + 1)) (n - (i + 1)) ≡ w
-  left_less l m₁ f =
-      let p : n - 1 - i ≡ n - i - 1 = omega arith in
-      let q : at + (i + 1) ≡ at + i + 1 = omega arith in
-      let r : n - (i + 1) ≡ n - i - 1 = omega arith in
-      rw (q, r) (stacked_more m m₁ (stacked_down m₁ (at + i + 1) (n - i - 1)) (at + i) (n - i) (λ z. omega arith) (f ∙ ap (set_stack m (at + i)) p) refl ∙ e)
+first_down : (m : Mem) (at k n : ℕ) → k ≡ suc n → stacked_down m at k ≡ stacked_down (set_stack m at n) (at + 1) n
+unfolding stacked_down down_to0 set_stack
+first_down m at k n e = let q : at + 1 ≡ suc at = omega arith in rw (e, q) refl
 
-  pub left_none : n ≤ i → m ≡ w
-  left_none l = let z : n - i ≡ 0 = omega arith in stacked_none m (at + i) (n - i) z ∙ e
+pub left_next : (m : Mem) (at n i : ℕ) → i < n → stacked_down (set_stack m (at + i) (n - 1 - i)) (at + (i + 1)) (n - (i + 1)) ≡ stacked_down m (at + i) (n - i)
+left_next m at n i l =
+    let p : n - i ≡ suc (n - 1 - i) = omega arith in
+    let q : at + (i + 1) ≡ at + i + 1 = omega arith in
+    let r : n - (i + 1) ≡ n - 1 - i = omega arith in
+    rw (q, r) (sym (first_down m (at + i) (n - i) (n - 1 - i) p))
+
+pub left_none : (m : Mem) (at n i : ℕ) → n ≤ i → stacked_down m (at + i) (n - i) ≡ m
+unfolding stacked_down down_to0
+left_none m at n i l = let z : n - i ≡ 0 = omega arith in rw z refl
 
 -- ---- what the whole comes to
 
@@ -90,8 +83,5 @@ module _ (g : Geometry) (m : Mem) {m₀ m₁ m₂ m₃ m₅ m₆ : Mem} where
 -- ---- the promise of the opening
 
 module _ (g : Geometry) (xs : List ℕ) where
-  pub open_1 : wrong_size g (length xs) ≡ true → OpenPromise g xs (Refused 1) xs
-  open_1 e = record { sizes = λ _. (refl, refl); exact = λ f. absurd (true≢false (sym e ∙ f)) }
-
-  pub open_ok : {ys : List ℕ} → wrong_size g (length xs) ≡ false → mem_of g ys ≡ opened g (mem_of g xs) → OpenPromise g xs Ok ys
+  pub open_ok : {ys : List ℕ} → wrong_size g (length xs) ≡ false → mem_of g ys ≡ opened g (mem_of g xs) → OpenPromise g xs (Ok Done) ys
   open_ok e h = record { sizes = λ f. absurd (true≢false (sym f ∙ e)); exact = λ _. (refl, h) }

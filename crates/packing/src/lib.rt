@@ -6,7 +6,7 @@ ghost use Rattle.std.specs.Prelude.{◌≡◌};
 ghost use Rattle.packing.specs.Packed.{geometry_of, no_size, pack, pack_value, pack_step, pack_phase, pack_examined};
 
 use layout::Geometry;
-use model::{Answer, Examined, PhaseLook, Step};
+use model::{Answer, Refusal, Step};
 
 // The lowest of the upper 32 bits.
 const UPPER: u64 = 4294967296;
@@ -21,32 +21,29 @@ pub fn geometry(segments: u32, kib: u32) -> Geometry
 }
 
 // 0, or the number of the refusal.
-pub fn packed(a: Answer) -> u32
+pub fn packed(a: Result<Answer, Refusal>) -> u32
     ensures { result ≡ pack a }
 {
     match a {
-        Answer::Ok => 0,
-        Answer::Number(v) => 0,
-        Answer::Same(b) => 0,
-        Answer::Shape(s) => 0,
-        Answer::Refused(n) => n,
+        Ok(_) => 0,
+        Err(e) => e.number(),
     }
 }
 
 // The value in the upper 32 bits, or the number of the refusal.
-pub fn packed_value(a: Answer) -> u64
+pub fn packed_value(a: Result<Answer, Refusal>) -> u64
     ensures { result ≡ pack_value a }
 {
     match a {
-        Answer::Ok => 0,
-        Answer::Number(v) => v as u64 * UPPER,
-        Answer::Same(b) => { if b { UPPER } else { 0 } }
-        Answer::Shape(s) => {
+        Ok(Answer::Done) => 0,
+        Ok(Answer::Number(v)) => v as u64 * UPPER,
+        Ok(Answer::Same(b)) => { if b { UPPER } else { 0 } }
+        Ok(Answer::Shape(s)) => {
             let p = s.pointer_count % records::HALF_WORD;
             let n = s.value_count % records::HALF_WORD;
             (p * records::HALF_WORD + n) as u64 * UPPER
         }
-        Answer::Refused(n) => n as u64,
+        Err(e) => e.number() as u64,
     }
 }
 
@@ -66,23 +63,23 @@ pub fn packed_step(a: Step) -> u64
 }
 
 // The phase's number in the upper 32 bits, or the number of the refusal.
-pub fn packed_phase(a: PhaseLook) -> u64
+pub fn packed_phase(a: Result<u32, Refusal>) -> u64
     ensures { result ≡ pack_phase a }
 {
     match a {
-        PhaseLook::Phase(p) => p as u64 * UPPER,
-        PhaseLook::Refused(n) => n as u64,
+        Ok(p) => p as u64 * UPPER,
+        Err(e) => e.number() as u64,
     }
 }
 
 // 1 in the upper 32 bits where the examination says yes, or the number of the refusal.
-pub fn packed_examined(a: Examined) -> u64
+pub fn packed_examined(a: Result<bool, Refusal>) -> u64
     ensures { result ≡ pack_examined a }
 {
     match a {
-        Examined::Yes => UPPER,
-        Examined::No => 0,
-        Examined::Refused(n) => n as u64,
+        Ok(true) => UPPER,
+        Ok(false) => 0,
+        Err(e) => e.number() as u64,
     }
 }
 

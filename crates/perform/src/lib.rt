@@ -7,10 +7,9 @@ ghost use Rattle.model.specs.Promise.{Promise};
 ghost use Rattle.perform.specs.Requests.{call_of};
 
 use layout::Geometry;
-use model::Answer;
+use model::{Answer, Refusal};
 
 // A mutator's call with its arguments (document 01, "Scripts").
-#[derive(Drop)]
 #[derive(Clone, Copy)]
 pub enum Request {
     Attach {
@@ -83,7 +82,7 @@ pub enum Request {
 }
 
 // The call that a request stands for.
-pub fn perform(g: Geometry, mem: &mut [u32], request: Request) -> Answer
+pub fn perform(g: Geometry, mem: &mut [u32], request: Request) -> Result<Answer, Refusal>
     ensures { Promise (call_of request) g mem.old result mem.new }
 {
     match request {

@@ -13,17 +13,10 @@ ghost use Rattle.layout.specs.Region as Region;
 
 use classes::RecordShape;
 use layout::Geometry;
-use model::Held;
+use model::{Held, Refusal};
 
 // A header word has the pointers' count in its upper half, and the values' in its lower.
 pub const HALF_WORD: u32 = 65536;
-
-// The word of a field in the heap, or a refusal's number.
-#[derive(Drop)]
-pub enum FieldAt {
-    Word(usize),
-    Refused(u32),
-}
 
 pub fn held_of(w: u32) -> Held
     ensures { result ≡ held_of w }
@@ -47,43 +40,43 @@ pub fn shape(g: Geometry, mem: &[u32], at: usize) -> RecordShape
 }
 
 // Pointer f of the record at a word.
-pub fn pointer_at(g: Geometry, mem: &[u32], at: usize, f: u32) -> FieldAt
+pub fn pointer_at(g: Geometry, mem: &[u32], at: usize, f: u32) -> Result<usize, Refusal>
     requires { Sized g (length mem.now) }
     ensures { result ≡ pointer_at g (mem_of g mem.now) at f }
 {
     let end = layout::heap_words(g);
     if end <= at {
-        return FieldAt::Refused(13);
+        return Err(Refusal::Torn);
     }
     let shape = shape(g, mem, at);
     if shape.pointer_count <= f {
-        return FieldAt::Refused(8);
+        return Err(Refusal::Field);
     }
     let word = at + 1 + f as usize;
     if end <= word {
-        return FieldAt::Refused(13);
+        return Err(Refusal::Torn);
     }
-    FieldAt::Word(word)
+    Ok(word)
 }
 
 // Value f of the record at a word.
-pub fn value_at(g: Geometry, mem: &[u32], at: usize, f: u32) -> FieldAt
+pub fn value_at(g: Geometry, mem: &[u32], at: usize, f: u32) -> Result<usize, Refusal>
     requires { Sized g (length mem.now) }
     ensures { result ≡ value_at g (mem_of g mem.now) at f }
 {
     let end = layout::heap_words(g);
     if end <= at {
-        return FieldAt::Refused(13);
+        return Err(Refusal::Torn);
     }
     let shape = shape(g, mem, at);
     if shape.value_count <= f {
-        return FieldAt::Refused(8);
+        return Err(Refusal::Field);
     }
     let word = at + 1 + shape.pointer_count as usize + f as usize;
     if end <= word {
-        return FieldAt::Refused(13);
+        return Err(Refusal::Torn);
     }
-    FieldAt::Word(word)
+    Ok(word)
 }
 
 // What a field's word holds.

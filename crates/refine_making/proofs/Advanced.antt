@@ -5,6 +5,7 @@ use mathlib.Core.List.{List}
 use Prim.Native.Nat.{ℕ, ◌+◌, ◌-◌, ◌*◌, ◌≤◌, ◌<◌}
 use native.Mathlib.Omega.{arith}
 use lib.ListN.{length, get_or}
+use Rattle.std.specs.Prelude.{Ok, Err, Some, None}
 use Rattle.words.specs.Bits.{bit_at}
 use Rattle.words.proofs.FirstZero.{NoZero}
 use Rattle.classes.specs.Class.{first_class}
@@ -12,8 +13,7 @@ use Rattle.classes.specs.declared.RecordShape.{RecordShape}
 use Rattle.layout.specs.declared.Geometry.{Geometry}
 use Rattle.layout.specs.Geometry.{mutator_words, segment_record_words, blocks_in}
 use Rattle.layout.specs.Mem.{Mem, set_mutator, set_segment, Sizes}
-use Rattle.bitmap_search.specs.declared.Found.{Found}
-use Rattle.bitmap_search.specs.declared.Found.TheVariants.{Block, Nothing, Torn}
+use Rattle.bitmap_search.specs.Scan.{Found}
 use Rattle.bitmap_search.proofs.Scan.{IsNext, next_is}
 use Rattle.model.specs.declared.SegmentState.{SegmentState}
 use Rattle.model.specs.declared.SegmentState.TheVariants.{Held, Full}
@@ -105,6 +105,6 @@ module _ (g : Geometry) (m : Mem) (s : Sizes g m) (k d cl r b : ℕ) (shape : Re
   moved = go (free g m r cl (b + 1)) (next_is (bit_at (bitmap g m r)) (blocks_in g cl) (b + 1))
     where
       go : (f : Found) → IsNext (bit_at (bitmap g m r)) (blocks_in g cl) (b + 1) f → Moved g m (advanced g m₀ k cl r (b + 1) f) k cl r b
-      go (Block i) h = still i h.0 h.1 h.2
-      go Nothing h = fills h
-      go Torn h = absurd h
+      go (Ok (Some i)) h = still i h.0 h.1 h.2
+      go (Ok None) h = fills h
+      go (Err _) h = absurd h

@@ -4,13 +4,12 @@ use mathlib.Core.Path.{◌≡◌}
 use mathlib.Core.Bool.{true}
 use Prim.Native.Nat.{ℕ, suc, ◌<◌}
 use lib.ListN.{replicate}
-use Rattle.classes.specs.declared.SizeClass.TheVariants.{Class}
+use Rattle.std.specs.Prelude.{Some, Ok}
 use Rattle.classes.specs.declared.RecordShape.{RecordShape}
 use Rattle.classes.specs.Record.{pointer_count_of, value_count_of, class_of_record}
 use Rattle.layout.specs.declared.Geometry.{Geometry}
 use Rattle.layout.specs.Geometry.{mutator_count, root_count, segment_of}
 use Rattle.layout.specs.Mem.{Mem, Sizes}
-use Rattle.bitmap_search.specs.declared.Found.TheVariants.{Block}
 use Rattle.theory.specs.Machine.{State, make}
 use Rattle.theory.proofs.Agree.{Agree}
 use Rattle.theory.specs.Calls.{c_make}
@@ -55,8 +54,8 @@ module _ (g : Geometry) (m : Mem) (s : Sizes g m) (c : Ordered g m) where
         steady = t;
       }
 
-  pub handed : (k d cl r : ℕ) (shape : RecordShape) → k < mutator_count → is_attached m k ≡ true → d < root_count → class_of_record shape ≡ Class cl → holding m k cl ≡ suc r
-      → (b : ℕ) × (free g m r cl (place m r) ≡ Block b)
+  pub handed : (k d cl r : ℕ) (shape : RecordShape) → k < mutator_count → is_attached m k ≡ true → d < root_count → class_of_record shape ≡ Some cl → holding m k cl ≡ suc r
+      → (b : ℕ) × (free g m r cl (place m r) ≡ Ok (Some b))
       × Permitted (segment_of g) (header_of g r cl b) (view g m) (c_make k d (pointer_count_of shape) (value_count_of shape))
       × HandsOut g m (handed_out g m k d cl r b shape) r (make (view g m) k d (header_of g r cl b) (pointer_count_of shape) (replicate (value_count_of shape) 0))
   handed k d cl r shape few att within sized holds =

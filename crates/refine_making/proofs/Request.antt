@@ -3,18 +3,18 @@ use mathlib.Core.Path.{◌≡◌, refl, subst}
 use mathlib.Core.Bool.{true}
 use Prim.Native.Nat.{ℕ, suc, ◌+◌, ◌≤◌, ◌<◌}
 use native.Mathlib.Omega.{arith}
+use Rattle.std.specs.Prelude.{Ok, Err, Some, None}
 use Rattle.words.specs.Bits.{bit_at}
 use Rattle.words.proofs.FirstZero.{NoZero}
 use Rattle.classes.specs.Class.{IsClass, block_words}
-use Rattle.classes.specs.declared.SizeClass.TheVariants.{Class}
+use Rattle.std.specs.Prelude.{Some}
 use Rattle.classes.proofs.Smallest.{class_found, class_holds}
 use Rattle.classes.specs.declared.RecordShape.{RecordShape}
 use Rattle.classes.specs.Record.{field_count_of, class_of_record}
 use Rattle.layout.specs.declared.Geometry.{Geometry}
 use Rattle.layout.specs.Geometry.{mutator_count, root_count, blocks_in}
 use Rattle.layout.specs.Mem.{Mem}
-use Rattle.bitmap_search.specs.declared.Found.{Found}
-use Rattle.bitmap_search.specs.declared.Found.TheVariants.{Block, Nothing, Torn}
+use Rattle.bitmap_search.specs.Scan.{Found}
 use Rattle.bitmap_search.proofs.Scan.{IsNext, next_is}
 use Rattle.model.specs.Fields.{absent, state, holding, tag, class, place, owner}
 use Rattle.model.specs.Segments.{bitmap, free}
@@ -28,7 +28,7 @@ pub record Request (g : Geometry) (m : Mem) (k d cl r b : ℕ) (shape : RecordSh
   pub few : k < mutator_count
   pub attached : state m k ≡ absent → ⊥
   pub within : d < root_count
-  pub sized : class_of_record shape ≡ Class cl
+  pub sized : class_of_record shape ≡ Some cl
   pub is_class : IsClass cl
   pub fits : 1 + field_count_of shape ≤ block_words cl
   pub inside : r < g.segments
@@ -42,13 +42,13 @@ pub record Request (g : Geometry) (m : Mem) (k d cl r b : ℕ) (shape : RecordSh
   pub passed : NoZero (bit_at (bitmap g m r)) (place m r) b
 
 -- the scan finds a block where there is one
-found : (bit : ℕ → ℕ) (n p : ℕ) (f : Found) → IsNext bit n p f → (i : ℕ) → p ≤ i → i < n → bit i ≡ 0 → (b : ℕ) × (f ≡ Block b) × (p ≤ b) × (b < n) × (bit b ≡ 0) × NoZero bit p b
-found bit n p (Block b) h i l k z = (b, refl, h.0, h.1, h.2, h.3)
-found bit n p Nothing h i l k z = absurd (h i l k z)
-found bit n p Torn h i l k z = absurd h
+found : (bit : ℕ → ℕ) (n p : ℕ) (f : Found) → IsNext bit n p f → (i : ℕ) → p ≤ i → i < n → bit i ≡ 0 → (b : ℕ) × (f ≡ Ok (Some b)) × (p ≤ b) × (b < n) × (bit b ≡ 0) × NoZero bit p b
+found bit n p (Ok (Some b)) h i l k z = (b, refl, h.0, h.1, h.2, h.3)
+found bit n p (Ok None) h i l k z = absurd (h i l k z)
+found bit n p (Err _) h i l k z = absurd h
 
 module _ (g : Geometry) (m : Mem) (c : Ordered g m) (k d cl r : ℕ) (shape : RecordShape) (few : k < mutator_count)
-    (att : is_attached m k ≡ true) (within : d < root_count) (sized : class_of_record shape ≡ Class cl) (holds : holding m k cl ≡ suc r)
+    (att : is_attached m k ≡ true) (within : d < root_count) (sized : class_of_record shape ≡ Some cl) (holds : holding m k cl ≡ suc r)
   where
     is_class_lem : IsClass cl
     is_class_lem = class_found (field_count_of shape) cl sized
@@ -57,13 +57,13 @@ module _ (g : Geometry) (m : Mem) (c : Ordered g m) (k d cl r : ℕ) (shape : Re
     fit = let l = class_holds (field_count_of shape) cl sized in omega arith
 
     -- a held segment has a free block at or after its place
-    pub requested : (b : ℕ) × (free g m r cl (place m r) ≡ Block b) × Request g m k d cl r b shape
+    pub requested : (b : ℕ) × (free g m r cl (place m r) ≡ Ok (Some b)) × Request g m k d cl r b shape
     requested = go ((c.mutators k few).holds cl r is_class_lem holds)
       where
-        go : (r < g.segments) × (tag m r ≡ Tag.held) × (class m r ≡ cl) × (owner m r ≡ k) → (b : ℕ) × (free g m r cl (place m r) ≡ Block b) × Request g m k d cl r b shape
+        go : (r < g.segments) × (tag m r ≡ Tag.held) × (class m r ≡ cl) × (owner m r ≡ k) → (b : ℕ) × (free g m r cl (place m r) ≡ Ok (Some b)) × Request g m k d cl r b shape
         go h = on ((c.segments r h.0).remains (let e = h.1 in omega arith) (let e = h.1 in omega arith))
           where
-            on : (b : ℕ) × (place m r ≤ b) × (b < blocks_in g (class m r)) × (bit_at (bitmap g m r) b ≡ 0) → (b : ℕ) × (free g m r cl (place m r) ≡ Block b) × Request g m k d cl r b shape
+            on : (b : ℕ) × (place m r ≤ b) × (b < blocks_in g (class m r)) × (bit_at (bitmap g m r) b ≡ 0) → (b : ℕ) × (free g m r cl (place m r) ≡ Ok (Some b)) × Request g m k d cl r b shape
             on i =
                 let f = found (bit_at (bitmap g m r)) (blocks_in g cl) (place m r) (free g m r cl (place m r))
                 (next_is (bit_at (bitmap g m r)) (blocks_in g cl) (place m r)) i.0 i.1 (subst (λ z. i.0 < blocks_in g z) h.2 i.2) i.3 in (

@@ -6,7 +6,7 @@ use native.Mathlib.Omega.{arith}
 use Rattle.basics.proofs.Order.{same_or_not}
 use Rattle.words.specs.Bits.{bit_at}
 use Rattle.classes.specs.Class.{IsClass}
-use Rattle.classes.specs.declared.SizeClass.TheVariants.{Class}
+use Rattle.std.specs.Prelude.{Some}
 use Rattle.classes.specs.declared.RecordShape.{RecordShape}
 use Rattle.classes.specs.Record.{class_of_record}
 use Rattle.layout.specs.declared.Geometry.{Geometry}
@@ -86,7 +86,7 @@ module _ (g : Geometry) (m : Mem) (s : Sizes g m) (c : Ordered g m) (m' : Mem) (
     used = newborn.tag_at g m c m' k d cl r b shape q a;
     aligned = newborn.aligned_there g m c m' k d cl r b shape q a;
     block = newborn.used_there g m c m' k d cl r b shape q a;
-    sized = ap class_of_record (newborn.shape_there g m c m' k d cl r b shape q a) ∙ q.sized ∙ ap Class (sym (newborn.class_at g m c m' k d cl r b shape q a));
+    sized = ap class_of_record (newborn.shape_there g m c m' k d cl r b shape q a) ∙ q.sized ∙ ap Some (sym (newborn.class_at g m c m' k d cl r b shape q a));
   }
 
   records_ok : (x : ℕ) → Live m' x → RecordOk g m' x

@@ -1,24 +1,23 @@
 -- The answers of the definitions: a result of the call's kind, or a refusal that the call may give and that is not 1.
-use mathlib.Core.Path.{◌≡◌, refl, sym, ◌∙◌, subst}
+use mathlib.Core.Path.{◌≡◌, refl, sym, ◌∙◌, ap, subst}
 use mathlib.Core.Bool.{Bool, true, false, ◌&&◌}
 use mathlib.Core.Option.{Option, none, some, none-ne-some, some-injective}
 use mathlib.Core.List.{List}
 use Prim.Native.Nat.{ℕ, zero, suc, ◌-◌, ◌≤◌, ◌<◌}
 use native.Mathlib.Omega.{arith}
 use lib.Dec.{eqb}
-use Rattle.classes.specs.declared.SizeClass.{SizeClass}
-use Rattle.classes.specs.declared.SizeClass.TheVariants.{Class, TooBig}
+use Rattle.classes.specs.Class.{SizeClass}
+use Rattle.std.specs.Prelude.{Some, None, Ok, Err}
 use Rattle.classes.specs.Record.{of_counts, class_of_record}
 use Rattle.layout.specs.declared.Geometry.{Geometry}
 use Rattle.layout.specs.Mem.{Mem}
 use Rattle.layout.specs.Geometry.{mutator_count, blocks_in, most_blocks}
 use Rattle.layout.proofs.Sizes.{whole}
-use Rattle.bitmap_search.specs.declared.Found.{Found}
-use Rattle.bitmap_search.specs.declared.Found.TheVariants.{Block, Nothing, Torn}
+use Rattle.bitmap_search.specs.Scan.{Found}
 use Rattle.theory.specs.Phases.{Phase, idle, sync1, sync2, mark, sweep, in_handshake, owes}
-use Rattle.theory.specs.Calls.{Call, c_attach, c_detach, c_check, c_leave, c_enter, c_spawn, c_make, c_load, c_store, c_copy, c_clear, c_put, c_get}
-use Rattle.theory.specs.Calls.{c_same, c_shape, a_ok, a_moved, a_traced, a_done, a_idle, a_num, a_flag, a_shape, a_no, refusal, unless, on_record}
-use Rattle.theory.specs.Calls.{same_ref}
+use Rattle.theory.specs.Calls.{Call, c_attach, c_detach, c_check, c_leave, c_enter, c_spawn, c_make, c_load, c_store, c_copy, c_clear, c_put, c_get, c_same, c_shape, a_ok, a_moved, a_traced, a_done, a_idle, a_num, a_flag, a_shape, a_no, refusal, unless, on_record, same_ref}
+use Rattle.model.specs.declared.Refusal.{Refusal}
+use Rattle.model.specs.Refusals.{number_of}
 use Rattle.model.specs.Answers.{answer_of, step_answer_of, refusal_in, IsOk, ResultOf, StepResult, is_waiting, is_moved, is_traced, is_swept, is_done, is_idle, among, may_give, start_may_give}
 use Rattle.model.specs.Fields.{phase, inside, state, acks, place, root, class, trace_count}
 use Rattle.model.specs.Segments.{free_stack, part_stack, pop, free, in_use}
@@ -29,12 +28,14 @@ use Rattle.model.specs.Collector.{start_in, start_of, moved_or_waiting, traces, 
 use Rattle.model.specs.Consistent.{Consistent, SegmentOk}
 use Rattle.model.specs.Run.{declared, declared_step}
 use Rattle.theory.proofs.Refusals.{by_ok, root_ok}
+use Rattle.model.proofs.Refusals.{numbered_back}
 use Rattle.model_laws.proofs.Headers.{class_halves}
 use Rattle.model_laws.proofs.Rooted.{named, rooted}
 use Rattle.model_laws.proofs.Bools.{one_less}
 use Rattle.model_laws.proofs.Segments.{in_use-le}
 use Rattle.model_laws.proofs.Lowest.{found_condemned}
 use Rattle.theory.specs.Calls as theory
+use Rattle.model.specs.declared.Refusal.TheVariants as refusal_is
 
 -- an answer of a definition that the declared enum has, of the kind `Result` or among the refusals ns
 pub record Answers (Result : theory.Answer → Type 0) (ns : List ℕ) (a : theory.Answer) : Type 0 where
@@ -44,12 +45,12 @@ pub record Answers (Result : theory.Answer → Type 0) (ns : List ℕ) (a : theo
   pub not_size : refusal_in a ≡ some 1 → ⊥
 
 module _ (Result : theory.Answer → Type 0) (ns : List ℕ) where
-  pub refuses : (n : ℕ) → among n ns ≡ true → (n ≡ 1 → ⊥) → Answers Result ns (a_no n)
-  refuses n e f = record {
-    same = refl;
-    kind = λ q. absurd (none-ne-some n (sym q));
-    allowed = λ k q. subst (λ k. among k ns ≡ true) (some-injective n k q) e;
-    not_size = λ q. f (some-injective n 1 q);
+  pub refuses : (w : Refusal) → among (number_of w) ns ≡ true → (number_of w ≡ 1 → ⊥) → Answers Result ns (a_no (number_of w))
+  refuses w e f = record {
+    same = ap (λ v. a_no (number_of v)) (numbered_back w);
+    kind = λ q. absurd (none-ne-some (number_of w) (sym q));
+    allowed = λ k q. subst (λ k. among k ns ≡ true) (some-injective (number_of w) k q) e;
+    not_size = λ q. f (some-injective (number_of w) 1 q);
   }
 
   gives : (a : theory.Answer) → answer_of (declared a) ≡ a → refusal_in a ≡ none → Result a → Answers Result ns a
@@ -61,11 +62,11 @@ module _ (Result : theory.Answer → Type 0) (ns : List ℕ) where
   }
 
   record_answers : (o : Option ℕ) (m : Mem) (rest : ℕ → theory.Answer × Mem) → among 7 ns ≡ true → ((at : ℕ) → Answers Result ns (rest at).0) → Answers Result ns (on_record o m rest).0
-  record_answers none m rest e f = refuses 7 e (λ q. omega arith)
+  record_answers none m rest e f = refuses refusal_is.Nil e (λ q. omega arith)
   record_answers (some at) m rest e f = f at
 
   unless_answers : (t : Bool) (m m' : Mem) → among 11 ns ≡ true → Answers Result ns a_ok → Answers Result ns (unless t 11 m m').0
-  unless_answers true m m' e a = refuses 11 e (λ q. omega arith)
+  unless_answers true m m' e a = refuses refusal_is.NotNow e (λ q. omega arith)
   unless_answers false m m' e a = a
 
 -- ---- make
@@ -78,9 +79,9 @@ module _ (g : Geometry) (m : Mem) (k d p n : ℕ) where
   made_ok = gives _ _ a_ok refl refl refl
 
   block_answers : (taken : Mem) (f : Found) (c s : ℕ) → Fine (in_block g m taken f k d c s (of_counts p n)).0
-  block_answers taken (Block b) c s = made_ok
-  block_answers taken Nothing c s = refuses _ _ 13 refl (λ q. omega arith)
-  block_answers taken Torn c s = refuses _ _ 13 refl (λ q. omega arith)
+  block_answers taken (Ok (Some b)) c s = made_ok
+  block_answers taken (Ok None) c s = refuses _ _ refusal_is.Torn refl (λ q. omega arith)
+  block_answers taken (Err _) c s = refuses _ _ refusal_is.Torn refl (λ q. omega arith)
 
   source_answers : (c : ℕ) (x : Source) → Fine (from_source g m k d c (of_counts p n) x).0
   source_answers c (held s) = block_answers m (free g m s c (place m s)) c s
@@ -90,22 +91,22 @@ module _ (g : Geometry) (m : Mem) (k d p n : ℕ) where
   source_answers c (unused s) =
       let taken : Mem = freshened g (set_held g (pop g m free_stack) k c s 0) s c in
       block_answers taken (free g taken s c (place taken s)) c s
-  source_answers c no_room = refuses _ _ 10 refl (λ q. omega arith)
+  source_answers c no_room = refuses _ _ refusal_is.NoRoom refl (λ q. omega arith)
 
   made_answers : (c : ℕ) → Fine (made g m k d c (of_counts p n)).0
   unfolding made
   made_answers c = source_answers c (source_of g m k c)
 
   class_answers : (x : SizeClass) → Fine (of_class m x (λ c. made g m k d c (of_counts p n))).0
-  class_answers (Class c) = made_answers c
-  class_answers TooBig = refuses _ _ 9 refl (λ q. omega arith)
+  class_answers (Some c) = made_answers c
+  class_answers None = refuses _ _ refusal_is.TooBig refl (λ q. omega arith)
 
 -- ---- what a call answers that no number from 2 to 9 refuses
 
 -- of a record that a root names
 shape_answers : (g : Geometry) (m : Mem) → Consistent g m → (k i : ℕ) → refusal (observe m) (c_shape k i) ≡ 0 → (o : Option ℕ) → record? (root m k i) ≡ o
     → Answers (ResultOf (c_shape k i)) (may_give (c_shape k i)) (on_record o m (λ at. (a_shape (shape_of m at), m))).0
-shape_answers g m c k i e none h = refuses _ _ 7 refl (λ q. omega arith)
+shape_answers g m c k i e none h = refuses _ _ refusal_is.Nil refl (λ q. omega arith)
 shape_answers g m c k i e (some at) h =
     let a = by_ok (observe m) k _ e in
     let b = root_ok i _ a.3 in
@@ -135,10 +136,10 @@ act_answers g m z (c_shape k i) e = shape_answers g m z k i e (record? (root m k
 
 start_in_lem : (p : Phase) (g : Geometry) (m : Mem) → Answers IsOk start_may_give (start_in p g m).0
 start_in_lem idle g m = gives _ _ a_ok refl refl refl
-start_in_lem sync1 g m = refuses _ _ 11 refl (λ q. omega arith)
-start_in_lem sync2 g m = refuses _ _ 11 refl (λ q. omega arith)
-start_in_lem mark g m = refuses _ _ 11 refl (λ q. omega arith)
-start_in_lem sweep g m = refuses _ _ 11 refl (λ q. omega arith)
+start_in_lem sync1 g m = refuses _ _ refusal_is.NotNow refl (λ q. omega arith)
+start_in_lem sync2 g m = refuses _ _ refusal_is.NotNow refl (λ q. omega arith)
+start_in_lem mark g m = refuses _ _ refusal_is.NotNow refl (λ q. omega arith)
+start_in_lem sweep g m = refuses _ _ refusal_is.NotNow refl (λ q. omega arith)
 
 pub start_answers : (g : Geometry) (m : Mem) → Answers IsOk start_may_give (start_of g m).0
 unfolding start_of

@@ -2,7 +2,7 @@
 -- they are consistent.
 use mathlib.Core.Path.{◌≡◌, refl, sym, ◌∙◌, ap, subst}
 use mathlib.Core.Bool.{true, false, true≢false}
-use mathlib.Core.Option.{some, none-ne-some}
+use mathlib.Core.Option.{none-ne-some}
 use mathlib.Core.List.{List}
 use Prim.Native.Nat.{ℕ, zero, suc}
 use native.Mathlib.Omega.{arith}
@@ -11,15 +11,15 @@ use Rattle.layout.specs.declared.Geometry.{Geometry}
 use Rattle.layout.specs.Geometry.{wrong_size, Sized}
 use Rattle.layout.specs.Mem.{Mem, mem_of, flat, Sizes}
 use Rattle.layout.proofs.Regions.{right_size, mem_of-flat}
-use Rattle.theory.specs.Calls.{Call, refusal, refuse}
-use Rattle.model.specs.declared.Answer.TheVariants.{Refused}
-use Rattle.model.specs.Answers.{answer_of, refusal_in, IsOk, ResultOf, StepResult, may_give, start_may_give}
+use Rattle.theory.specs.Calls.{Call, refusal, refuse, a_no}
+use Rattle.model.specs.Refusals.{refusal_numbered}
+use Rattle.model.specs.Answers.{answer_of, refusal_in, IsOk, ResultOf, StepResult, among, may_give, start_may_give}
 use Rattle.model.specs.Promise.{PromiseOf, Promise, StartPromise, StepPromise}
 use Rattle.model.specs.Calls.{observe, act, exec}
 use Rattle.model.specs.Collector.{start_of, step_of}
 use Rattle.model.specs.Consistent.{Consistent}
 use Rattle.model.specs.Run.{declared, declared_step}
-use Rattle.model_laws.proofs.Promised.{refused}
+use Rattle.model.proofs.Numbers.{Among, refusal_among, one_of, may_numbered}
 use Rattle.model_laws.proofs.Lengths.{sizes_of}
 use Rattle.refine_run.proofs.Sizing.{sizes_exec}
 use Rattle.refine_run.proofs.Collecting.{sizes_start, sizes_step}
@@ -53,8 +53,11 @@ module _ (g : Geometry) (words : List ℕ) (z : Sized g (length words)) where
       go : (n : ℕ) → n ≡ refusal (observe (mem_of g words)) c → Answers (ResultOf c) (may_give c) (refuse n (mem_of g words) (act g (mem_of g words) c)).0
       go zero e = act_answers g (mem_of g words) k c (sym e)
       go (suc n) e =
-          let p : Promise c g words (Refused (suc n)) words = refused c g words {n = suc n} right e (λ q. omega arith) in
-          refuses (ResultOf c) (may_give c) (suc n) (p.allowed (suc n) refl) (λ q. not_wrong (p.only_size (ap (λ k. some k) q)))
+          let r = one_of (may_give c) (suc n) (λ q. omega arith) (subst (Among (may_give c)) (sym e) (refusal_among (observe (mem_of g words)) c)) in
+          let k = may_numbered (suc n) c r.0 in
+          let l = r.1 in
+          subst (λ x. Answers (ResultOf c) (may_give c) (a_no x)) k
+          (refuses (ResultOf c) (may_give c) (refusal_numbered (suc n)) (subst (λ x. among x (may_give c) ≡ true) (sym k) r.0) (λ q. omega arith))
 
   pub meets_call : Consistent g (mem_of g words) → (c : Call) → Promise c g words (declared (exec g (mem_of g words) c).0) (flat (exec g (mem_of g words) c).1)
   meets_call k c = keeps (λ g. ResultOf c) (may_give c) (λ g m. exec g m c) (exec_answers k c) (sizes_exec g (mem_of g words) (sizes_of g words z) c)

@@ -5,20 +5,17 @@ use mathlib.Core.List.{◌∷◌, ◌++◌}
 use Prim.Native.Nat.{ℕ, zero, suc, ◌+◌, ◌-◌, ◌*◌}
 use lib.Dec.{eqb}
 use lib.ListN.{replicate}
-use Rattle.classes.specs.Class.{first_class, class_count}
-use Rattle.classes.specs.declared.SizeClass.{SizeClass}
-use Rattle.classes.specs.declared.SizeClass.TheVariants.{Class, TooBig}
+use Rattle.classes.specs.Class.{first_class, class_count, SizeClass}
+use Rattle.std.specs.Prelude.{Some, None, Ok, Err}
 use Rattle.classes.specs.Record.{of_counts, field_count_of, class_of_record}
 use Rattle.classes.specs.declared.RecordShape.{RecordShape}
 use Rattle.layout.specs.declared.Geometry.{Geometry}
 use Rattle.layout.specs.Geometry.{mutator_words, segment_record_words, root_count, blocks_in, bitmap_words}
 use Rattle.layout.specs.Mem.{Mem, set_heap, Sizes}
-use Rattle.bitmap_search.specs.declared.Found.{Found}
-use Rattle.bitmap_search.specs.declared.Found.TheVariants.{Block, Nothing, Torn}
+use Rattle.bitmap_search.specs.Scan.{Found}
 use Rattle.bitmap_write.specs.Completed.{fresh}
 use Rattle.theory.specs.Phases.{newcomer, duty, black, in_handshake}
-use Rattle.theory.specs.Calls.{Call, c_attach, c_detach, c_check, c_leave, c_enter, c_spawn, c_make, c_load, c_store, c_copy, c_clear, c_put, c_get}
-use Rattle.theory.specs.Calls.{c_same, c_shape, Answer, unless, refuse, refusal, on_record}
+use Rattle.theory.specs.Calls.{Call, c_attach, c_detach, c_check, c_leave, c_enter, c_spawn, c_make, c_load, c_store, c_copy, c_clear, c_put, c_get, c_same, c_shape, Answer, unless, refuse, refusal, on_record}
 use Rattle.model.specs.declared.SegmentState.TheVariants.{Part, Held, Full}
 use Rattle.model.specs.Fields.{phase, acks, inside, outside, holding, place, root, state_at, held_from, handed_at, handed_count}
 use Rattle.model.specs.Segments.{part_stack, free_stack, stacked, count, pop, bitmap, above, free}
@@ -58,9 +55,9 @@ module _ (g : Geometry) where
   sizes_set_held m z k c s p = sizes_mutator g (segments.set_segment_state g m s (Held c p k)) (sizes_state g m z s (Held c p k)) (k * mutator_words + held_from + (c - first_class)) (suc s)
 
   sizes_advanced : (m : Mem) → Sizes g m → (k c s p : ℕ) (f : Found) → Sizes g (advanced g m k c s p f)
-  sizes_advanced m z k c s p (Block b) = sizes_state g m z s (Held c p k)
-  sizes_advanced m z k c s p Nothing = sizes_mutator g (segments.set_segment_state g m s (Full c)) (sizes_state g m z s (Full c)) (k * mutator_words + held_from + (c - first_class)) 0
-  sizes_advanced m z k c s p Torn = sizes_mutator g (segments.set_segment_state g m s (Full c)) (sizes_state g m z s (Full c)) (k * mutator_words + held_from + (c - first_class)) 0
+  sizes_advanced m z k c s p (Ok (Some b)) = sizes_state g m z s (Held c p k)
+  sizes_advanced m z k c s p (Ok None) = sizes_mutator g (segments.set_segment_state g m s (Full c)) (sizes_state g m z s (Full c)) (k * mutator_words + held_from + (c - first_class)) 0
+  sizes_advanced m z k c s p (Err _) = sizes_mutator g (segments.set_segment_state g m s (Full c)) (sizes_state g m z s (Full c)) (k * mutator_words + held_from + (c - first_class)) 0
 
   sizes_written : (m : Mem) → Sizes g m → (at : ℕ) (shape : RecordShape) → Sizes g (written m at shape)
   sizes_written m z at shape = sizes_heap_run g (set_heap m at (header_word shape)) (sizes_heap g m z at (header_word shape)) (at + 1) (replicate (field_count_of shape) 0)
@@ -81,9 +78,9 @@ module _ (g : Geometry) where
       sizes_mutator g (blackened g m₂ k at) (sizes_blackened m₂ z₂ k at) (k * mutator_words + d) (suc at)
 
   sizes_block : (m taken : Mem) → Sizes g m → Sizes g taken → (f : Found) (k d c s : ℕ) (shape : RecordShape) → Sizes g (in_block g m taken f k d c s shape).1
-  sizes_block m taken z y (Block b) k d c s shape = sizes_handed taken y k d c s b shape
-  sizes_block m taken z y Nothing k d c s shape = z
-  sizes_block m taken z y Torn k d c s shape = z
+  sizes_block m taken z y (Ok (Some b)) k d c s shape = sizes_handed taken y k d c s b shape
+  sizes_block m taken z y (Ok None) k d c s shape = z
+  sizes_block m taken z y (Err _) k d c s shape = z
 
   sizes_source : (m : Mem) → Sizes g m → (k d c : ℕ) (shape : RecordShape) (x : Source) → Sizes g (from_source g m k d c shape x).1
   sizes_source m z k d c shape (held s) = sizes_block m m z z (free g m s c (place m s)) k d c s shape
@@ -109,8 +106,8 @@ module _ (g : Geometry) where
   -- ---- calls
 
   sizes_class : (m : Mem) → Sizes g m → (x : SizeClass) (rest : ℕ → Answer × Mem) → ((c : ℕ) → Sizes g (rest c).1) → Sizes g (of_class m x rest).1
-  sizes_class m z (Class c) rest f = f c
-  sizes_class m z TooBig rest f = z
+  sizes_class m z (Some c) rest f = f c
+  sizes_class m z None rest f = z
 
   sizes_unless : (t : Bool) (n : ℕ) (m m' : Mem) → Sizes g m → Sizes g m' → Sizes g (unless t n m m').1
   sizes_unless true n m m' z y = z

@@ -4,7 +4,7 @@ use mathlib.Core.List.{List}
 use Prim.Native.Nat.{ℕ, ◌/◌, ◌%◌, ◌≤◌, ◌<◌}
 use Rattle.words.specs.Bits.{bit_at}
 use Rattle.classes.specs.Class.{block_words}
-use Rattle.classes.specs.declared.SizeClass.TheVariants.{Class}
+use Rattle.std.specs.Prelude.{Some}
 use Rattle.classes.specs.Record.{class_of_record}
 use Rattle.model_laws.proofs.Headers.{shape_by}
 use Rattle.layout.specs.declared.Geometry.{Geometry}
@@ -30,7 +30,7 @@ module _ (g : Geometry) (m m' : Mem) (at : ℕ) (c : class m' (segment_of g at) 
     used = t;
     aligned = ap (λ z. at % segment_words g % block_words z) c ∙ r.aligned;
     block = ap (used_bit g m' (segment_of g at)) block_by ∙ u;
-    sized = ap class_of_record (shape_by m m' at h) ∙ r.sized ∙ ap Class (sym c);
+    sized = ap class_of_record (shape_by m m' at h) ∙ r.sized ∙ ap Some (sym c);
   }
 
   pub use_by : HeadInUse g m at → (tag m' (segment_of g at) ≡ Tag.free → ⊥) → used_bit g m' (segment_of g at) (block_of g m at) ≡ 1 → HeadInUse g m' at

@@ -5,51 +5,48 @@ ghost use Rattle.theory.specs.Calls.{c_copy, c_clear, c_same};
 ghost use Rattle.model.specs.Promise.{Promise};
 
 use layout::Geometry;
-use model::Answer;
+use model::{Answer, Refusal};
 
 // Root `to` gets what root `from` holds.
-pub fn copy(g: Geometry, mem: &mut [u32], mutator: u32, to: u32, from: u32) -> Answer
+pub fn copy(
+    g: Geometry,
+    mem: &mut [u32],
+    mutator: u32,
+    to: u32,
+    from: u32,
+) -> Result<Answer, Refusal>
     ensures { Promise (c_copy mutator to from) g mem.old result mem.new }
 {
-    if layout::wrong_size(g, mem.len()) {
-        return Answer::Refused(1);
-    }
-    let refused = mutators::roots_refusal(g, mem, mutator, to, from);
-    if refused != 0 {
-        return Answer::Refused(refused);
-    }
+    model::require_size(g, mem)?;
+    mutators::require_roots(g, mem, mutator, to, from)?;
     let held = mutators::root(g, mem, mutator, from);
     mutators::set_root(g, mem, mutator, to, held);
-    Answer::Ok
+    Ok(Answer::Done)
 }
 
 // Root `to` gets nil.
-pub fn clear(g: Geometry, mem: &mut [u32], mutator: u32, to: u32) -> Answer
+pub fn clear(g: Geometry, mem: &mut [u32], mutator: u32, to: u32) -> Result<Answer, Refusal>
     ensures { Promise (c_clear mutator to) g mem.old result mem.new }
 {
-    if layout::wrong_size(g, mem.len()) {
-        return Answer::Refused(1);
-    }
-    let refused = mutators::root_refusal(g, mem, mutator, to);
-    if refused != 0 {
-        return Answer::Refused(refused);
-    }
+    model::require_size(g, mem)?;
+    mutators::require_root(g, mem, mutator, to)?;
     mutators::set_root(g, mem, mutator, to, 0);
-    Answer::Ok
+    Ok(Answer::Done)
 }
 
 // Whether two roots are equal.
-pub fn same(g: Geometry, mem: &[u32], mutator: u32, root: u32, other: u32) -> Answer
+pub fn same(
+    g: Geometry,
+    mem: &[u32],
+    mutator: u32,
+    root: u32,
+    other: u32,
+) -> Result<Answer, Refusal>
     ensures { Promise (c_same mutator root other) g mem.now result mem.now }
 {
-    if layout::wrong_size(g, mem.len()) {
-        return Answer::Refused(1);
-    }
-    let refused = mutators::roots_refusal(g, mem, mutator, root, other);
-    if refused != 0 {
-        return Answer::Refused(refused);
-    }
+    model::require_size(g, mem)?;
+    mutators::require_roots(g, mem, mutator, root, other)?;
     let first = mutators::root(g, mem, mutator, root);
     let second = mutators::root(g, mem, mutator, other);
-    Answer::Same(first == second)
+    Ok(Answer::Same(first == second))
 }

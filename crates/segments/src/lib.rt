@@ -1,28 +1,43 @@
 // Segment records in the lent slice: read whole; a segment's state written to the words of its record, its two counts, and single words.
 #![tactic(auto)]
 
-ghost use Rattle.std.specs.Prelude.{◌≡◌, ◌<◌, length};
-ghost use Rattle.layout.specs.Geometry.{Sized, blocks_in};
-ghost use Rattle.layout.specs.Mem.{mem_of};
+ghost use Rattle.std.specs.Prelude.{◌≡◌, ◌+◌, ◌*◌, ◌<◌, length};
+ghost use Rattle.layout.specs.Geometry.{Sized, blocks_in, segment_record_words};
+ghost use Rattle.layout.specs.Mem.{mem_of, segment_record_word, set_segment};
 ghost use Rattle.model.specs.Fields.{tag, set_tag, class, place, set_place, owner, kept_count, set_kept_count, handed_count, set_handed_count};
 ghost use Rattle.model.specs.Segments.{segment, set_segment_state, set_record};
 
 use layout::Geometry;
 use model::{Segment, SegmentState};
 
+// A word of the record of segment s, by its place in the record.
+fn field(g: Geometry, mem: &[u32], s: usize, at: usize) -> u32
+    requires { (Sized g (length mem.now)) × (s < g.segments) × (at < segment_record_words) }
+    ensures { result ≡ segment_record_word (mem_of g mem.now) (s * segment_record_words + at) }
+{
+    layout::segment(g, mem, s * layout::SEGMENT_RECORD_WORDS + at)
+}
+
+fn set_field(g: Geometry, mem: &mut [u32], s: usize, at: usize, v: u32)
+    requires { (Sized g (length mem.old)) × (s < g.segments) × (at < segment_record_words) }
+    ensures { mem_of g mem.new ≡ set_segment (mem_of g mem.old) (s * segment_record_words + at) v }
+{
+    layout::set_segment(g, mem, s * layout::SEGMENT_RECORD_WORDS + at, v);
+}
+
 // The tag of segment s.
 pub fn tag(g: Geometry, mem: &[u32], s: usize) -> u32
     requires { (Sized g (length mem.now)) × (s < g.segments) }
     ensures { result ≡ tag (mem_of g mem.now) s }
 {
-    layout::segment(g, mem, s * layout::SEGMENT_RECORD_WORDS + layout::TAG_AT)
+    field(g, mem, s, layout::TAG_AT)
 }
 
 pub fn set_tag(g: Geometry, mem: &mut [u32], s: usize, v: u32)
     requires { (Sized g (length mem.old)) × (s < g.segments) }
     ensures { mem_of g mem.new ≡ set_tag (mem_of g mem.old) s v }
 {
-    layout::set_segment(g, mem, s * layout::SEGMENT_RECORD_WORDS + layout::TAG_AT, v);
+    set_field(g, mem, s, layout::TAG_AT, v);
 }
 
 // The class of segment s.
@@ -30,7 +45,7 @@ pub fn class(g: Geometry, mem: &[u32], s: usize) -> u32
     requires { (Sized g (length mem.now)) × (s < g.segments) }
     ensures { result ≡ class (mem_of g mem.now) s }
 {
-    layout::segment(g, mem, s * layout::SEGMENT_RECORD_WORDS + layout::CLASS_AT)
+    field(g, mem, s, layout::CLASS_AT)
 }
 
 // The allocation pointer of segment s (document 01: place).
@@ -38,19 +53,14 @@ pub fn place(g: Geometry, mem: &[u32], s: usize) -> u32
     requires { (Sized g (length mem.now)) × (s < g.segments) }
     ensures { result ≡ place (mem_of g mem.now) s }
 {
-    layout::segment(g, mem, s * layout::SEGMENT_RECORD_WORDS + layout::PLACE_AT)
+    field(g, mem, s, layout::PLACE_AT)
 }
 
 pub fn set_place(g: Geometry, mem: &mut [u32], s: usize, v: u32)
     requires { (Sized g (length mem.old)) × (s < g.segments) }
     ensures { mem_of g mem.new ≡ set_place (mem_of g mem.old) s v }
 {
-    layout::set_segment(
-        g,
-        mem,
-        s * layout::SEGMENT_RECORD_WORDS + layout::PLACE_AT,
-        v,
-    );
+    set_field(g, mem, s, layout::PLACE_AT, v);
 }
 
 // The mutator that holds segment s.
@@ -58,7 +68,7 @@ pub fn owner(g: Geometry, mem: &[u32], s: usize) -> u32
     requires { (Sized g (length mem.now)) × (s < g.segments) }
     ensures { result ≡ owner (mem_of g mem.now) s }
 {
-    layout::segment(g, mem, s * layout::SEGMENT_RECORD_WORDS + layout::OWNER_AT)
+    field(g, mem, s, layout::OWNER_AT)
 }
 
 // The blocks of segment s that were kept at its last sweep.
@@ -66,7 +76,7 @@ pub fn kept(g: Geometry, mem: &[u32], s: usize) -> u32
     requires { (Sized g (length mem.now)) × (s < g.segments) }
     ensures { result ≡ kept_count (mem_of g mem.now) s }
 {
-    layout::segment(g, mem, s * layout::SEGMENT_RECORD_WORDS + layout::KEPT_AT)
+    field(g, mem, s, layout::KEPT_AT)
 }
 
 // The blocks of segment s that were handed out since.
@@ -74,19 +84,14 @@ pub fn handed(g: Geometry, mem: &[u32], s: usize) -> u32
     requires { (Sized g (length mem.now)) × (s < g.segments) }
     ensures { result ≡ handed_count (mem_of g mem.now) s }
 {
-    layout::segment(g, mem, s * layout::SEGMENT_RECORD_WORDS + layout::HANDED_AT)
+    field(g, mem, s, layout::HANDED_AT)
 }
 
 pub fn set_handed(g: Geometry, mem: &mut [u32], s: usize, v: u32)
     requires { (Sized g (length mem.old)) × (s < g.segments) }
     ensures { mem_of g mem.new ≡ set_handed_count (mem_of g mem.old) s v }
 {
-    layout::set_segment(
-        g,
-        mem,
-        s * layout::SEGMENT_RECORD_WORDS + layout::HANDED_AT,
-        v,
-    );
+    set_field(g, mem, s, layout::HANDED_AT, v);
 }
 
 // The two counts of segment s written.
@@ -94,12 +99,7 @@ pub fn write_counts(g: Geometry, mem: &mut [u32], s: usize, kept: u32, handed: u
     requires { (Sized g (length mem.old)) × (s < g.segments) }
     ensures { mem_of g mem.new ≡ set_handed_count (set_kept_count (mem_of g mem.old) s kept) s handed }
 {
-    layout::set_segment(
-        g,
-        mem,
-        s * layout::SEGMENT_RECORD_WORDS + layout::KEPT_AT,
-        kept,
-    );
+    set_field(g, mem, s, layout::KEPT_AT, kept);
     set_handed(g, mem, s, handed);
 }
 

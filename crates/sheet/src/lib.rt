@@ -14,7 +14,7 @@ ghost use Rattle.model.specs.Promise.{SheetPromise};
 ghost use Rattle.sheet.specs.Counted.{Counted, counted_line};
 
 use layout::Geometry;
-use model::{Answer, Segment};
+use model::{Answer, Refusal, Segment};
 
 // The segments between two empty lines.
 const GROUP: usize = 60;
@@ -33,8 +33,7 @@ fn line_ok(g: Geometry, mem: &[u32], s: usize) -> bool
     requires { (Sized g (length mem.now)) × (s < g.segments) }
     ensures { Decides result (Counted g (mem_of g mem.now) s) }
 {
-    let ok = looks::record_ok(g, mem, s);
-    if !ok {
+    if !looks::record_ok(g, mem, s) {
         return false;
     }
     let tag = segments::tag(g, mem, s);
@@ -56,14 +55,10 @@ fn lines_ok(g: Geometry, mem: &[u32]) -> bool
     requires { Sized g (length mem.now) }
     ensures { Decides result ((s : ℕ) → s < g.segments → Counted g (mem_of g mem.now) s) }
 {
-    let n = g.segments;
-    let mut s = 0;
-    while s < n {
-        let ok = line_ok(g, mem, s);
-        if !ok {
+    for s in 0..g.segments {
+        if !line_ok(g, mem, s) {
             return false;
         }
-        s += 1;
     }
     true
 }
@@ -98,10 +93,7 @@ fn put_end(out: &mut [u8], at: usize, n: usize, s: usize) -> usize
 {
     out[at] = b'\n';
     let next = s + 1;
-    if next % GROUP != 0 {
-        return at + 1;
-    }
-    if n <= next {
+    if next % GROUP != 0 || n <= next {
         return at + 1;
     }
     out[at + 1] = b'\n';
@@ -115,28 +107,23 @@ fn put_lines(g: Geometry, mem: &[u32], out: &mut [u8])
 {
     let n = g.segments;
     let mut at = 0;
-    let mut s = 0;
-    while s < n {
+    for s in 0..n {
         let end = put_line(g, mem, s, out, at);
         at = put_end(out, end, n, s);
-        s += 1;
     }
 }
 
 // The sheet, into an output of its length.
-pub fn sheet(g: Geometry, mem: &[u32], output: &mut [u8]) -> Answer
+pub fn sheet(g: Geometry, mem: &[u32], output: &mut [u8]) -> Result<Answer, Refusal>
     ensures { SheetPromise g mem.now output.old result output.new }
 {
-    if layout::wrong_size(g, mem.len()) {
-        return Answer::Refused(1);
-    }
+    model::require_size(g, mem)?;
     if output.len() != sheet_bytes(g) {
-        return Answer::Refused(1);
+        return Err(Refusal::Size);
     }
-    let ok = lines_ok(g, mem);
-    if !ok {
-        return Answer::Refused(13);
+    if !lines_ok(g, mem) {
+        return Err(Refusal::Torn);
     }
     put_lines(g, mem, output);
-    Answer::Ok
+    Ok(Answer::Done)
 }

@@ -2,26 +2,28 @@
 // 16 and of 32 KiB with segments in each state, a class 3 full of 2,048 and 4,096 blocks among them; and sheets that are refused.
 #![tactic(auto)]
 
+ghost use Rattle.std.specs.Prelude.{◌^◌, ◌<◌};
+
 use layout::Geometry;
-use model::{Answer, Step};
+use model::{Answer, Refusal, Step};
 use perform::Request;
 
 fn word(text: &[u8]) {
     io::write_all(1, text);
 }
 
-fn expect_ok(a: Answer) {
+fn expect_ok(a: Result<Answer, Refusal>) {
     match a {
-        Answer::Ok => word(b""),
+        Ok(Answer::Done) => word(b""),
         _ => word(b"BAD: refused\n"),
     }
 }
 
-fn say_refused(a: Answer) {
+fn say_refused(a: Result<Answer, Refusal>) {
     match a {
-        Answer::Refused(n) => {
+        Err(e) => {
             word(b"refused ");
-            io::print_decimal(1, n as u64);
+            io::print_decimal(1, u64::from(e.number()));
             word(b"\n");
         }
         _ => word(b"BAD: not refused\n"),
@@ -34,9 +36,9 @@ fn say_step(a: Step) {
         Step::Traced => word(b"traced\n"),
         Step::Swept(s, freed) => {
             word(b"swept ");
-            io::print_decimal(1, s as u64);
+            io::print_decimal(1, u64::from(s));
             word(b" ");
-            io::print_decimal(1, freed as u64);
+            io::print_decimal(1, u64::from(freed));
             word(b"\n");
         }
         Step::Done => word(b"done\n"),
@@ -62,55 +64,13 @@ fn opened(segments: usize, mem: &mut [u32], output: &mut [u8], title: &[u8]) {
     print(g, mem, output, title);
 }
 
-// Arrays lent whole, as references to arrays: their lengths are then known and not counted.
-fn lent_1(mem: &mut [u32; 7347], output: &mut [u8; 52]) {
-    opened(1, mem, output, b"1 segment\n");
-}
-
-fn opened_1() {
-    let mut mem = [3735928559u32; 7347];
-    let mut output = [63u8; 52];
-    lent_1(&mut mem, &mut output);
-}
-
-fn lent_60(mem: &mut [u32; 378693], output: &mut [u8; 3120]) {
-    opened(60, mem, output, b"60 segments\n");
-}
-
-fn opened_60() {
-    let mut mem = [3735928559u32; 378693];
-    let mut output = [63u8; 3120];
-    lent_60(&mut mem, &mut output);
-}
-
-fn lent_61(mem: &mut [u32; 384987], output: &mut [u8; 3173]) {
-    opened(61, mem, output, b"61 segments\n");
-}
-
-fn opened_61() {
-    let mut mem = [3735928559u32; 384987];
-    let mut output = [63u8; 3173];
-    lent_61(&mut mem, &mut output);
-}
-
-fn lent_121(mem: &mut [u32; 762627], output: &mut [u8; 6294]) {
-    opened(121, mem, output, b"121 segments\n");
-}
-
-fn opened_121() {
-    let mut mem = [3735928559u32; 762627];
-    let mut output = [63u8; 6294];
-    lent_121(&mut mem, &mut output);
-}
-
-fn lent_256(mem: &mut [u32; 1612317], output: &mut [u8; 13316]) {
-    opened(256, mem, output, b"256 segments\n");
-}
-
-fn opened_256() {
-    let mut mem = [3735928559u32; 1612317];
-    let mut output = [63u8; 13316];
-    lent_256(&mut mem, &mut output);
+// The same over an array of so many words and one of so many bytes.
+fn opened_over<const WORDS: usize, const BYTES: usize>(segments: usize, title: &[u8])
+    requires { (WORDS < 2 ^ 32) × (BYTES < 2 ^ 32) }
+{
+    let mut mem = [3735928559u32; WORDS];
+    let mut output = [63u8; BYTES];
+    opened(segments, &mut mem, &mut output, title);
 }
 
 fn ask(g: Geometry, mem: &mut [u32], request: Request) {
@@ -132,10 +92,8 @@ fn make(g: Geometry, mem: &mut [u32], mutator: u32, root: u32, values: u32) {
 
 // So many records of class 3 into one root.
 fn fill(g: Geometry, mem: &mut [u32], n: u32) {
-    let mut i = 0;
-    while i < n {
+    for _ in 0..n {
         make(g, mem, 0, 0, 1);
-        i += 1;
     }
 }
 
@@ -159,9 +117,9 @@ fn begin(g: Geometry, mem: &mut [u32], blocks: u32) {
 // Mutator 1 holds a segment of class 12 and one of class 11.
 fn hold(g: Geometry, mem: &mut [u32]) {
     make(g, mem, 1, 0, 600);
-    make(g, mem, 1, 1, 300);
-    make(g, mem, 1, 2, 300);
-    make(g, mem, 1, 3, 300);
+    for root in 1..4 {
+        make(g, mem, 1, root, 300);
+    }
 }
 
 // A cycle to mark, in which mutator 1 goes.
@@ -183,12 +141,9 @@ fn in_mark(g: Geometry, mem: &mut [u32]) {
 
 // What is reached is traced.
 fn to_sweep(g: Geometry, mem: &mut [u32]) {
-    step(g, mem);
-    step(g, mem);
-    step(g, mem);
-    step(g, mem);
-    step(g, mem);
-    step(g, mem);
+    for _ in 0..6 {
+        step(g, mem);
+    }
 }
 
 // After the cycle a record out of the swept segment, which has one kept and one handed out then, and a start that condemns the part segments, their
@@ -222,6 +177,7 @@ fn states(g: Geometry, mem: &mut [u32], output: &mut [u8], blocks: u32) {
     last_sheets(g, mem, output);
 }
 
+// Arrays lent whole, as references to arrays: their lengths are then known and not counted.
 fn lent_32(mem: &mut [u32; 89029], output: &mut [u8; 364]) {
     states(heap(7, layout::LARGE_KIB), mem, output, 4096);
 }
@@ -291,11 +247,11 @@ fn states_16() {
 }
 
 fn main() {
-    opened_1();
-    opened_60();
-    opened_61();
-    opened_121();
-    opened_256();
+    opened_over::<7347, 52>(1, b"1 segment\n");
+    opened_over::<378693, 3120>(60, b"60 segments\n");
+    opened_over::<384987, 3173>(61, b"61 segments\n");
+    opened_over::<762627, 6294>(121, b"121 segments\n");
+    opened_over::<1612317, 13316>(256, b"256 segments\n");
     states_32();
     states_16();
 }

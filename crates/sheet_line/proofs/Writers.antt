@@ -1,11 +1,13 @@
--- Writers one after the other: what each leaves in the output, together; and a loop that writes one byte again and again.
-use Prim.Native.Nat.{ℕ, ◌+◌, ◌≤◌, ◌<◌}
-use mathlib.Core.Path.{◌≡◌, refl, sym, ◌∙◌, ap}
+-- Writers one after the other: what each leaves in the output, together; and a part of it that is written at once.
+use Prim.Native.Nat.{ℕ, ◌+◌, ◌-◌, ◌≤◌, ◌<◌}
+use mathlib.Core.Path.{◌≡◌, sym, ◌∙◌, ap}
 use mathlib.Core.List.{List, [], ◌∷◌, ◌++◌, append_assoc}
 use native.Mathlib.Omega.{arith}
-use lib.ListN.{length, set, replicate, length-append, length-set, length-replicate, replicate-append-replicate}
+use lib.ListN.{length, take, drop, set, replicate, length-append, length-drop, length-replicate}
+use lib.Seq.{length-take-le, drop-drop}
+use borrow.Rule.Slice.PartMut.{mid_of, put_mid}
 use Rattle.decimals.specs.Placed.{placed}
-use Rattle.decimals.proofs.Placed.{placed_nil, placed_one, placed_append}
+use Rattle.decimals.proofs.Placed.{placed_one, placed_append}
 
 -- y behind x, which has w bytes
 pub behind : (l : List ℕ) (at w : ℕ) (x y : List ℕ) (m : List ℕ) (k : ℕ) (n : List ℕ) → length x ≡ w → at + w ≤ length l
@@ -27,16 +29,16 @@ behind_two l at w v x y z m k n j o e f h p q r t u =
     let first : n ≡ placed l at (x ++ y) = behind l at w x y m k n e (omega arith) p q r in
     behind l at (w + v) (x ++ y) z n j o both (omega arith) first (omega arith) u ∙ ap (placed l at) (append_assoc x y z)
 
--- the first i bytes from a place on are b
-pub record Filling (l : List ℕ) (at b : ℕ) (m : List ℕ) (i : ℕ) : Type 0 where
-  pub is : m ≡ placed l at (replicate i b)
-  pub same : length m ≡ length l
+-- a part of the output that becomes x
+pub part_placed : (l : List ℕ) (at n : ℕ) (x ys : List ℕ) → length x ≡ n → at + n ≤ length l → ys ≡ x → put_mid at (at + n - at) l ys ≡ placed l at x
+unfolding placed
+part_placed l at n x ys e h p =
+    let rest : drop (at + n - at) (drop at l) ≡ drop (at + length x) l = drop-drop (at + n - at) at l ∙ ap (λ (k : ℕ). drop k l) (omega arith) in
+    ap (λ (y : List ℕ). take at l ++ (y ++ drop (at + n - at) (drop at l))) p ∙ ap (λ (r : List ℕ). take at l ++ (x ++ r)) rest
 
-pub filling_none : (l : List ℕ) (at b : ℕ) → Filling l at b l 0
-filling_none l at b = record { is = sym (placed_nil l at); same = refl }
-
-pub filling_more : (l : List ℕ) (at b : ℕ) (m : List ℕ) (i : ℕ) → Filling l at b m i → at + i < length l → Filling l at b (set m (at + i) b) (i + 1)
-filling_more l at b m i f h = record {
-  is = behind_one l at i (replicate i b) b m (at + i) (length-replicate i b) h f.same f.is refl ∙ ap (placed l at) (replicate-append-replicate i 1 b);
-  same = length-set m (at + i) b ∙ f.same;
-}
+-- n bytes of it that become b
+pub part_filled : (l : List ℕ) (at n b : ℕ) (ys : List ℕ) → at + n ≤ length l → ys ≡ replicate (length (mid_of at (at + n - at) l)) b
+    → put_mid at (at + n - at) l ys ≡ placed l at (replicate n b)
+part_filled l at n b ys h e =
+    let part : length (mid_of at (at + n - at) l) ≡ n = length-take-le (at + n - at) (drop at l) (omega (arith, length-drop at l)) ∙ omega arith in
+    part_placed l at n (replicate n b) ys (length-replicate n b) h (e ∙ ap (λ (k : ℕ). replicate k b) part)

@@ -1,4 +1,6 @@
 // One line of the sheet, written in place: columns one after the other, each by a writer that says the place after it.
+// Kept: the writers take the place and say the next one, and are no methods of a struct that holds the output, since such a struct would hold a
+// borrowed slice, whose loan each contract would have to speak of.
 #![tactic(auto)]
 
 ghost use Rattle.std.specs.Prelude.{◌≡◌, [], ◌∷◌, ◌++◌, ◌+◌, ◌≤◌, ◌<◌, length, replicate};
@@ -20,12 +22,9 @@ fn fill(out: &mut [u8], at: usize, n: usize, b: u8) -> usize
     requires { at + n ≤ length out.old }
     ensures { (result ≡ at + n) × (out.new ≡ placed out.old at (replicate n b)) }
 {
-    let mut i = 0;
-    while i < n {
-        out[at + i] = b;
-        i += 1;
-    }
-    at + n
+    let end = at + n;
+    out[at..end].fill(b);
+    end
 }
 
 // A number right-aligned in a column, and the place after it.
@@ -49,22 +48,17 @@ fn put_column(out: &mut [u8], at: usize, width: usize, v: u32) -> usize
 }
 
 // The letter of a state.
+#[tactic(auto, unfolding(model::specs::Sheet::letter_of))]
 fn letter(tag: u32) -> u8
     ensures { result ≡ letter_of tag }
 {
-    if tag == Segment::TAG_FREE {
-        return b'F';
+    match tag {
+        Segment::TAG_FREE => b'F',
+        Segment::TAG_PART => b'P',
+        Segment::TAG_HELD => b'H',
+        Segment::TAG_FULL => b'L',
+        _ => b'C',
     }
-    if tag == Segment::TAG_PART {
-        return b'P';
-    }
-    if tag == Segment::TAG_HELD {
-        return b'H';
-    }
-    if tag == Segment::TAG_FULL {
-        return b'L';
-    }
-    b'C'
 }
 
 // Two bytes from a place on, and the place after them.
@@ -72,9 +66,9 @@ fn put_two(out: &mut [u8], at: usize, a: u8, b: u8) -> usize
     requires { at + 2 ≤ length out.old }
     ensures { (result ≡ at + 2) × (out.new ≡ placed out.old at (a ∷ b ∷ [])) }
 {
-    out[at] = a;
-    out[at + 1] = b;
-    at + 2
+    let end = at + 2;
+    out[at..end].copy_from_slice(&[a, b]);
+    end
 }
 
 // The bar: so many # and the rest dots.

@@ -9,12 +9,13 @@ use Rattle.layout.specs.Mem.{Mem}
 use Rattle.model.specs.Segments.{count, top}
 use Rattle.model.specs.Consistent.{StackOk}
 use Rattle.model_laws.proofs.Stacks.{count_le, stack_room}
-use Rattle.stacks.specs.declared.Topmost.TheVariants.{Torn}
+use Rattle.std.specs.Prelude.{Err}
+use Rattle.model.specs.declared.Refusal.{Refusal}
 use Rattle.stacks.specs.Stacking.{Tops, PushesSegment}
 
 module _ (g : Geometry) (m : Mem) (t : ℕ) (test : ℕ → Bool) (o : StackOk g m t test) where
-  pub top_ordered : Tops g m t Torn → ⊥
-  top_ordered r = let z = r.torn refl in let a : 1 ≤ count g m t = z.0 in go a z.1
+  pub top_ordered : (w : Refusal) → Tops g m t (Err w) → ⊥
+  top_ordered w r = let a : 1 ≤ count g m t = r.1 in go a r.2
     where
       go : 1 ≤ count g m t → (g.segments < count g m t) ⊎ (g.segments ≤ top g m t) → ⊥
       go a (inl h) = let l = count_le g m t test o in omega arith

@@ -13,28 +13,13 @@ use Rattle.layout.specs.Geometry.{stack_count, len}
 use Rattle.layout.specs.Mem.{Mem, stack_word, set_stack, with_region}
 use Rattle.layout.proofs.Sizes.{within}
 use Rattle.model.specs.Segments.{count, top, pop, emptied}
-use Rattle.stacks.specs.declared.Topmost.TheVariants.{Segment, Empty, Torn}
+use Rattle.std.specs.Prelude.{Some, None, Ok, Err}
+use Rattle.model.specs.declared.Refusal.TheVariants.{Torn}
 use Rattle.stacks.specs.Stacking.{StackAt, Tops, PushesSegment}
 use Rattle.layout.specs.Region as Region
 
 pub stack_inside : (g : Geometry) (t : ℕ) → t < stack_count → t * (1 + g.segments) + g.segments < len g Region.stacks
 stack_inside g t l = let q = within (1 + g.segments) t stack_count g.segments l (omega arith) in omega arith
-
--- ---- the top's three answers
-
-module _ (g : Geometry) (m : Mem) (t : ℕ) where
-  is_segment : (s : ℕ) → s ≡ top g m t → s < g.segments → 1 ≤ count g m t → count g m t ≤ g.segments → Tops g m t (Segment s)
-  is_segment s e l a b = record {
-    segment = λ r q. let z : s ≡ r = cc in (sym z ∙ e, omega arith, a, b);
-    empty = λ q. absurd (let z : ◌≡◌ {A = ℕ} 0 1 = cc in omega arith);
-    torn = λ q. absurd (let z : ◌≡◌ {A = ℕ} 0 1 = cc in omega arith);
-  }
-
-  is_empty : count g m t ≡ 0 → Tops g m t Empty
-  is_empty e = record { segment = λ r q. absurd (let z : ◌≡◌ {A = ℕ} 0 1 = cc in omega arith); empty = λ _. e; torn = λ q. absurd (let z : ◌≡◌ {A = ℕ} 0 1 = cc in omega arith) }
-
-  is_torn : 1 ≤ count g m t → (g.segments < count g m t) ⊎ (g.segments ≤ top g m t) → Tops g m t Torn
-  is_torn a b = record { segment = λ r q. absurd (let z : ◌≡◌ {A = ℕ} 0 1 = cc in omega arith); empty = λ q. absurd (let z : ◌≡◌ {A = ℕ} 0 1 = cc in omega arith); torn = λ _. (a, b) }
 
 -- ---- by the words
 
@@ -42,15 +27,15 @@ module _ (g : Geometry) (m : Mem) (t at n : ℕ) (a : StackAt g t at) (e : n ≡
   is_count : n ≡ count g m t
   is_count = e ∙ ap (stack_word m) a.is
 
-  pub top_none : n ≡ 0 → Tops g m t Empty
-  top_none z = is_empty g m t (sym is_count ∙ z)
+  pub top_none : n ≡ 0 → Tops g m t (Ok None)
+  top_none z = sym is_count ∙ z
 
   module _ (some : n ≡ 0 → ⊥) where
     positive : 1 ≤ count g m t
     positive = subst (λ z. 1 ≤ z) is_count (pos_of_ne-zero some)
 
-    pub top_over : g.segments < n → Tops g m t Torn
-    top_over l = is_torn g m t positive (inl (subst (λ z. g.segments < z) is_count l))
+    pub top_over : g.segments < n → Tops g m t (Err Torn)
+    top_over l = (refl, positive, inl (subst (λ z. g.segments < z) is_count l))
 
     module _ (l : n ≤ g.segments) (r : ℕ) (h : r ≡ stack_word m (at + n)) where
       is_top : r ≡ top g m t
@@ -60,11 +45,11 @@ module _ (g : Geometry) (m : Mem) (t at n : ℕ) (a : StackAt g t at) (e : n ≡
           let q : at + n ≡ t * (1 + g.segments) + 1 + (n - 1) = omega arith in
           h ∙ ap (stack_word m) q ∙ ap (λ z. stack_word m (t * (1 + g.segments) + 1 + (z - 1))) is_count
 
-      pub top_there : r < g.segments → Tops g m t (Segment r)
-      top_there u = is_segment g m t r is_top u positive (subst (λ z. z ≤ g.segments) is_count l)
+      pub top_there : r < g.segments → Tops g m t (Ok (Some r))
+      top_there u = (is_top, u, positive, subst (λ z. z ≤ g.segments) is_count l)
 
-      pub top_off : g.segments ≤ r → Tops g m t Torn
-      top_off u = is_torn g m t positive (inr (subst (λ z. g.segments ≤ z) is_top u))
+      pub top_off : g.segments ≤ r → Tops g m t (Err Torn)
+      top_off u = (refl, positive, inr (subst (λ z. g.segments ≤ z) is_top u))
 
   -- ---- taken off
 

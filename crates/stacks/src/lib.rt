@@ -10,14 +10,7 @@ ghost use Rattle.model.specs.Segments.{free_stack, part_stack, pop, emptied};
 ghost use Rattle.stacks.specs.Stacking.{StackAt, Tops, PushesSegment};
 
 use layout::Geometry;
-
-// The segment last put on a stack, or none.
-#[derive(Drop)]
-pub enum Topmost {
-    Segment(usize),
-    Empty,
-    Torn,
-}
+use model::Refusal;
 
 // The stack of the free segments.
 pub fn free_stack() -> usize
@@ -42,24 +35,24 @@ fn base(g: Geometry, t: usize) -> usize
     t * (1 + g.segments)
 }
 
-// The segment last put on stack t.
-pub fn top(g: Geometry, mem: &[u32], t: usize) -> Topmost
+// The segment last put on stack t, if there is one.
+pub fn top(g: Geometry, mem: &[u32], t: usize) -> Result<Option<usize>, Refusal>
     requires { (Sized g (length mem.now)) × (t < stack_count) }
     ensures { Tops g (mem_of g mem.now) t result }
 {
     let at = base(g, t);
     let count = layout::stack(g, mem, at) as usize;
     if count == 0 {
-        return Topmost::Empty;
+        return Ok(None);
     }
     if g.segments < count {
-        return Topmost::Torn;
+        return Err(Refusal::Torn);
     }
     let s = layout::stack(g, mem, at + count) as usize;
     if s < g.segments {
-        return Topmost::Segment(s);
+        return Ok(Some(s));
     }
-    Topmost::Torn
+    Err(Refusal::Torn)
 }
 
 // Takes the segment last put on off stack t.

@@ -2,6 +2,7 @@
 use mathlib.Core.Path.{◌≡◌, refl, sym, ◌∙◌, ap}
 use mathlib.Core.Bool.{Bool, true, false, ◌||◌}
 use Prim.Native.Nat.{ℕ, zero, suc, ◌+◌, ◌≤◌}
+use native.Mathlib.Numerals.{add-one}
 use native.Mathlib.Omega.{arith}
 use lib.Dec.{eqb}
 use lib.ListN.{replicate}
@@ -35,36 +36,34 @@ still m (suc n) s l = go (collects m n) (still m n s (omega arith))
     go true r = untouched_then r (tag_other (condemned m n) n Tag.condemned s (λ e. omega arith))
     go false r = r
 
-pub condemned_none : (m : Mem) → m ≡ condemned m 0
+pub condemned_none : (m : Mem) → condemned m 0 ≡ m
 unfolding condemned
 condemned_none m = refl
 
 -- one more
-pub condemned_next : (m : Mem) (s : ℕ) (m₁ m₂ : Mem) → m₁ ≡ condemned m s → m₂ ≡ pick (collects m₁ s) (set_tag m₁ s Tag.condemned) m₁ → m₂ ≡ condemned m (suc s)
+pub condemned_next : (m : Mem) (s : ℕ) → condemned m (s + 1) ≡ pick (collects (condemned m s) s) (set_tag (condemned m s) s Tag.condemned) (condemned m s)
 unfolding condemned
-condemned_next m s m₁ m₂ e h =
-    h ∙ ap (λ z. pick (collects z s) (set_tag z s Tag.condemned) z) e
-    ∙ ap (λ b. pick b (set_tag (condemned m s) s Tag.condemned) (condemned m s)) (collects_as m (condemned m s) s (still m s s (omega arith)))
+condemned_next m s = rw (add-one, collects_as m (condemned m s) s (still m s s (omega arith)))
 
 -- ---- part stacks, by class
 
-pub emptied_none : (g : Geometry) (m : Mem) → m ≡ parts_emptied g m 0
+pub emptied_none : (g : Geometry) (m : Mem) → parts_emptied g m 0 ≡ m
 unfolding parts_emptied
 emptied_none g m = refl
 
-pub emptied_next : (g : Geometry) (m : Mem) (n t : ℕ) (m₁ m₂ : Mem) → m₁ ≡ parts_emptied g m n → t ≡ part_stack (first_class + n) → m₂ ≡ emptied g m₁ t → m₂ ≡ parts_emptied g m (suc n)
+pub emptied_next : (g : Geometry) (m : Mem) (n : ℕ) → parts_emptied g m (n + 1) ≡ emptied g (parts_emptied g m n) (part_stack (first_class + n))
 unfolding parts_emptied
-emptied_next g m n t m₁ m₂ e u h = h ∙ rw (e, u) refl
+emptied_next g m n = rw add-one
 
 -- ---- mutators, in number order
 
-pub reset_none : (m : Mem) → m ≡ acks_reset m 0
+pub reset_none : (m : Mem) → acks_reset m 0 ≡ m
 unfolding acks_reset
 reset_none m = refl
 
-pub reset_next : (m : Mem) (k : ℕ) (m₁ m₂ : Mem) → m₁ ≡ acks_reset m k → m₂ ≡ set_acks m₁ k 0 → m₂ ≡ acks_reset m (suc k)
+pub reset_next : (m : Mem) (k : ℕ) → acks_reset m (k + 1) ≡ set_acks (acks_reset m k) k 0
 unfolding acks_reset
-reset_next m k m₁ m₂ e h = h ∙ ap (λ z. set_acks z k 0) e
+reset_next m k = rw (add-one k)
 
 -- ---- the whole
 

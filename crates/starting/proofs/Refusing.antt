@@ -1,6 +1,6 @@
--- How a start keeps its promise: 1, 11, or done.
+-- How a start keeps its promise: 11, or done.
 use mathlib.Core.Path.{◌≡◌, refl, sym, ◌∙◌, ap}
-use mathlib.Core.Bool.{true, false}
+use mathlib.Core.Bool.{false}
 use mathlib.Core.List.{List}
 use Prim.Native.Nat.{ℕ, zero, suc}
 use native.Mathlib.Omega.{arith}
@@ -9,12 +9,14 @@ use Rattle.layout.specs.declared.Geometry.{Geometry}
 use Rattle.layout.specs.Geometry.{wrong_size}
 use Rattle.layout.specs.Mem.{Mem, mem_of, control_word}
 use Rattle.theory.specs.Calls.{a_ok, a_no}
-use Rattle.model.specs.declared.Answer.TheVariants.{Ok, Refused}
+use Rattle.std.specs.Prelude.{Ok, Err}
+use Rattle.model.specs.declared.Answer.TheVariants.{Done}
+use Rattle.model.specs.declared.Refusal.TheVariants.{NotNow}
 use Rattle.model.specs.Answers.{answer_of, IsOk, start_may_give}
 use Rattle.model.specs.PhaseNumbers.{phase_of}
 use Rattle.model.specs.Collector.{started, start_in, start_of}
 use Rattle.model.specs.Promise.{StartPromise}
-use Rattle.model_laws.proofs.PromisedSteps.{promise_1, promise_refused, promise_done}
+use Rattle.model_laws.proofs.PromisedSteps.{promise_refused, promise_done}
 
 -- ---- by the phase's number n
 
@@ -26,19 +28,15 @@ not_idle g m (suc (suc zero)) f = refl
 not_idle g m (suc (suc (suc zero))) f = refl
 not_idle g m (suc (suc (suc (suc n)))) f = refl
 
-module _ (g : Geometry) (xs : List ℕ) where
-  pub start_1 : wrong_size g (length xs) ≡ true → StartPromise g xs (Refused 1) xs
-  start_1 = promise_1 answer_of (λ g. IsOk) start_may_give start_of g xs (Refused 1) refl refl
+module _ (g : Geometry) (xs : List ℕ) (e : wrong_size g (length xs) ≡ false) (n : ℕ) (p : n ≡ control_word (mem_of g xs) 0) where
+  pub start_11 : (n ≡ 0 → ⊥) → StartPromise g xs (Err NotNow) xs
+  unfolding start_of
+  start_11 f =
+      promise_refused answer_of (λ g. IsOk) start_may_give start_of g xs (Err NotNow) e 11 refl refl (λ z. omega arith) xs
+      (λ _. not_idle g (mem_of g xs) n f ∙ ap (λ z. start_in (phase_of z) g (mem_of g xs)) p)
 
-  module _ (e : wrong_size g (length xs) ≡ false) (n : ℕ) (p : n ≡ control_word (mem_of g xs) 0) where
-    pub start_11 : (n ≡ 0 → ⊥) → StartPromise g xs (Refused 11) xs
-    unfolding start_of
-    start_11 f =
-        promise_refused answer_of (λ g. IsOk) start_may_give start_of g xs (Refused 11) e 11 refl refl (λ z. omega arith) xs
-        (λ _. not_idle g (mem_of g xs) n f ∙ ap (λ z. start_in (phase_of z) g (mem_of g xs)) p)
-
-    pub start_ok : n ≡ 0 → (ys : List ℕ) → mem_of g ys ≡ started g (mem_of g xs) → StartPromise g xs Ok ys
-    unfolding start_of
-    start_ok z ys q =
-        promise_done answer_of (λ g. IsOk) start_may_give start_of g xs Ok e refl refl ys
-        (λ _. ap (λ m. (a_ok, m)) q ∙ ap (λ w. start_in (phase_of w) g (mem_of g xs)) (sym z ∙ p))
+  pub start_ok : n ≡ 0 → (ys : List ℕ) → mem_of g ys ≡ started g (mem_of g xs) → StartPromise g xs (Ok Done) ys
+  unfolding start_of
+  start_ok z ys q =
+      promise_done answer_of (λ g. IsOk) start_may_give start_of g xs (Ok Done) e refl refl ys
+      (λ _. ap (λ m. (a_ok, m)) q ∙ ap (λ w. start_in (phase_of w) g (mem_of g xs)) (sym z ∙ p))

@@ -13,18 +13,16 @@ ghost use Rattle.model.specs.Promise.{StartPromise};
 ghost use Rattle.model.specs.Tag as Tag;
 
 use layout::Geometry;
-use model::{Answer, Phase, Segment};
+use model::{Answer, Phase, Refusal, Segment};
 
 // Whether a start condemns segment s.
+#[tactic(auto, unfolding(model::specs::Collector::collects))]
 fn collects(g: Geometry, mem: &[u32], s: usize) -> bool
     requires { (Sized g (length mem.now)) × (s < g.segments) }
     ensures { result ≡ collects (mem_of g mem.now) s }
 {
     let tag = segments::tag(g, mem, s);
-    if tag == Segment::TAG_FULL {
-        return true;
-    }
-    tag == Segment::TAG_PART
+    tag == Segment::TAG_FULL || tag == Segment::TAG_PART
 }
 
 // Segment s is condemned, if it is one of those: its tag says so, and the rest of its record stays.
@@ -38,39 +36,35 @@ fn condemn_one(g: Geometry, mem: &mut [u32], s: usize)
 }
 
 // Every segment that a start condemns becomes condemned.
+#[tactic(auto, using(crate::proofs::Beginning::condemned_none, crate::proofs::Beginning::condemned_next))]
 fn condemn(g: Geometry, mem: &mut [u32])
     requires { Sized g (length mem.old) }
     ensures { mem_of g mem.new ≡ condemned (mem_of g mem.old) g.segments }
 {
-    let n = g.segments;
-    let mut s = 0;
-    while s < n {
+    for s in 0..g.segments {
         condemn_one(g, mem, s);
-        s += 1;
     }
 }
 
 // No segment is on a part stack, of whatever class.
+#[tactic(auto, using(crate::proofs::Beginning::emptied_none, crate::proofs::Beginning::emptied_next))]
 fn empty_parts(g: Geometry, mem: &mut [u32])
     requires { Sized g (length mem.old) }
     ensures { mem_of g mem.new ≡ parts_emptied g (mem_of g mem.old) class_count }
 {
-    let mut n: u32 = 0;
-    while n < classes::CLASS_COUNT {
+    for n in 0..classes::CLASS_COUNT {
         stacks::empty(g, mem, stacks::part_stack(classes::FIRST_CLASS + n));
-        n += 1;
     }
 }
 
 // The acknowledgements of all mutators begin anew.
+#[tactic(auto, using(crate::proofs::Beginning::reset_none, crate::proofs::Beginning::reset_next))]
 fn reset_acks(g: Geometry, mem: &mut [u32])
     requires { Sized g (length mem.old) }
     ensures { mem_of g mem.new ≡ acks_reset (mem_of g mem.old) mutator_count }
 {
-    let mut k: u32 = 0;
-    while k < layout::MUTATORS {
+    for k in 0..layout::MUTATORS {
         mutators::set_acks(g, mem, k, 0);
-        k += 1;
     }
 }
 
@@ -88,16 +82,14 @@ fn begin(g: Geometry, mem: &mut [u32])
 }
 
 // A cycle begins, unless one runs; where no segment is full or part, a cycle over none.
-pub fn start(g: Geometry, mem: &mut [u32]) -> Answer
+pub fn start(g: Geometry, mem: &mut [u32]) -> Result<Answer, Refusal>
     ensures { StartPromise g mem.old result mem.new }
 {
-    if layout::wrong_size(g, mem.len()) {
-        return Answer::Refused(1);
-    }
+    model::require_size(g, mem)?;
     let phase = control::phase(g, mem);
     if phase.number != Phase::IDLE {
-        return Answer::Refused(11);
+        return Err(Refusal::NotNow);
     }
     begin(g, mem);
-    Answer::Ok
+    Ok(Answer::Done)
 }

@@ -2,14 +2,12 @@
 -- memory.
 use mathlib.Core.Path.{◌≡◌, refl, sym, ◌∙◌, ap, subst}
 use mathlib.Core.Bool.{Bool, true, false, true≢false}
-use mathlib.Core.Logic.{◌⊎◌, inl, inr}
 use Prim.Native.Nat.{ℕ, zero, suc, ◌+◌, ◌≤◌, ◌<◌}
 use native.Mathlib.Numerals.{add-one}
 use native.Mathlib.Omega.{arith}
 use lib.Dec.{eqb}
 use borrow.Author.Tests.{eq-eqb, ne_eqb}
 use Rattle.basics.specs.Pick.{pick}
-use Rattle.basics.proofs.Order.{le_or_lt}
 use Rattle.layout.specs.declared.Geometry.{Geometry}
 use Rattle.layout.specs.Geometry.{mutator_count}
 use Rattle.layout.specs.Mem.{Mem, Sizes}
@@ -22,33 +20,7 @@ use Rattle.model_laws.proofs.Acknowledgements.{acknowledged_word, roots_ready, a
 use Rattle.tracing.specs.Roots.{RootFails}
 use Rattle.tracing.proofs.Roots.{roots_succeed}
 use Rattle.handshake_calls.specs.Acknowledging.{Acknowledges}
-use Rattle.stepping.specs.Handshaking.{NextOutside, AnswerFails, AnswersOutside}
-
--- ---- the next mutator outside
-
--- no mutator is outside, from the number `from` up to j
-pub record NoneOutside (m : Mem) (from j : ℕ) : Type 0 where
-  pub after : from ≤ j
-  pub few : j ≤ mutator_count
-  pub none : (i : ℕ) → from ≤ i → i < j → state m i ≡ outside → ⊥
-
-module _ (m : Mem) (from : ℕ) where
-  pub none_yet : from ≤ mutator_count → NoneOutside m from from
-  none_yet l = record { after = omega arith; few = l; none = λ i a b. absurd (omega arith) }
-
-  module _ (j : ℕ) (n : NoneOutside m from j) where
-    pub none_more : j < mutator_count → (v : ℕ) → v ≡ state m j → (v ≡ outside → ⊥) → NoneOutside m from (j + 1)
-    none_more l v e f = record { after = let a = n.after in omega arith; few = omega arith; none = λ i a b. go i a (le_or_lt j i) b }
-      where
-        go : (i : ℕ) → from ≤ i → (j ≤ i) ⊎ (i < j) → i < j + 1 → state m i ≡ outside → ⊥
-        go i a (inl h) b q = let z : j ≡ i = omega arith in f (e ∙ ap (state m) z ∙ q)
-        go i a (inr h) b q = n.none i a h q
-
-    pub next_found : state m j ≡ outside → NextOutside m from j
-    next_found e = record { after = n.after; few = n.few; none = n.none; is = λ _. e }
-
-    pub next_none : mutator_count ≤ j → NextOutside m from j
-    next_none l = record { after = n.after; few = n.few; none = n.none; is = λ h. absurd (omega arith) }
+use Rattle.stepping.specs.Handshaking.{AnswerFails, AnswersOutside}
 
 -- ---- all of them, over memory of any content
 
@@ -56,12 +28,6 @@ module _ (m : Mem) (from : ℕ) where
 record Stays (g : Geometry) (m m' : Mem) : Type 0 where
   pub sizes : Sizes g m'
   pub states : (j : ℕ) → state m' j ≡ state m j
-
--- m' has the acknowledgements of those before k, which is outside or past the last
-pub record AnsweredTo (g : Geometry) (m : Mem) (k : ℕ) (m' : Mem) : Type 0 where
-  pub few : k ≤ mutator_count
-  pub is : m' ≡ outside_answered g m k
-  pub next : k < mutator_count → state m k ≡ outside
 
 module _ (g : Geometry) (m : Mem) where
   module _ (s : Sizes g m) where
@@ -77,51 +43,34 @@ module _ (g : Geometry) (m : Mem) where
         }
         go false y = y
 
-  -- mutators that are not outside give none
-  skipped : (from n : ℕ) → from ≤ n → ((i : ℕ) → from ≤ i → i < n → state m i ≡ outside → ⊥) → outside_answered g m from ≡ outside_answered g m n
+  pub answered_none : outside_answered g m 0 ≡ m
   unfolding outside_answered
-  skipped from zero l f = let z : from ≡ 0 = omega arith in ap (outside_answered g m) z
-  skipped from (suc n) l f = go (le_or_lt from n) (λ h. skipped from n h (λ i a b. f i a (omega arith)))
-    where
-      go : (from ≤ n) ⊎ (n < from) → (from ≤ n → outside_answered g m from ≡ outside_answered g m n) → outside_answered g m from ≡ outside_answered g m (suc n)
-      go (inl h) ih =
-          ih h
-          ∙ ap (λ b. pick b (acknowledged g (outside_answered g m n) n) (outside_answered g m n)) (sym (ne_eqb _ _ (f n h (omega arith))))
-      go (inr h) ih = let z : from ≡ suc n = omega arith in ap (outside_answered g m) z
+  answered_none = refl
 
-  -- on to the next one
-  go_on : Sizes g m → (from : ℕ) → from ≤ mutator_count → (m' : Mem) → m' ≡ outside_answered g m from → (k : ℕ) → NextOutside m' from k → AnsweredTo g m k m'
-  go_on s from l m' e k n =
-      let y : (j : ℕ) → state m' j ≡ state m j = λ j. ap (λ z. state z j) e ∙ (stays s from l).states j in
-      record { few = n.few; is = e ∙ skipped from k n.after (λ i a b q. n.none i a b (y i ∙ q)); next = λ h. sym (y k) ∙ n.is h }
+  -- one mutator more: m' has the acknowledgements of those before k, and v is its state word
+  module _ (s : Sizes g m) (k : ℕ) (l : k < mutator_count) (m' : Mem) (e : m' ≡ outside_answered g m k) (v : ℕ) (w : v ≡ state m' k) where
+    same : v ≡ state m k
+    same = w ∙ ap (λ z. state z k) e ∙ (stays s k (omega arith)).states k
 
-  pub answered_first : Sizes g m → (k : ℕ) → NextOutside m 0 k → AnsweredTo g m k m
-  unfolding outside_answered
-  answered_first s k n = go_on s 0 (omega arith) m refl k n
+    pub not_outside : (v ≡ outside → ⊥) → m' ≡ outside_answered g m (k + 1)
+    unfolding outside_answered
+    not_outside f =
+        e ∙ ap (λ b. pick b (acknowledged g (outside_answered g m k) k) (outside_answered g m k)) (sym (ne_eqb _ _ (λ q. f (same ∙ q))))
+        ∙ ap (outside_answered g m) (sym (add-one k))
 
-  module _ (k : ℕ) (m₁ : Mem) (t : AnsweredTo g m k m₁) where
-    module _ (l : k < mutator_count) (r : Bool) (m₂ : Mem) (a : Acknowledges g m₁ k r m₂) where
-      answered : r ≡ true → m₂ ≡ outside_answered g m (k + 1)
+    module _ (o : v ≡ outside) (r : Bool) (m'' : Mem) (a : Acknowledges g m' k r m'') where
+      pub answered_more : r ≡ true → m'' ≡ outside_answered g m (k + 1)
       unfolding outside_answered
-      answered q =
-          a.done q ∙ ap (λ z. acknowledged g z k) t.is
-          ∙ ap (λ b. pick b (acknowledged g (outside_answered g m k) k) (outside_answered g m k)) (sym (eq-eqb _ _ (t.next l)))
+      answered_more q =
+          a.done q ∙ ap (λ z. acknowledged g z k) e
+          ∙ ap (λ b. pick b (acknowledged g (outside_answered g m k) k) (outside_answered g m k)) (sym (eq-eqb _ _ (sym same ∙ o)))
           ∙ ap (outside_answered g m) (sym (add-one k))
 
-      pub answered_more : Sizes g m → r ≡ true → (k' : ℕ) → NextOutside m₂ (k + 1) k' → AnsweredTo g m k' m₂
-      answered_more s q k' n = go_on s (k + 1) (omega arith) m₂ (answered q) k' n
-
-      pub answer_hindered : r ≡ false → AnswersOutside g m false m₂
+      pub answer_hindered : r ≡ false → AnswersOutside g m false m''
       answer_hindered f = record {
         done = λ q. absurd (true≢false (sym q));
-        fails = λ _. record { mutator = k; few = l; is = t.next l; why = subst (λ z. RootFails g z k) t.is (a.fails f) };
+        fails = λ _. record { mutator = k; few = l; is = sym same ∙ o; why = subst (λ z. RootFails g z k) e (a.fails f) };
       }
-
-    pub all_answered : mutator_count ≤ k → AnswersOutside g m true m₁
-    all_answered l = record {
-      done = λ _. t.is ∙ ap (outside_answered g m) (let h = t.few in let z : k ≡ mutator_count = omega arith in z);
-      fails = λ f. absurd (true≢false f);
-    }
 
   -- ---- nothing hinders them in consistent memory
 

@@ -1,6 +1,6 @@
 -- The parts of a step in a handshake: the acknowledgements of the mutators outside and what can hinder them, and how many inside still owe, over
 -- memory of any content.
-use Rattle.std.specs.Prelude.{◌≡◌, Bool, true, false, ◌&&◌, ℕ, ◌≤◌, ◌<◌, eqb}
+use Rattle.std.specs.Prelude.{◌≡◌, Bool, true, false, ◌&&◌, ℕ, ◌<◌, eqb}
 use Rattle.basics.specs.Pick.{one_if}
 use Rattle.layout.specs.declared.Geometry.{Geometry}
 use Rattle.layout.specs.Geometry.{mutator_count}
@@ -10,13 +10,6 @@ use Rattle.theory.specs.Calls.{Answer}
 use Rattle.model.specs.Fields.{inside, outside, state, acks}
 use Rattle.model.specs.Collector.{outside_answered, waiting, moved_or_waiting}
 use Rattle.tracing.specs.Roots.{RootFails}
-
--- the first mutator outside, from a number on, or the number of mutators where there is none
-pub record NextOutside (m : Mem) (from r : ℕ) : Type 0 where
-  pub after : from ≤ r
-  pub few : r ≤ mutator_count
-  pub none : (j : ℕ) → from ≤ j → j < r → state m j ≡ outside → ⊥
-  pub is : r < mutator_count → state m r ≡ outside
 
 -- the acknowledgement of one mutator outside is hindered, after those before it
 pub record AnswerFails (g : Geometry) (m : Mem) : Type 0 where

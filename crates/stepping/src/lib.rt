@@ -11,36 +11,19 @@ ghost use Rattle.model.specs.PhaseNumbers.{phase_of, phase_number};
 ghost use Rattle.model.specs.Collector.{waiting};
 ghost use Rattle.model.specs.Promise.{StepPromise};
 ghost use Rattle.model.specs.StepParts.{StepsAs};
-ghost use Rattle.stepping.specs.Handshaking.{NextOutside, AnswersOutside, waits, handshakes};
+ghost use Rattle.stepping.specs.Handshaking.{AnswersOutside, waits, handshakes};
 
 use layout::Geometry;
 use model::{Phase, Step};
-
-// The first mutator outside, from a number on, or the number of mutators where there is none.
-fn next_outside(g: Geometry, mem: &[u32], from: u32) -> u32
-    requires { (Sized g (length mem.now)) × (from ≤ mutator_count) }
-    ensures { NextOutside (mem_of g mem.now) from result }
-{
-    let mut j = from;
-    while j < layout::MUTATORS {
-        if mutators::state(g, mem, j) == mutators::OUTSIDE {
-            return j;
-        }
-        j += 1;
-    }
-    j
-}
 
 // The mutators that are outside give the acknowledgements that they owe, in number order; false says that a root of one cannot be pushed.
 fn answer_outside(g: Geometry, mem: &mut [u32]) -> bool
     requires { Sized g (length mem.old) }
     ensures { AnswersOutside g (mem_of g mem.old) result (mem_of g mem.new) }
 {
-    let mut k = next_outside(g, mem, 0);
-    while k < layout::MUTATORS {
-        if handshake_calls::acknowledge(g, mem, k) {
-            k = next_outside(g, mem, k + 1);
-        } else {
+    for k in 0..layout::MUTATORS {
+        let outside = mutators::state(g, mem, k) == mutators::OUTSIDE;
+        if outside && !handshake_calls::acknowledge(g, mem, k) {
             return false;
         }
     }
@@ -48,29 +31,26 @@ fn answer_outside(g: Geometry, mem: &mut [u32]) -> bool
 }
 
 // 1 where mutator i is inside and owes an acknowledgement, else 0.
+#[tactic(auto, unfolding(crate::specs::Handshaking::waits))]
 fn waits(g: Geometry, mem: &[u32], phase: Phase, i: u32) -> u32
     requires { (Sized g (length mem.now)) × (i < mutator_count) }
     ensures { result ≡ waits (mem_of g mem.now) (phase_of phase.number) i }
 {
-    if mutators::state(g, mem, i) == mutators::INSIDE {
-        if phase.owes(mutators::acks(g, mem, i)) {
-            return 1;
-        }
-    }
-    0
+    let owes = mutators::state(g, mem, i) == mutators::INSIDE
+        && phase.owes(mutators::acks(g, mem, i));
+    u32::from(owes)
 }
 
 // How many mutators that are inside owe an acknowledgement.
+#[tactic(auto, using(crate::proofs::Counting::counted_one_by_one))]
 fn waiting(g: Geometry, mem: &[u32]) -> u32
     requires { Sized g (length mem.now) }
     ensures { result ≡ waiting (mem_of g mem.now) mutator_count }
 {
     let phase = control::phase(g, mem);
-    let mut n: u32 = 0;
-    let mut i: u32 = 0;
-    while i < layout::MUTATORS {
+    let mut n = 0;
+    for i in 0..layout::MUTATORS {
         n += waits(g, mem, phase, i);
-        i += 1;
     }
     n
 }

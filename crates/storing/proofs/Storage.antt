@@ -14,7 +14,11 @@ use Rattle.theory.specs.Phases.{duty}
 use Rattle.theory.specs.Reach.{next}
 use Rattle.theory.specs.Calls.{c_store, a_ok, if_root, pointer?}
 use Rattle.model.specs.declared.Answer.{Answer}
-use Rattle.model.specs.declared.Answer.TheVariants.{Ok, Refused}
+use Rattle.std.specs.Prelude.{Result, Ok, Err}
+use Rattle.model.specs.declared.Answer.TheVariants.{Done}
+use Rattle.model.specs.declared.Refusal.{Refusal}
+use Rattle.model.specs.declared.Refusal.TheVariants.{Torn}
+use Rattle.model.specs.Refusals.{number_of}
 use Rattle.model.specs.declared.Duty.{Duty}
 use Rattle.model.specs.PhaseNumbers.{phase_of, duty_of}
 use Rattle.model.specs.Fields.{phase, acks}
@@ -28,7 +32,6 @@ use Rattle.model_laws.proofs.Rooted.{rooted, live_root}
 use Rattle.model_laws.proofs.Reaching.{Names, Reaches}
 use Rattle.mutators.specs.Inside.{inside_then}
 use Rattle.mutators.proofs.Inside.{refused_with, reaches_with}
-use Rattle.records.specs.declared.FieldAt.TheVariants.{Word}
 use Rattle.records.specs.FieldWords.{pointer_at}
 use Rattle.records.proofs.Found.{FieldFound, pointer_found}
 use Rattle.records.proofs.Reaching.{pointer_0}
@@ -51,7 +54,7 @@ module _ (g : Geometry) (m : Mem) (k p new : ℕ) (n a o : ℕ) (d : Duty) (r : 
   is_duty : rule_of d ≡ duty (phase m) (acks m k)
   is_duty = ap rule_of ed ∙ rule_of_lem (duty (phase_of n) a) ∙ ap (λ x. duty (phase_of x) a) en ∙ ap (duty (phase m)) ea
 
-  pub stores_ok : (m₂ : Mem) → r ≡ true → m₂ ≡ set_heap m₁ p new → Stores g m k p new Ok m₂
+  pub stores_ok : (m₂ : Mem) → r ≡ true → m₂ ≡ set_heap m₁ p new → Stores g m k p new (Ok Done) m₂
   stores_ok m₂ t e = record {
     either = inl (
       refl,
@@ -61,13 +64,13 @@ module _ (g : Geometry) (m : Mem) (k p new : ℕ) (n a o : ℕ) (d : Duty) (r : 
     );
   }
 
-  pub stores_13 : r ≡ false → Stores g m k p new (Refused 13) m₁
+  pub stores_13 : r ≡ false → Stores g m k p new (Err Torn) m₁
   stores_13 t = record { either = inr (refl, subst (Hinders g m new) eo (b.fails t)) }
 
 -- ---- n is the refusal of the mutator and its roots: it refuses the call, or the call reaches the record
 
 module _ (g : Geometry) (xs : List ℕ) (k i f j n : ℕ) (e : wrong_size g (length xs) ≡ false) (s : n ≡ inside_then (mem_of g xs) k (if_root i (if_root j 0))) where
-  pub store_refused : (n ≡ 0 → ⊥) → Promise (c_store k i f j) g xs (Refused n) xs
+  pub store_refused : (w : Refusal) → number_of w ≡ n → Promise (c_store k i f j) g xs (Err w) xs
   unfolding inside_then
   store_refused = refused_with g xs k i j n s (c_store k i f j) e i (pointer? f) refl
 
@@ -101,14 +104,14 @@ module _ (g : Geometry) (xs : List ℕ) (k i f j at : ℕ) (q : Reaches (c_store
         let lq : length m.marks ≡ g.segments * mark_words g = length-region g xs Region.marks z.is (omega arith) in
         push_succeeds_next g m c (omega arith) lq (fields.root m k j) (pointer m at f) new_ok old_ok x
 
-  pub store_by : (p v : ℕ) (r : Answer) (ys : List ℕ) → Word p ≡ pointer_at g m at f → v ≡ fields.root m k j → Stores g m k p v r (mem_of g ys) → Promise (c_store k i f j) g xs r ys
+  pub store_by : (p v : ℕ) (r : Result Answer Refusal) (ys : List ℕ) → Ok p ≡ pointer_at g m at f → v ≡ fields.root m k j → Stores g m k p v r (mem_of g ys) → Promise (c_store k i f j) g xs r ys
   store_by p v r ys a e s =
       let t = pointer_found g m at f p a in
-      go t (subst (λ y. ((r ≡ Ok) × (mem_of g ys ≡ stored g m k y (fields.root m k j))) ⊎ ((r ≡ Refused 13) × Hinders g m (fields.root m k j) (heap_word m y))) t.is
-      (subst (λ y. ((r ≡ Ok) × (mem_of g ys ≡ stored g m k p y)) ⊎ ((r ≡ Refused 13) × Hinders g m y (heap_word m p))) e s.either))
+      go t (subst (λ y. ((r ≡ Ok Done) × (mem_of g ys ≡ stored g m k y (fields.root m k j))) ⊎ ((r ≡ Err Torn) × Hinders g m (fields.root m k j) (heap_word m y))) t.is
+      (subst (λ y. ((r ≡ Ok Done) × (mem_of g ys ≡ stored g m k p y)) ⊎ ((r ≡ Err Torn) × Hinders g m y (heap_word m p))) e s.either))
     where
       go : FieldFound g at (pointer_count m at) f (at + 1 + f) p
-          → ((r ≡ Ok) × (mem_of g ys ≡ stored g m k (at + 1 + f) (fields.root m k j))) ⊎ ((r ≡ Refused 13) × Hinders g m (fields.root m k j) (heap_word m (at + 1 + f)))
+          → ((r ≡ Ok Done) × (mem_of g ys ≡ stored g m k (at + 1 + f) (fields.root m k j))) ⊎ ((r ≡ Err Torn) × Hinders g m (fields.root m k j) (heap_word m (at + 1 + f)))
           → Promise (c_store k i f j) g xs r ys
       go t (inl (u, y)) =
           subst (λ r. Promise (c_store k i f j) g xs r ys) (sym u)

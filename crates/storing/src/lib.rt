@@ -11,11 +11,16 @@ ghost use Rattle.storing.specs.Stored.{Stores};
 ghost use Rattle.layout.specs.Region as Region;
 
 use layout::Geometry;
-use model::{Answer, Held};
-use records::FieldAt;
+use model::{Answer, Held, Refusal};
 
 // A word of the heap gets a value, after the barrier of the mutator.
-fn store_at(g: Geometry, mem: &mut [u32], mutator: u32, word: usize, new: u32) -> Answer
+fn store_at(
+    g: Geometry,
+    mem: &mut [u32],
+    mutator: u32,
+    word: usize,
+    new: u32,
+) -> Result<Answer, Refusal>
     requires { (Sized g (length mem.old)) × (mutator < mutator_count) × (word < len g Region.heap) }
     ensures { Stores g (mem_of g mem.old) mutator word new result (mem_of g mem.new) }
 {
@@ -24,31 +29,29 @@ fn store_at(g: Geometry, mem: &mut [u32], mutator: u32, word: usize, new: u32) -
     let old = records::field(g, mem, word);
     if tracing::barrier(g, mem, duty, new, old) {
         records::set_field(g, mem, word, new);
-        return Answer::Ok;
+        return Ok(Answer::Done);
     }
-    Answer::Refused(13)
+    Err(Refusal::Torn)
 }
 
 // Pointer `field` of the record in root `root` gets what root `from` holds.
-pub fn store(g: Geometry, mem: &mut [u32], mutator: u32, root: u32, field: u32, from: u32) -> Answer
+pub fn store(
+    g: Geometry,
+    mem: &mut [u32],
+    mutator: u32,
+    root: u32,
+    field: u32,
+    from: u32,
+) -> Result<Answer, Refusal>
     ensures { Promise (c_store mutator root field from) g mem.old result mem.new }
 {
-    if layout::wrong_size(g, mem.len()) {
-        return Answer::Refused(1);
-    }
-    let refused = mutators::roots_refusal(g, mem, mutator, root, from);
-    if refused != 0 {
-        return Answer::Refused(refused);
-    }
+    model::require_size(g, mem)?;
+    mutators::require_roots(g, mem, mutator, root, from)?;
     let slot = records::held_of(mutators::root(g, mem, mutator, root));
     let Held::Record(at) = slot else {
-        return Answer::Refused(7);
+        return Err(Refusal::Nil);
     };
-    match records::pointer_at(g, mem, at, field) {
-        FieldAt::Refused(n) => Answer::Refused(n),
-        FieldAt::Word(word) => {
-            let new = mutators::root(g, mem, mutator, from);
-            store_at(g, mem, mutator, word, new)
-        }
-    }
+    let word = records::pointer_at(g, mem, at, field)?;
+    let new = mutators::root(g, mem, mutator, from);
+    store_at(g, mem, mutator, word, new)
 }

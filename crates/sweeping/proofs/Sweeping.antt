@@ -33,7 +33,7 @@ use Rattle.model_laws.proofs.Stacks.{stack_room}
 use Rattle.model_laws.proofs.Swept.{swept_use}
 use Rattle.model_laws.proofs.StepParts.{steps_done, steps_13}
 use Rattle.bitmaps.specs.Given.{adopted_as}
-use Rattle.sweeping.specs.declared.Lowest.TheVariants.{Segment, Nothing}
+use Rattle.std.specs.Prelude as rust
 use Rattle.sweeping.specs.Sweeping.{lowest_of, Finds, state_after, stack_after, settled, Settles, Finishes, counted_use, recounted_as, SweepFails, no_class, no_room, too_many, Sweeps}
 use Rattle.theory.specs.Calls as theory
 use Rattle.model.specs.Tag as Tag
@@ -127,24 +127,24 @@ module _ (g : Geometry) (m : Mem) (c : Consistent g m) (s : ℕ) (l : s < g.segm
 -- ---- the step
 
 module _ (g : Geometry) (m : Mem) where
-  some_is : (s : ℕ) → Segment s ≡ lowest_of (lowest m g.segments) → lowest m g.segments ≡ some s
+  some_is : (s : ℕ) → rust.Some s ≡ lowest_of (lowest m g.segments) → lowest m g.segments ≡ some s
   some_is s e = go (lowest m g.segments) e
     where
-      go : (o : Option ℕ) → Segment s ≡ lowest_of o → o ≡ some s
+      go : (o : Option ℕ) → rust.Some s ≡ lowest_of o → o ≡ some s
       go none e = cc
       go (some x) e = cc
 
-  none_is : Nothing ≡ lowest_of (lowest m g.segments) → lowest m g.segments ≡ none
+  none_is : rust.None ≡ lowest_of (lowest m g.segments) → lowest m g.segments ≡ none
   none_is e = go (lowest m g.segments) e
     where
-      go : (o : Option ℕ) → Nothing ≡ lowest_of o → o ≡ none
+      go : (o : Option ℕ) → rust.None ≡ lowest_of o → o ≡ none
       go none e = refl
       go (some x) e = cc
 
-  pub sweep_done : Finds g m Nothing → (m' : Mem) → m' ≡ set_control m 0 (phase_number idle) → StepsAs in_sweep g m Done m'
+  pub sweep_done : Finds g m rust.None → (m' : Mem) → m' ≡ set_control m 0 (phase_number idle) → StepsAs in_sweep g m Done m'
   sweep_done f m' u = steps_done in_sweep g m refl is_done (λ c. rw (none_is (f.exact c.sound.behind)) (refl, u))
 
-  module _ (s : ℕ) (f : Finds g m (Segment s)) where
+  module _ (s : ℕ) (f : Finds g m (rust.Some s)) where
     pub lowest_condemned : (s < g.segments) × (tag m s ≡ Tag.condemned)
     lowest_condemned = f.found s refl
 

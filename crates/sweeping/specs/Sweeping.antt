@@ -13,26 +13,19 @@ use Rattle.model.specs.declared.Step.TheVariants.{Swept, Refused}
 use Rattle.model.specs.Fields.{class, tag, set_cursor, kept_count, set_kept_count, handed_count, set_handed_count}
 use Rattle.model.specs.Segments.{set_segment_state, free_stack, part_stack, count, stacked}
 use Rattle.model.specs.Collector.{marked_blocks, swept, lowest}
-use Rattle.sweeping.specs.declared.Lowest.{Lowest}
-use Rattle.sweeping.specs.declared.Lowest.TheVariants.{Segment, Nothing}
 use Rattle.model.specs.Consistent.{Behind}
 use Rattle.model.specs.declared.SegmentState.TheVariants as state
 use Rattle.model.specs.Tag as Tag
+use Rattle.std.specs.Prelude as rust
 
-abbrev pub lowest_of : Option ℕ → Lowest
-lowest_of none = Nothing
-lowest_of (some s) = Segment s
-
--- r is the first condemned segment from one on, or past the last one
-pub record Next (g : Geometry) (m : Mem) (from r : ℕ) : Type 0 where
-  pub onward : from ≤ r
-  pub passed : (x : ℕ) → from ≤ x → x < r → tag m x ≡ Tag.condemned → ⊥
-  pub found : r < g.segments → tag m r ≡ Tag.condemned
+abbrev pub lowest_of : Option ℕ → rust.Option ℕ
+lowest_of none = rust.None
+lowest_of (some s) = rust.Some s
 
 -- what the search answers: a condemned segment or none; where no condemned segment stands before the cursor, the lowest, and none where there is
 -- none
-pub record Finds (g : Geometry) (m : Mem) (r : Lowest) : Type 0 where
-  pub found : (s : ℕ) → r ≡ Segment s → (s < g.segments) × (tag m s ≡ Tag.condemned)
+pub record Finds (g : Geometry) (m : Mem) (r : rust.Option ℕ) : Type 0 where
+  pub found : (s : ℕ) → r ≡ rust.Some s → (s < g.segments) × (tag m s ≡ Tag.condemned)
   pub exact : Behind g m → r ≡ lowest_of (lowest m g.segments)
 
 -- "place 0 unless it becomes full. No mark: free. All blocks marked: full. Else part.": n blocks of a segment of class c are marked

@@ -11,44 +11,23 @@ ghost use Rattle.model.specs.Fields.{tag};
 ghost use Rattle.model.specs.Collector.{lowest, sweeps};
 ghost use Rattle.model.specs.StepParts.{StepsAs};
 ghost use Rattle.model.specs.Tag as Tag;
-ghost use Rattle.sweeping.specs.Sweeping.{Next, Finds, state_after, stack_after, Settles, Finishes, Sweeps};
+ghost use Rattle.sweeping.specs.Sweeping.{Finds, state_after, stack_after, Settles, Finishes, Sweeps};
 
 use layout::Geometry;
 use model::{Phase, Segment, SegmentState, Step};
 
-// The lowest condemned segment, or none.
-#[derive(Drop)]
-pub enum Lowest {
-    Segment(usize),
-    Nothing,
-}
-
-// The first condemned segment from one on; past the last one where there is none.
-fn next_condemned(g: Geometry, mem: &[u32], from: usize) -> usize
-    requires { Sized g (length mem.now) }
-    ensures { Next g (mem_of g mem.now) from result }
-{
-    let n = g.segments;
-    let mut s = from;
-    while s < n {
-        if segments::tag(g, mem, s) == Segment::TAG_CONDEMNED {
-            return s;
-        }
-        s += 1;
-    }
-    s
-}
-
 // The lowest condemned segment, found from the cursor up: in consistent memory none stands before the cursor.
-fn lowest_condemned(g: Geometry, mem: &[u32]) -> Lowest
+fn lowest_condemned(g: Geometry, mem: &[u32]) -> Option<usize>
     requires { Sized g (length mem.now) }
     ensures { Finds g (mem_of g mem.now) result }
 {
-    let s = next_condemned(g, mem, control::cursor(g, mem) as usize);
-    if s < g.segments {
-        return Lowest::Segment(s);
+    let from = control::cursor(g, mem) as usize;
+    for s in from..g.segments {
+        if segments::tag(g, mem, s) == Segment::TAG_CONDEMNED {
+            return Some(s);
+        }
     }
-    Lowest::Nothing
+    None
 }
 
 // The state that a segment of a class gets with so many blocks marked.
@@ -89,29 +68,15 @@ fn settle(g: Geometry, mem: &mut [u32], s: usize, class: u32, kept: u32) -> bool
     stacks::push(g, mem, stack_after(class, kept), s)
 }
 
-// One number less another, and 0 where the other is larger.
-fn less(a: u32, b: u32) -> u32
-    ensures { result ≡ a - b }
-{
-    if a < b {
-        return 0;
-    }
-    a - b
-}
-
 // The class of the state of a condemned segment.
 fn condemned_class(state: SegmentState) -> u32
     ensures { (c p : ℕ) → state ≡ Condemned c p → result ≡ c }
 {
     match state {
-        SegmentState::Condemned { class, place } => class,
-        SegmentState::Full { class } => class,
-        SegmentState::Held {
-            class,
-            place,
-            mutator,
-        } => class,
-        SegmentState::Part { class, place } => class,
+        SegmentState::Condemned { class, .. }
+        | SegmentState::Full { class }
+        | SegmentState::Held { class, .. }
+        | SegmentState::Part { class, .. } => class,
         SegmentState::Free => 0,
     }
 }
@@ -124,7 +89,7 @@ fn finish(g: Geometry, mem: &mut [u32], s: usize, class: u32, used: u32, kept: u
 {
     if settle(g, mem, s, class, kept) {
         control::set_cursor(g, mem, s as u32 + 1);
-        return Step::Swept(s as u32, less(used, kept));
+        return Step::Swept(s as u32, used.saturating_sub(kept));
     }
     Step::Refused(13)
 }
@@ -164,8 +129,8 @@ pub fn sweep(g: Geometry, mem: &mut [u32]) -> Step
     ensures { StepsAs (λ g m. sweeps g (lowest m g.segments) m) g (mem_of g mem.old) result (mem_of g mem.new) }
 {
     match lowest_condemned(g, mem) {
-        Lowest::Segment(s) => sweep_segment(g, mem, s),
-        Lowest::Nothing => {
+        Some(s) => sweep_segment(g, mem, s),
+        None => {
             control::set_phase(g, mem, Phase::IDLE);
             Step::Done
         }

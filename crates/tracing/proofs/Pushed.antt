@@ -7,6 +7,7 @@ use Prim.Native.Nat.{ℕ, suc, ◌+◌, ◌-◌, ◌≤◌}
 use native.Mathlib.Omega.{arith}
 use native.Mathlib.Nat.{pos_of_ne-zero}
 use borrow.Author.Tests.{eq-eqb, ne_eqb}
+use Rattle.std.specs.Prelude.{Some, None}
 use Rattle.words.specs.Bits.{bit_at}
 use Rattle.layout.specs.declared.Geometry.{Geometry}
 use Rattle.layout.specs.Geometry.{len, mark_bit}
@@ -15,7 +16,6 @@ use Rattle.model.specs.Fields.{trace_count, set_trace_count}
 use Rattle.model.specs.Records.{record?}
 use Rattle.model.specs.Tracing.{push}
 use Rattle.model.specs.declared.Duty.{Duty}
-use Rattle.marks.specs.declared.Bit.TheVariants.{At, Torn}
 use Rattle.marks.specs.Bits.{record_bit_at, with_mark}
 use Rattle.marks.proofs.Bits.{bit_within}
 use Rattle.tracing.specs.Pushing.{pushed_bit, PushesBit, PushFails, Pushes, BarrierRuns}
@@ -58,10 +58,10 @@ module _ (g : Geometry) (m : Mem) (w : ℕ) where
   named : (w ≡ 0 → ⊥) → w ≡ suc (w - 1)
   named f = let l = pos_of_ne-zero f in omega arith
 
-  pub push_torn : (w ≡ 0 → ⊥) → Torn ≡ record_bit_at g (w - 1) → Pushes g m w false m
+  pub push_torn : (w ≡ 0 → ⊥) → None ≡ record_bit_at g (w - 1) → Pushes g m w false m
   push_torn f e = record { done = λ t. absurd (true≢false (sym t)); fails = λ _. record { at = w - 1; names = named f; why = inl (sym e) } }
 
-  pub push_by : (k : ℕ) (r : Bool) (after : Mem) → (w ≡ 0 → ⊥) → At k ≡ record_bit_at g (w - 1) → PushesBit g m w k r after → Pushes g m w r after
+  pub push_by : (k : ℕ) (r : Bool) (after : Mem) → (w ≡ 0 → ⊥) → Some k ≡ record_bit_at g (w - 1) → PushesBit g m w k r after → Pushes g m w r after
   push_by k r after f e p =
       let z = (bit_within g (w - 1) k e).0 in
       record {

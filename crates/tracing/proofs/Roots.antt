@@ -1,7 +1,7 @@
 -- The loop over a mutator's roots: what it keeps, one push more, one that is hindered; and that none is in memory that is ready for it.
-use mathlib.Core.Path.{◌≡◌, sym, ◌∙◌, ap, subst}
-use mathlib.Core.Bool.{Bool, true, false, true≢false}
-use Prim.Native.Nat.{ℕ, ◌+◌, ◌*◌, ◌≤◌, ◌<◌}
+use mathlib.Core.Path.{◌≡◌, refl, sym, ◌∙◌, ap, subst}
+use mathlib.Core.Bool.{true, false, true≢false}
+use Prim.Native.Nat.{ℕ, ◌+◌, ◌*◌, ◌<◌}
 use native.Mathlib.Numerals.{add-one}
 use native.Mathlib.Omega.{arith}
 use lib.ListN.{get_or}
@@ -17,43 +17,30 @@ use Rattle.tracing.specs.Pushing.{PushFails, Pushes}
 use Rattle.tracing.specs.Roots.{RootFails, PushesRoots}
 use Rattle.tracing.proofs.Succeeds.{fold_succeeds}
 
--- the first i roots of mutator k are pushed
-pub record RootsPushed (g : Geometry) (m : Mem) (k i : ℕ) (m' : Mem) : Type 0 where
-  pub few : i ≤ root_count
-  pub is : m' ≡ push_roots g m k i
-
-pub none_pushed : (g : Geometry) (m : Mem) (k : ℕ) → RootsPushed g m k 0 m
-none_pushed g m k = record { few = omega arith; is = sym (roots_none g m k) }
-
 -- pushes leave the roots
 same_root : (g : Geometry) (m : Mem) (k n i : ℕ) → root (push_roots g m k n) k i ≡ root m k i
 same_root g m k n i =
     ap (λ z. get_or z (k * mutator_words + i) 0) (fold_untouched g (push_roots g m k) (root m k) (roots_next g m k) n).mutators
     ∙ ap (λ z. root z k i) (roots_none g m k)
 
-module _ (g : Geometry) (m : Mem) (k i : ℕ) (m' : Mem) (p : RootsPushed g m k i m') where
-  module _ (l : i < root_count) (w : ℕ) (e : w ≡ root m' k i) (r : Bool) (m'' : Mem) (q : Pushes g m' w r m'') where
+-- one more, its word read from the memory with those before it
+pub one_more : (g : Geometry) (m : Mem) (k i : ℕ) → push_roots g m k (i + 1) ≡ push g (push_roots g m k i) (record? (root (push_roots g m k i) k i))
+one_more g m k i = rw (add-one i, roots_next g m k i, same_root g m k i i) refl
+
+pub one_fails : (g : Geometry) (m : Mem) (k i w : ℕ) (m' m'' : Mem) → m' ≡ push_roots g m k i → i < root_count → w ≡ root m' k i → Pushes g m' w false m'' → PushesRoots g m k false m''
+one_fails g m k i w m' m'' e l f q = record {
+  done = λ t. absurd (true≢false (sym t));
+  fails = λ _. record { index = i; within = l; why = subst (λ z. PushFails g (push_roots g m k i) z) word (subst (λ z. PushFails g z w) e (q.fails refl)) };
+}
+  where
     word : w ≡ root m k i
-    word = e ∙ ap (λ z. root z k i) p.is ∙ same_root g m k i i
+    word = f ∙ ap (λ z. root z k i) e ∙ same_root g m k i i
 
-    pub one_more : r ≡ true → RootsPushed g m k (i + 1) m''
-    one_more t = record {
-      few = omega arith;
-      is = q.done t ∙ ap (λ z. push g z (record? w)) p.is ∙ ap (λ z. push g (push_roots g m k i) (record? z)) word
-          ∙ sym (roots_next g m k i) ∙ ap (push_roots g m k) (sym (add-one i));
-    }
+pub all_pushed : (g : Geometry) (m : Mem) (k : ℕ) (m' : Mem) → m' ≡ push_roots g m k root_count → PushesRoots g m k true m'
+all_pushed g m k m' e = record { done = λ _. e; fails = λ t. absurd (true≢false t) }
 
-    pub one_fails : r ≡ false → PushesRoots g m k false m''
-    one_fails f = record {
-      done = λ t. absurd (true≢false (sym t));
-      fails = λ _. record { index = i; within = l; why = subst (λ z. PushFails g (push_roots g m k i) z) word (subst (λ z. PushFails g z w) p.is (q.fails f)) };
-    }
-
-  pub all_pushed : root_count ≤ i → PushesRoots g m k true m'
-  all_pushed l = record {
-    done = λ _. p.is ∙ ap (push_roots g m k) (let h = p.few in let z : i ≡ root_count = omega arith in z);
-    fails = λ t. absurd (true≢false t);
-  }
+-- what the loop cites
+pub ruleset pushed_one_by_one = (roots_none, one_more, one_fails, all_pushed)
 
 -- ---- nothing hinders the pushes of an attached mutator's roots
 

@@ -1,11 +1,12 @@
 -- Nothing hinders a push of a record in order where the entries are counted, nor any push of a fold of them; so in consistent memory.
 use mathlib.Core.Path.{◌≡◌, refl, sym, ◌∙◌, ap}
-use mathlib.Core.Bool.{true≢false}
 use mathlib.Core.Logic.{◌⊎◌, inl, inr}
 use Prim.Native.Nat.{ℕ, suc, ◌*◌, ◌≤◌, ◌<◌}
 use native.Mathlib.Omega.{arith}
 use lib.ListN.{length}
 use borrow.Author.Tests.{lt-ltb}
+use Rattle.std.specs.Prelude.{Some, None}
+use Rattle.std.proofs.lemmas.Option.{none-some}
 use Rattle.words.specs.Bits.{bit_at}
 use Rattle.words.proofs.Word.{zero_of_not_one}
 use Rattle.words.proofs.Counts.{zero_less}
@@ -20,9 +21,7 @@ use Rattle.model.specs.Consistent.{RecordOk, Consistent}
 use Rattle.model_laws.proofs.Blocks.{bit_below}
 use Rattle.model_laws.proofs.Apart.{class_of}
 use Rattle.model_laws.proofs.Pushes.{Counted, PushReady, record_untouched, untouched_push, ready_push, fold_untouched, fold_ready}
-use Rattle.marks.specs.declared.Bit.TheVariants.{At, Torn}
 use Rattle.marks.specs.Bits.{record_bit_at}
-use Rattle.marks.proofs.Bits.{is_at}
 use Rattle.tracing.specs.Pushing.{PushFails}
 use Rattle.layout.specs.Region as Region
 
@@ -30,11 +29,11 @@ use Rattle.layout.specs.Region as Region
 
 module _ (g : Geometry) (m : Mem) (number : Counted g m) where
   module _ (at : ℕ) (r : RecordOk g m at) where
-    pub has_bit : record_bit_at g at ≡ Torn → ⊥
+    pub has_bit : record_bit_at g at ≡ None → ⊥
     unfolding record_bit_at
-    has_bit e = let z : At (mark_bit at) ≡ Torn = sym placed ∙ e in true≢false (ap is_at z)
+    has_bit e = none-some _ (sym e ∙ placed)
       where
-        placed : record_bit_at g at ≡ At (mark_bit at)
+        placed : record_bit_at g at ≡ Some (mark_bit at)
         placed = rw (lt-ltb _ _ r.inside) refl
 
     room : (entered g m at ≡ 1 → ⊥) → trace_count m < len g Region.trace
@@ -49,7 +48,7 @@ module _ (g : Geometry) (m : Mem) (number : Counted g m) where
       ok : RecordOk g m h.at
       ok = r h.at h.names
 
-      go : (record_bit_at g h.at ≡ Torn) ⊎ ((entered g m h.at ≡ 1 → ⊥) × (len g Region.trace ≤ trace_count m)) → ⊥
+      go : (record_bit_at g h.at ≡ None) ⊎ ((entered g m h.at ≡ 1 → ⊥) × (len g Region.trace ≤ trace_count m)) → ⊥
       go (inl e) = has_bit h.at ok e
       go (inr p) = let l = room h.at ok p.0 in let q = p.1 in omega arith
 

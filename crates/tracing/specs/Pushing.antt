@@ -1,5 +1,5 @@
 -- A push on the trace stack, with what can hinder it, over memory of any content.
-use Rattle.std.specs.Prelude.{◌≡◌, Bool, true, false, ◌⊎◌, ℕ, suc, ◌+◌, ◌≤◌, eqb}
+use Rattle.std.specs.Prelude.{◌≡◌, Bool, true, false, ◌⊎◌, ℕ, suc, ◌+◌, ◌≤◌, eqb, None}
 use Rattle.basics.specs.Pick.{pick}
 use Rattle.words.specs.Bits.{bit_at}
 use Rattle.layout.specs.declared.Geometry.{Geometry}
@@ -9,7 +9,6 @@ use Rattle.model.specs.Fields.{trace_count, set_trace_count}
 use Rattle.model.specs.declared.Duty.{Duty}
 use Rattle.model.specs.Records.{record?, entered}
 use Rattle.model.specs.Tracing.{push, barrier}
-use Rattle.marks.specs.declared.Bit.TheVariants.{Torn}
 use Rattle.marks.specs.Bits.{record_bit_at, with_mark}
 use Rattle.theory.specs.Phases as theory
 use Rattle.model.specs.declared.Duty.TheVariants as duty
@@ -29,7 +28,7 @@ pub record PushesBit (g : Geometry) (m : Mem) (w k : ℕ) (r : Bool) (after : Me
 pub record PushFails (g : Geometry) (m : Mem) (w : ℕ) : Type 0 where
   pub at : ℕ
   pub names : w ≡ suc at
-  pub why : (record_bit_at g at ≡ Torn) ⊎ ((entered g m at ≡ 1 → ⊥) × (len g Region.trace ≤ trace_count m))
+  pub why : (record_bit_at g at ≡ None) ⊎ ((entered g m at ≡ 1 → ⊥) × (len g Region.trace ≤ trace_count m))
 
 pub record Pushes (g : Geometry) (m : Mem) (w : ℕ) (r : Bool) (after : Mem) : Type 0 where
   pub done : r ≡ true → after ≡ push g m (record? w)

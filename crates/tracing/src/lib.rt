@@ -9,7 +9,6 @@ ghost use Rattle.tracing.specs.Pushing.{PushesBit, Pushes, BarrierRuns};
 ghost use Rattle.tracing.specs.Roots.{PushesRoots};
 
 use layout::Geometry;
-use marks::Bit;
 use model::Duty;
 
 // Pushes the record of a word and a bit, unless its bit is set; false where the stack has no room.
@@ -39,8 +38,8 @@ pub fn push(g: Geometry, mem: &mut [u32], w: u32) -> bool
         return true;
     }
     match marks::record_bit(g, (w - 1) as usize) {
-        Bit::Torn => false,
-        Bit::At(k) => push_bit(g, mem, w, k),
+        None => false,
+        Some(k) => push_bit(g, mem, w, k),
     }
 }
 
@@ -62,16 +61,14 @@ pub fn barrier(g: Geometry, mem: &mut [u32], duty: Duty, new: u32, old: u32) -> 
 }
 
 // Pushes the roots of mutator k, in order; false where one has no bit, or the stack no room.
+#[tactic(auto, using(crate::proofs::Roots::pushed_one_by_one))]
 pub fn push_roots(g: Geometry, mem: &mut [u32], k: u32) -> bool
     requires { (Sized g (length mem.old)) × (k < mutator_count) }
     ensures { PushesRoots g (mem_of g mem.old) k result (mem_of g mem.new) }
 {
-    let mut i: u32 = 0;
-    while i < layout::ROOTS {
+    for i in 0..layout::ROOTS {
         let w = mutators::root(g, mem, k, i);
-        if push(g, mem, w) {
-            i += 1;
-        } else {
+        if !push(g, mem, w) {
             return false;
         }
     }

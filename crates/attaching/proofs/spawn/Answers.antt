@@ -1,33 +1,31 @@
 -- `attaching::spawn` meets its contract.
-use mathlib.Core.Path.{sym, ◌∙◌}
 use native.Mathlib.Omega.{arith}
+use Rattle.std.proofs.lemmas.Result.{err_from_is_err_and}
 use Rattle.layout.proofs.Regions.{sized}
-use Rattle.model_laws.proofs.Promised.{size_1}
+use Rattle.model_laws.proofs.Promised.{fits}
 use Rattle.attaching.proofs.Coming.{spawn_refused, in_range, spawns}
 use Rattle.attaching.proofs.spawn.Goals as goal
 
-pub returns-then-wrong_size : goal.returns-then-wrong_size
-returns-then-wrong_size c = size_1 _ _ _ (sym c.wrong_size.ensures ∙ c.if-wrong_size.true)
+pub require_spawn-requires : goal.require_spawn-requires
+require_spawn-requires c = sized _ _ (fits c.in_ok-require_size.ensures)
 
-pub spawn_refusal-refused-requires : goal.spawn_refusal-refused-requires
-spawn_refusal-refused-requires c = sized _ _ (sym c.wrong_size.ensures ∙ c.if-wrong_size.false)
-
-pub returns-then-refused-ne0 : goal.returns-then-refused-ne0
-returns-then-refused-ne0 c = spawn_refused _ _ _ _ _ _ (sym c.wrong_size.ensures ∙ c.if-wrong_size.false) c.spawn_refusal-refused.ensures c.if-refused-ne0.true
+pub returns-in_err-require_spawn : goal.returns-in_err-require_spawn
+returns-in_err-require_spawn c =
+    let p = err_from_is_err_and c.from_residual-in_err-require_spawn.result c.from_residual-in_err-require_spawn.ensures.1 in
+    rw (p.1, p.2) (spawn_refused _ _ _ _ _ (fits c.in_ok-require_size.ensures) _ c.in_err-require_spawn.ensures)
 
 pub root-held-requires : goal.root-held-requires
 root-held-requires c =
-    let e = sym c.wrong_size.ensures ∙ c.if-wrong_size.false in
-    let p = in_range _ _ _ _ _ _ e c.spawn_refusal-refused.ensures c.if-refused-ne0.false in
+    let e = fits c.in_ok-require_size.ensures in
+    let p = in_range _ _ _ _ _ e c.in_ok-require_spawn.ensures in
     (sized _ _ e, omega arith, omega arith)
 
 pub admit-requires : goal.admit-requires
 admit-requires c =
-    let e = sym c.wrong_size.ensures ∙ c.if-wrong_size.false in
-    (sized _ _ e, (in_range _ _ _ _ _ _ e c.spawn_refusal-refused.ensures c.if-refused-ne0.false).0)
+    let e = fits c.in_ok-require_size.ensures in
+    (sized _ _ e, (in_range _ _ _ _ _ e c.in_ok-require_spawn.ensures).0)
 
 pub returns : goal.returns
 returns c =
-    spawns _ _ _ _ _ _ (sym c.wrong_size.ensures ∙ c.if-wrong_size.false)
-    c.spawn_refusal-refused.ensures c.if-refused-ne0.false _ c.root-held.ensures _ _
+    spawns _ _ _ _ _ (fits c.in_ok-require_size.ensures) c.in_ok-require_spawn.ensures _ c.root-held.ensures _ _
     c.admit.ensures

@@ -1,4 +1,6 @@
 -- `bitmap_search::next_free` meets its contract.
+use Rattle.bitmap_search.specs.Search.{torn}
+use Rattle.std.specs.Prelude.{Ok, Err, Some, None}
 use mathlib.Core.Path.{◌≡◌, refl, sym, ap, ◌∙◌}
 use native.Mathlib.Omega.{arith}
 use mathlib.Core.List.{List}
@@ -6,17 +8,15 @@ use Prim.Native.Nat.{ℕ, ◌<◌, ◌^◌}
 use lib.ListN.{get_or}
 use borrow.Author.Tests.{lt-ltb, le-ltb}
 use Rattle.bitmap_search.specs.declared.BitPtr.{BitPtr}
-use Rattle.bitmap_search.specs.declared.Next.{Next}
-use Rattle.bitmap_search.specs.declared.Found.{Found}
-use Rattle.bitmap_search.specs.declared.Found.TheVariants.{Block, Nothing, Torn}
+use Rattle.bitmap_search.specs.Search.{Next}
+use Rattle.bitmap_search.specs.Scan.{Found}
 use Rattle.bitmap_search.specs.Pointer.{index_of, ptr_to}
 use Rattle.bitmap_search.specs.Search.{forwarded, block_at, SearchPromise}
-use Rattle.bitmap_search.proofs.Moves.{handed_bound, answered, promised}
-use Rattle.bitmap_search.specs.declared.Next.TheVariants as moved
+use Rattle.bitmap_search.proofs.Moves.{err_torn, handed_bound, answered, promised}
 use Rattle.bitmap_search.proofs.next_free.Goals as goal
 
-pub forward-found-requires : goal.forward-found-requires
-forward-found-requires c =
+pub forward-requires : goal.forward-requires
+forward-requires c =
     let e = ap (λ (p : BitPtr). p.low.bit) c.to.ensures in
     record {
       n_in_bounds = (c.requires, omega arith);
@@ -26,7 +26,7 @@ forward-found-requires c =
 pub index-k-requires : goal.index-k-requires
 index-k-requires c =
     let a = c.args in
-    let h = handed_bound a.above a.s.now a.n c.to.result c.in-At.q 0 (sym c.in-At.is ∙ c.forward-found.ensures) in
+    let h = handed_bound a.above a.s.now a.n c.to.result c.in-Some.q 0 (sym (c.in_ok-q.was ∙ ap Ok c.in-Some.is) ∙ c.forward.ensures) in
     let e = ap index_of c.at.ensures in
     omega (arith, h)
 
@@ -40,22 +40,24 @@ pub returns-then-k-n : goal.returns-then-k-n
 returns-then-k-n c =
     let a = c.args in
     let e = c.index-k.ensures ∙ ap index_of c.at.ensures in
-    promise a.above a.s.now a.n a.place (λ i. omega (arith, c.type_inv.s i)) c.to.result c.to.ensures c.forward-found.result c.forward-found.ensures
-    (moved.At c.in-At.q) (Block c.index-k.result) c.in-At.is (rw (← e, lt-ltb _ _ c.if-k-n.true))
+    promise a.above a.s.now a.n a.place (λ i. omega (arith, c.type_inv.s i)) c.to.result c.to.ensures c.forward.result c.forward.ensures
+    (Ok (Some c.in-Some.q)) (Ok (Some c.index-k.result)) (c.in_ok-q.was ∙ ap Ok c.in-Some.is) (rw (← e, lt-ltb _ _ c.if-k-n.true))
 
 pub returns-else-k-n : goal.returns-else-k-n
 returns-else-k-n c =
     let a = c.args in
     let e = c.index-k.ensures ∙ ap index_of c.at.ensures in
-    promise a.above a.s.now a.n a.place (λ i. omega (arith, c.type_inv.s i)) c.to.result c.to.ensures c.forward-found.result c.forward-found.ensures
-    (moved.At c.in-At.q) Torn c.in-At.is (rw (← e, le-ltb _ _ c.if-k-n.false))
+    promise a.above a.s.now a.n a.place (λ i. omega (arith, c.type_inv.s i)) c.to.result c.to.ensures c.forward.result c.forward.ensures
+    (Ok (Some c.in-Some.q)) torn (c.in_ok-q.was ∙ ap Ok c.in-Some.is) (rw (← e, le-ltb _ _ c.if-k-n.false))
 
-pub returns-in-Nothing : goal.returns-in-Nothing
-returns-in-Nothing c =
+pub returns-in_default : goal.returns-in_default
+returns-in_default c =
     let a = c.args in
-    promise a.above a.s.now a.n a.place (λ i. omega (arith, c.type_inv.s i)) c.to.result c.to.ensures c.forward-found.result c.forward-found.ensures moved.Nothing Nothing c.in-Nothing.is refl
+    promise a.above a.s.now a.n a.place (λ i. omega (arith, c.type_inv.s i)) c.to.result c.to.ensures c.forward.result c.forward.ensures
+    (Ok None) (Ok None) (c.in_ok-q.was ∙ ap Ok c.in_default.is) refl
 
-pub returns-in-Torn : goal.returns-in-Torn
-returns-in-Torn c =
+pub returns-in_err-q : goal.returns-in_err-q
+returns-in_err-q c =
     let a = c.args in
-    promise a.above a.s.now a.n a.place (λ i. omega (arith, c.type_inv.s i)) c.to.result c.to.ensures c.forward-found.result c.forward-found.ensures moved.Torn Torn c.in-Torn.is refl
+    promise a.above a.s.now a.n a.place (λ i. omega (arith, c.type_inv.s i)) c.to.result c.to.ensures c.forward.result c.forward.ensures
+    (Err c.in_err-q.field-0.0) _ c.in_err-q.was (err_torn _ c.from_residual.ensures.0)

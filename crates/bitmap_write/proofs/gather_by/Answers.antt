@@ -10,47 +10,51 @@ use Rattle.bitmap_write.proofs.Gathered.{copied_none, part_length, part_turn, co
 use Rattle.bitmap_write.proofs.gather_by.Goals as goal
 
 -- the slice keeps its length
-kept : (s t : List ℕ) (from n step j : ℕ) → words_for n ≤ from → from ≤ length s → j ≤ words_for n
+kept : (s t : List ℕ) (from n step words j : ℕ) → words_for n ≤ from → from ≤ length s → words ≡ words_for n → j ≤ words
     → t ≡ copied j (gathered (drop from s) step n) s → length t ≡ length s
-kept s t from n step j b l h e = ap length e ∙ part_length from n step s b l j h
+kept s t from n step words j b l w h e = ap length e ∙ part_length from n step s b l j (omega arith)
 
-pub words_for-words-requires : goal.words_for-words-requires
-words_for-words-requires c = let h = count_small _ _ c.requires.4 c.requires.3 in omega arith
+pub words_for-j-end-requires : goal.words_for-j-end-requires
+words_for-j-end-requires c = let h = count_small _ _ c.requires.4 c.requires.3 in omega arith
 
 pub loop-j-init : goal.loop-j-init
-loop-j-init c = (omega arith, copied_none _ _)
+loop-j-init c = copied_none _ _
 
 pub next_word-w-requires : goal.next_word-w-requires
 next_word-w-requires c =
-    let k = kept c.args.s.now c.loop-j.s c.args.from c.args.n c.args.step c.loop-j.j c.requires.0 c.requires.1 c.loop-j.invariant.0 c.loop-j.invariant.1 in
+    let k = kept c.args.s.now c.loop-j.s c.args.from c.args.n c.args.step c.words_for-j-end.result c.loop-j.j c.requires.0 c.requires.1
+    c.words_for-j-end.ensures c.loop-j.auto.j-end c.loop-j.invariant in
     let h = c.requires.2 in
-    (omega (arith, c.loop-j-test.true, c.words_for-words.ensures), omega (arith, c.requires.1), rw k h, c.requires.3, c.requires.4, c.requires.5)
+    (omega (arith, c.loop-j-test.true, c.words_for-j-end.ensures), omega (arith, c.requires.1), rw k h, c.requires.3, c.requires.4, c.requires.5)
 
-pub offset_bounds-s-i : goal.offset_bounds-s-i
-offset_bounds-s-i c =
-    omega (arith, c.well_formed.0.1, c.requires.0, c.requires.1, c.loop-j-test.true, c.words_for-words.ensures)
+pub offset_bounds-s-j : goal.offset_bounds-s-j
+offset_bounds-s-j c =
+    omega (arith, c.well_formed.0.1, c.requires.0, c.requires.1, c.loop-j-test.true, c.words_for-j-end.ensures)
 
-pub bounds-s-i : goal.bounds-s-i
-bounds-s-i c =
-    omega (arith, c.requires.0, c.requires.1, kept c.args.s.now c.loop-j.s c.args.from c.args.n c.args.step c.loop-j.j c.requires.0 c.requires.1 c.loop-j.invariant.0 c.loop-j.invariant.1, c.loop-j-test.true, c.words_for-words.ensures)
-
-pub overflow_add-j : goal.overflow_add-j
-overflow_add-j c = omega (arith, c.loop-j-test.true, c.words_for-words.ensures)
-
-pub loop-j-smaller : goal.loop-j-smaller
-loop-j-smaller c = omega (arith, c.loop-j-test.true, c.words_for-words.ensures)
+pub bounds-s-j : goal.bounds-s-j
+bounds-s-j c =
+    omega (
+      arith,
+      c.requires.0,
+      c.requires.1,
+      kept c.args.s.now c.loop-j.s c.args.from c.args.n c.args.step c.words_for-j-end.result c.loop-j.j c.requires.0 c.requires.1
+          c.words_for-j-end.ensures c.loop-j.auto.j-end c.loop-j.invariant,
+      c.loop-j-test.true,
+      c.words_for-j-end.ensures,
+    )
 
 pub loop-j-preserved : goal.loop-j-preserved
 loop-j-preserved c =
     let l = c.loop-j in
-    let h : l.j < words_for c.args.n = omega (arith, c.loop-j-test.true, c.words_for-words.ensures) in
-    (omega arith, part_turn c.args.from c.args.n c.args.step c.args.s.now c.requires.0 c.requires.1 l.s l.j h l.invariant.1 c.next_word-w.result c.next_word-w.ensures)
+    let h : l.j < words_for c.args.n = omega (arith, c.loop-j-test.true, c.words_for-j-end.ensures) in
+    (part_turn c.args.from c.args.n c.args.step c.args.s.now c.requires.0 c.requires.1 l.s l.j h l.invariant c.next_word-w.result c.next_word-w.ensures)
 
 pub shape_of-s : goal.shape_of-s
-shape_of-s c = kept c.args.s.now c.loop-j.s c.args.from c.args.n c.args.step c.loop-j.j c.requires.0 c.requires.1 c.loop-j.invariant.0 c.loop-j.invariant.1
+shape_of-s c = kept c.args.s.now c.loop-j.s c.args.from c.args.n c.args.step c.words_for-j-end.result c.loop-j.j c.requires.0 c.requires.1
+    c.words_for-j-end.ensures c.loop-j.auto.j-end c.loop-j.invariant
 
 pub returns : goal.returns
 returns c =
     let a = c.args in
-    let e : c.loop-j.j ≡ words_for a.n = omega (arith, c.loop-j-test.false, c.loop-j.invariant.0, c.words_for-words.ensures) in
-    c.loop-j.invariant.1 ∙ ap (λ (k : ℕ). copied k (gathered (drop a.from a.s.now) a.step a.n) a.s.now) e
+    let e : c.loop-j.j ≡ words_for a.n = omega (arith, c.loop-j-test.false, c.loop-j.auto.j-end, c.words_for-j-end.ensures) in
+    c.loop-j.invariant ∙ ap (λ (k : ℕ). copied k (gathered (drop a.from a.s.now) a.step a.n) a.s.now) e

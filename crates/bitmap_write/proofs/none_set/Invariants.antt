@@ -4,8 +4,8 @@ use lib.ListN.{length}
 use Rattle.bitmap_write.proofs.Unset.{Unset}
 use Rattle.bitmap_write.proofs.none_set.Given as goal
 
-abbrev pub invariant-loop-i : goal.invariant-loop-i
-invariant-loop-i l = Unset l.s l.any l.i
+abbrev pub invariant-loop-w : goal.invariant-loop-w
+invariant-loop-w l = Unset l.s l.any l.w-index
 
-abbrev pub decreases-loop-i : goal.decreases-loop-i
-decreases-loop-i l = length l.s - l.i
+abbrev pub decreases-loop-w : goal.decreases-loop-w
+decreases-loop-w l = length l.s - l.w-index

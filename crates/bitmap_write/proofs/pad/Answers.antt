@@ -9,7 +9,7 @@ use Rattle.bitmap_write.proofs.pad.Goals as goal
 pub returns-then-bit-ne0 : goal.returns-then-bit-ne0
 returns-then-bit-ne0 c =
     let a = c.args in
-    ap (λ (x : ℕ). set a.s.now (a.n / 32) (bit_or (get_or a.s.now (a.n / 32) 0) x)) c.ones_from-ones.ensures
+    ap (λ (x : ℕ). set a.s.now (a.n / 32) (bit_or (get_or a.s.now (a.n / 32) 0) x)) c.ones_from.ensures
     ∙ padded_part a.n a.s.now c.if-bit-ne0.true
 
 pub returns-else-bit-ne0 : goal.returns-else-bit-ne0

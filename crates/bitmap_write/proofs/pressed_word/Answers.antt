@@ -37,20 +37,20 @@ pub overflow_add-at : goal.overflow_add-at
 overflow_add-at c = let h = in-room (length c.args.s.now) c.args.from c.args.n c.args.step c.args.count c.args.j 0 c.requires (omega (arith, (some_step _ _ c.requires.4).0)) in omega (arith, h.there, c.well_formed.0.1)
 
 pub loop-k-init : goal.loop-k-init
-loop-k-init c = let a = c.args in (omega arith, parts_none (drop a.from a.s.now) a.n a.step a.count a.j)
+loop-k-init c = let a = c.args in parts_none (drop a.from a.s.now) a.n a.step a.count a.j
 
-pub overflow_add-i : goal.overflow_add-i
-overflow_add-i c =
+pub overflow_add-at-in-loop-k : goal.overflow_add-at-in-loop-k
+overflow_add-at-in-loop-k c =
     let h = in-room (length c.args.s.now) c.args.from c.args.n c.args.step c.args.count c.args.j c.loop-k.k c.requires c.loop-k-test.true in
     omega (arith, h.there, c.well_formed.0.1)
 
-pub offset_bounds-s-i : goal.offset_bounds-s-i
-offset_bounds-s-i c =
+pub offset_bounds-s-at : goal.offset_bounds-s-at
+offset_bounds-s-at c =
     let h = in-room (length c.args.s.now) c.args.from c.args.n c.args.step c.args.count c.args.j c.loop-k.k c.requires c.loop-k-test.true in
     omega (arith, h.there, c.well_formed.0.1)
 
-pub bounds-s-i : goal.bounds-s-i
-bounds-s-i c =
+pub bounds-s-at : goal.bounds-s-at
+bounds-s-at c =
     let h = in-room (length c.args.s.now) c.args.from c.args.n c.args.step c.args.count c.args.j c.loop-k.k c.requires c.loop-k-test.true in
     h.there
 
@@ -89,20 +89,14 @@ overflow_add-w c =
     let a = c.args in
     let h = in-room (length c.args.s.now) c.args.from c.args.n c.args.step c.args.count c.args.j at.k c.requires c.loop-k-test.true in
     let l = parts_lt (drop a.from a.s.now) a.n a.step a.count a.j (at.k + 1) h.next in
-    omega (arith, turned c.args.s.now c.args.from c.args.n c.args.step c.args.count c.args.j c.loop-k.k c.loop-k.w c.press-bits.result c.requires c.loop-k-test.true c.loop-k.invariant.1 c.press-bits.ensures, l)
-
-pub overflow_add-k : goal.overflow_add-k
-overflow_add-k c = omega (arith, (some_step _ _ c.requires.4).1, c.loop-k-test.true)
-
-pub loop-k-smaller : goal.loop-k-smaller
-loop-k-smaller c = omega (arith, c.loop-k-test.true)
+    omega (arith, turned c.args.s.now c.args.from c.args.n c.args.step c.args.count c.args.j c.loop-k.k c.loop-k.w c.press-bits.result c.requires c.loop-k-test.true c.loop-k.invariant c.press-bits.ensures, l)
 
 pub loop-k-preserved : goal.loop-k-preserved
-loop-k-preserved c = (omega (arith, c.loop-k-test.true), turned c.args.s.now c.args.from c.args.n c.args.step c.args.count c.args.j c.loop-k.k c.loop-k.w c.press-bits.result c.requires c.loop-k-test.true c.loop-k.invariant.1 c.press-bits.ensures)
+loop-k-preserved c = (turned c.args.s.now c.args.from c.args.n c.args.step c.args.count c.args.j c.loop-k.k c.loop-k.w c.press-bits.result c.requires c.loop-k-test.true c.loop-k.invariant c.press-bits.ensures)
 
 pub returns : goal.returns
 returns c =
     let at = c.loop-k in
     let a = c.args in
-    let e : at.k ≡ a.step = omega (arith, c.loop-k-test.false, at.invariant.0) in
-    at.invariant.1 ∙ parts_all (drop a.from a.s.now) a.n a.step a.count a.j c.requires.4 c.requires.0 at.k e
+    let e : at.k ≡ a.step = omega (arith, c.loop-k-test.false, at.auto.k-end) in
+    at.invariant ∙ parts_all (drop a.from a.s.now) a.n a.step a.count a.j c.requires.4 c.requires.0 at.k e

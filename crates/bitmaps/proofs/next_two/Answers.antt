@@ -24,9 +24,9 @@ more_in_next-requires c =
     let x = c.args in
     rw c.blocks_of-blocks.ensures (omega (arith, part.fits, words_in (above x.g x.class) (blocks_in x.g x.class)))
 
-pub returns-in-More : goal.returns-in-More
-returns-in-More c =
+pub returns-in-Some : goal.returns-in-Some
+returns-in-Some c =
     let part = tree_at_lem c.args.g c.args.mem.now c.requires.sized.0 c.args.s c.requires.sized.1 c.bitmap_from-a.result c.bitmap_from-b.result c.bitmap_from-a.ensures c.bitmap_from-b.ensures c.args.class c.requires.class in
     let x = c.args in
-    near_two (above x.g x.class) (subst (NearPromise (bitmap x.g (mem_of x.g x.mem.now) x.s) (blocks_in x.g x.class) x.place) c.in-More.is
+    near_two (above x.g x.class) (subst (NearPromise (bitmap x.g (mem_of x.g x.mem.now) x.s) (blocks_in x.g x.class) x.place) c.in-Some.is
     (rw (c.blocks_of-blocks.ensures, part.is) at c.more_in_next.ensures))

@@ -2,15 +2,10 @@
 use Rattle.bracket_forms.proofs.Reader.{kind_template, kind_text, kind_other}
 use Rattle.bracket_forms.proofs.read_kind.Goals as goal
 
-pub returns-then-match_text : goal.returns-then-match_text
-returns-then-match_text c =
-    let m = c.match_text in
-    kind_text _ _ m.new.numbers c.args.kind m.result _ _
-    (kind_template _ _ _ c.form_at.ensures c.form_parts-parts.ensures) m.ensures c.if-match_text.true
-    c.form_at-form.ensures c.reading_of.ensures
+pub returns-in_err-n : goal.returns-in_err-n
+returns-in_err-n c = rw c.from_residual.ensures (kind_other _ _ c.args.kind (kind_template _ _ _ c.form_at.ensures c.form_parts.ensures) c.in_err-n.ensures)
 
-pub returns-else-match_text : goal.returns-else-match_text
-returns-else-match_text c =
-    let m = c.match_text in
-    kind_other _ _ m.new.numbers c.args.kind m.result
-    (kind_template _ _ _ c.form_at.ensures c.form_parts-parts.ensures) m.ensures c.if-match_text.false
+pub returns : goal.returns
+returns c =
+    kind_text _ _ c.args.kind (kind_template _ _ _ c.form_at.ensures c.form_parts.ensures) _ _ _ c.in_ok-n.ensures
+    c.form_at-form.ensures c.reading_of.ensures

@@ -1,18 +1,9 @@
 -- `bracket_lines::next_line` meets its contract. The loop's invariant: the bytes so far have told nothing, and led to the
 -- present count and buffer.
-use Prim.Native.Nat.{ℕ}
-use mathlib.Core.Path.{◌≡◌, refl}
+use mathlib.Core.Path.{refl}
 use native.Mathlib.Omega.{arith}
-use Rattle.bracket_lines.specs.declared.Found.{Found}
-use Rattle.bracket_lines.specs.declared.Found.TheVariants.{More, Line, Overlong}
 use Rattle.bracket_lines.proofs.Scanning.{scanning_none, scanning_more, scanning_told, scanning_all}
 use Rattle.bracket_lines.proofs.next_line.Goals as goal
-
-never : {x : Found} {n : ℕ} → x ≡ Line n → x ≡ More → ⊥
-never e f = let z : ◌≡◌ {A = ℕ} 0 1 = cc in omega arith
-
-never_long : {x : Found} → x ≡ Overlong → x ≡ More → ⊥
-never_long e f = let z : ◌≡◌ {A = ℕ} 0 1 = cc in omega arith
 
 pub loop-at-init : goal.loop-at-init
 loop-at-init c = scanning_none _ _ _ _
@@ -25,24 +16,16 @@ loop-at-preserved c =
     scanning_more a.chunk.now a.from a.count a.line.now k.at k.n k.line k.invariant (omega arith) s.result
     s.new.line s.ensures.0 s.ensures.1 c.in-More.is
 
-pub returns-in-Line : goal.returns-in-Line
-returns-in-Line c =
+pub returns-in_default : goal.returns-in_default
+returns-in_default c =
     let a = c.args in
     let k = c.loop-at in
     let s = c.take_byte-s in
     scanning_told a.chunk.now a.from a.count a.line.now k.at k.n k.line k.invariant (omega arith) s.result
-    s.new.line s.ensures.0 s.ensures.1 s.result.found refl (never c.in-Line.is)
-
-pub returns-in-Overlong : goal.returns-in-Overlong
-returns-in-Overlong c =
-    let a = c.args in
-    let k = c.loop-at in
-    let s = c.take_byte-s in
-    scanning_told a.chunk.now a.from a.count a.line.now k.at k.n k.line k.invariant (omega arith) s.result
-    s.new.line s.ensures.0 s.ensures.1 s.result.found refl (never_long c.in-Overlong.is)
+    s.new.line s.ensures.0 s.ensures.1 s.result.found refl c.in_default.not-More
 
 pub returns : goal.returns
 returns c =
     let a = c.args in
     let k = c.loop-at in
-    scanning_all a.chunk.now a.from a.count a.line.now k.at k.n k.line k.invariant (omega arith)
+    scanning_all a.chunk.now a.from a.count a.line.now k.at k.n k.line k.invariant c.max.result c.max.ensures c.loop-at-test.false

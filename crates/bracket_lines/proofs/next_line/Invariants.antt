@@ -1,12 +1,7 @@
 -- `bracket_lines::next_line` meets its contract. The loop's invariant: the bytes so far have told nothing, and led to the
 -- present count and buffer.
-use Prim.Native.Nat.{◌-◌}
-use lib.ListN.{length}
 use Rattle.bracket_lines.proofs.Scanning.{Scanning}
 use Rattle.bracket_lines.proofs.next_line.Given as goal
 
 abbrev pub invariant-loop-at : goal.invariant-loop-at
 invariant-loop-at l = Scanning l.chunk l.from l.count l.initial.line l.at l.n l.line
-
-abbrev pub decreases-loop-at : goal.decreases-loop-at
-decreases-loop-at l = length l.chunk - l.at

@@ -8,9 +8,9 @@ pub carry_out-requires : goal.carry_out-requires
 unfolding segment_bytes
 carry_out-requires c = search rules
 
-pub returns-in-Is : goal.returns-in-Is
-returns-in-Is c =
-    of_form _ _ c.read_form.ensures c.in-Is.is c.task_of.ensures c.carry_out.ensures
+pub returns-in-Some : goal.returns-in-Some
+returns-in-Some c =
+    of_form _ _ c.read_form.ensures c.in-Some.is c.task_of.ensures c.carry_out.ensures
 
-pub returns-in-Bad : goal.returns-in-Bad
-returns-in-Bad c = of_none _ _ c.read_form.ensures c.in-Bad.is
+pub returns-in-None : goal.returns-in-None
+returns-in-None c = of_none _ _ c.read_form.ensures c.in-None.is

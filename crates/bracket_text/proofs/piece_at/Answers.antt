@@ -1,47 +1,39 @@
 -- `bracket_text::piece_at` meets its contract: each return is one way that reading a byte of a template can go.
+use mathlib.Core.Path.{◌∙◌, sym}
 use native.Mathlib.Omega.{arith}
-use Rattle.bracket_text.proofs.Steps.{reads_value, reads_nothing, piece_kept, piece_full, piece_no_number, piece_literal, piece_other, piece_end}
+use Rattle.bracket_text.proofs.Steps.{piece_kept, piece_full, piece_no_number, piece_literal, piece_other, piece_end}
 use Rattle.bracket_text.proofs.piece_at.Goals as goal
 
-pub returns-then-count-lt5 : goal.returns-then-count-lt5
-returns-then-count-lt5 c =
-    let a = c.args in
-    let h = reads_value a.line.now _ _ c.number_at.ensures c.in-Value.is in (
-      piece_kept a.byte a.count a.numbers.now _ c.if-byte-eq35.true _ _ h.0
-          (omega arith),
-      h.1,
-      omega arith,
-    )
+pub returns-in_err-value : goal.returns-in_err-value
+returns-in_err-value c =
+    let n = c.args.numbers.now in
+    rw c.from_residual.ensures (piece_no_number c.args.byte n.count n.values _ c.if-byte-eq35.true c.in_err-value.ensures)
 
-pub returns-else-count-lt5 : goal.returns-else-count-lt5
-returns-else-count-lt5 c =
-    let a = c.args in
-    let h = reads_value a.line.now _ _ c.number_at.ensures c.in-Value.is in
-    piece_full a.byte a.count a.numbers.now _ c.if-byte-eq35.true _ _ h.0
-    (omega arith)
+pub returns-then-count-eq5 : goal.returns-then-count-eq5
+returns-then-count-eq5 c =
+    let n = c.args.numbers.now in
+    piece_full c.args.byte n.count n.values _ c.if-byte-eq35.true _ _ c.in_ok-value.ensures.0 c.if-count-eq5.true
 
-pub returns-in-Nothing : goal.returns-in-Nothing
-returns-in-Nothing c =
-    let a = c.args in
-    piece_no_number a.byte a.count a.numbers.now _ c.if-byte-eq35.true
-    (reads_nothing a.line.now _ _ c.number_at.ensures c.in-Nothing.is)
+pub returns-then-byte-eq35 : goal.returns-then-byte-eq35
+returns-then-byte-eq35 c =
+    let n = c.args.numbers.now in
+    let h = c.in_ok-value.ensures in
+    (piece_kept c.args.byte n.count n.values _ c.if-byte-eq35.true _ _ h.0 (omega arith), h.1, omega arith)
 
-pub returns-then-line-at : goal.returns-then-line-at
-returns-then-line-at c =
-    let a = c.args in (
-      piece_literal a.byte a.count a.numbers.now a.line.now a.at c.if-byte-eq35.false
-          (omega arith) c.if-line-at.true,
-      omega arith,
-      omega arith,
-    )
+pub returns-in_err-get : goal.returns-in_err-get
+returns-in_err-get c =
+    let n = c.args.numbers.now in
+    rw c.from_residual-in_err-get.ensures
+    (piece_end c.args.byte n.count n.values c.args.line.now c.args.at c.if-byte-eq35.false c.in_err-get.ensures.lookup.3)
 
-pub returns-else-line-at : goal.returns-else-line-at
-returns-else-line-at c =
-    let a = c.args in
-    piece_other a.byte a.count a.numbers.now a.line.now a.at c.if-byte-eq35.false (omega arith)
-    c.if-line-at.false
+pub returns-then-branch-byte : goal.returns-then-branch-byte
+returns-then-branch-byte c =
+    let n = c.args.numbers.now in
+    let l = c.in_ok-get.ensures.lookup.3 in
+    piece_other c.args.byte n.count n.values c.args.line.now c.args.at c.if-byte-eq35.false l.0 (λ e. c.if-branch-byte.true (l.1 0 ∙ e))
 
-pub returns-else-at-line : goal.returns-else-at-line
-returns-else-at-line c =
-    let a = c.args in
-    piece_end a.byte a.count a.numbers.now a.line.now a.at c.if-byte-eq35.false (omega arith)
+pub returns : goal.returns
+returns c =
+    let n = c.args.numbers.now in
+    let l = c.in_ok-get.ensures.lookup.3 in
+    (piece_literal c.args.byte n.count n.values c.args.line.now c.args.at c.if-byte-eq35.false l.0 (sym (l.1 0) ∙ c.if-branch-byte.false), omega (arith, l.0), omega arith)

@@ -11,13 +11,13 @@ use Rattle.cases_run.proofs.space_of.Goals as goal
 
 pub overflow_sub-result : goal.overflow_sub-result
 overflow_sub-result c =
-    let i = shape_is segment_size c.args.class c.in-Of.shape (sym c.in-Of.is ∙ c.segment_shape-shaped.ensures) in
+    let i = shape_is segment_size c.args.class c.in-Some.shape (sym c.in-Some.is ∙ c.segment_shape-shaped.ensures) in
     let e = ap (λ (x : SegmentShape). x.levels) i.shape in
     omega (arith, shape_levels_pos (blocks_of segment_size c.args.class))
 
-pub returns-in-Of : goal.returns-in-Of
-returns-in-Of c =
-    let x = c.in-Of.shape in
-    let i = shape_is segment_size c.args.class x (sym c.in-Of.is ∙ c.segment_shape-shaped.ensures) in
+pub returns-in-Some : goal.returns-in-Some
+returns-in-Some c =
+    let x = c.in-Some.shape in
+    let i = shape_is segment_size c.args.class x (sym c.in-Some.is ∙ c.segment_shape-shaped.ensures) in
     let f = class_fits c.args.class x i in
     (f, le_trans (words_in (x.levels - 1) x.blocks) f)

@@ -1,12 +1,12 @@
 -- `classes::is_class` meets its contract.
-use borrow.Author.Tests.{lt-ltb, le-ltb}
+use borrow.Author.Tests.{lt-ltb, le-ltb, lt-leb}
 use Rattle.classes.specs.Class.{class_test}
 use Rattle.classes.proofs.is_class.Goals as goal
 
-pub returns-then-class-lt-FIRST_CLASS : goal.returns-then-class-lt-FIRST_CLASS
+pub returns-then-class-ge-FIRST_CLASS : goal.returns-then-class-ge-FIRST_CLASS
 unfolding class_test
-returns-then-class-lt-FIRST_CLASS c = rw (lt-ltb _ _ c.if-class-lt-FIRST_CLASS.true)
+returns-then-class-ge-FIRST_CLASS c = rw (le-ltb _ _ c.if-class-ge-FIRST_CLASS.true)
 
-pub returns : goal.returns
+pub returns-else-class-ge-FIRST_CLASS : goal.returns-else-class-ge-FIRST_CLASS
 unfolding class_test
-returns c = rw (le-ltb _ _ c.if-class-lt-FIRST_CLASS.false)
+returns-else-class-ge-FIRST_CLASS c = rw (lt-ltb _ _ c.if-class-ge-FIRST_CLASS.false, lt-leb _ _ c.if-class-ge-FIRST_CLASS.false)

@@ -21,12 +21,6 @@ offset_bounds-scratch-i c = omega (arith, c.requires, c.well_formed, c.loop-i-te
 pub bounds-scratch-i : goal.bounds-scratch-i
 bounds-scratch-i c = omega (arith, c.requires, c.loop-i.invariant.size, c.loop-i-test.true)
 
-pub overflow_add-i : goal.overflow_add-i
-overflow_add-i c = omega (arith, c.requires, c.well_formed, c.loop-i-test.true)
-
-pub loop-i-smaller : goal.loop-i-smaller
-loop-i-smaller c = omega (arith, c.loop-i-test.true)
-
 pub loop-i-preserved : goal.loop-i-preserved
 loop-i-preserved c =
     let l = c.loop-i in

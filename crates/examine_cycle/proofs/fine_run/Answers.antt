@@ -19,23 +19,16 @@ overflow_add-from c = omega (arith, c.requires.2, c.loop-f-test.true, length_mos
 pub word-w-requires : goal.word-w-requires
 word-w-requires c = (c.requires.0, omega (arith, c.requires.2, c.loop-f-test.true))
 
-pub fine-ok-requires : goal.fine-ok-requires
-fine-ok-requires c = (c.requires.0, c.requires.1)
+pub fine-requires : goal.fine-requires
+fine-requires c = (c.requires.0, c.requires.1)
 
-pub returns-then-not-ok : goal.returns-then-not-ok
-returns-then-not-ok c =
+pub returns-then-not-fine : goal.returns-then-not-fine
+returns-then-not-fine c =
     let a = c.args in
     let m = mem_of a.g a.mem.now in
     fails
-    (λ q. refuted c.fine-ok.ensures c.if-not-ok.true
+    (λ q. refuted c.fine.ensures c.if-not-fine.true
     (run_one a.g m a.cover.now (words_of a.source m) a.from c.loop-f.f _ c.word-w.ensures a.count c.loop-f-test.true q))
-
-pub overflow_add-f : goal.overflow_add-f
-overflow_add-f c =
-    omega (arith, c.requires.2, c.loop-f-test.true, length_most c.args.source c.args.g c.requires.0.few)
-
-pub loop-f-smaller : goal.loop-f-smaller
-loop-f-smaller c = omega (arith, c.loop-f-test.true)
 
 pub loop-f-preserved : goal.loop-f-preserved
 loop-f-preserved c =
@@ -43,7 +36,7 @@ loop-f-preserved c =
     let m = mem_of a.g a.mem.now in (
       omega (arith, c.loop-f-test.true),
       run_more a.g m a.cover.now (words_of a.source m) a.from c.loop-f.f _ c.word-w.ensures
-          c.loop-f.invariant.1 (c.fine-ok.ensures.sound c.if-not-ok.false),
+          c.loop-f.invariant.1 (c.fine.ensures.sound c.if-not-fine.false),
     )
 
 pub returns : goal.returns

@@ -31,8 +31,8 @@ word_in-at-requires c =
 pub loop-b-init : goal.loop-b-init
 loop-b-init c = (omega arith, header_first _ _ _ _ c.word_in-at.ensures, λ j l. absurd (omega arith))
 
-pub block_judged-ok-requires : goal.block_judged-ok-requires
-block_judged-ok-requires c =
+pub block_judged-requires : goal.block_judged-requires
+block_judged-requires c =
     let a = c.args in
     let here = c.loop-b.invariant.1 in
     let class = c.requires.s_lt_segments.1 in
@@ -42,17 +42,13 @@ block_judged-ok-requires c =
       s_lt_segments = (there, block_begins a.g a.s a.class _ _ here class.1 below there, known_at a.g a.s a.class _ _ here class.1 below there _ class.0 _ c.requires.sized.2);
     }
 
-pub returns-then-not-ok : goal.returns-then-not-ok
-returns-then-not-ok c =
+pub returns-then-not-block_judged : goal.returns-then-not-block_judged
+returns-then-not-block_judged c =
     let a = c.args in
     let one = BlockJudged a.asked a.g (mem_of a.g a.mem.now) a.bits.now a.cover.now a.s in
     fails
-    (λ q. refuted c.block_judged-ok.ensures c.if-not-ok.true
+    (λ q. refuted c.block_judged.ensures c.if-not-block_judged.true
     (subst one (sym c.loop-b.invariant.1) (q c.loop-b.b (omega (arith, c.loop-b-test.true, c.blocks_in-blocks.ensures)))))
-
-pub overflow_add-b : goal.overflow_add-b
-overflow_add-b c =
-    omega (arith, c.loop-b-test.true, c.blocks_in-blocks.ensures, most_small c.args.g, blocks_most c.args.g c.args.class c.requires.s_lt_segments.1.1)
 
 pub overflow_add-at : goal.overflow_add-at
 overflow_add-at c =
@@ -61,9 +57,6 @@ overflow_add-at c =
     let ends = block_ends a.g a.s a.class _ _ c.loop-b.invariant.1 c.requires.s_lt_segments.1.1 below c.requires.s_lt_segments.0 in
     omega (arith, ends, c.block_words-words.ensures, heap_most a.g c.requires.sized.0.few)
 
-pub loop-b-smaller : goal.loop-b-smaller
-loop-b-smaller c = omega (arith, c.loop-b-test.true)
-
 pub loop-b-preserved : goal.loop-b-preserved
 loop-b-preserved c =
     let a = c.args in
@@ -71,7 +64,7 @@ loop-b-preserved c =
     let here = c.loop-b.invariant.1 in (
       omega (arith, c.loop-b-test.true),
       header_next a.g a.s a.class _ _ _ here c.block_words-words.ensures,
-      below_more (λ j. one (header_of a.g a.s a.class j)) _ c.loop-b.invariant.2 (subst one here (c.block_judged-ok.ensures.sound c.if-not-ok.false)),
+      below_more (λ j. one (header_of a.g a.s a.class j)) _ c.loop-b.invariant.2 (subst one here (c.block_judged.ensures.sound c.if-not-block_judged.false)),
     )
 
 pub returns : goal.returns

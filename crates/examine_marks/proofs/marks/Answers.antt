@@ -5,34 +5,27 @@ use native.Mathlib.Omega.{arith}
 use borrow.Author.Count.{below_more, below_none}
 use Rattle.basics.proofs.Deciding.{holds, fails, refuted}
 use Rattle.layout.specs.Mem.{mem_of}
-use Rattle.layout.proofs.Sizes.{marks_are, trace_most}
+use Rattle.layout.proofs.Sizes.{marks_are}
 use Rattle.examine_marks.specs.Heads.{BitFine}
 use Rattle.examine_marks.proofs.marks.Goals as goal
 
 pub loop-q-init : goal.loop-q-init
 loop-q-init c = (omega arith, below_none _)
 
-pub word_fine-ok-requires : goal.word_fine-ok-requires
-word_fine-ok-requires c =
+pub word_fine-requires : goal.word_fine-requires
+word_fine-requires c =
     let g = c.args.g in
     (c.requires.0, omega (arith, c.loop-q-test.true, c.trace_words-words.ensures, marks_are g g.segments), c.requires.1)
 
-pub returns-then-not-ok : goal.returns-then-not-ok
-returns-then-not-ok c =
+pub returns-then-not-word_fine : goal.returns-then-not-word_fine
+returns-then-not-word_fine c =
     let g = c.args.g in
     fails
-    (λ q. refuted c.word_fine-ok.ensures c.if-not-ok.true
+    (λ q. refuted c.word_fine.ensures c.if-not-word_fine.true
     (λ i h. q _ (omega (arith, c.loop-q-test.true, c.trace_words-words.ensures, marks_are g g.segments))))
 
-pub overflow_add-q : goal.overflow_add-q
-overflow_add-q c =
-    omega (arith, c.loop-q-test.true, c.trace_words-words.ensures, trace_most c.args.g c.requires.0.few)
-
-pub loop-q-smaller : goal.loop-q-smaller
-loop-q-smaller c = omega (arith, c.loop-q-test.true)
-
 pub loop-q-preserved : goal.loop-q-preserved
-loop-q-preserved c = (omega (arith, c.loop-q-test.true), below_more _ _ c.loop-q.invariant.1 (c.word_fine-ok.ensures.sound c.if-not-ok.false))
+loop-q-preserved c = (omega (arith, c.loop-q-test.true), below_more _ _ c.loop-q.invariant.1 (c.word_fine.ensures.sound c.if-not-word_fine.false))
 
 pub returns : goal.returns
 returns c =

@@ -31,22 +31,16 @@ overflow_add-q c =
     let g = c.args.g in
     omega (arith, c.requires.1, marks_are g g.segments, trace_most g c.requires.0.few, c.loop-i-test.true)
 
-pub bit_fine-ok-requires : goal.bit_fine-ok-requires
-bit_fine-ok-requires c =
+pub bit_fine-requires : goal.bit_fine-requires
+bit_fine-requires c =
     let g = c.args.g in
     (c.requires.0, omega (arith, c.requires.1, marks_are g g.segments, c.loop-i-test.true), c.requires.2)
 
-pub returns-then-not-ok : goal.returns-then-not-ok
-returns-then-not-ok c = fails (λ q. refuted c.bit_fine-ok.ensures c.if-not-ok.true (q _ c.loop-i-test.true))
-
-pub overflow_add-i : goal.overflow_add-i
-overflow_add-i c = omega (arith, c.loop-i-test.true)
-
-pub loop-i-smaller : goal.loop-i-smaller
-loop-i-smaller c = omega (arith, c.loop-i-test.true)
+pub returns-then-not-bit_fine : goal.returns-then-not-bit_fine
+returns-then-not-bit_fine c = fails (λ q. refuted c.bit_fine.ensures c.if-not-bit_fine.true (q _ c.loop-i-test.true))
 
 pub loop-i-preserved : goal.loop-i-preserved
-loop-i-preserved c = (omega (arith, c.loop-i-test.true), below_more _ _ c.loop-i.invariant.1 (c.bit_fine-ok.ensures.sound c.if-not-ok.false))
+loop-i-preserved c = (omega (arith, c.loop-i-test.true), below_more _ _ c.loop-i.invariant.1 (c.bit_fine.ensures.sound c.if-not-bit_fine.false))
 
 pub returns : goal.returns
 returns c = holds (λ i h. c.loop-i.invariant.1 i (omega (arith, c.loop-i-test.false)))

@@ -1,25 +1,31 @@
 -- `examine_parts::parts` meets its contract.
+use mathlib.Core.Path.{refl}
+use Rattle.basics.specs.Decides.{Decides}
+use Rattle.basics.proofs.Both.{first_held, first_failed}
 use Rattle.layout.specs.Mem.{mem_of}
-use Rattle.examine_parts.proofs.Tables.{parts_phase, parts_segment, parts_behind, parts_all}
+use Rattle.model.specs.Consistent.{Behind}
+use Rattle.examine_parts.proofs.Tables.{Segments, parts_all}
 use Rattle.examine_parts.proofs.parts.Goals as goal
+use Rattle.examine_parts.proofs.parts.Goals.{then-segments, else-segments}
 
-pub returns-then-phase-gt-SWEEP : goal.returns-then-phase-gt-SWEEP
-returns-then-phase-gt-SWEEP c =
-    let a = c.args in
-    parts_phase a.g (mem_of a.g a.mem.now) _ c.phase-phase.ensures c.if-phase-gt-SWEEP.true
+pub returns-then-behind : goal.returns-then-behind
+returns-then-behind c =
+    let g = c.args.g in
+    let m = mem_of g c.args.mem.now in
+    let d : Decides c.if-segments.value (Segments g m × Behind g m) =
+    elim c.if-segments.branch [
+      | then-segments w ↦ first_held c.segments.ensures w.if-segments.true w.behind.ensures w.value-is
+      | else-segments w ↦ first_failed c.segments.ensures w.if-segments.false w.value-is
+    ] in
+    parts_all g m _ c.phase.ensures c.if-phase-gt-SWEEP.false (first_held d c.if-behind.true c.mutators.ensures refl)
 
-pub returns-then-not-ok : goal.returns-then-not-ok
-returns-then-not-ok c =
-    let a = c.args in
-    parts_segment a.g (mem_of a.g a.mem.now) _ c.phase-phase.ensures _ c.segments-ok.ensures c.if-not-ok.true
-
-pub returns-then-not-passed : goal.returns-then-not-passed
-returns-then-not-passed c =
-    let a = c.args in
-    parts_behind a.g (mem_of a.g a.mem.now) _ c.phase-phase.ensures _ c.behind-passed.ensures c.if-not-passed.true
-
-pub returns : goal.returns
-returns c =
-    let a = c.args in
-    parts_all a.g (mem_of a.g a.mem.now) _ c.phase-phase.ensures c.if-phase-gt-SWEEP.false _ c.segments-ok.ensures
-    c.if-not-ok.false _ c.behind-passed.ensures c.if-not-passed.false _ c.mutators.ensures
+pub returns-else-behind : goal.returns-else-behind
+returns-else-behind c =
+    let g = c.args.g in
+    let m = mem_of g c.args.mem.now in
+    let d : Decides c.if-segments.value (Segments g m × Behind g m) =
+    elim c.if-segments.branch [
+      | then-segments w ↦ first_held c.segments.ensures w.if-segments.true w.behind.ensures w.value-is
+      | else-segments w ↦ first_failed c.segments.ensures w.if-segments.false w.value-is
+    ] in
+    parts_all g m _ c.phase.ensures c.if-phase-gt-SWEEP.false (first_failed d c.if-behind.false refl)

@@ -22,9 +22,9 @@ pub test_block-requires : goal.test_block-requires
 test_block-requires c =
     let here = c.segment_of-s.ensures in
     let inside = in_heap _ (mem_of c.args.g c.args.mem.now) _ _ c.heap_words.ensures c.if-heap_words-at.false in
-    let passed = sym c.is_class.ensures ∙ c.if-is_class.true in
+    let passed = sym c.is_class.ensures ∙ c.if-not-is_class.false in
     (c.requires, inside, here, classed _ _ _ _ here _ _ c.tag.ensures c.if-tag-eq-TAG_FREE.false c.class-class.ensures passed)
 
-pub returns : goal.returns
-returns c =
-    no_class _ _ _ _ c.segment_of-s.ensures _ c.class-class.ensures (sym c.is_class.ensures ∙ c.if-is_class.false)
+pub returns-then-not-is_class : goal.returns-then-not-is_class
+returns-then-not-is_class c =
+    no_class _ _ _ _ c.segment_of-s.ensures _ c.class-class.ensures (sym c.is_class.ensures ∙ c.if-not-is_class.true)

@@ -5,6 +5,7 @@ use Rattle.basics.proofs.Deciding.{refuted}
 use Rattle.examine_record.proofs.Testing.{head_block, head_segment, not_head, not_used, not_sized, passes}
 use native.Mathlib.Omega.{arith}
 use Rattle.examine_record.proofs.test_block.Goals as goal
+use Rattle.examine_record.proofs.test_block.Goals.{else-is_used-via-then-is_used+else-is_of_class, else-is_used-via-else-is_used}
 
 pub block_words-words-requires : goal.block_words-words-requires
 block_words-words-requires c = c.requires.3.class
@@ -38,10 +39,11 @@ returns-then-is_of_class c =
     c.requires.1 c.if-offset-words-ne0.false (c.is_used.ensures.sound c.if-is_used.true)
     (c.is_of_class.ensures.sound c.if-is_of_class.true) _ c.mark_bit.ensures
 
-pub returns-else-is_of_class : goal.returns-else-is_of_class
-returns-else-is_of_class c =
-    not_sized _ _ _ _ _ c.requires.2 c.requires.3 _ _ c.offset_of-offset.ensures c.block_words-words.ensures (refuted c.is_of_class.ensures c.if-is_of_class.false)
-
-pub returns-else-is_used : goal.returns-else-is_used
-returns-else-is_used c =
-    not_used _ _ _ _ _ c.requires.2 c.requires.3 _ _ c.offset_of-offset.ensures c.block_words-words.ensures (refuted c.is_used.ensures c.if-is_used.false)
+pub returns : goal.returns
+returns c =
+    elim c.else-is_used.branch [
+      | else-is_used-via-then-is_used+else-is_of_class w ↦
+          not_sized _ _ _ _ _ c.requires.2 c.requires.3 _ _ c.offset_of-offset.ensures c.block_words-words.ensures (refuted w.is_of_class.ensures w.if-is_of_class.false)
+      | else-is_used-via-else-is_used w ↦
+          not_used _ _ _ _ _ c.requires.2 c.requires.3 _ _ c.offset_of-offset.ensures c.block_words-words.ensures (refuted c.is_used.ensures w.if-is_used.false)
+    ]

@@ -1,55 +1,37 @@
 -- `examine_search::finish` meets its contract.
-use mathlib.Core.Path.{◌∙◌, subst, sym}
-use mathlib.Core.Bool.{Bool}
+use mathlib.Core.Path.{◌∙◌}
 use Rattle.layout.specs.Mem.{mem_of}
-use Rattle.examine_search.specs.Scratch.{Finished}
-use Rattle.examine_search.proofs.Steps.{under_start, under_ready, under_more, under_end}
+use Rattle.examine_search.proofs.Steps.{under_start, under_more, under_fails, under_end}
 use Rattle.examine_search.proofs.finish.Goals as goal
 
-pub loop-g-init : goal.loop-g-init
-loop-g-init c = (c.requires.0.room, under_start c.args.g (mem_of c.args.g c.args.mem.now) c.args.edges c.args.scratch.now c.args.start c.requires.1)
+pub loop-top-init : goal.loop-top-init
+loop-top-init c = (c.requires.0.room, under_start c.args.g (mem_of c.args.g c.args.mem.now) c.args.edges c.args.scratch.now c.args.top c.requires.1)
 
-pub waiting-requires : goal.waiting-requires
-waiting-requires c = tt
-
-pub turn-met-requires : goal.turn-met-requires
-turn-met-requires c =
+pub returns-in_default : goal.returns-in_default
+returns-in_default c =
     let a = c.args in
-    let l = c.loop-g in (
-      record { sized = c.requires.0.sized; room = l.invariant.0 },
-      under_ready a.g (mem_of a.g a.mem.now) a.edges a.scratch.now a.start l.met l.scratch l.invariant.1,
-      sym c.waiting.ensures ∙ c.loop-g-test.true,
+    let m = mem_of a.g a.mem.now in
+    let l = c.loop-top in
+    let t = c.turn in
+    under_fails a.g m a.edges a.scratch.now a.top l.top l.scratch t.new.scratch l.invariant.1 c.loop-top-test.true
+    c.in_default.ensures
+
+pub loop-top-smaller : goal.loop-top-smaller
+loop-top-smaller c =
+    let a = c.args in
+    let l = c.loop-top in
+    (under_more a.g (mem_of a.g a.mem.now) a.edges a.scratch.now a.top l.top l.scratch c.turn.new.scratch l.invariant.1 c.loop-top-test.true c.in-Some.next c.in-Some.ensures).1
+
+pub loop-top-preserved : goal.loop-top-preserved
+loop-top-preserved c =
+    let a = c.args in
+    let l = c.loop-top in (
+      c.turn.auto.scratch ∙ l.invariant.0,
+      (under_more a.g (mem_of a.g a.mem.now) a.edges a.scratch.now a.top l.top l.scratch c.turn.new.scratch l.invariant.1 c.loop-top-test.true c.in-Some.next c.in-Some.ensures).0,
     )
-
-pub loop-g-smaller : goal.loop-g-smaller
-loop-g-smaller c =
-    let a = c.args in
-    let l = c.loop-g in
-    (under_more a.g (mem_of a.g a.mem.now) a.edges a.scratch.now a.start l.met c.turn-met.result
-    l.scratch c.turn-met.new.scratch l.invariant.1
-    (sym c.waiting.ensures ∙ c.loop-g-test.true) c.turn-met.ensures).1
-
-pub loop-g-preserved : goal.loop-g-preserved
-loop-g-preserved c =
-    let a = c.args in
-    let l = c.loop-g in (
-      c.turn-met.auto.scratch ∙ l.invariant.0,
-      (under_more a.g (mem_of a.g a.mem.now) a.edges a.scratch.now a.start l.met c.turn-met.result
-          l.scratch c.turn-met.new.scratch l.invariant.1
-          (sym c.waiting.ensures ∙ c.loop-g-test.true) c.turn-met.ensures).0,
-    )
-
-pub good-requires : goal.good-requires
-good-requires c = tt
-
-pub shape_of-scratch : goal.shape_of-scratch
-shape_of-scratch c =
-    c.loop-g.invariant.0 ∙ sym c.requires.0.room
 
 pub returns : goal.returns
 returns c =
     let a = c.args in
-    let l = c.loop-g in
-    subst (λ (b : Bool). Finished a.g (mem_of a.g a.mem.now) a.edges a.scratch.now a.start b l.scratch)
-    (sym c.good.ensures)
-    (under_end a.g (mem_of a.g a.mem.now) a.edges a.scratch.now a.start l.met l.scratch l.invariant.1 (sym c.waiting.ensures ∙ c.loop-g-test.false))
+    let l = c.loop-top in
+    under_end a.g (mem_of a.g a.mem.now) a.edges a.scratch.now a.top l.top l.scratch l.invariant.1 c.loop-top-test.false

@@ -6,8 +6,8 @@ use Rattle.examine_search.specs.Scratch.{search_words}
 use Rattle.examine_search.proofs.Steps.{Under, left_under}
 use Rattle.examine_search.proofs.finish.Given as goal
 
-abbrev pub invariant-loop-g : goal.invariant-loop-g
-invariant-loop-g l = (length l.scratch ≡ search_words l.g) × Under l.g (mem_of l.g l.mem) l.edges l.initial.scratch l.initial.met l.met l.scratch
+abbrev pub invariant-loop-top : goal.invariant-loop-top
+invariant-loop-top l = (length l.scratch ≡ search_words l.g) × Under l.g (mem_of l.g l.mem) l.edges l.initial.scratch l.initial.top l.top l.scratch
 
-abbrev pub decreases-loop-g : goal.decreases-loop-g
-decreases-loop-g l = left_under l.g (mem_of l.g l.mem) l.edges l.initial.scratch l.initial.met l.met l.scratch
+abbrev pub decreases-loop-top : goal.decreases-loop-top
+decreases-loop-top l = left_under l.g (mem_of l.g l.mem) l.edges l.initial.scratch l.initial.top l.top l.scratch

@@ -1,18 +1,18 @@
 -- `examine_search::follow_entries` meets its contract.
-use mathlib.Core.Path.{refl, subst}
-use Rattle.layout.specs.Mem.{mem_of}
-use Rattle.examine_search.specs.declared.Met.{Met}
-use Rattle.examine_search.specs.Scratch.{SearchReady}
+use Rattle.examine_search.specs.Scratch.{state_of}
+use Rattle.examine_search.proofs.Rooting.{entries_all}
+use native.Mathlib.Omega.{arith}
 use Rattle.examine_search.proofs.follow_entries.Goals as goal
 
-pub entries_at-requires : goal.entries_at-requires
-entries_at-requires c =
+pub entry_count-count-requires : goal.entry_count-count-requires
+entry_count-count-requires c = c.requires.0.sized
+
+pub follow_run-requires : goal.follow_run-requires
+follow_run-requires c = (c.requires.0, c.requires.1, omega (arith, c.entry_count-count.ensures.room))
+
+pub returns : goal.returns
+returns c =
     let a = c.args in
-    (c.requires.0, subst (λ (x : Met). SearchReady a.g (mem_of a.g a.mem.now) a.scratch.now x) c.in-Top.is c.requires.1)
-
-pub returns-in-Bad : goal.returns-in-Bad
-returns-in-Bad c = rw c.in-Bad.is refl
-
-pub returns-in-Top : goal.returns-in-Top
-returns-in-Top c =
-    rw c.in-Top.is c.entries_at.ensures
+    entries_all a.g a.mem.now c.requires.0.sized (state_of a.g a.scratch.now a.top) _
+    c.entry_count-count.ensures c.follow_run.result
+    c.follow_run.new.scratch c.follow_run.ensures

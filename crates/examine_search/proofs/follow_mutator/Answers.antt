@@ -1,18 +1,22 @@
 -- `examine_search::follow_mutator` meets its contract.
-use mathlib.Core.Path.{refl, subst}
+use mathlib.Core.Path.{◌∙◌, sym}
 use Rattle.layout.specs.Mem.{mem_of}
-use Rattle.examine_search.specs.declared.Met.{Met}
-use Rattle.examine_search.specs.Scratch.{SearchReady}
+use Rattle.graph_search.proofs.Walking.{run_still}
+use Rattle.examine_search.specs.Scratch.{state_of}
+use Rattle.examine_search.proofs.Steps.{came_same}
+use native.Mathlib.Omega.{arith}
 use Rattle.examine_search.proofs.follow_mutator.Goals as goal
 
-pub mutator_at-requires : goal.mutator_at-requires
-mutator_at-requires c =
+pub returns-then-state-eq-ABSENT : goal.returns-then-state-eq-ABSENT
+returns-then-state-eq-ABSENT c = run_still c.requires.1 (λ x q. absurd (q.0 (sym c.state.ensures ∙ c.if-state-eq-ABSENT.true)))
+
+pub follow_run-requires : goal.follow_run-requires
+follow_run-requires c = (c.requires.0, c.requires.1, omega (arith, c.requires.2))
+
+pub returns : goal.returns
+returns c =
     let a = c.args in
-    (c.requires.0, subst (λ (x : Met). SearchReady a.g (mem_of a.g a.mem.now) a.scratch.now x) c.in-Top.is c.requires.1, c.requires.2)
-
-pub returns-in-Bad : goal.returns-in-Bad
-returns-in-Bad c = rw c.in-Bad.is refl
-
-pub returns-in-Top : goal.returns-in-Top
-returns-in-Top c =
-    rw c.in-Top.is c.mutator_at.ensures
+    came_same a.g (mem_of a.g a.mem.now) (state_of a.g a.scratch.now a.top)
+    (λ x q. ((λ e. c.if-state-eq-ABSENT.false (c.state.ensures ∙ e)), q)) (λ x q. q.1)
+    c.follow_run.result c.follow_run.new.scratch
+    c.follow_run.ensures

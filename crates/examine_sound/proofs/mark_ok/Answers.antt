@@ -1,10 +1,9 @@
 -- `examine_sound::mark_ok` meets its contract.
-use Rattle.basics.proofs.Deciding.{fails, refuted, via}
+use mathlib.Core.Path.{refl}
+use Rattle.basics.proofs.Deciding.{via}
+use Rattle.basics.proofs.Both.{first_held}
 use Rattle.examine_sound.proofs.mark_ok.Goals as goal
 
-pub returns-then-not-used : goal.returns-then-not-used
-returns-then-not-used c = fails (λ q. refuted c.marks-used.ensures c.if-not-used.true q.marks)
-
-pub returns : goal.returns
-returns c =
-    via (λ h. record { marks = c.marks-used.ensures.sound c.if-not-used.false; coloured = h }) (λ q. q.coloured) c.tricolour.ensures
+pub returns-then-marks : goal.returns-then-marks
+returns-then-marks c =
+    via (λ p. record { marks = p.0; coloured = p.1 }) (λ q. (q.marks, q.coloured)) (first_held c.marks.ensures c.if-marks.true c.tricolour.ensures refl)

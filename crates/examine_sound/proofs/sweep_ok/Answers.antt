@@ -1,20 +1,14 @@
 -- `examine_sound::sweep_ok` meets its contract.
-use mathlib.Core.Path.{◌∙◌, sym}
-use Rattle.basics.proofs.Deciding.{fails, refuted, via}
+use mathlib.Core.Path.{◌∙◌, refl, sym}
+use Rattle.basics.proofs.Deciding.{fails, via}
+use Rattle.basics.proofs.Both.{first_held}
 use Rattle.examine_sound.proofs.sweep_ok.Goals as goal
 
-pub returns-then-count-ne0 : goal.returns-then-count-ne0
-returns-then-count-ne0 c = fails (λ q. c.if-count-ne0.true (c.trace_count-count.ensures ∙ q.empty))
+pub returns-then-trace_count-ne0 : goal.returns-then-trace_count-ne0
+returns-then-trace_count-ne0 c = fails (λ q. c.if-trace_count-ne0.true (c.trace_count.ensures ∙ q.empty))
 
-pub returns-then-not-used : goal.returns-then-not-used
-returns-then-not-used c = fails (λ q. refuted c.marks-used.ensures c.if-not-used.true q.marks)
-
-pub returns : goal.returns
-returns c =
+pub returns-then-marks : goal.returns-then-marks
+returns-then-marks c =
     via
-    (λ h. record {
-      empty = sym c.trace_count-count.ensures ∙ c.if-count-ne0.false;
-      marks = c.marks-used.ensures.sound c.if-not-used.false;
-      swept = h;
-    })
-    (λ q. q.swept) c.swept.ensures
+    (λ p. record { empty = sym c.trace_count.ensures ∙ c.if-trace_count-ne0.false; marks = p.0; swept = p.1 })
+    (λ q. (q.marks, q.swept)) (first_held c.marks.ensures c.if-marks.true c.swept.ensures refl)

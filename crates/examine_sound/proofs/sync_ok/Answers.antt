@@ -1,12 +1,11 @@
 -- `examine_sound::sync_ok` meets its contract.
-use Rattle.basics.proofs.Deciding.{fails, refuted, via}
+use mathlib.Core.Path.{refl}
+use Rattle.basics.proofs.Deciding.{via}
+use Rattle.basics.proofs.Both.{first_held, first_failed}
+use Rattle.layout.specs.Mem.{mem_of}
+use Rattle.examine_marks.specs.Heads.{OnlyEntries}
 use Rattle.examine_sound.proofs.sync_ok.Goals as goal
 
-pub returns-then-not-only : goal.returns-then-not-only
-returns-then-not-only c = fails (λ q. refuted c.only_entries-only.ensures c.if-not-only.true q.only)
-
-pub returns : goal.returns
-returns c =
-    via
-    (λ h. record { only = c.only_entries-only.ensures.sound c.if-not-only.false; records = h })
-    (λ q. q.records) c.live_ok.ensures
+pub returns-then-only_entries : goal.returns-then-only_entries
+returns-then-only_entries c =
+    via (λ p. record { only = p.0; records = p.1 }) (λ q. (q.only, q.records)) (first_held c.only_entries.ensures c.if-only_entries.true c.live_ok.ensures refl)

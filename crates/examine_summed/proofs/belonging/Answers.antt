@@ -1,32 +1,26 @@
 -- `examine_summed::belonging` meets its contract. The loop's invariant: the segments passed that belong on the stack are counted.
+use mathlib.Core.Path.{◌≡◌, sym, ap, ◌∙◌}
 use native.Mathlib.Omega.{arith}
+use Rattle.words.specs.Bits.{ones_among}
 use Rattle.layout.specs.Mem.{mem_of}
-use Rattle.model_laws.proofs.Turns.{no_turn, one_turn, all_turns}
 use Rattle.examine_summed.specs.Stacked.{on_stack}
-use Rattle.examine_summed.proofs.Entering.{ones_none, ones_next, ones_few}
+use Rattle.examine_summed.proofs.Entering.{ones_none, ones_next, ones_same, ones_few}
 use Rattle.examine_summed.proofs.belonging.Goals as goal
+use Rattle.examine_summed.proofs.belonging.Goals.{then-belongs, else-belongs}
 
 pub loop-s-init : goal.loop-s-init
-loop-s-init c = no_turn _ _ _ (ones_none _)
-
-pub one_if-k-requires : goal.one_if-k-requires
-one_if-k-requires c = (c.requires.0, c.loop-s-test.true, c.requires.1)
+loop-s-init c = ones_none _
 
 pub overflow_add-k : goal.overflow_add-k
-overflow_add-k c =
-    let a = c.args in
-    let q = ones_few (on_stack (mem_of a.g a.mem.now) a.t) c.loop-s.s c.loop-s.k
-    c.one_if-k.result c.loop-s.invariant.is c.one_if-k.ensures in
-    omega (arith, c.requires.0.few)
-
-pub overflow_add-s : goal.overflow_add-s
-overflow_add-s c = omega (arith, c.loop-s-test.true, c.requires.0.few)
-
-pub loop-s-smaller : goal.loop-s-smaller
-loop-s-smaller c = omega (arith, c.loop-s-test.true)
+overflow_add-k c = omega (arith, ones_few (on_stack (mem_of c.args.g c.args.mem.now) c.args.t) _ _ c.loop-s.invariant, c.requires.0.few)
 
 pub loop-s-preserved : goal.loop-s-preserved
-loop-s-preserved c = one_turn _ _ _ _ c.loop-s.invariant c.loop-s-test.true _ (ones_next _ _ _ _ c.loop-s.invariant.is c.one_if-k.ensures)
+loop-s-preserved c =
+    let test = on_stack (mem_of c.args.g c.args.mem.now) c.args.t in
+    elim c.if-belongs.branch [
+      | then-belongs w ↦ w.k-is ∙ ones_next test _ _ c.loop-s.invariant (sym c.belongs.ensures ∙ w.if-belongs.true)
+      | else-belongs w ↦ w.k-is ∙ ones_same test _ _ c.loop-s.invariant (sym c.belongs.ensures ∙ w.if-belongs.false)
+    ]
 
 pub returns : goal.returns
-returns c = all_turns _ _ _ _ c.loop-s.invariant c.loop-s-test.false
+returns c = let e : c.loop-s.s ≡ c.args.g.segments = omega arith in c.loop-s.invariant ∙ ap (ones_among _) e

@@ -1,14 +1,10 @@
 -- `examine_summed::belonging` meets its contract. The loop's invariant: the segments passed that belong on the stack are counted.
-use Prim.Native.Nat.{◌-◌}
+use mathlib.Core.Path.{◌≡◌}
 use Rattle.basics.specs.Pick.{one_if}
 use Rattle.words.specs.Bits.{ones_among}
 use Rattle.layout.specs.Mem.{mem_of}
-use Rattle.model_laws.proofs.Turns.{Turned}
 use Rattle.examine_summed.specs.Stacked.{on_stack}
 use Rattle.examine_summed.proofs.belonging.Given as goal
 
 abbrev pub invariant-loop-s : goal.invariant-loop-s
-invariant-loop-s l = Turned (ones_among (λ i. one_if (on_stack (mem_of l.g l.mem) l.t i))) l.n l.s l.k
-
-abbrev pub decreases-loop-s : goal.decreases-loop-s
-decreases-loop-s l = l.n - l.s
+invariant-loop-s l = l.k ≡ ones_among (λ i. one_if (on_stack (mem_of l.g l.mem) l.t i)) l.s

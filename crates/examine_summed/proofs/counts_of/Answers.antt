@@ -11,5 +11,6 @@ returns-then-kept-in_use c =
 pub returns : goal.returns
 returns c =
     let a = c.args in
-    handed_right a.g (mem_of a.g a.mem.now) a.s a.class _ _ c.kept-kept.ensures c.in_use.ensures c.if-kept-in_use.false _ _ _
-    c.handed.ensures c.place.ensures c.in_use-used.ensures
+    rw (c.from.ensures, c.from-2.ensures, c.from-3.ensures)
+    (handed_right a.g (mem_of a.g a.mem.now) a.s a.class _ _ c.kept-kept.ensures c.in_use.ensures c.if-kept-in_use.false _ _ _
+    c.handed.ensures c.place.ensures c.in_use-used.ensures)

@@ -1,18 +1,32 @@
 -- `examine_summed::summed` meets its contract.
-use Rattle.examine_summed.proofs.Ordered.{trees_wrong, counts_wrong, all_three}
+use mathlib.Core.Path.{refl}
+use Prim.Native.Nat.{ℕ, ◌<◌}
+use Rattle.basics.specs.Decides.{Decides}
+use Rattle.basics.proofs.Both.{first_held, first_failed}
 use Rattle.layout.specs.Mem.{mem_of}
+use Rattle.model.specs.Consistent.{TreeOk, CountsOk}
+use Rattle.examine_summed.proofs.Ordered.{all_three}
 use Rattle.examine_summed.proofs.summed.Goals as goal
+use Rattle.examine_summed.proofs.summed.Goals.{then-trees, else-trees}
 
-pub returns-then-not-ok : goal.returns-then-not-ok
-returns-then-not-ok c = let a = c.args in trees_wrong a.g (mem_of a.g a.mem.now) _ c.trees-ok.ensures c.if-not-ok.true
+pub returns-then-counts : goal.returns-then-counts
+returns-then-counts c =
+    let g = c.args.g in
+    let m = mem_of g c.args.mem.now in
+    let d : Decides c.if-trees.value (((s : ℕ) → s < g.segments → TreeOk g m s) × ((s : ℕ) → s < g.segments → CountsOk g m s)) =
+    elim c.if-trees.branch [
+      | then-trees w ↦ first_held c.trees.ensures w.if-trees.true w.counts.ensures w.value-is
+      | else-trees w ↦ first_failed c.trees.ensures w.if-trees.false w.value-is
+    ] in
+    all_three g m (first_held d c.if-counts.true c.stacks.ensures refl)
 
-pub returns-then-not-counted : goal.returns-then-not-counted
-returns-then-not-counted c =
-    let a = c.args in
-    counts_wrong a.g (mem_of a.g a.mem.now) _ c.counts-counted.ensures c.if-not-counted.true
-
-pub returns : goal.returns
-returns c =
-    let a = c.args in
-    all_three a.g (mem_of a.g a.mem.now) _ c.trees-ok.ensures c.if-not-ok.false _ c.counts-counted.ensures
-    c.if-not-counted.false _ c.stacks.ensures
+pub returns-else-counts : goal.returns-else-counts
+returns-else-counts c =
+    let g = c.args.g in
+    let m = mem_of g c.args.mem.now in
+    let d : Decides c.if-trees.value (((s : ℕ) → s < g.segments → TreeOk g m s) × ((s : ℕ) → s < g.segments → CountsOk g m s)) =
+    elim c.if-trees.branch [
+      | then-trees w ↦ first_held c.trees.ensures w.if-trees.true w.counts.ensures w.value-is
+      | else-trees w ↦ first_failed c.trees.ensures w.if-trees.false w.value-is
+    ] in
+    all_three g m (first_failed d c.if-counts.false refl)

@@ -1,5 +1,5 @@
 -- `examine_trace::enter_all` meets its contract.
-use Prim.Native.Nat.{◌-◌, ◌≤◌}
+use Prim.Native.Nat.{◌≤◌}
 use mathlib.Core.Path.{◌≡◌}
 use lib.ListN.{length}
 use Rattle.layout.specs.Mem.{mem_of}
@@ -8,6 +8,3 @@ use Rattle.examine_trace.proofs.enter_all.Given as goal
 
 abbrev pub invariant-loop-i : goal.invariant-loop-i
 invariant-loop-i l = (l.i ≤ l.n) × (length l.scratch ≡ length l.initial.scratch) × Seen l.g (mem_of l.g l.mem) l.i l.scratch
-
-abbrev pub decreases-loop-i : goal.decreases-loop-i
-decreases-loop-i l = l.n - l.i

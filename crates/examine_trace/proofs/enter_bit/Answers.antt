@@ -8,8 +8,8 @@ use Rattle.examine_trace.specs.Traced.{BitEnters}
 use Rattle.examine_trace.proofs.Entering.{bit_unset, bit_again, bit_new}
 use Rattle.examine_trace.proofs.enter_bit.Goals as goal
 
-pub returns-then-not-set : goal.returns-then-not-set
-returns-then-not-set c = bit_unset _ _ _ (refuted c.is_set-set.ensures c.if-not-set.true)
+pub returns-then-not-is_set : goal.returns-then-not-is_set
+returns-then-not-is_set c = bit_unset _ _ _ (refuted c.is_set.ensures c.if-not-is_set.true)
 
 pub overflow_cast-bit : goal.overflow_cast-bit
 overflow_cast-bit c = omega (arith, trace_most c.args.g c.requires.0.few, c.requires.1)
@@ -29,4 +29,4 @@ returns c =
     let a = c.args in
     let m = mem_of a.g a.mem.now in
     subst (BitEnters m a.k a.scratch.now _) (sym c.set_bit.ensures)
-    (bit_new m a.k a.scratch.now (c.is_set-set.ensures.sound c.if-not-set.false) (λ q. c.if-bit_at-eq1.false (c.bit_at.ensures ∙ q)))
+    (bit_new m a.k a.scratch.now (c.is_set.ensures.sound c.if-not-is_set.false) (λ q. c.if-bit_at-eq1.false (c.bit_at.ensures ∙ q)))

@@ -1,15 +1,13 @@
 -- `examining::examine` meets its contract.
 use mathlib.Core.Path.{◌∙◌, sym}
 use Rattle.layout.proofs.Regions.{sized}
-use Rattle.examining.proofs.Examined.{memory_size, scratch_size, promise_yes, promise_no}
+use Rattle.model_laws.proofs.Promised.{fits}
+use Rattle.examining.proofs.Examined.{scratch_size, promise_is}
 use Rattle.examining.proofs.examine.Goals as goal
-
-pub returns-then-wrong_size : goal.returns-then-wrong_size
-returns-then-wrong_size c = memory_size c.args.g c.args.mem.now c.args.scratch.now (sym c.wrong_size.ensures ∙ c.if-wrong_size.true)
 
 pub scratch_words-words-requires : goal.scratch_words-words-requires
 scratch_words-words-requires c =
-    let z = sized _ _ (sym c.wrong_size.ensures ∙ c.if-wrong_size.false) in (z.few, (z.whole, z.small, z.large))
+    let z = sized _ _ (fits c.in_ok-require_size.ensures) in (z.few, (z.whole, z.small, z.large))
 
 pub returns-then-scratch-words : goal.returns-then-scratch-words
 returns-then-scratch-words c =
@@ -17,18 +15,9 @@ returns-then-scratch-words c =
 
 pub consistent-requires : goal.consistent-requires
 consistent-requires c =
-    (sized _ _ (sym c.wrong_size.ensures ∙ c.if-wrong_size.false), c.if-scratch-words.false ∙ c.scratch_words-words.ensures)
-
-pub returns-then-consistent : goal.returns-then-consistent
-returns-then-consistent c =
-    promise_yes c.args.g c.args.mem.now c.args.scratch.now
-    (sym c.wrong_size.ensures ∙ c.if-wrong_size.false)
-    (c.if-scratch-words.false ∙ c.scratch_words-words.ensures) _ c.consistent.ensures.1 _
-    c.consistent.ensures.0 c.if-consistent.true
+    (sized _ _ (fits c.in_ok-require_size.ensures), c.if-scratch-words.false ∙ c.scratch_words-words.ensures)
 
 pub returns : goal.returns
 returns c =
-    promise_no c.args.g c.args.mem.now c.args.scratch.now
-    (sym c.wrong_size.ensures ∙ c.if-wrong_size.false)
-    (c.if-scratch-words.false ∙ c.scratch_words-words.ensures) _ c.consistent.ensures.1 _
-    c.consistent.ensures.0 c.if-consistent.false
+    promise_is c.args.g c.args.mem.now c.args.scratch.now (fits c.in_ok-require_size.ensures)
+    (c.if-scratch-words.false ∙ c.scratch_words-words.ensures) _ c.consistent.ensures.1 _ c.consistent.ensures.0

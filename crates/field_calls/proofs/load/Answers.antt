@@ -1,63 +1,66 @@
 -- `field_calls::load` meets its contract.
-use mathlib.Core.Path.{sym, ◌∙◌}
+use mathlib.Core.Path.{refl, sym, ◌∙◌}
+use Rattle.std.proofs.lemmas.Result.{err_from_is_err_and}
 use Rattle.layout.proofs.Regions.{sized}
 use Rattle.theory.specs.Calls.{c_load}
-use Rattle.model_laws.proofs.Promised.{size_1}
+use Rattle.model_laws.proofs.Promised.{fits}
 use Rattle.mutators.proofs.Inside.{in_range}
 use Rattle.records.proofs.Found.{pointer_found}
 use Rattle.records.proofs.Reaching.{names, held_7, pointer_refused}
 use Rattle.field_calls.proofs.Answering.{load_refused, load_reaches, load_done}
 use Rattle.field_calls.proofs.load.Goals as goal
 
-pub returns-then-wrong_size : goal.returns-then-wrong_size
-returns-then-wrong_size c = size_1 _ _ _ (sym c.wrong_size.ensures ∙ c.if-wrong_size.true)
+pub require_roots-requires : goal.require_roots-requires
+require_roots-requires c = sized _ _ (fits c.in_ok-require_size.ensures)
 
-pub roots_refusal-refused-requires : goal.roots_refusal-refused-requires
-roots_refusal-refused-requires c = sized _ _ (sym c.wrong_size.ensures ∙ c.if-wrong_size.false)
-
-pub returns-then-refused-ne0 : goal.returns-then-refused-ne0
-returns-then-refused-ne0 c = load_refused _ _ _ _ _ _ _ (sym c.wrong_size.ensures ∙ c.if-wrong_size.false) c.roots_refusal-refused.ensures c.if-refused-ne0.true
+pub returns-in_err-require_roots : goal.returns-in_err-require_roots
+returns-in_err-require_roots c =
+    let p = err_from_is_err_and c.from_residual-in_err-require_roots.result c.from_residual-in_err-require_roots.ensures.1 in
+    rw (p.1, p.2) (load_refused _ _ _ _ _ _ _ (fits c.in_ok-require_size.ensures) c.in_err-require_roots.ensures _ refl)
 
 pub root-requires : goal.root-requires
 root-requires c =
-    let p = in_range _ _ _ c.args.to c.args.root _ c.roots_refusal-refused.ensures c.if-refused-ne0.false in
-    (sized _ _ (sym c.wrong_size.ensures ∙ c.if-wrong_size.false), p.0, p.2)
+    let p = in_range _ _ _ c.args.to c.args.root _ c.in_ok-require_roots.ensures refl in
+    (sized _ _ (fits c.in_ok-require_size.ensures), p.0, p.2)
 
 pub returns-in_default : goal.returns-in_default
 returns-in_default c =
     held_7 (c_load _ _ _ _) _ _ _ _ _
-    (load_reaches _ _ _ _ _ _ _ (sym c.wrong_size.ensures ∙ c.if-wrong_size.false) c.roots_refusal-refused.ensures c.if-refused-ne0.false)
+    (load_reaches _ _ _ _ _ _ _ (fits c.in_ok-require_size.ensures) c.in_ok-require_roots.ensures refl)
     _
     c.root.ensures
     (sym c.in_default.is ∙ c.held_of-slot.ensures)
 
 pub pointer_at-requires : goal.pointer_at-requires
 pointer_at-requires c =
-    sized _ _ (sym c.wrong_size.ensures ∙ c.if-wrong_size.false)
+    sized _ _ (fits c.in_ok-require_size.ensures)
 
 pub field-held-requires : goal.field-held-requires
 field-held-requires c =
-    let t = pointer_found _ _ _ _ _ (sym c.in-Word.is ∙ c.pointer_at.ensures) in
-    (sized _ _ (sym c.wrong_size.ensures ∙ c.if-wrong_size.false), t.within)
+    let t = pointer_found _ _ _ _ _ (c.in_ok-word.ensures) in
+    (sized _ _ (fits c.in_ok-require_size.ensures), t.within)
 
 pub set_root-requires : goal.set_root-requires
 set_root-requires c =
-    let p = in_range _ _ _ c.args.to c.args.root _ c.roots_refusal-refused.ensures c.if-refused-ne0.false in
-    (sized _ _ (sym c.wrong_size.ensures ∙ c.if-wrong_size.false), p.0, p.1)
+    let p = in_range _ _ _ c.args.to c.args.root _ c.in_ok-require_roots.ensures refl in
+    (sized _ _ (fits c.in_ok-require_size.ensures), p.0, p.1)
 
-pub returns-in-Refused : goal.returns-in-Refused
-returns-in-Refused c =
+pub returns-in_err-word : goal.returns-in_err-word
+returns-in_err-word c =
+    let p = err_from_is_err_and c.from_residual-in_err-word.result c.from_residual-in_err-word.ensures.1 in
+    rw (p.1, p.2) (
     pointer_refused (c_load _ _ _ _) _ _ _ _ _ _
     (names _ _ _ _ _ _ c.root.ensures (sym c.in-Record.is ∙ c.held_of-slot.ensures))
-    (load_reaches _ _ _ _ _ _ _ (sym c.wrong_size.ensures ∙ c.if-wrong_size.false) c.roots_refusal-refused.ensures c.if-refused-ne0.false)
+    (load_reaches _ _ _ _ _ _ _ (fits c.in_ok-require_size.ensures) c.in_ok-require_roots.ensures refl)
     _
-    (sym c.in-Refused.is ∙ c.pointer_at.ensures)
+    (c.in_err-word.ensures)
+    )
 
-pub returns-in-Word : goal.returns-in-Word
-returns-in-Word c =
+pub returns : goal.returns
+returns c =
     load_done _ _ _ _ _ _ _ _ _ _
-    (load_reaches _ _ _ _ _ _ _ (sym c.wrong_size.ensures ∙ c.if-wrong_size.false) c.roots_refusal-refused.ensures c.if-refused-ne0.false)
+    (load_reaches _ _ _ _ _ _ _ (fits c.in_ok-require_size.ensures) c.in_ok-require_roots.ensures refl)
     (names _ _ _ _ _ _ c.root.ensures (sym c.in-Record.is ∙ c.held_of-slot.ensures))
-    (sym c.in-Word.is ∙ c.pointer_at.ensures)
+    (c.in_ok-word.ensures)
     c.field-held.ensures
     c.set_root.ensures

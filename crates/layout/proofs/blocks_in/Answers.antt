@@ -1,10 +1,10 @@
 -- `layout::blocks_in` meets its contract.
-use mathlib.Core.Path.{refl, sym}
+use mathlib.Core.Path.{sym}
 use Prim.Native.Nat.{◌^◌, ◌≤◌}
 use native.Mathlib.Nat.{div-eq_of_lt, pow-le-pow_right}
 use native.Mathlib.Omega.{arith}
 use Rattle.layout.specs.Geometry.{segment_bytes}
-use Rattle.layout.proofs.Sizes.{large_bytes, small_bytes, bytes_are}
+use Rattle.layout.proofs.Sizes.{bytes_are}
 use Rattle.layout.proofs.blocks_in.Goals as goal
 
 pub returns-then-class-ge32 : goal.returns-then-class-ge32
@@ -15,9 +15,3 @@ returns-then-class-ge32 c =
     let e = z.1 in
     let l = z.3 in
     sym (div-eq_of_lt {n = segment_bytes g} (omega arith))
-
-pub returns-then-g-eq-LARGE_KIB : goal.returns-then-g-eq-LARGE_KIB
-returns-then-g-eq-LARGE_KIB c = rw (large_bytes c.args.g c.if-g-eq-LARGE_KIB.true) refl
-
-pub returns-else-g-eq-LARGE_KIB : goal.returns-else-g-eq-LARGE_KIB
-returns-else-g-eq-LARGE_KIB c = rw (small_bytes c.args.g c.if-g-eq-LARGE_KIB.false) refl

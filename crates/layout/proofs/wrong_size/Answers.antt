@@ -1,16 +1,16 @@
 -- `layout::wrong_size` meets its contract.
 use mathlib.Core.Path.{◌≡◌, refl}
 use mathlib.Core.Logic.{◌⊎◌, inl, inr}
-use Prim.Native.Nat.{ℕ, ◌+◌, ◌*◌, ◌≤◌}
+use mathlib.Core.Bool.{true}
+use Prim.Native.Nat.{ℕ, ◌+◌, ◌*◌, ◌<◌, ◌≤◌}
 use native.Mathlib.Omega.{arith}
-use borrow.Author.Tests.{le-ltb}
-use Rattle.basics.proofs.Tests.{tests}
+use borrow.Author.Tests.{le-ltb, lt-ltb, ne_eqb}
 use Rattle.layout.specs.declared.Geometry.{Geometry}
 use Rattle.layout.specs.Geometry.{small_kib, large_kib, IsSize, total, max_segments, wrong_size}
 use Rattle.layout.proofs.Regions.{is_size}
 use Rattle.layout.proofs.Sizes.{large_bytes, small_bytes}
 use Rattle.layout.proofs.wrong_size.Goals as goal
-use Rattle.layout.proofs.wrong_size.Goals.{then-g-eq-SMALL_KIB, else-g-eq-SMALL_KIB+then-g-eq-LARGE_KIB}
+use Rattle.layout.proofs.wrong_size.Goals.{then-n-lt1-via-then-n-lt1, then-n-lt1-via-else-n-lt1+then-n-gt-MAX_SEGMENTS, in-16, in-32}
 
 -- the words for each segment, by its size
 abbrev EachBy : ℕ → ℕ → Type 0
@@ -20,46 +20,36 @@ size_by : {k each : ℕ} → EachBy k each → IsSize k
 size_by (inl (e, f)) = omega arith
 size_by (inr (e, f)) = omega arith
 
-fits_by : {k each n : ℕ} → EachBy k each → n ≤ max_segments → n * each ≤ max_segments * 12568
-fits_by (inl (e, f)) l = rw f (omega arith)
-fits_by (inr (e, f)) l = rw f (omega arith)
-
 total_by : (g : Geometry) {each : ℕ} → EachBy g.kib each → g.segments * each + 1053 ≡ total g
 total_by g (inl (e, f)) = rw (f, small_bytes g (λ q. omega arith)) (omega arith)
 total_by g (inr (e, f)) = rw (f, large_bytes g e) (omega arith)
 
+module _ (g : Geometry) (x : ℕ) where
+  none : g.segments < 1 → true ≡ wrong_size g x
+  unfolding wrong_size
+  none l = rw (lt-ltb g.segments 1 l) refl
+
+  many : max_segments < g.segments → true ≡ wrong_size g x
+  unfolding wrong_size
+  many l = rw (le-ltb g.segments 1 (omega arith), lt-ltb max_segments g.segments l) refl
+
+  neither : 1 ≤ g.segments → g.segments ≤ max_segments → (g.kib ≡ small_kib → ⊥) → (g.kib ≡ large_kib → ⊥) → true ≡ wrong_size g x
+  unfolding wrong_size
+  neither s l d e = rw (le-ltb g.segments 1 s, le-ltb max_segments g.segments l, ne_eqb g.kib small_kib d, ne_eqb g.kib large_kib e) refl
+
 pub returns-then-n-lt1 : goal.returns-then-n-lt1
-unfolding wrong_size
-returns-then-n-lt1 c = search tests
+returns-then-n-lt1 c =
+    elim c.then-n-lt1.branch [
+      | then-n-lt1-via-then-n-lt1 w ↦ none c.args.g c.args.x w.if-n-lt1.true
+      | then-n-lt1-via-else-n-lt1+then-n-gt-MAX_SEGMENTS w ↦ many c.args.g c.args.x w.if-n-gt-MAX_SEGMENTS.true
+    ]
 
-pub returns-then-n-gt-MAX_SEGMENTS : goal.returns-then-n-gt-MAX_SEGMENTS
-unfolding wrong_size
-returns-then-n-gt-MAX_SEGMENTS c = search tests
-
-pub returns-else-g-eq-LARGE_KIB : goal.returns-else-g-eq-LARGE_KIB
-unfolding wrong_size
-returns-else-g-eq-LARGE_KIB c = search tests
-
-pub overflow_mul-result : goal.overflow_mul-result
-overflow_mul-result c =
-    let g = c.args.g in
-    let each : EachBy g.kib c.if-g-eq-SMALL_KIB.each =
-    elim c.if-g-eq-SMALL_KIB.branch [ then-g-eq-SMALL_KIB w ↦ inl (omega arith, omega arith) | else-g-eq-SMALL_KIB+then-g-eq-LARGE_KIB w ↦ inr (omega arith, omega arith) ] in
-    let h = fits_by {n = g.segments} each c.if-n-gt-MAX_SEGMENTS.false in
-    omega arith
-
-pub overflow_add-result : goal.overflow_add-result
-overflow_add-result c =
-    let g = c.args.g in
-    let each : EachBy g.kib c.if-g-eq-SMALL_KIB.each =
-    elim c.if-g-eq-SMALL_KIB.branch [ then-g-eq-SMALL_KIB w ↦ inl (omega arith, omega arith) | else-g-eq-SMALL_KIB+then-g-eq-LARGE_KIB w ↦ inr (omega arith, omega arith) ] in
-    let h = fits_by {n = g.segments} each c.if-n-gt-MAX_SEGMENTS.false in
-    omega arith
+pub returns-in_default : goal.returns-in_default
+returns-in_default c = neither c.args.g c.args.x c.if-n-lt1.false c.if-n-gt-MAX_SEGMENTS.false (omega arith) (omega arith)
 
 pub returns : goal.returns
 unfolding wrong_size
 returns c =
     let g = c.args.g in
-    let each : EachBy g.kib c.if-g-eq-SMALL_KIB.each =
-    elim c.if-g-eq-SMALL_KIB.branch [ then-g-eq-SMALL_KIB w ↦ inl (omega arith, omega arith) | else-g-eq-SMALL_KIB+then-g-eq-LARGE_KIB w ↦ inr (omega arith, omega arith) ] in
+    let each : EachBy g.kib c.match-g.each = elim c.match-g.branch [ in-16 w ↦ inl (omega arith, omega arith) | in-32 w ↦ inr (omega arith, omega arith) ] in
     rw (le-ltb g.segments 1 c.if-n-lt1.false, le-ltb max_segments g.segments c.if-n-gt-MAX_SEGMENTS.false, is_size g.kib (size_by each), total_by g each) refl

@@ -1,12 +1,9 @@
 -- `looks::copy` meets its contract. The loop's invariant: the words passed are copied.
-use Prim.Native.Nat.{◌-◌}
-use lib.ListN.{length}
+use mathlib.Core.Path.{◌≡◌}
+use Prim.Native.Nat.{ℕ, ◌<◌}
+use lib.ListN.{get_or}
 use Rattle.layout.specs.Mem.{mem_of}
-use Rattle.looks.proofs.Copying.{Copied}
 use Rattle.looks.proofs.copy.Given as goal
 
 abbrev pub invariant-loop-i : goal.invariant-loop-i
-invariant-loop-i l = Copied (mem_of l.g l.mem).segments l.initial.output l.output l.i
-
-abbrev pub decreases-loop-i : goal.decreases-loop-i
-decreases-loop-i l = length l.initial.output - l.i
+invariant-loop-i l = (k : ℕ) → k < l.i → get_or l.output k 0 ≡ get_or (mem_of l.g l.mem).segments k 0

@@ -1,25 +1,11 @@
 -- `making::take_free` meets its contract.
-use Rattle.making.proofs.Taking.{free_none, free_torn, free_taken}
-use borrow.Author.Rules.{rules}
+use Rattle.std.proofs.lemmas.Result.{err_from_is_err_and}
+use Rattle.layout.specs.Mem.{mem_of}
+use Rattle.making.proofs.Taking.{free_torn}
 use Rattle.making.proofs.take_free.Goals as goal
 
-pub hold-requires : goal.hold-requires
-hold-requires c =
-    let l = (c.top.ensures.segment _ c.in-Segment.is).1 in
-    search rules
-
-pub fresh-requires : goal.fresh-requires
-fresh-requires c =
-    let l = (c.top.ensures.segment _ c.in-Segment.is).1 in
-    search rules
-
-pub returns-in-Empty : goal.returns-in-Empty
-returns-in-Empty c = free_none _ _ _ _ _ c.free_stack-t.ensures _ c.top.ensures c.in-Empty.is
-
-pub returns-in-Torn : goal.returns-in-Torn
-returns-in-Torn c = free_torn _ _ _ _ _ c.free_stack-t.ensures _ c.top.ensures c.in-Torn.is
-
-pub returns-in-Segment : goal.returns-in-Segment
-returns-in-Segment c =
-    free_taken _ _ _ _ _ c.free_stack-t.ensures _ c.top.ensures _ c.in-Segment.is _ _ _
-    c.pop.ensures c.hold.ensures c.fresh.ensures
+pub returns-in_err-s : goal.returns-in_err-s
+returns-in_err-s c =
+    let p = err_from_is_err_and c.from_residual.result c.from_residual.ensures.1 in
+    let x = c.args in
+    rw (p.1, p.2) (free_torn x.g (mem_of x.g x.mem.now) x.mutator x.class _ c.free_stack-t.ensures _ c.in_err-s.ensures)

@@ -1,25 +1,11 @@
 -- `making::take_new` meets its contract.
-use Rattle.making.proofs.Taking.{part_none, part_torn, part_taken}
-use borrow.Author.Rules.{rules}
+use Rattle.std.proofs.lemmas.Result.{err_from_is_err_and}
+use Rattle.layout.specs.Mem.{mem_of}
+use Rattle.making.proofs.Taking.{part_torn}
 use Rattle.making.proofs.take_new.Goals as goal
 
-pub place-place-requires : goal.place-place-requires
-place-place-requires c = let l = (c.top.ensures.segment _ c.in-Segment.is).1 in search rules
-
-pub hold-requires : goal.hold-requires
-hold-requires c =
-    let l = (c.top.ensures.segment _ c.in-Segment.is).1 in
-    search rules
-
-pub returns-in-Empty : goal.returns-in-Empty
-returns-in-Empty c =
-    part_none _ _ _ _ _ c.part_stack-t.ensures _ c.top.ensures c.in-Empty.is _ _ c.take_free.ensures
-
-pub returns-in-Torn : goal.returns-in-Torn
-returns-in-Torn c =
-    part_torn _ _ _ _ _ c.part_stack-t.ensures _ c.top.ensures c.requires.2 c.in-Torn.is
-
-pub returns-in-Segment : goal.returns-in-Segment
-returns-in-Segment c =
-    part_taken _ _ _ _ _ c.part_stack-t.ensures _ c.top.ensures _ c.in-Segment.is _
-    c.place-place.ensures _ _ c.pop.ensures c.hold.ensures
+pub returns-in_err-s : goal.returns-in_err-s
+returns-in_err-s c =
+    let p = err_from_is_err_and c.from_residual.result c.from_residual.ensures.1 in
+    let x = c.args in
+    rw (p.1, p.2) (part_torn x.g (mem_of x.g x.mem.now) x.mutator x.class _ c.part_stack-t.ensures c.requires.2 _ c.in_err-s.ensures)

@@ -3,4 +3,4 @@ use Rattle.segments.proofs.write_counts.Goals as goal
 
 pub returns : goal.returns
 returns c =
-    rw (← c.set_segment.ensures) c.set_handed.ensures
+    rw (← c.set_field.ensures) c.set_handed.ensures

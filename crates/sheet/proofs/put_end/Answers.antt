@@ -5,12 +5,15 @@ use lib.ListN.{length, length-set}
 use Rattle.sheet.proofs.Lines.{one_empty, none_between, none_last}
 use Rattle.sheet.proofs.Printing.{ends_line, ends_group}
 use Rattle.sheet.proofs.put_end.Goals as goal
+use Rattle.sheet.proofs.put_end.Goals.{then-next-ne0-via-then-next-ne0, then-next-ne0-via-else-next-ne0+then-n-next}
 
 pub returns-then-next-ne0 : goal.returns-then-next-ne0
-returns-then-next-ne0 c = let a = c.args in ends_line a.out.now a.at a.n a.s (none_between a.n a.s c.if-next-ne0.true) (omega arith)
-
-pub returns-then-n-next : goal.returns-then-n-next
-returns-then-n-next c = let a = c.args in ends_line a.out.now a.at a.n a.s (none_last a.n a.s (omega (arith, c.if-n-next.true))) (omega arith)
+returns-then-next-ne0 c =
+    let a = c.args in
+    elim c.then-next-ne0.branch [
+      | then-next-ne0-via-then-next-ne0 w ↦ ends_line a.out.now a.at a.n a.s (none_between a.n a.s w.if-next-ne0.true) (omega arith)
+      | then-next-ne0-via-else-next-ne0+then-n-next w ↦ ends_line a.out.now a.at a.n a.s (none_last a.n a.s (omega (arith, w.if-n-next.true))) (omega arith)
+    ]
 
 pub bounds-out-at-2 : goal.bounds-out-at-2
 bounds-out-at-2 c =

@@ -23,14 +23,6 @@ put_end-at-requires c =
     let room = line_room _ _ _ long c.requires.2 _ _ _ c.loop-s.invariant c.loop-s-test.true in
     (c.loop-s-test.true, c.requires.0.few, omega (arith, c.put_line-end.ensures.0))
 
-pub overflow_add-s : goal.overflow_add-s
-overflow_add-s c =
-    omega (arith, c.loop-s-test.true, c.requires.0.few)
-
-pub loop-s-smaller : goal.loop-s-smaller
-loop-s-smaller c =
-    omega (arith, c.loop-s-test.true)
-
 pub loop-s-preserved : goal.loop-s-preserved
 loop-s-preserved c =
     let a = c.args in

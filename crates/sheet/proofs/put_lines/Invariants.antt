@@ -7,6 +7,3 @@ use Rattle.sheet.proofs.put_lines.Given as goal
 
 abbrev pub invariant-loop-s : goal.invariant-loop-s
 invariant-loop-s l = Printed l.n (counted_line l.g (mem_of l.g l.mem)) l.initial.out l.out l.at l.s
-
-abbrev pub decreases-loop-s : goal.decreases-loop-s
-decreases-loop-s l = l.n - l.s

@@ -1,49 +1,27 @@
--- `stepping::answer_outside` meets its contract. The loop's invariant: the mutators outside before `k` have given their acknowledgements, and `k` is the next one.
-use mathlib.Core.Path.{refl, ◌∙◌}
+-- `stepping::answer_outside` meets its contract. The loop's invariant: the mutators outside before `k` have given their acknowledgements.
+use mathlib.Core.Path.{sym}
 use native.Mathlib.Omega.{arith}
-use Rattle.layout.proofs.Regions.{resized}
 use Rattle.model_laws.proofs.Lengths.{sizes_of}
-use Rattle.stepping.proofs.Answering.{answered_first, answered_more, answer_hindered, all_answered}
+use Rattle.stepping.proofs.Answering.{answered_none, not_outside, answered_more, answer_hindered}
 use Rattle.stepping.proofs.answer_outside.Goals as goal
-
-pub next_outside-k-requires : goal.next_outside-k-requires
-next_outside-k-requires c = (c.requires, omega arith)
+use Rattle.stepping.proofs.answer_outside.Goals.{else-outside-via-then-outside+else-not-acknowledge, else-outside-via-else-outside}
 
 pub loop-k-init : goal.loop-k-init
-loop-k-init c = (refl, answered_first _ _ (sizes_of _ _ c.requires) _ c.next_outside-k.ensures)
+loop-k-init c = sym (answered_none _ _)
 
-pub acknowledge-requires : goal.acknowledge-requires
-acknowledge-requires c =
-    (resized _ _ _ c.requires c.loop-k.invariant.0, omega (arith, c.loop-k-test.true))
-
-pub overflow_add-k : goal.overflow_add-k
-overflow_add-k c = omega arith
-
-pub next_outside-k-requires-then-acknowledge : goal.next_outside-k-requires-then-acknowledge
-next_outside-k-requires-then-acknowledge c =
-    (resized _ _ _ (resized _ _ _ c.requires c.loop-k.invariant.0) c.acknowledge.auto.mem, omega (arith, c.loop-k-test.true))
-
-pub loop-k-smaller : goal.loop-k-smaller
-loop-k-smaller c =
-    omega (arith, c.next_outside-k-then-acknowledge.ensures.after, c.loop-k-test.true)
+pub returns-then-not-acknowledge : goal.returns-then-not-acknowledge
+returns-then-not-acknowledge c =
+    answer_hindered _ _ (sizes_of _ _ c.requires) _ (omega (arith, c.loop-k-test.true)) _ c.loop-k.invariant _ c.state-outside.ensures
+    c.if-outside.true _ _ c.acknowledge.ensures c.if-not-acknowledge.true
 
 pub loop-k-preserved : goal.loop-k-preserved
-loop-k-preserved c = (
-  c.acknowledge.auto.mem ∙ c.loop-k.invariant.0,
-  answered_more _ _ _ _ c.loop-k.invariant.1 (omega (arith, c.loop-k-test.true)) _ _ c.acknowledge.ensures
-      (sizes_of _ _ c.requires) c.if-acknowledge.true _ c.next_outside-k-then-acknowledge.ensures,
-)
-
-pub shape_of-mem-else-acknowledge : goal.shape_of-mem-else-acknowledge
-shape_of-mem-else-acknowledge c =
-    c.acknowledge.auto.mem ∙ c.loop-k.invariant.0
-
-pub returns-else-acknowledge : goal.returns-else-acknowledge
-returns-else-acknowledge c =
-    answer_hindered _ _ _ _ c.loop-k.invariant.1 (omega (arith, c.loop-k-test.true)) _ _ c.acknowledge.ensures c.if-acknowledge.false
-
-pub shape_of-mem : goal.shape_of-mem
-shape_of-mem c = c.loop-k.invariant.0
-
-pub returns : goal.returns
-returns c = all_answered _ _ _ _ c.loop-k.invariant.1 (omega (arith, c.loop-k-test.false))
+loop-k-preserved c =
+    elim c.else-outside.branch [
+      | else-outside-via-then-outside+else-not-acknowledge w ↦
+          rw w.mem-is
+          (answered_more _ _ (sizes_of _ _ c.requires) _ (omega (arith, c.loop-k-test.true)) _ c.loop-k.invariant _ c.state-outside.ensures w.if-outside.true
+          _ _ w.acknowledge.ensures w.if-not-acknowledge.false)
+      | else-outside-via-else-outside w ↦
+          rw w.mem-is
+          (not_outside _ _ (sizes_of _ _ c.requires) _ (omega (arith, c.loop-k-test.true)) _ c.loop-k.invariant _ c.state-outside.ensures w.if-outside.false)
+    ]

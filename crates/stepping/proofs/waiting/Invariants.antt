@@ -1,13 +1,8 @@
 -- `stepping::waiting` meets its contract. The loop's invariant: `n` counts the mutators before `i`.
-use Prim.Native.Nat.{◌-◌}
-use Rattle.layout.specs.Geometry.{mutator_count}
+use mathlib.Core.Path.{◌≡◌}
 use Rattle.layout.specs.Mem.{mem_of}
 use Rattle.model.specs.Collector.{waiting}
-use Rattle.model_laws.proofs.Turns.{Turned}
 use Rattle.stepping.proofs.waiting.Given as goal
 
 abbrev pub invariant-loop-i : goal.invariant-loop-i
-invariant-loop-i l = Turned (waiting (mem_of l.g l.mem)) mutator_count l.i l.n
-
-abbrev pub decreases-loop-i : goal.decreases-loop-i
-decreases-loop-i l = mutator_count - l.i
+invariant-loop-i l = l.n ≡ waiting (mem_of l.g l.mem) l.i

@@ -5,7 +5,7 @@ use Rattle.sweeping.proofs.finish.Goals as goal
 pub returns-then-settle : goal.returns-then-settle
 returns-then-settle c =
     let a = c.args in
-    finished _ _ a.s a.class a.used a.kept _ _ c.settle.ensures c.if-settle.true _ c.set_cursor.ensures _ c.less.ensures
+    finished _ _ a.s a.class a.used a.kept _ _ c.settle.ensures c.if-settle.true _ c.set_cursor.ensures _ c.saturating_sub.ensures
 
 pub returns : goal.returns
 returns c =

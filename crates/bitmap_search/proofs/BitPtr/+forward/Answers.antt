@@ -1,18 +1,18 @@
 -- `bitmap_search::BitPtr::forward` meets its contract.
-use mathlib.Core.Path.{ap, ◌∙◌}
+use Rattle.std.specs.Prelude.{Ok, Err, Some, None}
+use mathlib.Core.Path.{sym, ap, ◌∙◌}
 use Prim.Native.Nat.{◌+◌, ◌-◌}
 use native.Mathlib.Nat.{pos_of_ne-zero}
 use native.Mathlib.Omega.{arith}
 use lib.ListN.{drop}
 use Rattle.bitmap_search.specs.declared.BitPtr.{BitPtr}
 use Rattle.bitmap_search.specs.Pointer.{pos_at}
-use Rattle.bitmap_search.specs.Search.{climbed}
+use Rattle.bitmap_search.specs.Search.{climbed, some_next}
 use Rattle.bitmap_search.proofs.Forward.{climbed_small}
-use Rattle.bitmap_search.proofs.Moves.{handed_on, handed_bound, ahead_past, ahead_at, ahead_none, way_down}
+use Rattle.bitmap_search.proofs.Moves.{err_torn, handed_on, handed_bound, ahead_past, ahead_at, ahead_none, way_down}
 use Rattle.words.specs.Levels.{words_for}
 use Rattle.words.proofs.Trees.{words_in, room_behind}
 use Rattle.bitmap_search.specs.declared.BitPos.{BitPos}
-use Rattle.bitmap_search.specs.declared.Next.TheVariants as moved
 use Rattle.bitmap_search.proofs.BitPtr.+forward.Goals as goal
 
 pub returns-then-words-word : goal.returns-then-words-word
@@ -20,12 +20,12 @@ returns-then-words-word t c =
     let a = c.args in
     ahead_past a.above a.s.now a.n a.self a.level c.at-at.result c.at-at.ensures (omega (arith, c.words_for-words.ensures, c.if-words-word.true))
 
-pub offset_bounds-s-i : goal.offset_bounds-s-i
-offset_bounds-s-i t c =
+pub offset_bounds-s-word : goal.offset_bounds-s-word
+offset_bounds-s-word t c =
     omega (arith, c.if-words-word.false, c.words_for-words.ensures, c.requires.n_in_bounds.0, words_in c.args.above c.args.n)
 
-pub bounds-s-i : goal.bounds-s-i
-bounds-s-i t c =
+pub bounds-s-word : goal.bounds-s-word
+bounds-s-word t c =
     omega (arith, c.if-words-word.false, c.words_for-words.ensures, c.requires.n_in_bounds.0, words_in c.args.above c.args.n)
 
 pub clear_from-bit-requires : goal.clear_from-bit-requires
@@ -36,7 +36,7 @@ clear_from-bit-requires t c =
 pub returns-then-bit-lt32 : goal.returns-then-bit-lt32
 returns-then-bit-lt32 t c =
     let a = c.args in
-    ap moved.At c.with.ensures
+    ap (λ q. Ok (Some q)) c.with.ensures
     ∙ ahead_at a.above a.s.now a.n a.self a.level c.at-at.result c.at-at.ensures
     (omega (arith, c.words_for-words.ensures, c.if-words-word.false)) c.clear_from-bit.result
     c.clear_from-bit.ensures c.if-bit-lt32.true
@@ -48,13 +48,13 @@ returns-then-above-eq0 t c =
     (omega (arith, c.words_for-words.ensures, c.if-words-word.false)) c.clear_from-bit.result
     c.clear_from-bit.ensures c.if-bit-lt32.false c.if-above-eq0.true
 
-pub climb-requires : goal.climb-requires
-climb-requires t c =
+pub climb-up-requires : goal.climb-up-requires
+climb-up-requires t c =
     let e = ap (λ (x : BitPos). x.word) c.at-at.ensures in
     omega (arith, c.if-words-word.false, c.words_for-words.ensures, c.requires.n_in_bounds.1, pos_of_ne-zero c.if-above-eq0.false)
 
-pub offset_bounds-s-m : goal.offset_bounds-s-m
-offset_bounds-s-m t c =
+pub offset_bounds-s-words : goal.offset_bounds-s-words
+offset_bounds-s-words t c =
     omega (arith, c.words_for-words.ensures)
 
 pub slice_bounds-forward-count : goal.slice_bounds-forward-count
@@ -72,11 +72,11 @@ pub overflow_add-level : goal.overflow_add-level
 overflow_add-level t c =
     omega (arith, c.requires.n_in_bounds.1, pos_of_ne-zero c.if-above-eq0.false)
 
-pub forward-found-requires : goal.forward-found-requires
-forward-found-requires t c =
+pub forward-requires : goal.forward-requires
+forward-requires t c =
     let a = c.args in
     let some_above = pos_of_ne-zero c.if-above-eq0.false in
-    let bit = ap (λ (x : BitPtr). (pos_at x (a.level + 1)).bit) c.climb.ensures in (
+    let bit = ap (λ (x : BitPtr). (pos_at x (a.level + 1)).bit) c.climb-up.ensures in (
       omega arith,
       (
         (room_behind a.above a.n c.words_for-words.result a.s.now some_above c.words_for-words.ensures c.requires.n_in_bounds.0, omega arith),
@@ -87,29 +87,42 @@ forward-found-requires t c =
 pub descend-requires : goal.descend-requires
 descend-requires t c =
     let a = c.args in
-    let h = handed_bound (a.above - 1) (drop (words_for a.n) a.s.now) (words_for a.n) (climbed a.self a.level) c.in-At.q (a.level + 1)
-    (handed_on (a.above - 1) a.s.now (words_for a.n) a.level c.words_for-words.result a.self c.climb.result (moved.At c.in-At.q) c.words_for-words.ensures c.climb.ensures
-    c.in-At.ensures) in
+    let h = handed_bound (a.above - 1) (drop (words_for a.n) a.s.now) (words_for a.n) (climbed a.self a.level) c.in-Some.q (a.level + 1)
+    (handed_on (a.above - 1) a.s.now (words_for a.n) a.level c.words_for-words.result a.self c.climb-up.result (Ok (Some c.in-Some.q)) c.words_for-words.ensures
+    c.climb-up.ensures (sym (c.in_ok-q.was ∙ ap Ok c.in-Some.is) ∙ c.forward.ensures)) in
     record {
       words_in_bounds = (omega (arith, c.words_for-words.ensures, c.requires.n_in_bounds.0, words_in a.above a.n), omega (arith, pos_of_ne-zero c.if-above-eq0.false));
       level_bound = omega (arith, h);
     }
 
-pub returns-in-At : goal.returns-in-At
-returns-in-At t c =
+pub returns-in_err-q : goal.returns-in_err-q
+returns-in_err-q t c =
     let a = c.args in
-    c.descend.ensures
+    err_torn _ c.from_residual.ensures.0
     ∙ way_down a.above a.s.now a.n a.self a.level c.at-at.result c.at-at.ensures c.words_for-words.result c.words_for-words.ensures c.if-words-word.false
-    c.clear_from-bit.result c.clear_from-bit.ensures c.if-bit-lt32.false c.if-above-eq0.false c.climb.result c.climb.ensures (moved.At c.in-At.q) c.in-At.ensures
+    c.clear_from-bit.result c.clear_from-bit.ensures c.if-bit-lt32.false c.if-above-eq0.false c.climb-up.result c.climb-up.ensures
+    (Err c.in_err-q.field-0.0) (sym c.in_err-q.was ∙ c.forward.ensures)
 
-pub returns-in-Nothing : goal.returns-in-Nothing
-returns-in-Nothing t c =
+pub returns-in_default : goal.returns-in_default
+returns-in_default t c =
     let a = c.args in
     way_down a.above a.s.now a.n a.self a.level c.at-at.result c.at-at.ensures c.words_for-words.result c.words_for-words.ensures c.if-words-word.false
-    c.clear_from-bit.result c.clear_from-bit.ensures c.if-bit-lt32.false c.if-above-eq0.false c.climb.result c.climb.ensures moved.Nothing c.in-Nothing.ensures
+    c.clear_from-bit.result c.clear_from-bit.ensures c.if-bit-lt32.false c.if-above-eq0.false c.climb-up.result c.climb-up.ensures
+    (Ok None) (sym (c.in_ok-q.was ∙ ap Ok c.in_default.is) ∙ c.forward.ensures)
 
-pub returns-in-Torn : goal.returns-in-Torn
-returns-in-Torn t c =
+pub returns-in_err-descend : goal.returns-in_err-descend
+returns-in_err-descend t c =
     let a = c.args in
-    way_down a.above a.s.now a.n a.self a.level c.at-at.result c.at-at.ensures c.words_for-words.result c.words_for-words.ensures c.if-words-word.false
-    c.clear_from-bit.result c.clear_from-bit.ensures c.if-bit-lt32.false c.if-above-eq0.false c.climb.result c.climb.ensures moved.Torn c.in-Torn.ensures
+    err_torn _ c.from_residual-in_err-descend.ensures.0
+    ∙ ap some_next (sym c.in_err-descend.was ∙ c.descend.ensures)
+    ∙ way_down a.above a.s.now a.n a.self a.level c.at-at.result c.at-at.ensures c.words_for-words.result c.words_for-words.ensures c.if-words-word.false
+    c.clear_from-bit.result c.clear_from-bit.ensures c.if-bit-lt32.false c.if-above-eq0.false c.climb-up.result c.climb-up.ensures
+    (Ok (Some c.in-Some.q)) (sym (c.in_ok-q.was ∙ ap Ok c.in-Some.is) ∙ c.forward.ensures)
+
+pub returns : goal.returns
+returns t c =
+    let a = c.args in
+    ap some_next (sym c.in_ok-descend.was ∙ c.descend.ensures)
+    ∙ way_down a.above a.s.now a.n a.self a.level c.at-at.result c.at-at.ensures c.words_for-words.result c.words_for-words.ensures c.if-words-word.false
+    c.clear_from-bit.result c.clear_from-bit.ensures c.if-bit-lt32.false c.if-above-eq0.false c.climb-up.result c.climb-up.ensures
+    (Ok (Some c.in-Some.q)) (sym (c.in_ok-q.was ∙ ap Ok c.in-Some.is) ∙ c.forward.ensures)

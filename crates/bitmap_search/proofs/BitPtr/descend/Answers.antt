@@ -1,9 +1,9 @@
 -- `bitmap_search::BitPtr::descend` meets its contract.
 use mathlib.Core.Path.{ap, ◌∙◌}
 use native.Mathlib.Omega.{arith}
+use Rattle.std.specs.Prelude.{Ok}
 use Rattle.bitmap_search.specs.Pointer.{index_of}
 use Rattle.bitmap_search.proofs.Moves.{down_past, down_at, down_full}
-use Rattle.bitmap_search.specs.declared.Next.TheVariants as moved
 use Rattle.bitmap_search.proofs.BitPtr.descend.Goals as goal
 
 pub index-word-requires : goal.index-word-requires
@@ -17,7 +17,7 @@ returns-then-words-word c =
 pub returns-then-bit-lt32 : goal.returns-then-bit-lt32
 returns-then-bit-lt32 c =
     let a = c.args in
-    ap moved.At c.with.ensures
+    ap Ok c.with.ensures
     ∙ down_at a.s.now a.words a.self a.level c.index-word.result
     (c.index-word.ensures ∙ ap index_of c.at-up.ensures) c.if-words-word.false
     c.clear_from-bit.result c.clear_from-bit.ensures c.if-bit-lt32.true

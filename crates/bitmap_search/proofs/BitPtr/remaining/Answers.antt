@@ -1,10 +1,10 @@
 -- `bitmap_search::BitPtr::remaining` meets its contract.
+use Rattle.std.specs.Prelude.{Ok, Err, Some, None}
 use mathlib.Core.Path.{sym, ap, ◌∙◌}
 use native.Mathlib.Omega.{arith}
 use Rattle.words.proofs.Trees.{words_in}
 use Rattle.bitmap_search.specs.declared.BitPtr.{BitPtr}
 use Rattle.bitmap_search.proofs.Twice.{past_end, at_block, more_own, last_whole, from_after}
-use Rattle.bitmap_search.specs.declared.Next.TheVariants as moved
 use Rattle.bitmap_search.specs.declared.Two.TheVariants as two
 use Rattle.bitmap_search.proofs.BitPtr.remaining.Goals as goal
 
@@ -13,8 +13,8 @@ returns-then-n-b c =
     let x = c.args in
     past_end x.above x.s.now x.n c.index-b.result x.self c.index-b.ensures c.if-n-b.true
 
-pub bounds-s-i : goal.bounds-s-i
-bounds-s-i c =
+pub bounds-s-b : goal.bounds-s-b
+bounds-s-b c =
     let x = c.args in
     omega (arith, words_in x.above x.n)
 
@@ -32,31 +32,31 @@ returns-then-n-eq0 c =
     at_block x.above x.s.now x.n b x.self c.index-b.ensures c.if-n-b.false (two.Last b)
     (last_whole x.above x.s.now x.n b c.if-next-n.true c.if-n-eq0.true)
 
-pub forward-found-requires : goal.forward-found-requires
-forward-found-requires c =
+pub forward-requires : goal.forward-requires
+forward-requires c =
     let e = ap (λ (p : BitPtr). p.low.bit) c.to.ensures in
     record {
       n_in_bounds = (c.requires.0, omega arith);
       level_bound = omega arith;
     }
 
-pub returns-in-At : goal.returns-in-At
-returns-in-At c =
+pub returns-in-Ok-Some : goal.returns-in-Ok-Some
+returns-in-Ok-Some c =
     let x = c.args in
     let b = c.index-b.result in
     at_block x.above x.s.now x.n b x.self c.index-b.ensures c.if-n-b.false (two.More b)
-    (from_after x.above x.s.now x.n b c.to.result c.forward-found.result (moved.At c.in-At.q) c.to.ensures c.forward-found.ensures c.in-At.is)
+    (from_after x.above x.s.now x.n b c.to.result c.forward.result (Ok (Some c.in-Ok-Some.field-0-0)) c.to.ensures c.forward.ensures (c.in-Ok-Some.is ∙ ap Ok c.in-Ok-Some.field-0-is))
 
-pub returns-in-Nothing : goal.returns-in-Nothing
-returns-in-Nothing c =
+pub returns-in-Ok-None : goal.returns-in-Ok-None
+returns-in-Ok-None c =
     let x = c.args in
     let b = c.index-b.result in
     at_block x.above x.s.now x.n b x.self c.index-b.ensures c.if-n-b.false (two.Last b)
-    (from_after x.above x.s.now x.n b c.to.result c.forward-found.result moved.Nothing c.to.ensures c.forward-found.ensures c.in-Nothing.is)
+    (from_after x.above x.s.now x.n b c.to.result c.forward.result (Ok None) c.to.ensures c.forward.ensures (c.in-Ok-None.is ∙ ap Ok c.in-Ok-None.field-0-is))
 
-pub returns-in-Torn : goal.returns-in-Torn
-returns-in-Torn c =
+pub returns-in-Err : goal.returns-in-Err
+returns-in-Err c =
     let x = c.args in
     let b = c.index-b.result in
     at_block x.above x.s.now x.n b x.self c.index-b.ensures c.if-n-b.false two.Torn
-    (from_after x.above x.s.now x.n b c.to.result c.forward-found.result moved.Torn c.to.ensures c.forward-found.ensures c.in-Torn.is)
+    (from_after x.above x.s.now x.n b c.to.result c.forward.result (Err c.in-Err.field-0) c.to.ensures c.forward.ensures c.in-Err.is)

@@ -1,4 +1,5 @@
 -- `bitmap_search::BitPtr::with` meets its contract.
+use native.Mathlib.Omega.{arith}
 use Rattle.bitmap_search.proofs.Pointers.{with_high}
 use Rattle.bitmap_search.proofs.BitPtr.with.Goals as goal
 
@@ -10,4 +11,4 @@ returns-in-1 c = rw c.in-1.is
 
 pub returns-in_default : goal.returns-in_default
 returns-in_default c =
-    with_high c.args.self c.args.level c.args.at c.in_default.in_default-own.rest.0.1 c.in_default.in_default-own.rest.1
+    with_high c.args.self c.args.level c.args.at (λ e. omega arith) (λ e. omega arith)

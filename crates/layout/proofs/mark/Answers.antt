@@ -1,8 +1,0 @@
--- `layout::mark` meets its contract.
-use native.Mathlib.Omega.{arith}
-use Rattle.layout.proofs.Regions.{get_at}
-use Rattle.layout.specs.Region as Region
-use Rattle.layout.proofs.mark.Goals as goal
-
-pub returns : goal.returns
-returns c = get_at _ _ Region.marks _ _ (omega arith)

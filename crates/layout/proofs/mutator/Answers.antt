@@ -1,8 +1,0 @@
--- `layout::mutator` meets its contract.
-use native.Mathlib.Omega.{arith}
-use Rattle.layout.proofs.Regions.{get_at}
-use Rattle.layout.specs.Region as Region
-use Rattle.layout.proofs.mutator.Goals as goal
-
-pub returns : goal.returns
-returns c = get_at _ _ Region.mutators _ _ (omega arith)

@@ -1,8 +1,0 @@
--- `layout::stack` meets its contract.
-use native.Mathlib.Omega.{arith}
-use Rattle.layout.proofs.Regions.{get_at}
-use Rattle.layout.specs.Region as Region
-use Rattle.layout.proofs.stack.Goals as goal
-
-pub returns : goal.returns
-returns c = get_at _ _ Region.stacks _ _ (omega arith)

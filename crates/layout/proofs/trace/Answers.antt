@@ -1,8 +1,0 @@
--- `layout::trace` meets its contract.
-use native.Mathlib.Omega.{arith}
-use Rattle.layout.proofs.Regions.{get_at}
-use Rattle.layout.specs.Region as Region
-use Rattle.layout.proofs.trace.Goals as goal
-
-pub returns : goal.returns
-returns c = get_at _ _ Region.trace _ _ (omega arith)
