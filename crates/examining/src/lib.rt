@@ -27,11 +27,7 @@ fn consistent(g: Geometry, mem: &[u32], scratch: &mut [u32]) -> bool
     requires { (Sized g (length mem.now)) × (length scratch.old ≡ scratch_words g) }
     ensures { Decides result (Consistent g (mem_of g mem.now)) × (scratch.new ≡ replicate (scratch_words g) 0) }
 {
-    let sound = examine_sound::sound(g, mem, scratch);
-    if !sound {
-        return false;
-    }
-    examine_summed::summed(g, mem)
+    examine_sound::sound(g, mem, scratch) && examine_summed::summed(g, mem)
 }
 
 // The examination: refused 1 for a wrong size, else whether the memory is consistent.

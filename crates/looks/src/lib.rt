@@ -46,17 +46,11 @@ pub fn record_ok(g: Geometry, mem: &[u32], s: usize) -> bool
 }
 
 // Whether the record of every segment can be one of consistent memory.
-// Kept: a loop. `(0..g.segments).all(..)` leaves its goal open: what is known of the lent slice's length stops the search before it comes to the records.
 fn records_ok(g: Geometry, mem: &[u32]) -> bool
     requires { Sized g (length mem.now) }
     ensures { Decides result ((s : ℕ) → s < g.segments → Plausible (mem_of g mem.now) s) }
 {
-    for s in 0..g.segments {
-        if !record_ok(g, mem, s) {
-            return false;
-        }
-    }
-    true
+    (0..g.segments).all(|s| record_ok(g, mem, s))
 }
 
 // The words of the segment records, copied.

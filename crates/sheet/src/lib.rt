@@ -55,12 +55,7 @@ fn lines_ok(g: Geometry, mem: &[u32]) -> bool
     requires { Sized g (length mem.now) }
     ensures { Decides result ((s : ℕ) → s < g.segments → Counted g (mem_of g mem.now) s) }
 {
-    for s in 0..g.segments {
-        if !line_ok(g, mem, s) {
-            return false;
-        }
-    }
-    true
+    (0..g.segments).all(|s| line_ok(g, mem, s))
 }
 
 // The blocks in use of a segment that is not free: those kept at its last sweep, and those handed out since.
