@@ -20,7 +20,7 @@ use Rattle.words.proofs.Trees.{part_word, tree_top, tree_one, tree_sums, tree_re
 use Rattle.bitmap_check.specs.Agree.{SummaryAgrees}
 
 module _ (ws : List ℕ) (n : ℕ) (room : words_for n ≤ length ws) (part : n % 32 ≡ 0 → ⊥) where
-  padded : 32 ≤ clear_from (get_or ws (n / 32) 0) (n % 32) → Level n ws
+  pub padded : 32 ≤ clear_from (get_or ws (n / 32) 0) (n % 32) → Level n ws
   padded full = record { room = room; past = λ k l h. one k l h (bit_at ws k) refl (at_lt ws k) }
     where
       one : (k : ℕ) → n ≤ k → k < words_for n * 32 → (b : ℕ) → bit_at ws k ≡ b → b < 2 → bit_at ws k ≡ 1
@@ -30,7 +30,7 @@ module _ (ws : List ℕ) (n : ℕ) (room : words_for n ≤ length ws) (part : n 
           absurd ((clear_first (get_or ws (n / 32) 0) (n % 32) (omega arith)).before (k % 32) (omega arith) (omega arith) z)
       one k l h (suc b) e s = omega arith
 
-  not_padded : clear_from (get_or ws (n / 32) 0) (n % 32) < 32 → Level n ws → ⊥
+  pub not_padded : clear_from (get_or ws (n / 32) 0) (n % 32) < 32 → Level n ws → ⊥
   not_padded l lv =
       let f = clear_first (get_or ws (n / 32) 0) (n % 32) (omega arith) in
       let z : bit_at ws (n / 32 * 32 + clear_from (get_or ws (n / 32) 0) (n % 32)) ≡ 0 = bit_in ws (n / 32) (clear_from (get_or ws (n / 32) 0) (n % 32)) l ∙ f.clear l in
@@ -46,7 +46,7 @@ module _ (ws : List ℕ) (n : ℕ) (room : words_for n ≤ length ws) (part : n 
       go false e = fails (not_padded (leb-false _ _ e))
 
 -- the summary bit, as the code reads it
-agree_bit : (ws : List ℕ) (m j b : ℕ) → b ≡ bit_of (get_or ws (m + j / 32) 0) (j % 32) → bit_at (drop m ws) j ≡ b
+pub agree_bit : (ws : List ℕ) (m j b : ℕ) → b ≡ bit_of (get_or ws (m + j / 32) 0) (j % 32) → bit_at (drop m ws) j ≡ b
 agree_bit ws m j b e = bit_split (drop m ws) j ∙ ap (λ (x : ℕ). bit_of x (j % 32)) (get_or-drop m ws (j / 32) 0) ∙ sym e
 
 -- as the code tests it: both, or neither

@@ -36,6 +36,12 @@ tail_all from s = take_all (length s - from) (drop from s) (omega (arith, length
 abbrev pub IsCount : ℕ → ℕ → ℕ → Type 0
 IsCount n j count = (count ≤ 32) × (j * 32 + count ≤ n) × ((j * 32 + count ≡ n) ⊎ (j * 32 + 32 ≤ j * 32 + count))
 
+pub few : (n j count : ℕ) → j * 32 ≤ n → n - j * 32 < 32 → count ≡ n - j * 32 → IsCount n j count
+few n j count h l e = (omega arith, omega arith, inl (omega arith))
+
+pub whole : (n j count : ℕ) → 32 ≤ n - j * 32 → count ≡ 32 → IsCount n j count
+whole n j count l e = (omega arith, omega arith, inr (omega arith))
+
 pub is_count : (n j count : ℕ) → j * 32 ≤ n → count ≡ min (n - j * 32) 32 → IsCount n j count
 is_count n j count h e = go (le_or_lt 32 (n - j * 32))
   where

@@ -1,7 +1,7 @@
 -- One step of reading at a place of a line, for each way that a step can go: what `digits_on` and `number_of` make of the rest
 -- of the line there.
 use Prim.Native.Nat.{ℕ, ◌+◌, ◌*◌, ◌≤◌, ◌<◌}
-use mathlib.Core.Path.{◌≡◌, refl, ◌∙◌}
+use mathlib.Core.Path.{◌≡◌, refl, ◌∙◌, subst}
 use mathlib.Core.Bool.{Bool, true, false}
 use mathlib.Core.List.{List}
 use mathlib.Core.Option.{Option, none}
@@ -10,8 +10,11 @@ use lib.Dec.{eqb}
 use lib.ListN.{length, get_or, drop, set, drop_of_length-le}
 use lib.Arith.{lt_of_le-ne}
 use borrow.Author.Tests.{lt-ltb, le-ltb, eq-eqb, ne_eqb, eqb-true, eqb-false}
-use Rattle.bracket_text.specs.Scan.{digit_of, digits_on, number_of, numbered, reading, piece, matched, at_end, Matches}
+use Rattle.bracket_text.specs.Scan.{digit_of, digits_on, number_of, numbered, NumberRead, Reads, Progress, reading, piece, PieceRead, matched, at_end, Matches}
+use Rattle.std.specs.Prelude.{Some, None}
+use Rattle.std.specs.Prelude.{Option as Maybe}
 use Rattle.std.specs.Bool.{then_some}
+use Rattle.bracket_text.specs.declared.NumbersRead.{NumbersRead}
 use Rattle.bracket_text.proofs.Laws.{drop-step}
 
 module _ (l : List ℕ) (i : ℕ) where
@@ -48,6 +51,14 @@ module _ (l : List ℕ) (i : ℕ) where
     unfolding number_of
     number_more s z = rw (drop-step l i h, ← e, lt-ltb d 10 (omega arith), ne_eqb d 0 z)
 
+-- a result that is known: what `Reads` says of it
+pub reads_value : (line : List ℕ) (o : Option NumberRead) (r : Maybe (ℕ × ℕ)) {v n : ℕ} → Reads line o r → r ≡ Some (v, n)
+    → (o ≡ numbered v (drop n line)) × (n ≤ length line)
+reads_value line o r h e = subst (λ (x : Maybe (ℕ × ℕ)). Reads line o x) e h
+
+pub reads_nothing : (line : List ℕ) (o : Option NumberRead) (r : Maybe (ℕ × ℕ)) → Reads line o r → r ≡ None → o ≡ none
+reads_nothing line o r h e = subst (λ (x : Maybe (ℕ × ℕ)). Reads line o x) e h
+
 -- a byte of a template
 module _ (b n : ℕ) (ns : List ℕ) where
   module _ (l : List ℕ) (h : b ≡ 35) where
@@ -56,9 +67,9 @@ module _ (b n : ℕ) (ns : List ℕ) where
     unfolding piece
     piece_kept v rest e f = rw (eq-eqb b 35 h, e, lt-ltb n 5 f)
 
-    pub piece_full : (v : ℕ) (rest : List ℕ) → number_of l ≡ numbered v rest → n ≡ 5 → piece b n ns l ≡ none
+    pub piece_full : (v : ℕ) (rest : List ℕ) → number_of l ≡ numbered v rest → 5 ≤ n → piece b n ns l ≡ none
     unfolding piece
-    piece_full v rest e f = rw (eq-eqb b 35 h, e, le-ltb n 5 (omega arith))
+    piece_full v rest e f = rw (eq-eqb b 35 h, e, le-ltb n 5 f)
 
     pub piece_no_number : number_of l ≡ none → piece b n ns l ≡ none
     unfolding piece
@@ -76,6 +87,14 @@ module _ (b n : ℕ) (ns : List ℕ) where
     pub piece_end : length l ≤ i → piece b n ns (drop i l) ≡ none
     unfolding piece
     piece_end k = rw (ne_eqb b 35 h, drop_of_length-le l k)
+
+-- a place that is known: what `PieceRead` says of it
+pub piece_read_at : (line : List ℕ) (o : Option Progress) (r : Maybe ℕ) (ns : NumbersRead) {i : ℕ} → PieceRead line o r ns → r ≡ Some i
+    → (o ≡ reading ns.count ns.values (drop i line)) × (i ≤ length line) × (ns.count ≤ 5)
+piece_read_at line o r ns h e = subst (λ (x : Maybe ℕ). PieceRead line o x ns) e h
+
+pub piece_read_astray : (line : List ℕ) (o : Option Progress) (r : Maybe ℕ) (ns : NumbersRead) → PieceRead line o r ns → r ≡ None → o ≡ none
+piece_read_astray line o r ns h e = subst (λ (x : Maybe ℕ). PieceRead line o x ns) e h
 
 -- the rest of a template at a place
 module _ (t : List ℕ) (i n : ℕ) (ns l : List ℕ) where

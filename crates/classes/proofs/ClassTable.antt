@@ -4,7 +4,7 @@ use mathlib.Core.List.{List, [], ◌∷◌, ◌++◌}
 use mathlib.Core.Bool.{Bool, false, ◌&&◌}
 use Prim.Native.Nat.{ℕ, ◌+◌, ◌*◌, ◌/◌, ◌%◌, ◌<◌}
 use native.Mathlib.Omega.{arith}
-use lib.Dec.{T, eqb, eqb→eq}
+use lib.Dec.{T, eqb, ltb, eqb→eq, ltb→lt}
 use lib.ListN.{length, get_or, replicate}
 use Rattle.basics.proofs.Table.{and_left, and_right, every, every_at}
 use Rattle.classes.specs.Class.{SizeClass, class_of}
@@ -48,3 +48,7 @@ in_table k l =
     let e : 128 * i + j ≡ k = omega arith in
     let r = every_at (right (128 * i)) 0 row (and_right (eqb (length row) 128) _ t) j (omega arith) in
     is_class_eq (class_of (128 * i + j)) (entry_at table k) r ∙ ap class_of e
+
+-- the same at an entry that is read by its number
+pub entry : {fields k : ℕ} → fields ≡ k → T (ltb k 4096) → Some (entry_at table k) ≡ class_of fields
+entry {fields} {k} e l = in_table k (ltb→lt k 4096 l) ∙ ap class_of (sym e)

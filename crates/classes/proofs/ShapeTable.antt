@@ -5,18 +5,19 @@ use mathlib.Core.Bool.{Bool, true, false, ◌&&◌}
 use mathlib.Core.Logic.{◌⊎◌, inl, inr}
 use Prim.Native.Nat.{ℕ, ◌+◌, ◌-◌, ◌<◌, ◌≤◌}
 use native.Mathlib.Omega.{arith}
-use lib.Dec.{T, eqb, ltb, eqb→eq}
+use lib.Dec.{T, eqb, ltb, eqb→eq, ltb→lt}
 use lib.ListN.{length, get_or}
 use borrow.Author.Tests.{le-ltb, ltb-false}
 use Rattle.std.proofs.lemmas.Option.{slice_get-get_or, slice_get_past}
 use Rattle.basics.specs.Pick.{pick}
+use Rattle.basics.proofs.Arms.{NoneOf, past_all}
 use Rattle.basics.proofs.Order.{le_or_lt}
 use Rattle.basics.proofs.Table.{every, and_left, and_right, every_at}
 use Rattle.classes.specs.declared.SegmentShape.{SegmentShape}
 use Rattle.std.specs.Prelude.{slice_get, Some, None}
 use Rattle.classes.specs.Class.{first_class, class_count, class_test}
 use Rattle.classes.specs.Shape.{segment_size, large_size, blocks_of, shape_for, segment_shape}
-use Rattle.classes.proofs.Every.{class_passes}
+use Rattle.classes.proofs.Every.{class_passes, class_passed}
 
 -- a shape from its five numbers
 abbrev pub shape : ℕ → ℕ → ℕ → ℕ → ℕ → SegmentShape
@@ -67,6 +68,10 @@ module _ (z : ℕ) (table : List SegmentShape) (long : length table ≡ class_co
       ap Some (same_eq (get_or table k past) (shape_for (blocks_of z (first_class + k))) (every_at (right z) past table t k (omega arith)))
       ∙ sym (rw (class_passes (first_class + k) (omega arith, omega arith)))
 
+  -- an entry that is read by its number
+  entry : {class : ℕ} (k : ℕ) → class ≡ first_class + k → T (ltb k class_count) → Some (get_or table k past) ≡ segment_shape z class
+  entry k e l = in_table k (ltb→lt k class_count l) ∙ ap (segment_shape z) (sym e)
+
   shaped : (class : ℕ) → pick (ltb class first_class) None (slice_get table (class - first_class)) ≡ segment_shape z class
   unfolding class_test
   shaped class = go (ltb class first_class) refl (le_or_lt class_count (class - first_class))
@@ -88,3 +93,19 @@ small_shaped = shaped segment_size small refl tt
 pub large_shaped : (class : ℕ) → pick (ltb class first_class) None (slice_get large (class - first_class)) ≡ segment_shape large_size class
 unfolding right same
 large_shaped = shaped large_size large refl tt
+
+pub small_entry : {class : ℕ} (k : ℕ) → class ≡ first_class + k → T (ltb k class_count) → Some (get_or small k past) ≡ segment_shape segment_size class
+unfolding right same
+small_entry = entry segment_size small refl tt
+
+pub large_entry : {class : ℕ} (k : ℕ) → class ≡ first_class + k → T (ltb k class_count) → Some (get_or large k past) ≡ segment_shape large_size class
+unfolding right same
+large_entry = entry large_size large refl tt
+
+-- a number that no arm has
+pub no_entry : (z class : ℕ) → NoneOf first_class class_count class → None ≡ segment_shape z class
+no_entry z class none = go (class_test class) refl
+  where
+    go : (t : Bool) → class_test class ≡ t → None ≡ segment_shape z class
+    go true q = let k = class_passed class q in let h = past_all first_class class_count class none k.0 in absurd (omega arith)
+    go false q = rw q

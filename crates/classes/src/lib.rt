@@ -4,7 +4,7 @@
 
 mod table;
 
-ghost use Rattle.std.specs.Prelude.{◌≡◌, ◌-◌, ◌≤◌, ltb, slice_get, Some, None};
+ghost use Rattle.std.specs.Prelude.{◌≡◌, [], ◌-◌, ◌/◌, ◌%◌, ◌<◌, ◌≤◌, ltb, get_or, slice_get, Some, None};
 ghost use Rattle.basics.specs.Pick.{pick};
 ghost use Rattle.classes.specs.Class.{first_class, max_fields, IsClass, class_test, block_words, class_of};
 ghost use Rattle.classes.specs.Record.{class_of_record};
@@ -166,15 +166,22 @@ pub fn block_words(class: u32) -> usize
     1 << (class - 2)
 }
 
+// The entry of a table of 4,096 at a number: 32 rows of 128. The table is lent, so it is read where it lies; a read at an index that is no literal
+// would copy a constant to the stack.
+fn entry_at(table: &[[u8; 128]; 32], n: u32) -> u32
+    requires { n < 4096 }
+    ensures { result ≡ get_or (get_or table.now (n / 128) []) (n % 128) 0 }
+{
+    let n = n as usize;
+    u32::from(table[n / 128][n % 128])
+}
+
 // The class of a record of so many pointer and data fields (document 01: links and numbers) together, no more than a record has: the table's entry.
-// The table is lent, so it is read where it lies; a read at an index that is no literal would copy a constant to the stack.
 pub fn class_of_few(fields: u32) -> u32
     requires { fields ≤ max_fields }
     ensures { Some result ≡ class_of fields }
 {
-    let table = &CLASSES;
-    let n = fields as usize;
-    u32::from(table[n / 128][n % 128])
+    entry_at(&CLASSES, fields)
 }
 
 // The class of a record of any number of fields, or none: it has too many.

@@ -177,7 +177,7 @@ zeros_before zero rest j l = absurd (omega arith)
 zeros_before (suc n) rest zero l = refl
 zeros_before (suc n) rest (suc j) l = zeros_before n rest j (omega arith)
 
-cleared_bits : (g : Geometry) (s : List ℕ) → ((j : ℕ) → j < len g Region.marks → get_or s j 0 ≡ 0) → Blank g s
+pub cleared_bits : (g : Geometry) (s : List ℕ) → ((j : ℕ) → j < len g Region.marks → get_or s j 0 ≡ 0) → Blank g s
 cleared_bits g s z k l = bit_split s k ∙ ap (λ (w : ℕ). bit_of w (k % 32)) (z (k / 32) (bit_word g k l)) ∙ bit_zero (k % 32)
 
 -- zeros before the stack

@@ -3,7 +3,7 @@ use mathlib.Core.Path.{◌≡◌, refl, sym, ◌∙◌, ap, subst}
 use mathlib.Core.Bool.{Bool, true, false, true≢false}
 use mathlib.Core.Logic.{◌⊎◌, inl, inr}
 use mathlib.Core.List.{List}
-use Prim.Native.Nat.{ℕ, ◌+◌, ◌≤◌, ◌<◌}
+use Prim.Native.Nat.{ℕ, suc, ◌+◌, ◌≤◌, ◌<◌}
 use native.Mathlib.Nat.{add-zero}
 use native.Mathlib.Numerals.{add-one}
 use native.Mathlib.Omega.{arith}
@@ -26,17 +26,24 @@ pub ones_none : (f : ℕ → ℕ) → 0 ≡ ones_among f 0
 unfolding ones_among
 ones_none f = refl
 
+pub ones_next : (f : ℕ → ℕ) (s k r : ℕ) → k ≡ ones_among f s → r ≡ f s → k + r ≡ ones_among f (suc s)
+unfolding ones_among
+ones_next f s k r e q = ap (λ z. z + r) e ∙ ap (λ z. ones_among f s + z) q
+
 module _ (test : ℕ → Bool) where
-  pub ones_next : (s k : ℕ) → k ≡ ones_among (λ i. one_if (test i)) s → test s ≡ true → k + 1 ≡ ones_among (λ i. one_if (test i)) (s + 1)
+  pub ones_one : (s k : ℕ) → k ≡ ones_among (λ i. one_if (test i)) s → test s ≡ true → k + 1 ≡ ones_among (λ i. one_if (test i)) (s + 1)
   unfolding ones_among
-  ones_next s k e q = rw (add-one s, q, e) refl
+  ones_one s k e q = rw (add-one s, q, e) refl
 
   pub ones_same : (s k : ℕ) → k ≡ ones_among (λ i. one_if (test i)) s → test s ≡ false → k ≡ ones_among (λ i. one_if (test i)) (s + 1)
   unfolding ones_among
   ones_same s k e q = rw (add-one s, q) (e ∙ sym (add-zero _))
 
-  pub ones_few : (s k : ℕ) → k ≡ ones_among (λ i. one_if (test i)) s → k ≤ s
-  ones_few s k e = subst (λ z. z ≤ s) (sym e) (among_le (λ i. one_if (test i)) (λ i. one_less (test i)) s)
+  pub ones_most : (s k : ℕ) → k ≡ ones_among (λ i. one_if (test i)) s → k ≤ s
+  ones_most s k e = subst (λ z. z ≤ s) (sym e) (among_le (λ i. one_if (test i)) (λ i. one_less (test i)) s)
+
+pub ones_few : (test : ℕ → Bool) (s k r : ℕ) → k ≡ ones_among (λ i. one_if (test i)) s → r ≡ one_if (test s) → (k ≤ s) × (r < 2)
+ones_few test s k r e q = (ones_most test s k e, subst (λ z. z < 2) (sym q) (one_less (test s)))
 
 -- ---- the entries so far
 

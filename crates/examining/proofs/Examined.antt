@@ -25,6 +25,15 @@ says_yes : (b : Bool) → examined_answer_of (Ok b) ≡ examined_answer_of (Ok t
 says_yes b q = cc
 
 module _ (g : Geometry) (mem scratch : List ℕ) where
+  pub memory_size : wrong_size g (length mem) ≡ true → ExaminePromise g mem scratch (Err Size) scratch
+  memory_size w = record {
+    sizes = (λ _. (refl, refl), λ _. (refl, refl));
+    sound = λ q. absurd (let z : ◌≡◌ {A = ℕ} 0 1 = cc in omega arith);
+    complete = λ f _ _. absurd (true≢false (sym w ∙ f));
+    answers = λ f _. absurd (true≢false (sym w ∙ f));
+    cleared = λ f _. absurd (true≢false (sym w ∙ f));
+  }
+
   pub scratch_size : (length scratch ≡ scratch_words g → ⊥) → ExaminePromise g mem scratch (Err Size) scratch
   scratch_size w = record {
     sizes = (λ _. (refl, refl), λ _. (refl, refl));

@@ -3,7 +3,7 @@ use mathlib.Core.Path.{◌≡◌, refl, sym, ◌∙◌, ap, subst}
 use mathlib.Core.Logic.{◌⊎◌, inl, inr}
 use mathlib.Core.Bool.{Bool, true, false}
 use Prim.Native.Nat.{ℕ, zero, suc, ◌+◌, ◌-◌, ◌*◌, ◌/◌, ◌%◌, ◌^◌, ◌≤◌, ◌<◌}
-use native.Mathlib.Nat.{mul_assoc, mul-add, div-lt_iff_lt-mul, mul-add-div_right, div-eq_of_lt, mul-add-mod_self_right, mod-eq_of_lt, suc-mul, mul-le-mul_right}
+use native.Mathlib.Nat.{mul_assoc, mul-add, div-lt_iff_lt-mul, mul-add-div_right, div-eq_of_lt, mul-add-mod_self_right, mod-eq_of_lt, suc-mul, le_trans, mul-le-mul_left, mul-le-mul_right}
 use native.Mathlib.Omega.{arith}
 use lib.Dec.{eqb}
 use borrow.Author.Tests.{eq-eqb, ne_eqb, eqb-true, eqb-false}
@@ -77,6 +77,9 @@ class_fits g c k =
 
 -- ---- u times 16 KiB in each of n segments
 
+pub times : {n u : ℕ} → n ≤ max_segments → u ≤ 2 → n * u ≤ 2 * max_segments
+times {n} {u} l h = le_trans (mul-le-mul_right u l) (mul-le-mul_left max_segments h)
+
 spread : (n u a b : ℕ) {z : ℕ} → z ≡ u * a + b → n * z ≡ n * u * a + n * b
 spread n u a b e = ap (λ x. n * x) e ∙ mul-add n (u * a) b ∙ ap (λ x. x + n * b) (sym (mul_assoc n u a))
 
@@ -86,10 +89,13 @@ longest_units (suc zero) l h = refl
 longest_units (suc (suc zero)) l h = refl
 longest_units (suc (suc (suc u))) l h = absurd (omega arith)
 
--- the words, the words of a bitmap and of marks
+-- the words, the blocks, the words of a bitmap and of marks
 module _ (g : Geometry) (n u : ℕ) (z : Units g u) where
   pub words_spread : n * segment_words g ≡ n * u * 4096
   words_spread = let e = z.0 in spread n u 4096 0 (let f : segment_words g ≡ u * 4096 + 0 = omega arith in f) ∙ omega arith
+
+  pub most_spread : n * most_blocks g ≡ n * u * 2048
+  most_spread = let e = z.0 in spread n u 2048 0 (let f : most_blocks g ≡ u * 2048 + 0 = omega arith in f) ∙ omega arith
 
   pub bitmap_spread : n * bitmap_words g ≡ n * u * 66 + n
   bitmap_spread = spread n u 66 1 (ap longest_of z.0 ∙ longest_units u z.1 z.2) ∙ omega arith

@@ -1,6 +1,6 @@
 -- How the looks keep their promises: the phase, one record, and the states of all segments.
 use mathlib.Core.Path.{◌≡◌, refl, sym, ◌∙◌, ap}
-use mathlib.Core.Bool.{Bool, false}
+use mathlib.Core.Bool.{Bool, true, false}
 use mathlib.Core.List.{List}
 use Prim.Native.Nat.{ℕ, ◌≤◌, ◌<◌}
 use native.Mathlib.Omega.{arith}
@@ -19,12 +19,15 @@ use Rattle.model.specs.Answers.{phase_answer_of, IsPhase, look_may_give}
 use Rattle.model.specs.Fields.{tag, class}
 use Rattle.model.specs.Consistent.{Consistent}
 use Rattle.model.specs.Promise.{PhasePromise, StatesPromise}
-use Rattle.model_laws.proofs.PromisedSteps.{promise_refused, promise_done}
-use Rattle.model_laws.proofs.Shown.{shown_short, shown_13, shown_ok, record_words, records, as_states}
+use Rattle.model_laws.proofs.PromisedSteps.{promise_1, promise_refused, promise_done}
+use Rattle.model_laws.proofs.Shown.{shown_1, shown_short, shown_13, shown_ok, record_words, records, as_states}
 use Rattle.looks.specs.Plausible.{Plausible}
 use Rattle.layout.specs.Region as Region
 
 -- ---- the phase
+
+pub phase_1 : (g : Geometry) (xs : List ℕ) → wrong_size g (length xs) ≡ true → PhasePromise g xs (Err Size)
+phase_1 g xs = promise_1 phase_answer_of (λ g. IsPhase) look_may_give (λ g m. (a_num (control_word m 0), m)) g xs (Err Size) refl refl
 
 module _ (g : Geometry) (xs : List ℕ) (e : wrong_size g (length xs) ≡ false) (n : ℕ) (p : n ≡ control_word (mem_of g xs) 0) where
   -- a number over sweep's is no phase's
@@ -54,6 +57,9 @@ consistent_plausible g m c s l = let o = c.sound.segments s l in record { tags =
 -- ---- the states
 
 module _ (g : Geometry) (xs ys : List ℕ) where
+  pub states_1 : wrong_size g (length xs) ≡ true → StatesPromise g xs ys (Err Size) ys
+  states_1 e = as_states g xs ys (Err Size) ys (shown_1 record_words records g xs ys e)
+
   -- the output is not of its length
   pub states_short : (length ys ≡ len g Region.segments → ⊥) → StatesPromise g xs ys (Err Size) ys
   states_short d = as_states g xs ys (Err Size) ys (shown_short record_words records g xs ys d)

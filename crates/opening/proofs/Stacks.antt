@@ -1,6 +1,6 @@
 -- The free stack as the opening fills it, one entry at a time, and what the whole comes to.
 use mathlib.Core.Path.{◌≡◌, refl, sym, ◌∙◌, ap}
-use mathlib.Core.Bool.{false, true≢false}
+use mathlib.Core.Bool.{true, false, true≢false}
 use mathlib.Core.List.{List, ◌∷◌, ◌++◌}
 use Prim.Native.Nat.{ℕ, zero, suc, ◌+◌, ◌-◌, ◌≤◌, ◌<◌}
 use native.Mathlib.Omega.{arith}
@@ -9,8 +9,9 @@ use lib.Seq.{sets, sets-eq}
 use Rattle.layout.specs.declared.Geometry.{Geometry}
 use Rattle.layout.specs.Geometry.{len, wrong_size}
 use Rattle.layout.specs.Mem.{Mem, mem_of, with_region, clear_region, set_stack}
-use Rattle.std.specs.Prelude.{Ok}
+use Rattle.std.specs.Prelude.{Ok, Err}
 use Rattle.model.specs.declared.Answer.TheVariants.{Done}
+use Rattle.model.specs.declared.Refusal.TheVariants.{Size}
 use Rattle.model.specs.Opening.{down_to0, opened}
 use Rattle.model.specs.Promise.{OpenPromise}
 use Rattle.opening.specs.Stacking.{stacked_down}
@@ -83,5 +84,8 @@ module _ (g : Geometry) (m : Mem) {m₀ m₁ m₂ m₃ m₅ m₆ : Mem} where
 -- ---- the promise of the opening
 
 module _ (g : Geometry) (xs : List ℕ) where
+  pub open_1 : wrong_size g (length xs) ≡ true → OpenPromise g xs (Err Size) xs
+  open_1 e = record { sizes = λ _. (refl, refl); exact = λ f. absurd (true≢false (sym e ∙ f)) }
+
   pub open_ok : {ys : List ℕ} → wrong_size g (length xs) ≡ false → mem_of g ys ≡ opened g (mem_of g xs) → OpenPromise g xs (Ok Done) ys
   open_ok e h = record { sizes = λ f. absurd (true≢false (sym f ∙ e)); exact = λ _. (refl, h) }

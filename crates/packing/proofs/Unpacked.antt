@@ -20,15 +20,20 @@ use Rattle.model.specs.Records.{half_word, header_word}
 use Rattle.model.specs.Refusals.{number_of}
 use Rattle.model.specs.Answers.{answer_of, refusal_in, refusal_of, IsOk, IsNumber, IsFlag, IsRecordShape, ResultOf}
 use Rattle.model.specs.Promise.{PromiseOf, Promise, OpenPromise, StartPromise}
+use Rattle.model.proofs.Numbers.{OfTable}
 use Rattle.model.proofs.Refusals.{in_table}
 use Rattle.model_laws.proofs.Headers.{shape_halves}
 use Rattle.theory.specs.Calls as theory
-use Rattle.packing.specs.Packed.{numbered_or, pack, pack_value, flagged, shaped, unpack, unpack_number, unpack_same, unpack_shape}
+use Rattle.packing.specs.Packed.{upper, numbered_or, pack, pack_value, flagged, shaped, unpack, unpack_number, unpack_same, unpack_shape}
 use Rattle.packing.proofs.Halves.{value_back, numbered, error_back}
 
 -- of a kind where it is not refused
-abbrev Kind : (theory.Answer → Type 0) → Result Answer Refusal → Type 0
+abbrev pub Kind : (theory.Answer → Type 0) → Result Answer Refusal → Type 0
 Kind Sort a = refusal_of a ≡ none → Sort (answer_of a)
+
+-- a number of the table has no upper half
+pub below : (n : ℕ) → OfTable n → n < upper
+below n t = let l = t.1 in omega arith
 
 unpacked_no : (n : ℕ) → 1 ≤ n → unpack n ≡ numbered_or (Ok (Number 0)) n
 unpacked_no zero l = absurd (omega arith)
@@ -41,14 +46,14 @@ unpacked (Ok (Same b)) k = let e = k refl in cc
 unpacked (Ok (Shape s)) k = let e = k refl in cc
 unpacked (Err e) k = unpacked_no (number_of e) (in_table e).0 ∙ numbered (Ok (Number 0)) e
 
-unpacked_number : (a : Result Answer Refusal) → Kind IsNumber a → unpack_number (pack_value a) ≡ a
+pub unpacked_number : (a : Result Answer Refusal) → Kind IsNumber a → unpack_number (pack_value a) ≡ a
 unpacked_number (Ok Done) k = let e = (k refl).1 in cc
 unpacked_number (Ok (Number v)) k = value_back (numbered_or (Ok Done)) (λ v. Ok (Number v)) v
 unpacked_number (Ok (Same b)) k = let e = (k refl).1 in cc
 unpacked_number (Ok (Shape s)) k = let e = (k refl).1 in cc
 unpacked_number (Err e) k = error_back (Ok Done) (λ v. Ok (Number v)) e
 
-unpacked_same : (a : Result Answer Refusal) → Kind IsFlag a → unpack_same (pack_value a) ≡ a
+pub unpacked_same : (a : Result Answer Refusal) → Kind IsFlag a → unpack_same (pack_value a) ≡ a
 unpacked_same (Ok Done) k = let e = (k refl).1 in cc
 unpacked_same (Ok (Number v)) k = let e = (k refl).1 in cc
 unpacked_same (Ok (Same true)) k = refl
@@ -56,7 +61,7 @@ unpacked_same (Ok (Same false)) k = refl
 unpacked_same (Ok (Shape s)) k = let e = (k refl).1 in cc
 unpacked_same (Err e) k = error_back (Ok Done) flagged e
 
-unpacked_shape : (a : Result Answer Refusal) → Kind IsRecordShape a → unpack_shape (pack_value a) ≡ a
+pub unpacked_shape : (a : Result Answer Refusal) → Kind IsRecordShape a → unpack_shape (pack_value a) ≡ a
 unpacked_shape (Ok Done) k = let e = (k refl).1 in cc
 unpacked_shape (Ok (Number v)) k = let e = (k refl).1 in cc
 unpacked_shape (Ok (Same b)) k = let e = (k refl).1 in cc

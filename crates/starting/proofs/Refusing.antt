@@ -1,6 +1,6 @@
--- How a start keeps its promise: 11, or done.
+-- How a start keeps its promise: 1, 11, or done.
 use mathlib.Core.Path.{◌≡◌, refl, sym, ◌∙◌, ap}
-use mathlib.Core.Bool.{false}
+use mathlib.Core.Bool.{true, false}
 use mathlib.Core.List.{List}
 use Prim.Native.Nat.{ℕ, zero, suc}
 use native.Mathlib.Omega.{arith}
@@ -11,12 +11,12 @@ use Rattle.layout.specs.Mem.{Mem, mem_of, control_word}
 use Rattle.theory.specs.Calls.{a_ok, a_no}
 use Rattle.std.specs.Prelude.{Ok, Err}
 use Rattle.model.specs.declared.Answer.TheVariants.{Done}
-use Rattle.model.specs.declared.Refusal.TheVariants.{NotNow}
+use Rattle.model.specs.declared.Refusal.TheVariants.{Size, NotNow}
 use Rattle.model.specs.Answers.{answer_of, IsOk, start_may_give}
 use Rattle.model.specs.PhaseNumbers.{phase_of}
 use Rattle.model.specs.Collector.{started, start_in, start_of}
 use Rattle.model.specs.Promise.{StartPromise}
-use Rattle.model_laws.proofs.PromisedSteps.{promise_refused, promise_done}
+use Rattle.model_laws.proofs.PromisedSteps.{promise_1, promise_refused, promise_done}
 
 -- ---- by the phase's number n
 
@@ -27,6 +27,9 @@ not_idle g m (suc zero) f = refl
 not_idle g m (suc (suc zero)) f = refl
 not_idle g m (suc (suc (suc zero))) f = refl
 not_idle g m (suc (suc (suc (suc n)))) f = refl
+
+pub start_1 : (g : Geometry) (xs : List ℕ) → wrong_size g (length xs) ≡ true → StartPromise g xs (Err Size) xs
+start_1 g xs = promise_1 answer_of (λ g. IsOk) start_may_give start_of g xs (Err Size) refl refl
 
 module _ (g : Geometry) (xs : List ℕ) (e : wrong_size g (length xs) ≡ false) (n : ℕ) (p : n ≡ control_word (mem_of g xs) 0) where
   pub start_11 : (n ≡ 0 → ⊥) → StartPromise g xs (Err NotNow) xs

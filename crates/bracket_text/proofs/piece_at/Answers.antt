@@ -12,7 +12,7 @@ returns-in_err-value c =
 pub returns-then-count-eq5 : goal.returns-then-count-eq5
 returns-then-count-eq5 c =
     let n = c.args.numbers.now in
-    piece_full c.args.byte n.count n.values _ c.if-byte-eq35.true _ _ c.in_ok-value.ensures.0 c.if-count-eq5.true
+    piece_full c.args.byte n.count n.values _ c.if-byte-eq35.true _ _ c.in_ok-value.ensures.0 (omega (arith, c.if-count-eq5.true))
 
 pub returns-then-byte-eq35 : goal.returns-then-byte-eq35
 returns-then-byte-eq35 c =

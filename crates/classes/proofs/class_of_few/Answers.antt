@@ -6,4 +6,4 @@ use Rattle.classes.proofs.ClassTable.{in_table}
 use Rattle.classes.proofs.class_of_few.Goals as goal
 
 pub returns : goal.returns
-returns c = ap Some c.from.ensures ∙ in_table c.args.fields (omega (arith, c.requires))
+returns c = ap Some c.entry_at.ensures ∙ in_table c.args.fields (omega (arith, c.requires))

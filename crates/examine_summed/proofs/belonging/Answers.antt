@@ -4,7 +4,7 @@ use native.Mathlib.Omega.{arith}
 use Rattle.words.specs.Bits.{ones_among}
 use Rattle.layout.specs.Mem.{mem_of}
 use Rattle.examine_summed.specs.Stacked.{on_stack}
-use Rattle.examine_summed.proofs.Entering.{ones_none, ones_next, ones_same, ones_few}
+use Rattle.examine_summed.proofs.Entering.{ones_none, ones_one, ones_same, ones_most}
 use Rattle.examine_summed.proofs.belonging.Goals as goal
 use Rattle.examine_summed.proofs.belonging.Goals.{then-belongs, else-belongs}
 
@@ -12,13 +12,13 @@ pub loop-s-init : goal.loop-s-init
 loop-s-init c = ones_none _
 
 pub overflow_add-k : goal.overflow_add-k
-overflow_add-k c = omega (arith, ones_few (on_stack (mem_of c.args.g c.args.mem.now) c.args.t) _ _ c.loop-s.invariant, c.requires.0.few)
+overflow_add-k c = omega (arith, ones_most (on_stack (mem_of c.args.g c.args.mem.now) c.args.t) _ _ c.loop-s.invariant, c.requires.0.few)
 
 pub loop-s-preserved : goal.loop-s-preserved
 loop-s-preserved c =
     let test = on_stack (mem_of c.args.g c.args.mem.now) c.args.t in
     elim c.if-belongs.branch [
-      | then-belongs w ↦ w.k-is ∙ ones_next test _ _ c.loop-s.invariant (sym c.belongs.ensures ∙ w.if-belongs.true)
+      | then-belongs w ↦ w.k-is ∙ ones_one test _ _ c.loop-s.invariant (sym c.belongs.ensures ∙ w.if-belongs.true)
       | else-belongs w ↦ w.k-is ∙ ones_same test _ _ c.loop-s.invariant (sym c.belongs.ensures ∙ w.if-belongs.false)
     ]
 
