@@ -10,6 +10,8 @@ use Rattle.bitmap_search.specs.Scan.{Found, next_free}
 use Rattle.bitmap_search.specs.Pointer.{pos_at, with_pos, index_of, ptr_to, aimed}
 use Rattle.bitmap_search.specs.declared.BitPtr.{BitPtr}
 use Rattle.bitmap_search.specs.declared.Torn.{Torn}
+use Rattle.bitmap_search.specs.declared.Next.{Next as Moved}
+use Rattle.bitmap_search.specs.declared.Next.TheVariants as moved
 
 -- what a move of a bit pointer comes to: the next pointer, no free bit, or words that are no bitmap tree
 abbrev pub Next : Type 0
@@ -17,6 +19,12 @@ Next = Result (Option BitPtr) Torn
 
 abbrev pub torn : {A : Type 0} → Result A Torn
 torn = Err (record {})
+
+-- the code's answer of a move, as one of these
+abbrev pub next_of : Moved → Next
+next_of (moved.At q) = Ok (Some q)
+next_of moved.Nothing = Ok None
+next_of moved.Torn = torn
 
 -- in word j of a level: the pointer at the word's lowest clear bit at or after bit i, and something else where there is none
 abbrev pub in_word : List ℕ → BitPtr → ℕ → ℕ → ℕ → Next → Next

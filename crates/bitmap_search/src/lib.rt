@@ -5,7 +5,7 @@
 ghost use Rattle.std.specs.Prelude.{◌≡◌, ◌+◌, ◌-◌, ◌/◌, ◌^◌, ◌≤◌, ◌<◌, length, Ok, Some};
 ghost use Rattle.words.specs.Levels.{words_for, tree_words};
 ghost use Rattle.bitmap_search.specs.Pointer.{pos_at, with_pos, aimed, index_of, pos_of, ptr_to};
-ghost use Rattle.bitmap_search.specs.Search.{climbed, lowered, forwarded, block_at, SearchPromise};
+ghost use Rattle.bitmap_search.specs.Search.{climbed, lowered, some_next, next_of, forwarded, block_at, SearchPromise};
 ghost use Rattle.bitmap_search.specs.Twice.{and_after, reached, OwnPromise, NearPromise, TwoPromise};
 
 use words::{clear_after, clear_from, two_clear, words_for};
@@ -37,6 +37,16 @@ pub struct BitPtr {
     pub low: BitPos,
     pub mid: BitPos,
     pub high: BitPos,
+}
+
+// What a move of a bit pointer comes to: the next pointer, no free bit, or words that are no bitmap tree.
+// Kept: three cases by one tag. A Result of an Option has two, and packs the position that it hands on: a make that finds the last block by the levels
+// above then takes 25 instructions more and misses its limit (docs/BENCH.md).
+#[derive(Drop)]
+pub enum Next {
+    At(BitPtr),
+    Nothing,
+    Torn,
 }
 
 impl BitPos {
@@ -138,73 +148,75 @@ impl BitPtr {
     }
 
     // One level down, to the lowest clear bit of the word that the bit stands for. Torn where there is no such word or bit.
-    fn descend(self, s: &[u32], words: u32, level: u32) -> Result<BitPtr, Torn>
+    fn descend(self, s: &[u32], words: u32, level: u32) -> Next
         requires words_in_bounds { (words ≤ length s.now) × (level + 1 < 2 ^ 32) }
         requires level_bound { index_of (pos_at self (level + 1)) < 2 ^ 32 }
-        ensures { result ≡ lowered s.now words self level }
+        ensures { next_of result ≡ some_next (lowered s.now words self level) }
     {
         let up = self.at(level + 1);
         let word = up.index();
         if words <= word {
-            return Err(Torn);
+            return Next::Torn;
         }
         let bit = clear_from(s[word as usize], 0);
         if bit < 32 {
-            return Ok(self.with(level, BitPos { word, bit }));
+            return Next::At(self.with(level, BitPos { word, bit }));
         }
-        Err(Torn)
+        Next::Torn
     }
 
     // The next free bit of a level of n bits at or after the pointer's bit there: in its word, or by way of the levels above.
     // The slice holds this level and those above it.
-    fn forward(self, s: &[u32], n: u32, above: u32, level: u32) -> Result<Option<BitPtr>, Torn>
+    fn forward(self, s: &[u32], n: u32, above: u32, level: u32) -> Next
         requires n_in_bounds { (tree_words above n ≤ length s.now) × (level + above < 2 ^ 32) }
         requires level_bound { (pos_at self level).bit < 32 }
-        ensures { result ≡ forwarded above s.now n self level }
+        ensures { next_of result ≡ forwarded above s.now n self level }
     {
         let at = self.at(level);
         let word = at.word;
         let words = words_for(n);
         if words <= word {
-            return Ok(None);
+            return Next::Nothing;
         }
         let bit = clear_from(s[word as usize], at.bit);
         if bit < 32 {
-            return Ok(Some(self.with(level, BitPos { word, bit })));
+            return Next::At(self.with(level, BitPos { word, bit }));
         }
         if above == 0 {
-            return Ok(None);
+            return Next::Nothing;
         }
         let up = self.climb(level);
-        let Some(q) = up.forward(&s[words as usize..], words, above - 1, level + 1)? else {
-            return Ok(None);
-        };
-        Ok(Some(q.descend(s, words, level)?))
+        match up.forward(&s[words as usize..], words, above - 1, level + 1) {
+            Next::At(q) => q.descend(s, words, level),
+            Next::Nothing => Next::Nothing,
+            Next::Torn => Next::Torn,
+        }
     }
 
     // What `forward` finds at level 0, where a search begins.
     // Kept: `forward` again, in one text, so that a block in the pointer's own word needs no call.
-    fn forward_first(self, s: &[u32], n: u32, above: u32) -> Result<Option<BitPtr>, Torn>
+    fn forward_first(self, s: &[u32], n: u32, above: u32) -> Next
         requires { (tree_words above n ≤ length s.now) × (self.low.bit < 32) }
-        ensures { result ≡ forwarded above s.now n self 0 }
+        ensures { next_of result ≡ forwarded above s.now n self 0 }
     {
         let word = self.low.word;
         let words = words_for(n);
         if words <= word {
-            return Ok(None);
+            return Next::Nothing;
         }
         let bit = clear_from(s[word as usize], self.low.bit);
         if bit < 32 {
-            return Ok(Some(self.with(0, BitPos { word, bit })));
+            return Next::At(self.with(0, BitPos { word, bit }));
         }
         if above == 0 {
-            return Ok(None);
+            return Next::Nothing;
         }
         let up = self.climb(0);
-        let Some(q) = up.forward(&s[words as usize..], words, above - 1, 1)? else {
-            return Ok(None);
-        };
-        Ok(Some(q.descend(s, words, 0)?))
+        match up.forward(&s[words as usize..], words, above - 1, 1) {
+            Next::At(q) => q.descend(s, words, 0),
+            Next::Nothing => Next::Nothing,
+            Next::Torn => Next::Torn,
+        }
     }
 
     // The pointer's block, if it is one of n, and whether another remains after it: in its word, else by the search from just after. After the
@@ -225,9 +237,9 @@ impl BitPtr {
             return Two::Last(b);
         }
         match Self::to(next).forward(s, n, above, 0) {
-            Ok(Some(_)) => Two::More(b),
-            Ok(None) => Two::Last(b),
-            Err(Torn) => Two::Torn,
+            Next::At(_) => Two::More(b),
+            Next::Nothing => Two::Last(b),
+            Next::Torn => Two::Torn,
         }
     }
 
@@ -237,9 +249,9 @@ impl BitPtr {
         ensures { result ≡ and_after (reached above s.now n) (block_at n (forwarded above s.now n self 0)) }
     {
         match self.forward_first(s, n, above) {
-            Ok(Some(q)) => q.remaining(s, n, above),
-            Ok(None) => Two::Nothing,
-            Err(Torn) => Two::Torn,
+            Next::At(q) => q.remaining(s, n, above),
+            Next::Nothing => Two::Nothing,
+            Next::Torn => Two::Torn,
         }
     }
 }
@@ -250,11 +262,14 @@ pub fn next_free(s: &[u32], n: u32, above: u32, place: u32) -> Result<Option<u32
     requires { tree_words above n ≤ length s.now }
     ensures { SearchPromise above s.now n place result }
 {
-    let Some(q) = BitPtr::to(place).forward(s, n, above, 0)? else {
-        return Ok(None);
-    };
-    let k = q.at(0).index();
-    if k < n { Ok(Some(k)) } else { Err(Torn) }
+    match BitPtr::to(place).forward(s, n, above, 0) {
+        Next::At(q) => {
+            let k = q.at(0).index();
+            if k < n { Ok(Some(k)) } else { Err(Torn) }
+        }
+        Next::Nothing => Ok(None),
+        Next::Torn => Err(Torn),
+    }
 }
 
 // The next free block at or after a place, where the place's own word has it and another clear bit after it, whatever the number of blocks.

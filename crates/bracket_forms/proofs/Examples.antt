@@ -1,6 +1,6 @@
 -- Lines of document 01 as texts of forms and of replies, and lines that no form has, as rows of tables.
 use Prim.Native.Nat.{ℕ, ◌<◌}
-use mathlib.Core.Path.{◌≡◌, refl, ap}
+use mathlib.Core.Path.{◌≡◌, refl}
 use mathlib.Core.Bool.{Bool, true, false}
 use mathlib.Core.List.{List, [], ◌∷◌}
 use mathlib.Core.Option.{Option, none, some}
@@ -14,7 +14,7 @@ use Rattle.std.specs.Prelude.{None}
 use Rattle.basics.proofs.Table.{Each, every_at}
 use Rattle.bracket_text.proofs.Laws.{◌also◌}
 use Rattle.bracket_forms.specs.Forms.{text_of, FormRead}
-use Rattle.bracket_forms.specs.Kinds.{forms, form_at, template_at, tried_as}
+use Rattle.bracket_forms.specs.Kinds.{forms, form_at, template_at}
 use Rattle.bracket_forms.specs.Replies.{reply_text}
 use Rattle.bracket_forms.specs.declared.Form.{Form}
 use Rattle.bracket_forms.specs.declared.Form.TheVariants.{Rack, Attach, Make, Load, Store, Clear, Put, Get, Check, Start, Step}
@@ -75,7 +75,7 @@ unmatched l = every_text (λ k t. is_none (matched t 0 zeros l))
 unmatched_bad : (l : List ℕ) → T (unmatched l) → FormRead l None
 unfolding unmatched
 unmatched_bad l t =
-    missed l (λ k h. ap (tried_as k) (none_is (matched (template_at k) 0 zeros l) (text_passes (λ j u. is_none (matched u 0 zeros l)) t k h)))
+    missed l (λ k h. none_is (matched (template_at k) 0 zeros l) (text_passes (λ j u. is_none (matched u 0 zeros l)) t k h))
 
 -- an empty line, spaces too many or too few, a number with a leading zero, with a sign, too large, a word in capitals, a carriage
 -- return (13), a tab (9), a NUL (0), a look

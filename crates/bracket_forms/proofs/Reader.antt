@@ -3,16 +3,16 @@
 use Prim.Native.Nat.{ℕ, zero, suc, ◌≤◌, ◌<◌}
 use mathlib.Core.Path.{◌≡◌, refl, sym, ◌∙◌, ap, subst}
 use mathlib.Core.Bool.{Bool, true, false, cond}
-use mathlib.Core.Logic.{◌↔◌}
+use mathlib.Core.Logic.{◌↔◌, ◌⊎◌, inl, inr}
 use mathlib.Core.List.{List, [], ◌∷◌, ◌++◌}
 use mathlib.Core.Option.{Option, none, some}
 use native.Mathlib.Decide.{ℕ_discrete}
-use native.Mathlib.Nat.{zero-add}
+use native.Mathlib.Nat.{zero-add, eq-or-lt_of_le}
 use native.Mathlib.Omega.{arith}
 use lib.Dec.{eqb, lit<}
-use lib.ListN.{length, get_or, take, drop, length-append}
+use lib.ListN.{length, get_or, take, drop, length-append, get_or-eq_default}
 use lib.Seq.{length-take-le}
-use borrow.Author.Tests.{eq-eqb, eqb-true}
+use borrow.Author.Tests.{eq-eqb, ne_eqb, eqb-true}
 use Rattle.bracket_text.specs.Text.{fill, text, Words}
 use Rattle.bracket_text.specs.Fixed.{length_from, trimmed}
 use Rattle.bracket_text.specs.Scan.{zeros, matched}
@@ -71,6 +71,15 @@ kind_of (Leave m) = 14
 kind_of (Enter m) = 15
 kind_of Start = 16
 kind_of Step = 17
+
+-- the last of them stands for every number from its own on
+pub last_form : (k a b c d e : ℕ) → 17 ≤ k → form_at k a b c d e ≡ Step
+unfolding form_at forms
+last_form k a b c d e h = go (eq-or-lt_of_le h)
+  where
+    go : (17 ≡ k) ⊎ (17 < k) → get_or (forms a b c d e) k Step ≡ Step
+    go (inl q) = rw (sym q)
+    go (inr l) = get_or-eq_default (forms a b c d e) Step {n = k} l
 
 -- the form of a kind with the first five of these numbers
 abbrev form_with : ℕ → List ℕ → Form
@@ -225,23 +234,30 @@ module _ (line : List ℕ) (k : ℕ) (h : k < 18) (ns : List ℕ) (e : matched (
         complete = read_complete;
       }
 
--- a line that no kind reads
-pub missed : (line : List ℕ) → ((k : ℕ) → k < 18 → tried_as k (matched (template_at k) 0 zeros line) ≡ None) → FormRead line None
-missed line h =
+-- a line that no kind reads as a form
+pub unread : (line : List ℕ) → ((k : ℕ) → k < 18 → (f : Form) → tried_as k (matched (template_at k) 0 zeros line) ≡ Some (Some f) → ⊥) → FormRead line None
+unread line h =
     record {
       sound = λ f q. absurd (never f q);
       short = λ f q. absurd (never f q);
       fits = λ f q. absurd (never f q);
-      complete = λ f w q. absurd (unread f w q);
+      complete = λ f w q. absurd (unmatched f w q);
     }
   where
     never : (f : Form) → None ≡ Some f → ⊥
     never f q = let z : ◌≡◌ {A = ℕ} 0 1 = cc in omega arith
 
-    unread : (f : Form) → Fitting f → text_of f ≡ line → ⊥
-    unread f w q =
+    unmatched : (f : Form) → Fitting f → text_of f ≡ line → ⊥
+    unmatched f w q =
         let m = subst (λ (x : List ℕ). matched (template_at (kind_of f)) 0 zeros x ≡ some (padded (numbers_of f))) q (form_matched f w) in
-        never f (sym (h (kind_of f) (form_tied f).below) ∙ ap (tried_as (kind_of f)) m ∙ form_back f)
+        h (kind_of f) (form_tied f).below f (ap (tried_as (kind_of f)) m ∙ ap (λ (x : Maybe Form). Some x) (form_back f))
+
+-- a line that no kind's text matches
+pub missed : (line : List ℕ) → ((k : ℕ) → k < 18 → matched (template_at k) 0 zeros line ≡ none) → FormRead line None
+missed line h = unread line (λ k l f q. never f (sym (ap (tried_as k) (h k l)) ∙ q))
+  where
+    never : (f : Form) → None ≡ Some (Some f) → ⊥
+    never f q = let z : ◌≡◌ {A = ℕ} 0 1 = cc in omega arith
 
 -- the text of a form is read as that form
 pub read_back : (f : Form) → Fitting f → (r : Maybe Form) → FormRead (text_of f) r → r ≡ Some f
@@ -273,23 +289,35 @@ unfolding template_at
 kind_template k f p e q =
     ap (λ (x : Parts). trimmed x.0) q ∙ (form_tied f).whole ∙ ap (λ (g : Form). (spelt g).template) e
 
+-- what `reading_of` learns from the form's own third number
+pub third_same : (f : Form) (p : Parts) (third : ℕ) → p ≡ form_parts f → get_or p.1 2 0 ≡ third → Some f ≡ reading_of f third
+third_same f p third e q = sym (rw (eq-eqb (get_or (padded (numbers_of f)) 2 0) third (ap (λ (x : Parts). get_or x.1 2 0) (sym e) ∙ q)))
+
+pub third_differs : (f : Form) (p : Parts) (third : ℕ) → p ≡ form_parts f → (get_or p.1 2 0 ≡ third → ⊥) → None ≡ reading_of f third
+third_differs f p third e n =
+    sym (rw (ne_eqb (get_or (padded (numbers_of f)) 2 0) third (λ q. n (ap (λ (x : Parts). get_or x.1 2 0) e ∙ q))))
+
 -- what `read_kind` learns from the match of a text that is its kind's
 module _ (line part : List ℕ) (k : ℕ) (e : part ≡ template_at k) where
   pub kind_text : (ns : List ℕ) (g : Form) (r : Maybe Form) → matched part 0 zeros line ≡ some ns
       → g ≡ form_with k ns → r ≡ reading_of g (get_or ns 2 0)
-      → r ≡ tried_as k (matched (template_at k) 0 zeros line)
+      → Some r ≡ tried_as k (matched (template_at k) 0 zeros line)
   kind_text ns g r m u v =
-      v ∙ ap (λ (h : Form). reading_of h (get_or ns 2 0)) u
+      ap (λ (x : Maybe Form). Some x) (v ∙ ap (λ (h : Form). reading_of h (get_or ns 2 0)) u)
       ∙ sym (ap (tried_as k) (ap (λ (t : List ℕ). matched t 0 zeros line) (sym e) ∙ m))
 
   pub kind_other : matched part 0 zeros line ≡ none → None ≡ tried_as k (matched (template_at k) 0 zeros line)
   kind_other m = sym (ap (tried_as k) (ap (λ (t : List ℕ). matched t 0 zeros line) (sym e) ∙ m))
 
 -- what `read_form` learns from `read_kind`
-pub text_found : (line : List ℕ) (k : ℕ) (f : Form) → k < 18 → Some f ≡ tried_as k (matched (template_at k) 0 zeros line)
-    → FormRead line (Some f)
-text_found line k f h e = go (matched (template_at k) 0 zeros line) refl e
+pub text_found : (line : List ℕ) (k : ℕ) (r : Maybe Form) → k < 18 → Some r ≡ tried_as k (matched (template_at k) 0 zeros line)
+    → FormRead line r
+text_found line k r h e = go (matched (template_at k) 0 zeros line) refl e
   where
-    go : (o : Option (List ℕ)) → matched (template_at k) 0 zeros line ≡ o → Some f ≡ tried_as k o → FormRead line (Some f)
-    go none q p = let z : ◌≡◌ {A = ℕ} 0 1 = cc in absurd (omega arith)
-    go (some ns) q p = subst (FormRead line) (sym p) (found line k h ns q)
+    go : (o : Option (List ℕ)) → matched (template_at k) 0 zeros line ≡ o → Some r ≡ tried_as k o → FormRead line r
+    go none q f = let z : ◌≡◌ {A = ℕ} 0 1 = cc in absurd (omega arith)
+    go (some ns) q f = let p : reading_at k ns ≡ r = cc in subst (FormRead line) p (found line k h ns q)
+
+pub other_missed : (k : ℕ) (o : Option (List ℕ)) → None ≡ tried_as k o → o ≡ none
+other_missed k none e = refl
+other_missed k (some ns) e = let z : ◌≡◌ {A = ℕ} 0 1 = cc in absurd (omega arith)

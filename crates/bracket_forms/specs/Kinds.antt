@@ -67,7 +67,8 @@ reading_of f third = cond (eqb (get_or (padded (numbers_of f)) 2 0) third) (Some
 abbrev pub reading_at : ℕ → List ℕ → Maybe Form
 reading_at k ns = reading_of (form_at k (get_or ns 0 0) (get_or ns 1 0) (get_or ns 2 0) (get_or ns 3 0) (get_or ns 4 0)) (get_or ns 2 0)
 
--- the answer of `read_kind`, from the numbers that its text gives, if the line is such a text
-abbrev pub tried_as : ℕ → Option (List ℕ) → Maybe Form
+-- the answer of `read_kind`, from the numbers that its text gives: None for a line that is no such text, and for one that is,
+-- Some (Some f) where it is the text of f, and Some None where it is bad
+abbrev pub tried_as : ℕ → Option (List ℕ) → Maybe (Maybe Form)
 tried_as k none = None
-tried_as k (some ns) = reading_at k ns
+tried_as k (some ns) = Some (reading_at k ns)

@@ -209,14 +209,15 @@ fn reading_of(form: Form, third: u32) -> Option<Form>
     (own[2] == third).then_some(form)
 }
 
-// Tries the text of one form.
-fn read_kind(line: &[u8], kind: usize) -> Option<Form>
+// Tries the text of one form: what the line is by that text, which for a load of two mutators is no form, or None where the line
+// is no such text.
+fn read_kind(line: &[u8], kind: usize) -> Option<Option<Form>>
     ensures { result ≡ tried_as kind (matched (template_at kind) 0 zeros line.now) }
 {
     let text = form_parts(form_at(kind, 0, 0, 0, 0, 0)).0;
     let n = bracket_text::match_text(line, &text)?;
     let form = form_at(kind, n[0], n[1], n[2], n[3], n[4]);
-    reading_of(form, n[2])
+    Some(reading_of(form, n[2]))
 }
 
 // The form whose text a line is, if there is one.
@@ -225,8 +226,8 @@ pub fn read_form(line: &[u8]) -> Option<Form>
     ensures { FormRead line.now result }
 {
     for kind in 0..FORMS {
-        if let Some(form) = read_kind(line, kind) {
-            return Some(form);
+        if let Some(reading) = read_kind(line, kind) {
+            return reading;
         }
     }
     None

@@ -1,6 +1,7 @@
 -- The parts of a step in a handshake: the acknowledgements of the mutators outside and what can hinder them, and how many inside still owe, over
 -- memory of any content.
-use Rattle.std.specs.Prelude.{◌≡◌, Bool, true, false, ◌&&◌, ℕ, ◌<◌, eqb}
+use Rattle.std.specs.Prelude.{◌≡◌, Bool, true, false, ◌&&◌, ℕ, ◌≤◌, ◌<◌, eqb, Some, None}
+use Rattle.std.specs.declared.option.Option.{Option}
 use Rattle.basics.specs.Pick.{one_if}
 use Rattle.layout.specs.declared.Geometry.{Geometry}
 use Rattle.layout.specs.Geometry.{mutator_count}
@@ -10,6 +11,18 @@ use Rattle.theory.specs.Calls.{Answer}
 use Rattle.model.specs.Fields.{inside, outside, state, acks}
 use Rattle.model.specs.Collector.{outside_answered, waiting, moved_or_waiting}
 use Rattle.tracing.specs.Roots.{RootFails}
+
+-- k is the first mutator outside, from a number on
+pub record FirstOutside (m : Mem) (from k : ℕ) : Type 0 where
+  pub after : from ≤ k
+  pub few : k < mutator_count
+  pub before : (j : ℕ) → from ≤ j → j < k → state m j ≡ outside → ⊥
+  pub is : state m k ≡ outside
+
+-- the first mutator outside, from a number on, or none where there is none
+pub record NextOutside (m : Mem) (from : ℕ) (r : Option ℕ) : Type 0 where
+  pub some : (k : ℕ) → r ≡ Some k → FirstOutside m from k
+  pub none : r ≡ None → (j : ℕ) → from ≤ j → j < mutator_count → state m j ≡ outside → ⊥
 
 -- the acknowledgement of one mutator outside is hindered, after those before it
 pub record AnswerFails (g : Geometry) (m : Mem) : Type 0 where

@@ -11,21 +11,37 @@ ghost use Rattle.model.specs.PhaseNumbers.{phase_of, phase_number};
 ghost use Rattle.model.specs.Collector.{waiting};
 ghost use Rattle.model.specs.Promise.{StepPromise};
 ghost use Rattle.model.specs.StepParts.{StepsAs};
-ghost use Rattle.stepping.specs.Handshaking.{AnswersOutside, waits, handshakes};
+ghost use Rattle.stepping.specs.Handshaking.{NextOutside, AnswersOutside, waits, handshakes};
 
 use layout::Geometry;
 use model::{Phase, Step};
 
+// The first mutator outside, from a number on, if there is one.
+fn next_outside(g: Geometry, mem: &[u32], from: u32) -> Option<u32>
+    requires { (Sized g (length mem.now)) × (from ≤ mutator_count) }
+    ensures { NextOutside (mem_of g mem.now) from result }
+{
+    for j in from..layout::MUTATORS {
+        if mutators::state(g, mem, j) == mutators::OUTSIDE {
+            return Some(j);
+        }
+    }
+    None
+}
+
 // The mutators that are outside give the acknowledgements that they owe, in number order; false says that a root of one cannot be pushed.
+// The next one is looked for by a scan, so that what an acknowledgement does weighs on no mutator that is not outside; the scan is called before
+// the loop and at its end, since one call at the loop's head takes 507 instructions where these take 361.
 fn answer_outside(g: Geometry, mem: &mut [u32]) -> bool
     requires { Sized g (length mem.old) }
     ensures { AnswersOutside g (mem_of g mem.old) result (mem_of g mem.new) }
 {
-    for k in 0..layout::MUTATORS {
-        let outside = mutators::state(g, mem, k) == mutators::OUTSIDE;
-        if outside && !handshake_calls::acknowledge(g, mem, k) {
+    let mut next = next_outside(g, mem, 0);
+    while let Some(k) = next {
+        if !handshake_calls::acknowledge(g, mem, k) {
             return false;
         }
+        next = next_outside(g, mem, k + 1);
     }
     true
 }

@@ -22,6 +22,12 @@ abbrev pub lowest_of : Option ℕ → rust.Option ℕ
 lowest_of none = rust.None
 lowest_of (some s) = rust.Some s
 
+-- r is the first condemned segment from one on, or past the last one
+pub record Next (g : Geometry) (m : Mem) (from r : ℕ) : Type 0 where
+  pub onward : from ≤ r
+  pub passed : (x : ℕ) → from ≤ x → x < r → tag m x ≡ Tag.condemned → ⊥
+  pub found : r < g.segments → tag m r ≡ Tag.condemned
+
 -- what the search answers: a condemned segment or none; where no condemned segment stands before the cursor, the lowest, and none where there is
 -- none
 pub record Finds (g : Geometry) (m : Mem) (r : rust.Option ℕ) : Type 0 where

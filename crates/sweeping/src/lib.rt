@@ -11,21 +11,38 @@ ghost use Rattle.model.specs.Fields.{tag};
 ghost use Rattle.model.specs.Collector.{lowest, sweeps};
 ghost use Rattle.model.specs.StepParts.{StepsAs};
 ghost use Rattle.model.specs.Tag as Tag;
-ghost use Rattle.sweeping.specs.Sweeping.{Finds, state_after, stack_after, Settles, Finishes, Sweeps};
+ghost use Rattle.sweeping.specs.Sweeping.{Next, Finds, state_after, stack_after, Settles, Finishes, Sweeps};
 
 use layout::Geometry;
 use model::{Phase, Segment, SegmentState, Step};
+
+// The first condemned segment from one on; past the last one where there is none.
+// Kept: a `while` that answers its counter, so that nothing but the counter is used behind the loop. A `for` that answers Some from its body, and a
+// `while` whose test is joined with the tag's, take 10 instructions a segment where this takes 6, as each address that the sweep then uses is
+// counted up beside the counter; the last step of a cycle over 256 segments then misses its limit (docs/BENCH.md).
+fn next_condemned(g: Geometry, mem: &[u32], from: usize) -> usize
+    requires { Sized g (length mem.now) }
+    ensures { Next g (mem_of g mem.now) from result }
+{
+    let n = g.segments;
+    let mut s = from;
+    while s < n {
+        if segments::tag(g, mem, s) == Segment::TAG_CONDEMNED {
+            return s;
+        }
+        s += 1;
+    }
+    s
+}
 
 // The lowest condemned segment, found from the cursor up: in consistent memory none stands before the cursor.
 fn lowest_condemned(g: Geometry, mem: &[u32]) -> Option<usize>
     requires { Sized g (length mem.now) }
     ensures { Finds g (mem_of g mem.now) result }
 {
-    let from = control::cursor(g, mem) as usize;
-    for s in from..g.segments {
-        if segments::tag(g, mem, s) == Segment::TAG_CONDEMNED {
-            return Some(s);
-        }
+    let s = next_condemned(g, mem, control::cursor(g, mem) as usize);
+    if s < g.segments {
+        return Some(s);
     }
     None
 }

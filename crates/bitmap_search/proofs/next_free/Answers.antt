@@ -1,6 +1,6 @@
 -- `bitmap_search::next_free` meets its contract.
-use Rattle.bitmap_search.specs.Search.{torn}
-use Rattle.std.specs.Prelude.{Ok, Err, Some, None}
+use Rattle.bitmap_search.specs.Search.{torn, next_of}
+use Rattle.std.specs.Prelude.{Ok, Some, None}
 use mathlib.Core.Path.{◌≡◌, refl, sym, ap, ◌∙◌}
 use native.Mathlib.Omega.{arith}
 use mathlib.Core.List.{List}
@@ -12,7 +12,7 @@ use Rattle.bitmap_search.specs.Search.{Next}
 use Rattle.bitmap_search.specs.Scan.{Found}
 use Rattle.bitmap_search.specs.Pointer.{index_of, ptr_to}
 use Rattle.bitmap_search.specs.Search.{forwarded, block_at, SearchPromise}
-use Rattle.bitmap_search.proofs.Moves.{err_torn, handed_bound, answered, promised}
+use Rattle.bitmap_search.proofs.Moves.{handed_bound, answered, promised}
 use Rattle.bitmap_search.proofs.next_free.Goals as goal
 
 pub forward-requires : goal.forward-requires
@@ -26,7 +26,7 @@ forward-requires c =
 pub index-k-requires : goal.index-k-requires
 index-k-requires c =
     let a = c.args in
-    let h = handed_bound a.above a.s.now a.n c.to.result c.in-Some.q 0 (sym (c.in_ok-q.was ∙ ap Ok c.in-Some.is) ∙ c.forward.ensures) in
+    let h = handed_bound a.above a.s.now a.n c.to.result c.in-At.q 0 (sym (ap next_of c.in-At.is) ∙ c.forward.ensures) in
     let e = ap index_of c.at.ensures in
     omega (arith, h)
 
@@ -40,24 +40,24 @@ pub returns-then-k-n : goal.returns-then-k-n
 returns-then-k-n c =
     let a = c.args in
     let e = c.index-k.ensures ∙ ap index_of c.at.ensures in
-    promise a.above a.s.now a.n a.place (λ i. omega (arith, c.type_inv.s i)) c.to.result c.to.ensures c.forward.result c.forward.ensures
-    (Ok (Some c.in-Some.q)) (Ok (Some c.index-k.result)) (c.in_ok-q.was ∙ ap Ok c.in-Some.is) (rw (← e, lt-ltb _ _ c.if-k-n.true))
+    promise a.above a.s.now a.n a.place (λ i. omega (arith, c.type_inv.s i)) c.to.result c.to.ensures (next_of c.forward.result) c.forward.ensures
+    (Ok (Some c.in-At.q)) (Ok (Some c.index-k.result)) (ap next_of c.in-At.is) (rw (← e, lt-ltb _ _ c.if-k-n.true))
 
 pub returns-else-k-n : goal.returns-else-k-n
 returns-else-k-n c =
     let a = c.args in
     let e = c.index-k.ensures ∙ ap index_of c.at.ensures in
-    promise a.above a.s.now a.n a.place (λ i. omega (arith, c.type_inv.s i)) c.to.result c.to.ensures c.forward.result c.forward.ensures
-    (Ok (Some c.in-Some.q)) torn (c.in_ok-q.was ∙ ap Ok c.in-Some.is) (rw (← e, le-ltb _ _ c.if-k-n.false))
+    promise a.above a.s.now a.n a.place (λ i. omega (arith, c.type_inv.s i)) c.to.result c.to.ensures (next_of c.forward.result) c.forward.ensures
+    (Ok (Some c.in-At.q)) torn (ap next_of c.in-At.is) (rw (← e, le-ltb _ _ c.if-k-n.false))
 
-pub returns-in_default : goal.returns-in_default
-returns-in_default c =
+pub returns-in-Nothing : goal.returns-in-Nothing
+returns-in-Nothing c =
     let a = c.args in
-    promise a.above a.s.now a.n a.place (λ i. omega (arith, c.type_inv.s i)) c.to.result c.to.ensures c.forward.result c.forward.ensures
-    (Ok None) (Ok None) (c.in_ok-q.was ∙ ap Ok c.in_default.is) refl
+    promise a.above a.s.now a.n a.place (λ i. omega (arith, c.type_inv.s i)) c.to.result c.to.ensures (next_of c.forward.result) c.forward.ensures
+    (Ok None) (Ok None) (ap next_of c.in-Nothing.is) refl
 
-pub returns-in_err-q : goal.returns-in_err-q
-returns-in_err-q c =
+pub returns-in-Torn : goal.returns-in-Torn
+returns-in-Torn c =
     let a = c.args in
-    promise a.above a.s.now a.n a.place (λ i. omega (arith, c.type_inv.s i)) c.to.result c.to.ensures c.forward.result c.forward.ensures
-    (Err c.in_err-q.field-0.0) _ c.in_err-q.was (err_torn _ c.from_residual.ensures.0)
+    promise a.above a.s.now a.n a.place (λ i. omega (arith, c.type_inv.s i)) c.to.result c.to.ensures (next_of c.forward.result) c.forward.ensures
+    torn torn (ap next_of c.in-Torn.is) refl

@@ -1,5 +1,5 @@
 -- `bitmap_search::BitPtr::forward` meets its contract.
-use Rattle.std.specs.Prelude.{Ok, Err, Some, None}
+use Rattle.std.specs.Prelude.{Ok, Some, None}
 use mathlib.Core.Path.{sym, ap, ◌∙◌}
 use Prim.Native.Nat.{◌+◌, ◌-◌}
 use native.Mathlib.Nat.{pos_of_ne-zero}
@@ -7,9 +7,9 @@ use native.Mathlib.Omega.{arith}
 use lib.ListN.{drop}
 use Rattle.bitmap_search.specs.declared.BitPtr.{BitPtr}
 use Rattle.bitmap_search.specs.Pointer.{pos_at}
-use Rattle.bitmap_search.specs.Search.{climbed, some_next}
+use Rattle.bitmap_search.specs.Search.{climbed, torn, next_of}
 use Rattle.bitmap_search.proofs.Forward.{climbed_small}
-use Rattle.bitmap_search.proofs.Moves.{err_torn, handed_on, handed_bound, ahead_past, ahead_at, ahead_none, way_down}
+use Rattle.bitmap_search.proofs.Moves.{handed_on, handed_bound, ahead_past, ahead_at, ahead_none, way_down}
 use Rattle.words.specs.Levels.{words_for}
 use Rattle.words.proofs.Trees.{words_in, room_behind}
 use Rattle.bitmap_search.specs.declared.BitPos.{BitPos}
@@ -87,42 +87,32 @@ forward-requires t c =
 pub descend-requires : goal.descend-requires
 descend-requires t c =
     let a = c.args in
-    let h = handed_bound (a.above - 1) (drop (words_for a.n) a.s.now) (words_for a.n) (climbed a.self a.level) c.in-Some.q (a.level + 1)
-    (handed_on (a.above - 1) a.s.now (words_for a.n) a.level c.words_for-words.result a.self c.climb-up.result (Ok (Some c.in-Some.q)) c.words_for-words.ensures
-    c.climb-up.ensures (sym (c.in_ok-q.was ∙ ap Ok c.in-Some.is) ∙ c.forward.ensures)) in
+    let h = handed_bound (a.above - 1) (drop (words_for a.n) a.s.now) (words_for a.n) (climbed a.self a.level) c.in-At.q (a.level + 1)
+    (handed_on (a.above - 1) a.s.now (words_for a.n) a.level c.words_for-words.result a.self c.climb-up.result (Ok (Some c.in-At.q)) c.words_for-words.ensures
+    c.climb-up.ensures (sym (ap next_of c.in-At.is) ∙ c.forward.ensures)) in
     record {
       words_in_bounds = (omega (arith, c.words_for-words.ensures, c.requires.n_in_bounds.0, words_in a.above a.n), omega (arith, pos_of_ne-zero c.if-above-eq0.false));
       level_bound = omega (arith, h);
     }
 
-pub returns-in_err-q : goal.returns-in_err-q
-returns-in_err-q t c =
+pub returns-in-At : goal.returns-in-At
+returns-in-At t c =
     let a = c.args in
-    err_torn _ c.from_residual.ensures.0
+    c.descend.ensures
     ∙ way_down a.above a.s.now a.n a.self a.level c.at-at.result c.at-at.ensures c.words_for-words.result c.words_for-words.ensures c.if-words-word.false
     c.clear_from-bit.result c.clear_from-bit.ensures c.if-bit-lt32.false c.if-above-eq0.false c.climb-up.result c.climb-up.ensures
-    (Err c.in_err-q.field-0.0) (sym c.in_err-q.was ∙ c.forward.ensures)
+    (Ok (Some c.in-At.q)) (sym (ap next_of c.in-At.is) ∙ c.forward.ensures)
 
-pub returns-in_default : goal.returns-in_default
-returns-in_default t c =
+pub returns-in-Nothing : goal.returns-in-Nothing
+returns-in-Nothing t c =
     let a = c.args in
     way_down a.above a.s.now a.n a.self a.level c.at-at.result c.at-at.ensures c.words_for-words.result c.words_for-words.ensures c.if-words-word.false
     c.clear_from-bit.result c.clear_from-bit.ensures c.if-bit-lt32.false c.if-above-eq0.false c.climb-up.result c.climb-up.ensures
-    (Ok None) (sym (c.in_ok-q.was ∙ ap Ok c.in_default.is) ∙ c.forward.ensures)
+    (Ok None) (sym (ap next_of c.in-Nothing.is) ∙ c.forward.ensures)
 
-pub returns-in_err-descend : goal.returns-in_err-descend
-returns-in_err-descend t c =
+pub returns-in-Torn : goal.returns-in-Torn
+returns-in-Torn t c =
     let a = c.args in
-    err_torn _ c.from_residual-in_err-descend.ensures.0
-    ∙ ap some_next (sym c.in_err-descend.was ∙ c.descend.ensures)
-    ∙ way_down a.above a.s.now a.n a.self a.level c.at-at.result c.at-at.ensures c.words_for-words.result c.words_for-words.ensures c.if-words-word.false
+    way_down a.above a.s.now a.n a.self a.level c.at-at.result c.at-at.ensures c.words_for-words.result c.words_for-words.ensures c.if-words-word.false
     c.clear_from-bit.result c.clear_from-bit.ensures c.if-bit-lt32.false c.if-above-eq0.false c.climb-up.result c.climb-up.ensures
-    (Ok (Some c.in-Some.q)) (sym (c.in_ok-q.was ∙ ap Ok c.in-Some.is) ∙ c.forward.ensures)
-
-pub returns : goal.returns
-returns t c =
-    let a = c.args in
-    ap some_next (sym c.in_ok-descend.was ∙ c.descend.ensures)
-    ∙ way_down a.above a.s.now a.n a.self a.level c.at-at.result c.at-at.ensures c.words_for-words.result c.words_for-words.ensures c.if-words-word.false
-    c.clear_from-bit.result c.clear_from-bit.ensures c.if-bit-lt32.false c.if-above-eq0.false c.climb-up.result c.climb-up.ensures
-    (Ok (Some c.in-Some.q)) (sym (c.in_ok-q.was ∙ ap Ok c.in-Some.is) ∙ c.forward.ensures)
+    torn (sym (ap next_of c.in-Torn.is) ∙ c.forward.ensures)

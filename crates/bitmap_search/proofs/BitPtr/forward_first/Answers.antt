@@ -1,5 +1,5 @@
 -- `bitmap_search::BitPtr::forward_first` meets its contract.
-use Rattle.std.specs.Prelude.{Ok, Err, Some, None}
+use Rattle.std.specs.Prelude.{Ok, Some, None}
 use mathlib.Core.Path.{refl, sym, ap, ◌∙◌}
 use Prim.Native.Nat.{◌-◌}
 use native.Mathlib.Nat.{pos_of_ne-zero}
@@ -9,9 +9,9 @@ use Rattle.words.specs.Levels.{words_for}
 use Rattle.words.proofs.Trees.{words_in, room_behind}
 use Rattle.bitmap_search.specs.declared.BitPtr.{BitPtr}
 use Rattle.bitmap_search.specs.Pointer.{pos_at}
-use Rattle.bitmap_search.specs.Search.{climbed, some_next}
+use Rattle.bitmap_search.specs.Search.{climbed, torn, next_of}
 use Rattle.bitmap_search.proofs.Forward.{climbed_small}
-use Rattle.bitmap_search.proofs.Moves.{err_torn, handed_on, handed_bound, ahead_past, ahead_at, ahead_none, way_down}
+use Rattle.bitmap_search.proofs.Moves.{handed_on, handed_bound, ahead_past, ahead_at, ahead_none, way_down}
 use Rattle.bitmap_search.proofs.BitPtr.forward_first.Goals as goal
 
 pub returns-then-words-word : goal.returns-then-words-word
@@ -57,42 +57,32 @@ forward-requires c =
 pub descend-requires : goal.descend-requires
 descend-requires c =
     let x = c.args in
-    let h = handed_bound (x.above - 1) (drop (words_for x.n) x.s.now) (words_for x.n) (climbed x.self 0) c.in-Some.q 1
-    (handed_on (x.above - 1) x.s.now (words_for x.n) 0 c.words_for-words.result x.self c.climb-up.result (Ok (Some c.in-Some.q)) c.words_for-words.ensures
-    c.climb-up.ensures (sym (c.in_ok-q.was ∙ ap Ok c.in-Some.is) ∙ c.forward.ensures)) in
+    let h = handed_bound (x.above - 1) (drop (words_for x.n) x.s.now) (words_for x.n) (climbed x.self 0) c.in-At.q 1
+    (handed_on (x.above - 1) x.s.now (words_for x.n) 0 c.words_for-words.result x.self c.climb-up.result (Ok (Some c.in-At.q)) c.words_for-words.ensures
+    c.climb-up.ensures (sym (ap next_of c.in-At.is) ∙ c.forward.ensures)) in
     record {
       words_in_bounds = (omega (arith, c.words_for-words.ensures, c.requires.0, words_in x.above x.n), omega (arith, pos_of_ne-zero c.if-above-eq0.false));
       level_bound = omega (arith, h);
     }
 
-pub returns-in_err-q : goal.returns-in_err-q
-returns-in_err-q c =
+pub returns-in-At : goal.returns-in-At
+returns-in-At c =
     let x = c.args in
-    err_torn _ c.from_residual.ensures.0
+    c.descend.ensures
     ∙ way_down x.above x.s.now x.n x.self 0 x.self.low refl c.words_for-words.result c.words_for-words.ensures c.if-words-word.false
     c.clear_from-bit.result c.clear_from-bit.ensures c.if-bit-lt32.false c.if-above-eq0.false c.climb-up.result c.climb-up.ensures
-    (Err c.in_err-q.field-0.0) (sym c.in_err-q.was ∙ c.forward.ensures)
+    (Ok (Some c.in-At.q)) (sym (ap next_of c.in-At.is) ∙ c.forward.ensures)
 
-pub returns-in_default : goal.returns-in_default
-returns-in_default c =
+pub returns-in-Nothing : goal.returns-in-Nothing
+returns-in-Nothing c =
     let x = c.args in
     way_down x.above x.s.now x.n x.self 0 x.self.low refl c.words_for-words.result c.words_for-words.ensures c.if-words-word.false
     c.clear_from-bit.result c.clear_from-bit.ensures c.if-bit-lt32.false c.if-above-eq0.false c.climb-up.result c.climb-up.ensures
-    (Ok None) (sym (c.in_ok-q.was ∙ ap Ok c.in_default.is) ∙ c.forward.ensures)
+    (Ok None) (sym (ap next_of c.in-Nothing.is) ∙ c.forward.ensures)
 
-pub returns-in_err-descend : goal.returns-in_err-descend
-returns-in_err-descend c =
+pub returns-in-Torn : goal.returns-in-Torn
+returns-in-Torn c =
     let x = c.args in
-    err_torn _ c.from_residual-in_err-descend.ensures.0
-    ∙ ap some_next (sym c.in_err-descend.was ∙ c.descend.ensures)
-    ∙ way_down x.above x.s.now x.n x.self 0 x.self.low refl c.words_for-words.result c.words_for-words.ensures c.if-words-word.false
+    way_down x.above x.s.now x.n x.self 0 x.self.low refl c.words_for-words.result c.words_for-words.ensures c.if-words-word.false
     c.clear_from-bit.result c.clear_from-bit.ensures c.if-bit-lt32.false c.if-above-eq0.false c.climb-up.result c.climb-up.ensures
-    (Ok (Some c.in-Some.q)) (sym (c.in_ok-q.was ∙ ap Ok c.in-Some.is) ∙ c.forward.ensures)
-
-pub returns : goal.returns
-returns c =
-    let x = c.args in
-    ap some_next (sym c.in_ok-descend.was ∙ c.descend.ensures)
-    ∙ way_down x.above x.s.now x.n x.self 0 x.self.low refl c.words_for-words.result c.words_for-words.ensures c.if-words-word.false
-    c.clear_from-bit.result c.clear_from-bit.ensures c.if-bit-lt32.false c.if-above-eq0.false c.climb-up.result c.climb-up.ensures
-    (Ok (Some c.in-Some.q)) (sym (c.in_ok-q.was ∙ ap Ok c.in-Some.is) ∙ c.forward.ensures)
+    torn (sym (ap next_of c.in-Torn.is) ∙ c.forward.ensures)

@@ -1,9 +1,10 @@
 -- `bitmap_search::BitPtr::remaining` meets its contract.
-use Rattle.std.specs.Prelude.{Ok, Err, Some, None}
+use Rattle.std.specs.Prelude.{Ok, Some, None}
 use mathlib.Core.Path.{sym, ap, ◌∙◌}
 use native.Mathlib.Omega.{arith}
 use Rattle.words.proofs.Trees.{words_in}
 use Rattle.bitmap_search.specs.declared.BitPtr.{BitPtr}
+use Rattle.bitmap_search.specs.Search.{torn, next_of}
 use Rattle.bitmap_search.proofs.Twice.{past_end, at_block, more_own, last_whole, from_after}
 use Rattle.bitmap_search.specs.declared.Two.TheVariants as two
 use Rattle.bitmap_search.proofs.BitPtr.remaining.Goals as goal
@@ -40,23 +41,23 @@ forward-requires c =
       level_bound = omega arith;
     }
 
-pub returns-in-Ok-Some : goal.returns-in-Ok-Some
-returns-in-Ok-Some c =
+pub returns-in-At : goal.returns-in-At
+returns-in-At c =
     let x = c.args in
     let b = c.index-b.result in
     at_block x.above x.s.now x.n b x.self c.index-b.ensures c.if-n-b.false (two.More b)
-    (from_after x.above x.s.now x.n b c.to.result c.forward.result (Ok (Some c.in-Ok-Some.field-0-0)) c.to.ensures c.forward.ensures (c.in-Ok-Some.is ∙ ap Ok c.in-Ok-Some.field-0-is))
+    (from_after x.above x.s.now x.n b c.to.result (next_of c.forward.result) (Ok (Some c.in-At.field-0)) c.to.ensures c.forward.ensures (ap next_of c.in-At.is))
 
-pub returns-in-Ok-None : goal.returns-in-Ok-None
-returns-in-Ok-None c =
+pub returns-in-Nothing : goal.returns-in-Nothing
+returns-in-Nothing c =
     let x = c.args in
     let b = c.index-b.result in
     at_block x.above x.s.now x.n b x.self c.index-b.ensures c.if-n-b.false (two.Last b)
-    (from_after x.above x.s.now x.n b c.to.result c.forward.result (Ok None) c.to.ensures c.forward.ensures (c.in-Ok-None.is ∙ ap Ok c.in-Ok-None.field-0-is))
+    (from_after x.above x.s.now x.n b c.to.result (next_of c.forward.result) (Ok None) c.to.ensures c.forward.ensures (ap next_of c.in-Nothing.is))
 
-pub returns-in-Err : goal.returns-in-Err
-returns-in-Err c =
+pub returns-in-Torn : goal.returns-in-Torn
+returns-in-Torn c =
     let x = c.args in
     let b = c.index-b.result in
     at_block x.above x.s.now x.n b x.self c.index-b.ensures c.if-n-b.false two.Torn
-    (from_after x.above x.s.now x.n b c.to.result c.forward.result (Err c.in-Err.field-0) c.to.ensures c.forward.ensures c.in-Err.is)
+    (from_after x.above x.s.now x.n b c.to.result (next_of c.forward.result) torn c.to.ensures c.forward.ensures (ap next_of c.in-Torn.is))
